@@ -3,13 +3,13 @@ use Rattle.std.proofs.Common.{inl, inr, ◌≡◌, ℕ, List, [], ◌∷◌, ◌
 use Rattle.std.specs.Prelude.{Option, codes, IsTrue, is_some, if◌then◌else◌, nat_lt}
 use Rattle.std.proofs.lemmas.Bool.{cases_Bool, eqb-true, and_parts}
 use Rattle.ninja_text.specs.declared.token.TokenKind.TheVariants.{Word, Bar, DoubleBar, BarAt, Colon}
-use Rattle.dyndep_file.specs.Classes.{Symbol, WordSymbol, SignSymbol, IsPart, DyndepClass, Comment, Blank, Version, Build, Binding, symbol, symbols, begins_at_start, begins_with_space, IsBuild, Assigns, IsDyndepLine, is_version_one}
+use Rattle.dyndep_file.specs.Classes.{Symbol, WordSymbol, SignSymbol, IsPart, DyndepClass, Comment, Blank, Version, Build, Binding, symbols, begins_at_start, begins_with_space, IsBuild, Assigns, IsDyndepLine, is_version_one}
 use Rattle.dyndep_file.specs.Faults.{same_bytes, implicit_inputs_fault, after_rule_fault, rule_fault, implicit_outputs_fault, after_output_fault, output_fault, after_build, value_assigned, indented_fault, version_fault, build_or_other_fault, unindented_fault, text_fault, text_line_fault, lexical_fault_or}
 use Rattle.dyndep_file.specs.inner.BuildLines.{Names}
 use Rattle.dyndep_file.specs.declared.fault.LineFault.{LineFault}
-use Rattle.dyndep_file.proofs.TableLemmas.{same_bytes-true, symbol_is_word, no_indent_at_token, no_indent_at_name, names_apart}
+use Rattle.dyndep_file.proofs.LineLemmas.{same_bytes-true, first_word, starts, after_keyword, no_indent_at_token, no_indent_at_name, names_apart}
 use Rattle.ninja_text.specs.Lexical.{lexical_fault}
-use Rattle.ninja_text.specs.Tokens.{TokenAt, tokens, raw, value_of}
+use Rattle.ninja_text.specs.Tokens.{TokenAt, tokens, value_of}
 use Rattle.ninja_text.specs.Assignments.{SeenAssignment, assignment_of}
 use Rattle.ninja_text.specs.declared.fault.LexFault.{LexFault}
 use Rattle.ninja_text.proofs.ForCallers.{assignment_not_empty}
@@ -153,34 +153,28 @@ index_of text comment =
     else if is_keyword_line text then 2
     else 4
 
--- the keyword at the front is the first token
-record Keyword (text : List ℕ) : Type 0 where
-  token : TokenAt
-  start : token.start ≡ 0
-  bytes : raw text token ≡ codes "build"
-
--- a text that begins with the keyword has it as its first token
-keyword_token : (text : List ℕ) → is_keyword_line text ≡ true → Keyword text
-keyword_token text h = go (tokens text) h where
-  found : (t : TokenAt) (more : List Symbol) (s : Symbol) → symbol t.kind (raw text t) ≡ s → is_some (after_build (t.start == 0) (s ∷ more)) ≡ true → Keyword text
-  found t more (SignSymbol k) e h = absurd (let x : false ≡ true = h in cc)
-  found t more (WordSymbol word) e h = elim (cases_Bool ((t.start == 0) && same_bytes word (codes "build"))) [
-    | inr f ↦ absurd (let x : false ≡ true = rw f at h in cc)
-    | inl b ↦
-        let both = and_parts (t.start == 0) (same_bytes word (codes "build")) b in
-        record { token = t; start = eqb-true t.start 0 both.0; bytes = symbol_is_word t.kind (raw text t) word e ∙ same_bytes-true word (codes "build") both.1 }
-  ]
-
-  go : (ts : List TokenAt) → is_some (after_build (begins_at_start ts) (map (λ t. symbol t.kind (raw text t)) ts)) ≡ true → Keyword text
-  go [] h = absurd (let x : false ≡ true = h in cc)
-  go (t ∷ ts) h = found t (map (λ t. symbol t.kind (raw text t)) ts) (symbol t.kind (raw text t)) refl h
+-- a text with tokens after the keyword begins with the keyword
+keyword_first : (at : Bool) (all more : List Symbol) → after_build at all ≡ Some more → (at ≡ true) × (all ≡ WordSymbol (codes "build") ∷ more)
+keyword_first at [] more h = absurd (let x : ◌≡◌ {A = Option (List Symbol)} None (Some more) = h in cc)
+keyword_first at (SignSymbol k ∷ all) more h = absurd (let x : ◌≡◌ {A = Option (List Symbol)} None (Some more) = h in cc)
+keyword_first at (WordSymbol word ∷ all) more h = elim (cases_Bool (at && same_bytes word (codes "build"))) [
+  | inr f ↦ absurd (let x : ◌≡◌ {A = Option (List Symbol)} None (Some more) = rw f at h in cc)
+  | inl t ↦
+      let both = and_parts at (same_bytes word (codes "build")) t in
+      let e : ◌≡◌ {A = Option (List Symbol)} (Some all) (Some more) = rw t at h in
+      let rest : all ≡ more = cc in
+      (both.0, rw (same_bytes-true word (codes "build") both.1, rest) refl)
+]
 
 -- a version line does not begin with the keyword
 no_keyword : (text : List ℕ) (a : SeenAssignment) → assignment_of text ≡ Some a → a.name_start ≡ 0 → a.name ≡ codes "ninja_dyndep_version" → is_keyword_line text ≡ false
-no_keyword text a h start name = elim (cases_Bool (is_keyword_line text)) [
-  | inr f ↦ f
-  | inl t ↦ let k = keyword_token text t in absurd (names_apart text k.token a h start name k.start k.bytes)
-]
+no_keyword text a h start name = found (after_build (begins_at_start (tokens text)) (symbols text)) refl where
+  found : (o : Option (List Symbol)) → after_build (begins_at_start (tokens text)) (symbols text) ≡ o → is_some o ≡ false
+  found None e = refl
+  found (Some more) e =
+      let k = keyword_first (begins_at_start (tokens text)) (symbols text) more e in
+      let word = first_word text (codes "build") more (tokens text) refl k.1 in
+      absurd (names_apart text word.token a h start name (starts text word.token word.rest word.are k.0) word.bytes)
 
 -- the tests find the class of each text
 index_of_class : (text : List ℕ) (comment : Bool) (c : DyndepClass) → IsDyndepLine text comment c → index_of text comment ≡ class_index c
@@ -191,41 +185,33 @@ index_of_class text comment Version is =
     rw (is.0, assignment_not_empty text a is.3.1, no_indent_at_name text a is.3.1 is.3.2, no_keyword text a is.3.1 is.3.2 is.3.3) refl
 index_of_class text comment (Build o os ins) is =
     let b = is.5 in
-    rw (is.0, some (tokens text) b.4, no_indent_at_token text b.4, ap is_some (ap (after_build (begins_at_start (tokens text))) b.5 ∙ kept (begins_at_start (tokens text)) b.4)) refl where
+    rw (is.0, some (tokens text) b.4, no_indent_at_token text b.4, ap is_some (ap (after_build (begins_at_start (tokens text))) b.5 ∙ after_keyword (begins_at_start (tokens text)) _ b.4)) refl where
       some : (ts : List TokenAt) → IsTrue (begins_at_start ts) → is_empty ts ≡ false
       some [] h = absurd (let x : false ≡ true = h in cc)
       some (t ∷ ts) h = refl
-
-      kept : (at : Bool) → at ≡ true → {more : List Symbol} → after_build at (WordSymbol (codes "build") ∷ more) ≡ Some more
-      kept at h = rw h refl
 index_of_class text comment (Binding flag) is =
     let indent : begins_with_space text ≡ true = is.2 in
     rw (is.0, assignment_not_empty text (is.5).0 (is.5).1, indent) refl
 
--- the parts of a build line follow from its symbols
-words_before : (words : List (List ℕ)) (more : List Symbol) → words_before_colon (map WordSymbol words ++ SignSymbol Colon ∷ more) ≡ words
-words_before [] more = refl
-words_before (w ∷ words) more = ap (λ l. w ∷ l) (words_before words more)
-
--- and after the `:` comes the rest
-rest_after : (words : List (List ℕ)) (more : List Symbol) → after_colon (map WordSymbol words ++ SignSymbol Colon ∷ more) ≡ more
-rest_after [] more = refl
-rest_after (w ∷ words) more = rest_after words more
+-- the parts of a build line follow from its symbols: the words before the `:`, and the rest after it
+words_before : (words : List (List ℕ)) (more : List Symbol)
+    → (words_before_colon (map WordSymbol words ++ SignSymbol Colon ∷ more) ≡ words) × (after_colon (map WordSymbol words ++ SignSymbol Colon ∷ more) ≡ more)
+words_before [] more = (refl, refl)
+words_before (w ∷ words) more = let later = words_before words more in (ap (λ l. w ∷ l) later.0, later.1)
 
 -- if there is no `:`, all words are before it
 words_in_all : (words : List (List ℕ)) → words_before_colon (map WordSymbol words) ≡ words
 words_in_all [] = refl
 words_in_all (w ∷ words) = ap (λ l. w ∷ l) (words_in_all words)
 
--- the words of a part before a `:`
-part_before : (part : List Symbol) (words : List (List ℕ)) (more : List Symbol) → IsPart Bar part words → words_before_colon (part ++ SignSymbol Colon ∷ more) ≡ words
-part_before part words more (inl h) = ap (λ p. words_before_colon (p ++ SignSymbol Colon ∷ more)) h.0 ∙ sym h.1
-part_before part words more (inr h) = ap (λ p. words_before_colon (p ++ SignSymbol Colon ∷ more)) h ∙ words_before words more
-
--- what comes after the `:` after a part
-part_after : (part : List Symbol) (words : List (List ℕ)) (more : List Symbol) → IsPart Bar part words → after_colon (part ++ SignSymbol Colon ∷ more) ≡ more
-part_after part words more (inl h) = ap (λ p. after_colon (p ++ SignSymbol Colon ∷ more)) h.0
-part_after part words more (inr h) = ap (λ p. after_colon (p ++ SignSymbol Colon ∷ more)) h ∙ rest_after words more
+-- the words of a part before a `:`, and what comes after the `:`
+part_before : (part : List Symbol) (words : List (List ℕ)) (more : List Symbol) → IsPart Bar part words
+    → (words_before_colon (part ++ SignSymbol Colon ∷ more) ≡ words) × (after_colon (part ++ SignSymbol Colon ∷ more) ≡ more)
+part_before part words more (inl h) = let is = ap (λ p. p ++ SignSymbol Colon ∷ more) h.0 in (ap words_before_colon is ∙ sym h.1, ap after_colon is)
+part_before part words more (inr h) =
+    let is = ap (λ p. p ++ SignSymbol Colon ∷ more) h in
+    let both = words_before words more in
+    (ap words_before_colon is ∙ both.0, ap after_colon is ∙ both.1)
 
 -- the words of a part at the end
 part_all : (part : List Symbol) (words : List (List ℕ)) → IsPart Bar part words → words_before_colon part ≡ words
@@ -239,11 +225,12 @@ same_build text o p os ps ins qs a b =
     let other = b.0 ++ SignSymbol Colon ∷ WordSymbol (codes "dyndep") ∷ b.1 in
     let same : WordSymbol (codes "build") ∷ WordSymbol o ∷ more ≡ WordSymbol (codes "build") ∷ WordSymbol p ∷ other = sym a.5 ∙ b.5 in
     let rest : more ≡ other = cc in
-    let afters : WordSymbol (codes "dyndep") ∷ a.1 ≡ WordSymbol (codes "dyndep") ∷ b.1 =
-    sym (part_after a.0 os (WordSymbol (codes "dyndep") ∷ a.1) a.2) ∙ ap after_colon rest ∙ part_after b.0 ps (WordSymbol (codes "dyndep") ∷ b.1) b.2 in
+    let first = part_before a.0 os (WordSymbol (codes "dyndep") ∷ a.1) a.2 in
+    let second = part_before b.0 ps (WordSymbol (codes "dyndep") ∷ b.1) b.2 in
+    let afters : WordSymbol (codes "dyndep") ∷ a.1 ≡ WordSymbol (codes "dyndep") ∷ b.1 = sym first.1 ∙ ap after_colon rest ∙ second.1 in
     let after : a.1 ≡ b.1 = cc in (
       cc,
-      sym (part_before a.0 os (WordSymbol (codes "dyndep") ∷ a.1) a.2) ∙ ap words_before_colon rest ∙ part_before b.0 ps (WordSymbol (codes "dyndep") ∷ b.1) b.2,
+      sym first.0 ∙ ap words_before_colon rest ∙ second.0,
       sym (part_all a.1 ins a.3) ∙ ap words_before_colon after ∙ part_all b.1 qs b.3,
     )
 
@@ -280,17 +267,11 @@ passes : (stage : Stage) (ss : List StatementValue) (text : List ℕ) (comment :
     → ((next : ProgressValue) × (step stage ss c ≡ Some next)) → CanStand stage ss text comment
 passes stage ss text comment c is s = record { class = c; is = is; next = s.0; steps = s.1 }
 
--- a comment is allowed at each stage
-comment_steps : (stage : Stage) (ss : List StatementValue) → (next : ProgressValue) × (step stage ss Comment ≡ Some next)
-comment_steps BeforeVersion ss = (_, refl)
-comment_steps NoneOpen ss = (_, refl)
-comment_steps Open ss = (_, refl)
-
--- a blank line is allowed at each stage
-blank_steps : (stage : Stage) (ss : List StatementValue) → (next : ProgressValue) × (step stage ss Blank ≡ Some next)
-blank_steps BeforeVersion ss = (_, refl)
-blank_steps NoneOpen ss = (_, refl)
-blank_steps Open ss = (_, refl)
+-- a comment and a blank line are allowed at each stage
+empty_steps : (stage : Stage) (ss : List StatementValue) → ((next : ProgressValue) × (step stage ss Comment ≡ Some next)) × ((next : ProgressValue) × (step stage ss Blank ≡ Some next))
+empty_steps BeforeVersion ss = ((_, refl), (_, refl))
+empty_steps NoneOpen ss = ((_, refl), (_, refl))
+empty_steps Open ss = ((_, refl), (_, refl))
 
 module _ (ss : List StatementValue) (text : List ℕ) (sound : lexical_fault text ≡ None) where
   -- a list without elements is the empty one
@@ -328,19 +309,6 @@ module _ (ss : List StatementValue) (text : List ℕ) (sound : lexical_fault tex
   ]
   version NoneOpen v assigns h = faulty h
   version Open v assigns h = faulty h
-
-  -- a text with tokens after the keyword begins with the keyword
-  keyword_first : (at : Bool) (all more : List Symbol) → after_build at all ≡ Some more → (at ≡ true) × (all ≡ WordSymbol (codes "build") ∷ more)
-  keyword_first at [] more h = absurd (let x : ◌≡◌ {A = Option (List Symbol)} None (Some more) = h in cc)
-  keyword_first at (SignSymbol k ∷ all) more h = absurd (let x : ◌≡◌ {A = Option (List Symbol)} None (Some more) = h in cc)
-  keyword_first at (WordSymbol word ∷ all) more h = elim (cases_Bool (at && same_bytes word (codes "build"))) [
-    | inr f ↦ absurd (let x : ◌≡◌ {A = Option (List Symbol)} None (Some more) = rw f at h in cc)
-    | inl t ↦
-        let both = and_parts at (same_bytes word (codes "build")) t in
-        let e : ◌≡◌ {A = Option (List Symbol)} (Some all) (Some more) = rw t at h in
-        let rest : all ≡ more = cc in
-        (both.0, rw (same_bytes-true word (codes "build") both.1, rest) refl)
-  ]
 
   -- a build line without fault is of the grammar
   built : (stage : Stage) (more : List Symbol) → after_build (begins_at_start (tokens text)) (symbols text) ≡ Some more
@@ -387,7 +355,7 @@ module _ (ss : List StatementValue) (text : List ℕ) (sound : lexical_fault tex
   -- a text without any fault is blank, a binding, a version line or a build line that is allowed
   sound_text : (stage : Stage) → text_fault stage text ≡ None → CanStand stage ss text false
   sound_text stage h = elim (cases_Bool (is_empty (tokens text))) [
-    | inl t ↦ passes stage ss text false Blank (refl, sound, no_tokens (tokens text) t) (blank_steps stage ss)
+    | inl t ↦ passes stage ss text false Blank (refl, sound, no_tokens (tokens text) t) (empty_steps stage ss).1
     | inr f ↦ elim (cases_Bool (begins_with_space text)) [
       | inl i ↦ indented stage _ refl i (rw (f, i) at h)
       | inr i ↦ unindented stage _ refl (rw (f, i) at h)
@@ -396,7 +364,7 @@ module _ (ss : List StatementValue) (text : List ℕ) (sound : lexical_fault tex
 
 -- a line's text without fault is of a class that is allowed there
 pub can_stand : (stage : Stage) (ss : List StatementValue) (text : List ℕ) (comment : Bool) → text_line_fault stage text comment ≡ None → CanStand stage ss text comment
-can_stand stage ss text true h = passes stage ss text true Comment refl (comment_steps stage ss)
+can_stand stage ss text true h = passes stage ss text true Comment refl (empty_steps stage ss).0
 can_stand stage ss text false h = lexed (lexical_fault text) refl h where
   lexed : (o : Option LexFault) → lexical_fault text ≡ o → lexical_fault_or o (text_fault stage text) ≡ None → CanStand stage ss text false
   lexed None e h = sound_text ss text e stage h

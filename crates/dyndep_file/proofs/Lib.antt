@@ -1,11 +1,8 @@
-pub mod WriteFaultLemmas
 pub mod Runs
-pub mod TableLemmas
 pub mod Parts
 pub mod LineLemmas
 pub mod Classes
-pub mod StayLemmas
 pub mod ReadLemmas
 pub mod WrittenText
 pub mod LawLemmas
-pub mod TextLemmas
+pub mod WriteLemmas

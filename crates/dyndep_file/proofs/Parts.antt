@@ -12,7 +12,7 @@ use Rattle.dyndep_file.specs.inner.Paths.{lent_texts, texts}
 use Rattle.std.proofs.lemmas.Grind.{flat_map-append}
 use Rattle.ninja_text.specs.Escapes.{escaped}
 use Rattle.dyndep_file.specs.StatementValue.{StatementValue, statement_with}
-use Rattle.dyndep_file.specs.Writing.{spaced, part_text, build_line}
+use Rattle.dyndep_file.specs.Writing.{part_text, build_line}
 use Rattle.std.specs.Result.{IsErrAnd}
 use Rattle.ninja_text.specs.TokenViews.{seen_token, tokens_left}
 use Rattle.ninja_text.specs.declared.failure.Failure.{Failure}
@@ -25,7 +25,7 @@ use Rattle.dyndep_file.specs.Faults.{output_fault, after_output_fault, implicit_
 use Rattle.dyndep_file.specs.BuildTokens.{symbol_of, symbols_left}
 use Rattle.dyndep_file.specs.inner.BuildLines.{IsNamed, IsFailureOf, TakesOr, TakesOutput, TakesWords, TakesOutputs, TakesInputs}
 use Rattle.dyndep_file.specs.declared.fault.LineFault.{LineFault}
-use Rattle.dyndep_file.proofs.TableLemmas.{inputs_pass, outputs_pass, after_output_passes}
+use Rattle.dyndep_file.proofs.LineLemmas.{inputs_pass, outputs_pass, after_output_passes}
 
 -- ---- what bytes without `$` stand for
 
@@ -92,15 +92,7 @@ flat_map_next_path f paths i other lt =
 
 -- a path that is written after what is there
 pub written_next : (start front text path : List ℕ) (byte : ℕ) → ((start ++ (front ++ text)) ++ byte ∷ []) ++ path ≡ start ++ (front ++ (text ++ byte ∷ path))
-written_next start front text path byte =
-    append_assoc (start ++ (front ++ text)) (byte ∷ []) path
-    ∙ append_assoc start (front ++ text) (byte ∷ path)
-    ∙ ap (λ rest. start ++ rest) (append_assoc front text (byte ∷ path))
-
--- a part that has some paths
-pub some_part : (paths : List (List ℕ)) → (length paths == 0) ≡ false → codes " |" ++ flat_map spaced paths ≡ part_text paths
-some_part [] h = absurd (let x : true ≡ false = h in cc)
-some_part (path ∷ paths) h = refl
+written_next start front text path byte = simp append_assoc
 
 -- what holds of all paths of a statement holds of those of each part
 pub first_part : (P : List ℕ → Type 0) (output : List ℕ) (outputs inputs : List (List ℕ)) → All P (output ∷ (outputs ++ inputs)) → All P outputs

@@ -1,6 +1,4 @@
--- The grammar of a dyndep file, and runs over its lines: they give the same statements, and
--- continue with the same
--- lines.
+-- The grammar of a dyndep file, and runs over its lines: they give the same statements, and continue with the same lines.
 use Rattle.std.proofs.Common.{inl, inr, ◌⊎◌, ◌||◌, ◌≡◌, ℕ, Bool, true, false, List, [], ◌∷◌, ◌++◌, refl, sym, ap, ◌∙◌, subst, append_assoc, Some, None}
 use Rattle.std.specs.Prelude.{Option, if◌then◌else◌}
 use Rattle.std.specs.List.{list_all}
@@ -13,7 +11,7 @@ use Rattle.dyndep_file.specs.Grammar.{comment_first, blank_first, version_line, 
 use Rattle.dyndep_file.specs.Steps.{ProgressValue, with_last_restat, step, run}
 use Rattle.dyndep_file.specs.declared.progress.Stage.{Stage}
 use Rattle.dyndep_file.specs.declared.progress.Stage.TheVariants.{BeforeVersion, NoneOpen, Open}
-use Rattle.dyndep_file.proofs.TableLemmas.{never}
+use Rattle.dyndep_file.proofs.LineLemmas.{never}
 
 -- a statement, by its paths and its flag
 abbrev pub statement : List ℕ → List (List ℕ) → List (List ℕ) → Bool → StatementValue
@@ -156,29 +154,28 @@ run_is_file (Version ∷ classes) end h past = let a = (run_adds classes).none [
 run_is_file (Build o outs ins ∷ classes) end h past = never h
 run_is_file (Binding flag ∷ classes) end h past = never h
 
+-- there is a value, or there is none
+pub none_or_some : {X : Type 0} (o : Option X) → (o ≡ None) ⊎ ((x : X) × (o ≡ Some x))
+none_or_some None = inl refl
+none_or_some (Some x) = inr (x, refl)
+
 -- a run over more lines passes through the fewer
 run_front : (classes more : List DyndepClass) (stage : Stage) (start : List StatementValue) (end : ProgressValue) → run stage start (classes ++ more) ≡ Some end
     → (mid : ProgressValue) × (run stage start classes ≡ Some mid) × (run mid.stage mid.statements more ≡ Some end)
 run_front [] more stage start end h = (record { stage = stage; statements = start }, refl, h)
-run_front (c ∷ classes) more stage start end h = elim (cases_step (step stage start c)) [
+run_front (c ∷ classes) more stage start end h = elim (none_or_some (step stage start c)) [
   | inl e ↦ absurd (let x : ◌≡◌ {A = Option ProgressValue} None (Some end) = rw e at h in cc)
   | inr o ↦ let later = run_front classes more o.0.stage o.0.statements end (rw o.1 at h) in (later.0, rw o.1 later.1, later.2)
-] where
-  cases_step : (o : Option ProgressValue) → (o ≡ None) ⊎ ((next : ProgressValue) × (o ≡ Some next))
-  cases_step None = inl refl
-  cases_step (Some next) = inr (next, refl)
+]
 
 -- and continues from there
 pub run_more : (classes more : List DyndepClass) (stage : Stage) (start : List StatementValue) (mid : ProgressValue) → run stage start classes ≡ Some mid
     → run stage start (classes ++ more) ≡ run mid.stage mid.statements more
 run_more [] more stage start mid h = ap (λ s. run s.stage s.statements more) (progress_same h)
-run_more (c ∷ classes) more stage start mid h = elim (cases_step (step stage start c)) [
+run_more (c ∷ classes) more stage start mid h = elim (none_or_some (step stage start c)) [
   | inl e ↦ absurd (let x : ◌≡◌ {A = Option ProgressValue} None (Some mid) = rw e at h in cc)
   | inr o ↦ rw o.1 (run_more classes more o.0.stage o.0.statements mid (rw o.1 at h))
-] where
-  cases_step : (o : Option ProgressValue) → (o ≡ None) ⊎ ((next : ProgressValue) × (o ≡ Some next))
-  cases_step None = inl refl
-  cases_step (Some next) = inr (next, refl)
+]
 
 -- lines that some dyndep file begins with can be run over
 pub begins_runs : (classes : List DyndepClass) → BeginsDyndepFile classes → (end : ProgressValue) × (run BeforeVersion [] classes ≡ Some end)

@@ -17,7 +17,7 @@ use Rattle.dyndep_file.specs.Writing.{part_text, build_line, statement_text, dyn
 use Rattle.dyndep_file.specs.WriteFaults.{paths_of, CanBeWritten}
 use Rattle.std.proofs.lemmas.Grind.{flat_map-append}
 use Rattle.ninja_text.specs.Assignments.{SeenAssignment}
-use Rattle.dyndep_file.specs.Grammar.{IsDyndepBody, IsDyndepFile, binding_here, body_end, body_build, body_build_binding, version_line}
+use Rattle.dyndep_file.specs.Grammar.{IsDyndepBody, binding_here, body_end, body_build, body_build_binding, version_line}
 
 -- ---- a build line as it is written
 
@@ -162,12 +162,6 @@ first_line = codes "ninja_dyndep_version = 1" ++ 10 ∷ []
 abbrev pub restat_line : List ℕ
 restat_line = codes "  restat = 1" ++ 10 ∷ []
 
-first_is_line : IsLine first_line
-first_is_line = (24, refl)
-
-restat_is_line : IsLine restat_line
-restat_is_line = (12, refl)
-
 first_classed : IsOfClass dyndep_format first_line Version
 first_classed =
     let version : SeenAssignment = record { name_start = 0; name = codes "ninja_dyndep_version"; raw_value = codes "1" } in
@@ -193,7 +187,7 @@ abbrev pub classes_of : StatementValue → List DyndepClass
 classes_of s = Build s.output s.implicit_outputs s.implicit_inputs ∷ flag_classes s.restat
 
 flag_are_lines : (flag : Bool) → AllByRecursion IsLine (flag_lines flag)
-flag_are_lines true = (restat_is_line, tt)
+flag_are_lines true = ((12, refl), tt)
 flag_are_lines false = tt
 
 flag_classed : (flag : Bool) → AreOfClasses dyndep_format (flag_lines flag) (flag_classes flag)
@@ -239,14 +233,11 @@ classes_for ss = Version ∷ flat_map classes_of ss
 pub divided_for : (ss : List StatementValue) → AllByRecursion CanBeWritten ss → Divides (dyndep_text ss) (lines_for ss) []
 divided_for ss can = record {
   whole = ap (λ t. first_line ++ t) (sym (lines_text ss)) ∙ sym (append-nil (first_line ++ joined (flat_map lines_of ss)));
-  each = (first_is_line, are_lines ss can);
+  each = ((24, refl), are_lines ss can);
   partial = refl;
 }
-
-pub written_file : (ss : List StatementValue) → IsDyndepFile (classes_for ss) ss
-written_file ss = version_line (written_body ss)
 
 pub stands_for : (ss : List StatementValue) → All CanBeWritten ss → StandsFor (dyndep_text ss) ss
 stands_for ss all =
     let can = recursion_from_All CanBeWritten ss all in
-    record { lines = lines_for ss; classes = classes_for ss; divided = divided_for ss can; classed = (first_classed, are_classed ss can); grammar = written_file ss }
+    record { lines = lines_for ss; classes = classes_for ss; divided = divided_for ss can; classed = (first_classed, are_classed ss can); grammar = version_line (written_body ss) }

@@ -7,7 +7,7 @@ use Rattle.dyndep_file.specs.Faults.{output_fault, rule_fault, after_rule_fault}
 use Rattle.dyndep_file.specs.declared.fault.LineFault.TheVariants.{BadRule}
 use Rattle.dyndep_file.specs.inner.Paths.{texts}
 use Rattle.dyndep_file.proofs.Parts.{refuses, fault_at_rule, fault_after_rule, named}
-use Rattle.dyndep_file.proofs.TableLemmas.{is_word-true}
+use Rattle.dyndep_file.proofs.LineLemmas.{is_word-true}
 use Rattle.dyndep_file.proofs.build_line.statement.Goals as goal
 use Rattle.dyndep_file.proofs.build_line.statement.Goals.{in_default-via-in-Some+else-is_keyword, in_default-via-in_default}
 

@@ -1,4 +1,4 @@
-use Rattle.dyndep_file.proofs.StayLemmas.{fault_stays}
+use Rattle.dyndep_file.proofs.LawLemmas.{fault_stays}
 use Rattle.dyndep_file.proofs.laws.fault_stays.Goals as goal
 
 pub returns : goal.returns

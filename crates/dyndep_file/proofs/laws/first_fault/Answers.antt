@@ -1,4 +1,4 @@
-use Rattle.dyndep_file.proofs.TextLemmas.{fault_behind}
+use Rattle.dyndep_file.proofs.WriteLemmas.{fault_behind}
 use Rattle.dyndep_file.proofs.laws.first_fault.Goals as goal
 
 pub returns : goal.returns

@@ -1,4 +1,4 @@
-use Rattle.dyndep_file.proofs.WriteFaultLemmas.{only_too_long, one_too_long}
+use Rattle.dyndep_file.proofs.WriteLemmas.{only_too_long, one_too_long}
 use Rattle.dyndep_file.proofs.laws.long_lines.Goals as goal
 
 pub returns-clause-lists : goal.returns-clause-lists

@@ -1,4 +1,4 @@
-use Rattle.dyndep_file.proofs.WriteFaultLemmas.{all_written, none_faulty}
+use Rattle.dyndep_file.proofs.WriteLemmas.{all_written, none_faulty}
 use Rattle.dyndep_file.proofs.laws.writable_statements.Goals as goal
 
 pub returns : goal.returns

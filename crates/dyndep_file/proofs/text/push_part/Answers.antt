@@ -1,10 +1,9 @@
-use Rattle.std.proofs.Common.{◌≡◌, ◌==◌, ℕ, ◌<◌, ◌≤◌, length, false, List, Bor, ◌∷◌, [], ◌++◌, take, codes, get_or, ap, sym, subst, ◌∙◌}
+use Rattle.std.proofs.Common.{ℕ, ◌<◌, List, Bor, ◌∷◌, [], ◌++◌, take, codes, get_or, ap, sym, subst, ◌∙◌}
 use Rattle.std.specs.List.{flat_map}
-use Rattle.std.proofs.lemmas.List.{take_all}
 use Rattle.ninja_text.specs.Escapes.{escaped, IsWritable}
 use Rattle.dyndep_file.specs.Writing.{spaced}
 use Rattle.dyndep_file.specs.inner.Paths.{lent_texts}
-use Rattle.dyndep_file.proofs.Parts.{text_at, same_length, flat_map_next_path, written_next, some_part}
+use Rattle.dyndep_file.proofs.Parts.{text_at, same_length, flat_map_next_path, written_next}
 use Rattle.dyndep_file.proofs.text.push_part.Goals as goal
 
 pub escape_into-requires : goal.escape_into-requires
@@ -20,16 +19,3 @@ loop-path-preserved c =
     ∙ ap (λ text. text ++ escaped path) (c.in_ok-extend_from_slice-2.ensures.items ∙ ap (λ text. text ++ 32 ∷ []) c.loop-path.invariant)
     ∙ written_next c.args.text.now.items (codes " |") (flat_map spaced (take c.loop-path.path-index (lent_texts c.args.paths.now))) (escaped path) 32
     ∙ ap (λ text. c.args.text.now.items ++ (codes " |" ++ text)) (sym (flat_map_next_path spaced c.args.paths.now c.loop-path.path-index other c.loop-path-test.true))
-
-pub loop-path-init : goal.loop-path-init
-loop-path-init c = c.in_ok-extend_from_slice.ensures.items
-
-pub returns : goal.returns
-returns c =
-    let all = lent_texts c.args.paths.now in
-    let front = c.args.text.now.items in
-    let past : length all ≤ c.loop-path.path-index = subst (λ n. n ≤ c.loop-path.path-index) (sym (same_length c.args.paths.now)) c.loop-path-test.false in
-    let some : (length all == 0) ≡ false = subst (λ n. (n == 0) ≡ false) (sym (same_length c.args.paths.now)) (sym c.is_empty.ensures ∙ c.if-is_empty.false) in
-    c.loop-path.invariant
-    ∙ ap (λ paths. front ++ (codes " |" ++ flat_map spaced paths)) (take_all c.loop-path.path-index all past)
-    ∙ ap (λ text. front ++ text) (some_part all some)

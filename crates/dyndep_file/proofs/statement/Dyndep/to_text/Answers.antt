@@ -1,31 +1,30 @@
-use Rattle.std.proofs.Common.{Bool, Some, refl, ◌≡◌, ◌≤◌, length, ℕ, ◌+◌, List, [], ◌∷◌, ◌++◌, take, drop, ap, subst, sym, ◌∙◌}
+use Rattle.std.proofs.Common.{Some, ◌≡◌, ◌≤◌, length, ℕ, ◌+◌, List, [], ◌∷◌, ◌++◌, take, drop, ap, subst, sym, ◌∙◌}
 use Rattle.std.proofs.lemmas.List.{take_more, take_all, take-append-drop, drop_more}
 use Rattle.std.proofs.lemmas.Result.{err_from_is_err_and}
 use Rattle.ninja_text.specs.Bytes.{Text}
 use Rattle.ninja_text.specs.Failure.{ForFault}
 use Rattle.dyndep_file.specs.StatementValue.{StatementValue}
+use Rattle.dyndep_file.specs.contracts.statement.Statement.{the_view}
 use Rattle.dyndep_file.specs.WriteFaults.{statement_fault}
 use Rattle.dyndep_file.specs.inner.Paths.{texts, lent_texts}
 use Rattle.dyndep_file.specs.Texts.{TextValue, IsTextOf, IsFinished}
-use Rattle.dyndep_file.proofs.TextLemmas.{refused_behind}
+use Rattle.dyndep_file.proofs.WriteLemmas.{refused_behind}
 use Rattle.dyndep_file.proofs.statement.Dyndep.to_text.Goals as goal
 
 -- a statement whose paths are borrowed
-lent_is : (s : StatementValue) (output : Text) (outputs inputs : List Text) (restat : Bool) → output ≡ s.output → outputs ≡ s.implicit_outputs → inputs ≡ s.implicit_inputs → restat ≡ s.restat
-    → ◌≡◌ {A = StatementValue} (record { output = output; implicit_outputs = outputs; implicit_inputs = inputs; restat = restat }) s
-lent_is s output outputs inputs restat a b c d = rw (a, b, c, d) refl
+lent_is : (t s : StatementValue) (output : Text) (outputs inputs : List Text) → t ≡ s → output ≡ t.output → outputs ≡ t.implicit_outputs → inputs ≡ t.implicit_inputs
+    → ◌≡◌ {A = StatementValue} (record { output = output; implicit_outputs = outputs; implicit_inputs = inputs; restat = t.restat }) s
+lent_is t s output outputs inputs view a b c = rw (a, b, c) view
 
 pub loop-statement-preserved : goal.loop-statement-preserved
 loop-statement-preserved c =
     let all : List StatementValue = c.deref-statement-items.result.now in
     let i : ℕ = c.loop-statement.statement-index in
     let s : StatementValue = c.statement-item.result in
-    let view = c.statement.view_is in
-    let same = lent_is s c.deref-in-loop-statement-2.result.now (lent_texts c.deref-in-loop-statement-3.result.now) (lent_texts c.deref-in-loop-statement-4.result.now) c.statement.inside.restat
-    (c.deref-in-loop-statement-2.ensures.value ∙ ap (λ (t : StatementValue). t.output) view)
-    (ap lent_texts c.deref-in-loop-statement-3.ensures.value ∙ c.in_ok-lend.ensures ∙ ap texts c.deref.ensures.value ∙ ap (λ (t : StatementValue). t.implicit_outputs) view)
-    (ap lent_texts c.deref-in-loop-statement-4.ensures.value ∙ c.in_ok-lend-2.ensures ∙ ap texts c.deref-in-loop-statement.ensures.value ∙ ap (λ (t : StatementValue). t.implicit_inputs) view)
-    (ap (λ (t : StatementValue). t.restat) view) in
+    let same = lent_is (the_view c.statement.inside) s c.deref-in-loop-statement-2.result.now (lent_texts c.deref-in-loop-statement-3.result.now) (lent_texts c.deref-in-loop-statement-4.result.now)
+    c.statement.view_is c.deref-in-loop-statement-2.ensures.value
+    (ap lent_texts c.deref-in-loop-statement-3.ensures.value ∙ c.in_ok-lend.ensures ∙ ap texts c.deref.ensures.value)
+    (ap lent_texts c.deref-in-loop-statement-4.ensures.value ∙ c.in_ok-lend-2.ensures ∙ ap texts c.deref-in-loop-statement.ensures.value) in
     let next : take i all ++ s ∷ [] ≡ take (i + 1) all = ap (λ x. take i all ++ x ∷ []) c.statement-item.is ∙ sym (take_more all i s c.loop-statement-test.true) in
     subst (λ xs. IsTextOf xs c.add.new.self) next
     (subst (λ (t : StatementValue). IsTextOf (take i all ++ t ∷ []) c.add.new.self) same (c.in_ok-add.ensures.added (take i all) c.loop-statement.invariant))
@@ -36,12 +35,10 @@ returns-in_err-add-clause-text c =
     let all : List StatementValue = c.deref-statement-items.result.now in
     let i : ℕ = c.loop-statement.statement-index in
     let s : StatementValue = c.statement-item.result in
-    let view = c.statement.view_is in
-    let same = lent_is s c.deref-in-loop-statement-2.result.now (lent_texts c.deref-in-loop-statement-3.result.now) (lent_texts c.deref-in-loop-statement-4.result.now) c.statement.inside.restat
-    (c.deref-in-loop-statement-2.ensures.value ∙ ap (λ (t : StatementValue). t.output) view)
-    (ap lent_texts c.deref-in-loop-statement-3.ensures.value ∙ c.in_ok-lend.ensures ∙ ap texts c.deref.ensures.value ∙ ap (λ (t : StatementValue). t.implicit_outputs) view)
-    (ap lent_texts c.deref-in-loop-statement-4.ensures.value ∙ c.in_ok-lend-2.ensures ∙ ap texts c.deref-in-loop-statement.ensures.value ∙ ap (λ (t : StatementValue). t.implicit_inputs) view)
-    (ap (λ (t : StatementValue). t.restat) view) in
+    let same = lent_is (the_view c.statement.inside) s c.deref-in-loop-statement-2.result.now (lent_texts c.deref-in-loop-statement-3.result.now) (lent_texts c.deref-in-loop-statement-4.result.now)
+    c.statement.view_is c.deref-in-loop-statement-2.ensures.value
+    (ap lent_texts c.deref-in-loop-statement-3.ensures.value ∙ c.in_ok-lend.ensures ∙ ap texts c.deref.ensures.value)
+    (ap lent_texts c.deref-in-loop-statement-4.ensures.value ∙ c.in_ok-lend-2.ensures ∙ ap texts c.deref-in-loop-statement.ensures.value) in
     let parts : take i all ++ s ∷ drop (i + 1) all ≡ c.args.self.now =
     ap (λ x. take i all ++ x ∷ drop (i + 1) all) c.statement-item.is ∙ ap (λ xs. take i all ++ xs) (sym (drop_more all i s c.loop-statement-test.true)) ∙ take-append-drop i all ∙ (c.deref-statement-items.ensures.value ∙ c.self.view_is) in
     rw (p.1, p.2, ← parts) (refused_behind (take i all) s (drop (i + 1) all) c.loop-statement.text.count _ c.loop-statement.invariant.unfaulted c.loop-statement.invariant.count
@@ -52,11 +49,7 @@ ended : (all statements : List StatementValue) (i : ℕ) (text : TextValue) (byt
     → ((added : List StatementValue) → IsTextOf added text → IsFinished added bytes) → IsFinished statements bytes
 ended all statements i text bytes same past so_far finish = subst (λ xs. IsFinished xs bytes) (take_all i all past ∙ same) (finish (take i all) so_far)
 
-pub returns-clause-text : goal.returns-clause-text
-returns-clause-text c = (ended _ _ _ _ _ (c.deref-statement-items.ensures.value ∙ c.self.view_is) c.loop-statement-test.false c.loop-statement.invariant c.finish.ensures).text
-
-pub returns-clause-unfaulted : goal.returns-clause-unfaulted
-returns-clause-unfaulted c = (ended _ _ _ _ _ (c.deref-statement-items.ensures.value ∙ c.self.view_is) c.loop-statement-test.false c.loop-statement.invariant c.finish.ensures).unfaulted
-
-pub returns-clause-meaning : goal.returns-clause-meaning
-returns-clause-meaning c = (ended _ _ _ _ _ (c.deref-statement-items.ensures.value ∙ c.self.view_is) c.loop-statement-test.false c.loop-statement.invariant c.finish.ensures).meaning
+pub returns : goal.returns
+returns c =
+    let all = ended _ _ _ _ _ (c.deref-statement-items.ensures.value ∙ c.self.view_is) c.loop-statement-test.false c.loop-statement.invariant c.finish.ensures in
+    record { text = all.text; unfaulted = all.unfaulted; meaning = all.meaning }

@@ -7,8 +7,7 @@ use Rattle.ninja_text.specs.Escapes.{is_writable}
 use Rattle.dyndep_file.specs.WriteFaults.{paths_of}
 use Rattle.dyndep_file.specs.declared.fault.WriteFault.TheVariants.{Unwritable}
 use Rattle.dyndep_file.proofs.Parts.{position-paths}
-use Rattle.dyndep_file.proofs.WriteFaultLemmas.{paths_written}
-use Rattle.dyndep_file.proofs.TextLemmas.{unwritable}
+use Rattle.dyndep_file.proofs.WriteLemmas.{paths_written, unwritable}
 use Rattle.dyndep_file.proofs.text.DyndepText.add.Goals as goal
 
 pub add_writable-requires : goal.add_writable-requires

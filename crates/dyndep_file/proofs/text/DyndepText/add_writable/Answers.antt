@@ -9,8 +9,7 @@ use Rattle.dyndep_file.specs.WriteFaults.{paths_of}
 use Rattle.dyndep_file.specs.declared.fault.WriteFault.TheVariants.{StatementTooLong}
 use Rattle.dyndep_file.specs.inner.Paths.{lent_texts}
 use Rattle.dyndep_file.proofs.Parts.{first_part, second_part, line_written}
-use Rattle.dyndep_file.proofs.WriteFaultLemmas.{all_found}
-use Rattle.dyndep_file.proofs.TextLemmas.{added, counted, too_long}
+use Rattle.dyndep_file.proofs.WriteLemmas.{all_found, added, counted, too_long}
 use Rattle.dyndep_file.proofs.text.DyndepText.add_writable.Goals as goal
 use Rattle.dyndep_file.proofs.text.DyndepText.add_writable.Goals.{then-statement+in_ok-extend_from_slice-4, else-statement}
 

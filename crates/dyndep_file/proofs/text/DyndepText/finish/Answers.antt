@@ -1,5 +1,5 @@
 use Rattle.std.proofs.Common.{ap}
-use Rattle.dyndep_file.proofs.TextLemmas.{finished}
+use Rattle.dyndep_file.proofs.WriteLemmas.{finished}
 use Rattle.dyndep_file.proofs.text.DyndepText.finish.Goals as goal
 
 pub returns : goal.returns
