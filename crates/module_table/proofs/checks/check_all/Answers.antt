@@ -64,4 +64,3 @@ returns-in_err-needs-clause-fault c =
     let same = c.in_ok-modules.ensures.modules in
     let p = err_from_is_err_and c.from_residual-in_err-needs.result c.from_residual-in_err-needs.ensures.1 in
     rw (p.1, p.2) (for_fault _ _ _ (λ fault is. subst (λ t. IsReported t c.args.kept.now fault.value) same is) c.in_err-needs.ensures.fault)
-

@@ -1,10 +1,8 @@
-use Rattle.std.proofs.Common.{◌≡◌, ◌≤◌, ◌<◌, ◌+◌, ◌∙◌, ◌++◌, ◌∷◌, [], ap, arith, get_or, length, map, refl, set, slice_get, subst, sym, take, List, Some, Vec, ℕ}
+use Rattle.std.proofs.Common.{◌≡◌, ◌<◌, ◌+◌, ◌∙◌, ◌++◌, ◌∷◌, [], ap, arith, get_or, length, map, refl, set, slice_get, subst, sym, take, List, Some, Vec, ℕ}
 use Rattle.std.specs.declared.alloc.Global.{Global}
 use Rattle.std.specs.List.{filter_map}
 use Rattle.std.specs.Option.{option_map}
-use Rattle.std.specs.Prelude.{All}
 use Rattle.std.proofs.lemmas.List.{length-set, map-append}
-use Rattle.std.proofs.lemmas.List.Elements.{All-replicate}
 use Rattle.std.proofs.lemmas.Option.{slice_get-get_or, slice_get_read, get_or_from_slice_get}
 use Rattle.dep_order.specs.Rows.{rows}
 use Rattle.module_table.specs.Modules.{Provision, provisions}
@@ -12,7 +10,7 @@ use Rattle.module_table.specs.Added.{first_mentions, pair_of, required_of}
 use Rattle.module_table.specs.inner.Indexed.{pair_at}
 use Rattle.module_table.specs.inner.Views.{names_of, provision_of}
 use Rattle.module_table.specs.inner.Mentioned.{name_in, ArePairsSoFar}
-use Rattle.module_table.proofs.IndexRows.{length_mapped, take_all, many_rows, rule_of, index_within}
+use Rattle.module_table.proofs.IndexRows.{length_mapped, take_all, rule_of, index_within}
 use Rattle.module_table.proofs.Mentions.{row_names, pairs_found, no_pairs, pairs_new, pairs_old}
 use Rattle.module_table.proofs.needed.all_pairs.Goals as goal
 use Rattle.module_table.proofs.needed.all_pairs.Goals.{then-index-object+in_ok-copy_pair+in_ok-push, else-index-object}
@@ -23,13 +21,6 @@ items_of row = row.items
 
 abbrev pair : Provision → List ℕ × List ℕ
 pair p = (p.name, p.file)
-
-pub loop-object-init : goal.loop-object-init
-loop-object-init c = record {
-  as_many = omega (arith, c.in_ok-marks.ensures.len, c.in_ok-marks.marks.ok.0, length_mapped provision_of c.provided-provided.result.now, ap length c.provided-provided.ensures.provisions);
-  at_most = subst (All (λ mark. mark ≤ 0)) (sym (c.in_ok-marks.ensures.items_if_clones_equal (λ y e. e))) (All-replicate (λ mark. mark ≤ 0) _ 0 (omega arith));
-  found = ap (map (λ r. r.items)) c.in_ok-all.ensures.items;
-}
 
 pub loop-index-init : goal.loop-index-init
 loop-index-init c = record {
@@ -115,11 +106,3 @@ loop-object-preserved c =
           ∙ ap (λ x. map (required_of t) (take i t.objects) ++ x ∷ []) same
           ∙ sym (ap (map (required_of t)) (take_next t.objects i rule.0 rule.1) ∙ map-append (required_of t) (take i t.objects) (rule.0 ∷ []));
     }
-
-pub returns : goal.returns
-returns c =
-    let t = c.args.modules.now in
-    let many = many_rows t (rows c.args.required.now) c.requires in
-    let long = length_mapped items_of c.args.required.now in
-    let all : length t.objects ≤ c.loop-object.object = omega (arith, c.loop-object-test.false, many, long) in
-    c.loop-object.invariant.found ∙ ap (map (required_of t)) (take_all t.objects c.loop-object.object all)

@@ -1,4 +1,4 @@
-use Rattle.std.proofs.Common.{◌≤◌, ◌∙◌, ap, arith, get_or, Bool, length, not, subst, sym, refl, slice_get, take, Some, List, ℕ, Vec}
+use Rattle.std.proofs.Common.{◌∙◌, ap, arith, get_or, Bool, length, not, subst, sym, refl, slice_get, take, Some, List, ℕ, Vec}
 use Rattle.std.specs.declared.alloc.Global.{Global}
 use Rattle.std.proofs.lemmas.Option.{slice_get_read, slice_get-get_or}
 use Rattle.dep_order.specs.Rows.{rows}
@@ -6,7 +6,7 @@ use Rattle.module_table.specs.Modules.{Provision, provisions}
 use Rattle.module_table.specs.inner.Views.{names_of, provision_of}
 use Rattle.module_table.specs.inner.Finds.{none_or, RequiresPublic, AcceptsAll}
 use Rattle.module_table.specs.inner.Reported.{Reports}
-use Rattle.module_table.proofs.IndexRows.{take_all, many_rows, rule_of, name_of_index, index_within, length_mapped}
+use Rattle.module_table.proofs.IndexRows.{take_all, rule_of, name_of_index, index_within, length_mapped}
 use Rattle.module_table.proofs.Found.{IsPublicAt, IsPrivateAt, row_public, row_private}
 use Rattle.module_table.proofs.Lists.{accepts_next, refuses_here}
 use Rattle.module_table.proofs.Passing.{reports_private_object}
@@ -83,11 +83,3 @@ loop-object-preserved c =
     let rule = rule_of t (rows c.args.required.now) c.requires o row.items (to_map items_of c.args.required.now o row there) in
     let public = subst (AcceptsAll (IsPublicAt ps differ)) (take_all c.deref-index-items.result.now c.loop-index.index-index c.loop-index-test.false ∙ c.deref-index-items.ensures.value) c.loop-index.invariant in
     accepts_next (RequiresPublic ps) (RequiresPublic ps) t.objects o rule.0 rule.1 c.loop-object.invariant (row_public ps differ row.items rule.0.required rule.2 public)
-
-pub returns-clause-ok : goal.returns-clause-ok
-returns-clause-ok c =
-    let t = c.args.modules.now in
-    let many = many_rows t (rows c.args.required.now) c.requires in
-    let long = length_mapped items_of c.args.required.now in
-    let all : length t.objects ≤ c.loop-object.object = omega (arith, c.loop-object-test.false, many, long) in
-    subst (AcceptsAll (RequiresPublic (provisions t))) (take_all t.objects c.loop-object.object all) c.loop-object.invariant

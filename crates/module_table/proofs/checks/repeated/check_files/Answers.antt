@@ -1,4 +1,4 @@
-use Rattle.std.proofs.Common.{◌≡◌, ◌+◌, ◌-◌, ◌≤◌, ap, map, refl, arith, append-nil, length, slice_get, subst, sym, take, true, ◌∙◌, ◌++◌, List, ℕ, Some}
+use Rattle.std.proofs.Common.{◌≡◌, ◌+◌, ◌-◌, ◌≤◌, ap, map, refl, arith, length, slice_get, subst, sym, take, true, ◌∙◌, ◌++◌, List, ℕ, Some}
 use Rattle.std.proofs.lemmas.Option.{slice_get_read}
 use Rattle.scan_docs.specs.Scan.{RuleValue}
 use Rattle.module_table.specs.Faults.{Claim, claims_of}
@@ -33,15 +33,6 @@ all_files paths provided i over =
     let files = files_of (map provision_of provided) in
     let long = length_mapped (λ (q : Provision). q.file) (map provision_of provided) ∙ length_mapped provision_of provided in
     take_behind paths files i ∙ ap (λ ys. paths ++ ys) (take_all files i (omega (arith, over, long)))
-
-pub loop-module-init : goal.loop-module-init
-loop-module-init c =
-    let paths = c.args.files.now.keys in
-    let none = take_behind paths (files_of (map provision_of c.provided-provided.result.now)) 0 ∙ append-nil paths in
-    record {
-      same = c.in_ok-reserve.ensures.keys ∙ sym none;
-      differ = subst AllDiffer (sym (none ∙ c.requires.paths)) c.requires.differ;
-    }
 
 pub module_at-requires : goal.module_at-requires
 module_at-requires c =
@@ -115,11 +106,3 @@ loop-module-preserved c =
       same = sym (map_same c.insert_full.new.self.keys) ∙ keys_if_new (λ n. n) texts (length paths + i) _ c.loop-module.files.keys c.insert_full.new.self.keys at before c.loop-module.invariant.differ h.keys fresh ∙ ap (λ n. take n texts) next;
       differ = subst (λ n. AllDiffer (take n texts)) next (differ_if_new (λ n. n) texts (length paths + i) _ c.loop-module.files.keys c.insert_full.new.self.keys at before c.loop-module.invariant.differ h.keys fresh);
     }
-
-pub returns-clause-files : goal.returns-clause-files
-returns-clause-files c =
-    let provided = c.provided-provided.result.now in
-    c.loop-module.invariant.same ∙ all_files c.args.files.now.keys provided c.loop-module.module-index c.loop-module-test.false
-    ∙ ap (λ xs. xs ++ files_of (map provision_of provided)) c.requires.paths
-    ∙ ap (λ ps. map object_of c.args.modules.now.objects ++ files_of ps) c.provided-provided.ensures.provisions
-

@@ -16,12 +16,6 @@ text_of target = target.now
 abbrev target_of : InfoValue → List ℕ
 target_of info = info.target
 
-pub loop-info-init : goal.loop-info-init
-loop-info-init c = record {
-  same = ap (map text_of) (c.in_ok-reserve.ensures.keys ∙ c.with_hasher-targets.ensures.empty);
-  differ = record { differ = λ i j x lt at again. cc };
-}
-
 pub returns-then-not-is_new-clause-fault : goal.returns-then-not-is_new-clause-fault
 returns-then-not-is_new-clause-fault c =
     let infos = c.args.infos.now in
@@ -49,4 +43,3 @@ loop-info-preserved c =
       same = keys_if_new text_of (map target_of infos) i _ c.loop-info.targets.keys c.insert_full.new.self.keys at c.loop-info.invariant.same c.loop-info.invariant.differ h.keys fresh;
       differ = differ_if_new text_of (map target_of infos) i _ c.loop-info.targets.keys c.insert_full.new.self.keys at c.loop-info.invariant.same c.loop-info.invariant.differ h.keys fresh;
     }
-

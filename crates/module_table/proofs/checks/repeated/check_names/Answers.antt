@@ -1,11 +1,10 @@
-use Rattle.std.proofs.Common.{◌≡◌, ◌∙◌, ◌<◌, ◌≤◌, ap, arith, length, sym, refl, map, List, ℕ, Some, slice_get}
+use Rattle.std.proofs.Common.{◌≡◌, ◌∙◌, ◌<◌, ap, arith, length, sym, refl, map, List, ℕ, Some, slice_get}
 use Rattle.std.proofs.lemmas.Option.{slice_get_read}
 use Rattle.module_table.specs.inner.Views.{provision_of, names_of}
 use Rattle.module_table.specs.Modules.{Provision}
 use Rattle.module_table.specs.TableValue.{TableValue}
 use Rattle.module_table.specs.declared.modules.Module.{Module}
 use Rattle.module_table.specs.declared.fault.TableFault.TheVariants.{ProvidedTwice}
-use Rattle.module_table.proofs.IndexRows.{take_all, length_mapped}
 use Rattle.module_table.proofs.Lists.{repeats_if_found, keys_if_new, differ_if_new, map_same}
 use Rattle.module_table.proofs.ReportLemmas.{reports_provided_twice, for_boxed}
 use Rattle.module_table.specs.inner.Reported.{Reports}
@@ -18,24 +17,6 @@ name_of p = p.name
 -- the name at the place, in the list of names
 name_at : (provided : List Module) (place : ℕ) (p : Module) → slice_get provided place ≡ Some p → (name : List ℕ) → name ≡ p.name.now → slice_get (names_of (map provision_of provided)) place ≡ Some name
 name_at provided place p at name same = to_map name_of (map provision_of provided) place (provision_of p) (to_map provision_of provided place p at) ∙ ap (λ n. Some n) (sym same)
-
-pub loop-module-init : goal.loop-module-init
-loop-module-init c = record {
-  same = c.in_ok-reserve.ensures.keys ∙ c.with_hasher-names.ensures.empty;
-  differ = record { differ = λ i j x lt at again. cc };
-}
-
-pub index-requires : goal.index-requires
-index-requires c =
-    let provided = c.deref-module-items.result.now in
-    let i = c.loop-module.module-index in
-    let at = name_at provided i c.module-item.result (slice_get_read provided _ i c.module-item.result refl c.loop-module-test.true c.module-item.is) c.in_ok-copy.field-0 c.in_ok-copy.ensures in
-    let before = map_same c.loop-module.names.keys ∙ c.loop-module.invariant.same in
-    let h = c.in_ok-first.ensures in
-    let stored = h.stored in
-    let repeated = repeats_if_found (λ n. n) (names_of (map provision_of provided)) i c.in_ok-copy.field-0 c.loop-module.names.keys c.insert_full.new.self.keys at before c.loop-module.invariant.differ h.keys c.in_ok-first.first (sym c.if-not-is_new.true ∙ h.added) stored.0 stored.1 stored.2 in
-    let earlier = repeated.earlier in
-    omega (arith, earlier, c.loop-module-test.true, ap length c.deref-module-items.ensures.value, c.in_ok-provided.provided.ok.0)
 
 pub returns-then-not-is_new-clause-fault : goal.returns-then-not-is_new-clause-fault
 returns-then-not-is_new-clause-fault c =
@@ -71,12 +52,3 @@ loop-module-preserved c =
       same = sym (map_same c.insert_full.new.self.keys) ∙ keys_if_new (λ n. n) (names_of list) i c.in_ok-copy.field-0 c.loop-module.names.keys c.insert_full.new.self.keys at before c.loop-module.invariant.differ h.keys (sym c.if-not-is_new.false ∙ h.added);
       differ = differ_if_new (λ n. n) (names_of list) i c.in_ok-copy.field-0 c.loop-module.names.keys c.insert_full.new.self.keys at before c.loop-module.invariant.differ h.keys (sym c.if-not-is_new.false ∙ h.added);
     }
-
-pub new-requires-clause-names : goal.new-requires-clause-names
-new-requires-clause-names c =
-    let provided = c.deref-module-items.result.now in
-    let list = map provision_of provided in
-    let long = length_mapped name_of list ∙ length_mapped provision_of provided in
-    let all : length (names_of list) ≤ c.loop-module.module-index = omega (arith, c.loop-module-test.false, long) in
-    c.loop-module.invariant.same ∙ take_all (names_of list) c.loop-module.module-index all ∙ ap (λ modules. names_of (map provision_of modules)) c.deref-module-items.ensures.value
-

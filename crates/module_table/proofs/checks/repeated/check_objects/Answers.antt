@@ -14,12 +14,6 @@ use Rattle.ninja_text.proofs.ForCallers.{to_map}
 abbrev object_of : RuleValue → List ℕ
 object_of rule = rule.object
 
-pub loop-index-init : goal.loop-index-init
-loop-index-init c = record {
-  same = c.in_ok-reserve.ensures.keys ∙ c.requires;
-  differ = record { differ = λ i j x lt at again. cc };
-}
-
 pub returns-then-not-is_new-clause-fault : goal.returns-then-not-is_new-clause-fault
 returns-then-not-is_new-clause-fault c =
     let objects = c.args.objects.now in
@@ -50,4 +44,3 @@ loop-index-preserved c =
       same = sym (map_same c.insert_full.new.self.keys) ∙ keys_if_new (λ n. n) (map object_of objects) i _ c.loop-index.paths.keys c.insert_full.new.self.keys at before c.loop-index.invariant.differ h.keys fresh;
       differ = differ_if_new (λ n. n) (map object_of objects) i _ c.loop-index.paths.keys c.insert_full.new.self.keys at before c.loop-index.invariant.differ h.keys fresh;
     }
-

@@ -13,12 +13,6 @@ use Rattle.module_table.proofs.ReportLemmas.{for_boxed, in_row, reports_unknown}
 use Rattle.module_table.proofs.checks.required.check_objects_known.Goals as goal
 use Rattle.ninja_text.proofs.ForCallers.{in_take, take_next, from_map}
 
-pub loop-object-init : goal.loop-object-init
-loop-object-init c = ap (map (λ (row : Vec ℕ Global). map (slice_get (names_of (provisions c.args.modules.now))) row.items)) c.in_ok-indexes.ensures.items
-
-pub loop-required-init : goal.loop-required-init
-loop-required-init c = ap (map (slice_get (names_of (provisions c.args.modules.now)))) c.in_ok-row.ensures.items
-
 pub returns-in-None-clause-fault : goal.returns-in-None-clause-fault
 returns-in-None-clause-fault c =
     let t = c.args.modules.now in
@@ -49,17 +43,6 @@ loop-required-preserved c =
     let name = c.required-item.result in
     let at = slice_get_read required _ i name refl c.loop-required-test.true c.required-item.is in
     pushes_next (slice_get (names_of (provisions c.args.modules.now))) (λ (n : List ℕ). Some n) (take i required) (take (i + 1) required) name [] _ _ _ (take_next required i name at) c.loop-required.invariant c.in_ok-push-in-Some.ensures.items (finds (names_of (provisions c.args.modules.now)) name (Some c.in-Some.index) c.in-Some.ensures.index)
-
-pub loop-object-preserved : goal.loop-object-preserved
-loop-object-preserved c =
-    let keys = (names_of (provisions c.args.modules.now)) in
-    let objects = c.objects-objects.result.now in
-    let i = c.loop-object.object in
-    let rule = c.index-objects-object.result in
-    let at = slice_get_read objects _ i rule refl c.loop-object-test.true c.index-objects-object.is in
-    let list : c.deref-required-items.result.now ≡ rule.required = c.deref-required-items.ensures.value ∙ ap (λ (r : RuleValue). r.required) c.rule.view_is in
-    let row = c.loop-required.invariant ∙ ap (map (λ (name : List ℕ). Some name)) (take_all c.deref-required-items.result.now c.loop-required.required-index c.loop-required-test.false ∙ list) in
-    pushes_next (λ (row : Vec ℕ Global). map (slice_get keys) row.items) (λ (rule : RuleValue). map (λ name. Some name) rule.required) (take i objects) (take (i + 1) objects) rule [] _ _ _ (take_next objects i rule at) c.loop-object.invariant c.in_ok-push.ensures.items row
 
 pub returns-clause-ok : goal.returns-clause-ok
 returns-clause-ok c =

@@ -23,9 +23,6 @@ use Rattle.ninja_text.proofs.ForCallers.{to_map}
 abbrev items_of : Vec ℕ Global → List ℕ
 items_of row = row.items
 
-pub loop-row-init : goal.loop-row-init
-loop-row-init c = ap rows c.in_ok-needs.ensures.items
-
 pub loop-row-preserved : goal.loop-row-preserved
 loop-row-preserved c =
     let makers = filter_map (maker_at (map provision_of c.provided-provided.result.now)) in
