@@ -1,10 +1,11 @@
 -- What the public functions return, from what their steps leave.
+use Rattle.std.proofs.lemmas.Grind.{common_steps}
 use Rattle.std.proofs.Common.{◌≡◌, ◌≢◌, ℕ, ◌+◌, ◌<◌, ◌≤◌, List, [], ◌∷◌, ◌++◌, length, get_or, Option, None, sym, ◌∙◌, ap, subst, inl, inr, ◌⊎◌, ⊎_elim, arith, zero, suc}
 use Rattle.std.specs.List.{Contains, All}
 use Rattle.std.proofs.lemmas.Bool.{cases_eq, cases_lt, false_from_ne_true}
 use Rattle.std.proofs.lemmas.Cmp.{nat_eq_equiv}
-use Rattle.std.proofs.lemmas.List.{get_or_past, length_push, get_or_default}
-use Rattle.std.proofs.lemmas.List.Elements.{All-get_or, All-contains, Contains-push_cases, Contains-get_or}
+use Rattle.std.proofs.lemmas.List.{length_push, get_or_default}
+use Rattle.std.proofs.lemmas.List.Elements.{All-get_or, Contains-push_cases, Contains-get_or}
 use Rattle.std.proofs.lemmas.Map.Keys.{IsDistinct-push}
 use Rattle.std.proofs.lemmas.Map.Steps.{length-le_from_distinct_below, le-length_from_below}
 use Rattle.dep_order.specs.Needs.{needs_of, NodeNeeds, NeedsAreNodes, IsOrderable, IsChain}
@@ -15,9 +16,7 @@ use Rattle.dep_order.specs.inner.Users.{AreUsers}
 use Rattle.dep_order.specs.inner.Steps.{AreSteps, LeadsBack, IsFewest}
 use Rattle.dep_order.specs.inner.CyclesFrom.{HasCycle, IsLeastFrom, NoneFrom}
 use Rattle.dep_order.specs.inner.Marks.{mark_of}
-use Rattle.dep_order.proofs.Members.{has_none, has_or_not, has_from_any, any_from_has, count_from_has, has_from_count}
-use Rattle.dep_order.proofs.Chains.{rotated}
-use Rattle.dep_order.proofs.Orders.{AreWithin, orderable, next_on_cycle}
+use Rattle.dep_order.proofs.Orders.{has_none, has_or_not, has_from_any, any_from_has, count_from_has, has_from_count, rotated, AreWithin, orderable, next_on_cycle}
 use Rattle.dep_order.proofs.Orderings.{differ, not_more, ordered_below}
 use Rattle.dep_order.proofs.Stuck.{IsStuck, not_orderable, has_cycle}
 use Rattle.dep_order.proofs.Searches.{none_is_no_some}
@@ -25,11 +24,7 @@ use Rattle.dep_order.proofs.Greedy.{chain_steps}
 
 -- needs are among the nodes
 pub within : (graph : List (List ℕ)) → NeedsAreNodes graph → AreWithin (length graph) (NodeNeeds graph)
-within graph nodes thing needed need =
-    ⊎_elim
-    (λ lt. (lt, All-contains (λ n. n < length graph) (needs_of graph thing) needed (All-get_or (λ row. All (λ n. n < length graph) row) graph thing [] lt nodes) need))
-    (λ ge. absurd (has_none needed (subst (λ xs. Contains xs needed) (get_or_past graph thing [] ge) need)))
-    (cases_lt thing (length graph))
+within graph nodes thing needed need = grind (arith, common_steps)
 
 -- users and needs are the same read backwards
 pub uses : (needs users : List (List ℕ)) → AreUsers needs users → (node user : ℕ) → NodeNeeds users node user → NodeNeeds needs user node

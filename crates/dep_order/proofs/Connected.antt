@@ -1,10 +1,11 @@
 -- The numbers of components, from mark to mark, and what they say of chains and cycles.
-use Rattle.std.proofs.Common.{◌≡◌, ℕ, ◌+◌, ◌<◌, ◌≤◌, true, false, List, [], ◌∷◌, ◌++◌, length, take, get_or, slice_index, Option, Some, None, eqb, refl, sym, ◌∙◌, ap, subst, inl, inr, ◌⊎◌, ⊎_elim, arith, replicate, length-append, append_assoc}
+use Rattle.std.proofs.lemmas.Grind.{common_steps}
+use Rattle.std.proofs.Common.{◌≡◌, ℕ, ◌+◌, ◌<◌, ◌≤◌, true, false, List, [], ◌∷◌, ◌++◌, length, take, get_or, slice_index, Option, Some, None, eqb, refl, sym, ◌∙◌, ap, subst, inl, inr, ◌⊎◌, ⊎_elim, arith, length-append, append_assoc, replicate}
 use Rattle.std.specs.Option.{option_eq}
 use Rattle.std.specs.List.{Contains}
 use Rattle.std.proofs.Math.Seq.{get_or-append_seam}
 use Rattle.std.proofs.lemmas.Bool.{cases_lt, false≢true}
-use Rattle.std.proofs.lemmas.List.{get_or_past, get_or_default, get_or-replicate, length-replicate, length_push, append-nil}
+use Rattle.std.proofs.lemmas.List.{get_or_default, length_push}
 use Rattle.std.proofs.lemmas.List.Elements.{All-nil, All-cons, Contains-append_left, Contains-push, Contains-push_cases}
 use Rattle.dep_order.specs.Needs.{needs_of, NodeNeeds, NeedsAreNodes, IsChain, Reaches}
 use Rattle.dep_order.specs.Cycles.{IsCycle, first_of}
@@ -13,10 +14,9 @@ use Rattle.dep_order.specs.inner.Marks.{mark_of, AreMarked}
 use Rattle.dep_order.specs.inner.Steps.{LeadsBack}
 use Rattle.dep_order.specs.inner.Postorders.{IsPostorder}
 use Rattle.dep_order.specs.inner.Components.{AreComponents, SharesComponent, AreNumbersFrom, LeadsFree, IsNumberAdded}
-use Rattle.dep_order.proofs.Members.{has_none, has_head, has_cons_cases, has_from_count, same, same_itself}
+use Rattle.dep_order.proofs.Orders.{has_none, has_from_count, same, same_itself, Implies, chain_same}
 use Rattle.dep_order.proofs.Releases.{has_more}
 use Rattle.dep_order.proofs.Searches.{some_or_none, none_is_no_some, one_value, node_in_range}
-use Rattle.dep_order.proofs.Transfers.{Implies, chain_same}
 use Rattle.dep_order.proofs.Postorders.{reaches_on, led_back}
 use Rattle.dep_order.proofs.Answered.{uses, used, within}
 
@@ -96,42 +96,12 @@ numbers_ended users number numbers waiting e h = record {
   never_falls = λ node user k is leads. ⊎_elim (λ has. absurd (has_none node (subst (λ xs. Contains xs node) e has))) (λ u. u) (h.never_falls node user k is leads);
 }
 
--- before the first component no node has a number
-unnumbered : (users : List (List ℕ)) (numbers : List (Option ℕ)) → numbers ≡ replicate (length users) None → (node : ℕ) → mark_of numbers node ≡ None
-unnumbered users numbers e node =
-    ap (λ xs. mark_of xs node) e
-    ∙ ⊎_elim
-    (λ below. get_or-replicate (length users) node None None below)
-    (λ ge. get_or_past (replicate (length users) None) node None (omega (arith, ge, length-replicate {A = Option ℕ} (length users) None)))
-    (cases_lt node (length users))
-
-no_numbers : (users : List (List ℕ)) (lowest : ℕ) (numbers : List (Option ℕ)) → numbers ≡ replicate (length users) None → AreNumbersFrom users lowest numbers
-no_numbers users lowest numbers e = record {
-  as_many = ap length e ∙ length-replicate {A = Option ℕ} (length users) None;
-  none_lower = λ node k is. absurd (none_is_no_some (mark_of numbers node) k (unnumbered users numbers e node) is);
-  never_falls = λ node user k is leads. absurd (none_is_no_some (mark_of numbers node) k (unnumbered users numbers e node) is);
-}
-
 le_or_lt : (a b : ℕ) → (a ≤ b) ⊎ (b < a)
 le_or_lt a b = ⊎_elim (λ lt. inr lt) (λ le. inl le) (cases_lt b a)
 
 -- the root has the number, if it had none
 pub added_begun : (users : List (List ℕ)) (root number : ℕ) (numbers new_numbers : List (Option ℕ)) (nothing waiting : List ℕ) → AreMarked (root ∷ []) number numbers new_numbers nothing waiting → IsNumberAdded users root number numbers new_numbers
-added_begun users root number numbers new_numbers nothing waiting m = record {
-  kept = m.kept;
-  came = λ node k is. ⊎_elim (λ o. inl o) (λ w. new node k is w.0 (root_is node w.1)) (m.came node k is);
-  root_has = m.reached root (has_head root []);
-}
-  where
-    root_is : (node : ℕ) → Contains (root ∷ []) node → node ≡ root
-    root_is node has = ⊎_elim (λ e. sym e) (λ rest. absurd (has_none node rest)) (has_cons_cases root node [] has)
-
-    new : (node k : ℕ) → mark_of new_numbers node ≡ Some k → k ≡ number → node ≡ root → (mark_of numbers node ≡ Some k) ⊎ ((k ≡ number) × LeadsFree users numbers node root)
-    new node k is e same =
-        ⊎_elim
-        (λ at. inl (at.1 ∙ ap (λ j. Some j) (one_value (mark_of new_numbers node) at.0 k (m.kept node at.0 at.1) is)))
-        (λ none. inr (e, (none, inl same)))
-        (some_or_none (mark_of numbers node))
+added_begun users root number numbers new_numbers nothing waiting m = grind (arith, common_steps)
 
 -- the users of one that waited have the number, if they had none
 pub added_more : (users : List (List ℕ)) (root number node : ℕ) (first numbers new_numbers : List (Option ℕ)) (waiting rest next : List ℕ) → AreNumbersFrom users (number + 1) first → mark_of numbers node ≡ Some number → AreMarked (needs_of users node) number numbers new_numbers rest next → IsNumberAdded users root number first numbers → IsNumberAdded users root number first new_numbers
@@ -174,13 +144,7 @@ pub record AreComponentsSoFar (needs users : List (List ℕ)) (postorder left : 
 
 -- before the first component
 pub none_so_far : (needs users : List (List ℕ)) (postorder : List ℕ) (numbers : List (Option ℕ)) → numbers ≡ replicate (length users) None → AreComponentsSoFar needs users postorder postorder numbers
-none_so_far needs users postorder numbers e = record {
-  in_order = no_numbers users (length postorder) numbers e;
-  connected = λ a b k is. absurd (none_is_no_some (mark_of numbers a) k (unnumbered users numbers e a) is);
-  behind = [];
-  front = sym (append-nil postorder);
-  numbered = λ index ge lt. absurd (omega (arith, ge, lt));
-}
+none_so_far needs users postorder numbers e = grind (arith, common_steps)
 
 -- one more component
 pub more_so_far : (needs users : List (List ℕ)) (postorder left rest : List ℕ) (root : ℕ) (numbers new_numbers : List (Option ℕ)) → AreUsers needs users → IsPostorder needs postorder → left ≡ rest ++ root ∷ [] → AreComponentsSoFar needs users postorder left numbers → AreNumbersFrom users (length rest) new_numbers → IsNumberAdded users root (length rest) numbers new_numbers → AreComponentsSoFar needs users postorder rest new_numbers

@@ -1,20 +1,24 @@
--- If there is a cycle there is a least one, with no more things than there are.
+-- What a finite digraph has: a least cycle that is short, and an order or a cycle.
+use Rattle.std.proofs.lemmas.Grind.{common_steps}
 use Rattle.std.proofs.Common.{◌≡◌, ℕ, zero, suc, ◌<◌, ◌≤◌, ◌⊎◌, false, List, [], ◌∷◌, ◌++◌, length, eqb, refl, sym, ◌∙◌, ap, subst, inl, inr, ⊎_elim, arith, length-append}
-use Rattle.std.specs.Ordering.{nat_cmp, ordering_then}
-use Rattle.std.specs.declared.cmp.Ordering.TheVariants.{Less, Equal, Greater}
+use Rattle.std.specs.Ordering.{nat_cmp}
+use Rattle.std.specs.declared.cmp.Ordering.TheVariants.{Equal, Greater}
 use Rattle.std.specs.Cmp.Lexicographic.{slice_cmp}
 use Rattle.std.specs.List.{Contains, AllByRecursion, IsDistinct}
-use Rattle.std.proofs.lemmas.Bool.{cases_eq, cases_lt}
-use Rattle.std.proofs.lemmas.Bool.Decides.{nat_tests}
-use Rattle.std.proofs.lemmas.Cmp.{nat_cmp_total, tied_itself}
+use Rattle.std.proofs.lemmas.Bool.{cases_lt}
 use Rattle.std.proofs.lemmas.Map.Keys.{IsDistinct-cons}
-use Rattle.std.proofs.lemmas.Map.Steps.{length-le_from_distinct_below}
+use Rattle.std.proofs.lemmas.Map.Steps.{length-le_from_distinct_below, le-length_from_below}
 use Rattle.dep_order.specs.Cycles.{IsCycle, IsLeastCycle, first_of}
-use Rattle.dep_order.proofs.Members.{has_or_not, has_head, has_tail, has_from_any, other_number}
-use Rattle.dep_order.proofs.Chains.{chain_append, chain_split, split_at, rotated}
-use Rattle.dep_order.proofs.Orders.{AreWithin, next_on_cycle}
-use Rattle.dep_order.proofs.Unique.{has_first}
-use Rattle.dep_order.proofs.Answered.{least_of_all}
+use Rattle.dep_order.proofs.Orders.{has_or_not, has_head, has_tail, has_from_any, other_number, chain_append, chain_split, split_at, rotated, AreWithin, next_on_cycle, has_first, any_from_has, all_or_missing, orderable}
+use Rattle.dep_order.proofs.Answered.{least_of_all, within, IsLeft, some_left}
+use Rattle.std.proofs.lemmas.List.{length_push}
+use Rattle.dep_order.specs.Needs.{needs_of, NodeNeeds, NeedsAreNodes, IsOrderable}
+use Rattle.dep_order.specs.Orders.{IsReady, IsSmallestReady, EachSmallest}
+use Rattle.dep_order.proofs.Orderings.{each_push, not_more}
+use Rattle.dep_order.specs.inner.CyclesFrom.{HasCycle}
+use Rattle.dep_order.proofs.Stuck.{has_cycle}
+
+-- ---- if there is a cycle there is a least one, with no more things than there are
 
 -- ---- what holds if it holds of all that is lower, holds
 
@@ -25,19 +29,9 @@ below_all P step n = so_far (suc n) n (omega arith)
     so_far zero m lt = absurd (omega (arith, lt))
     so_far (suc k) m lt = step m (λ j below. so_far k j (omega (arith, lt, below)))
 
-less_number : (a b : ℕ) → a < b → nat_cmp a b ≡ Less
-less_number a b lt = grind (arith, nat_tests)
-
 -- a lower list has a lower first number, or the same and a lower rest
 lower_first : (n m : ℕ) (ts us : List ℕ) → slice_cmp nat_cmp (n ∷ ts) (m ∷ us) ≡ Greater → (m < n) ⊎ ((n ≡ m) × (slice_cmp nat_cmp ts us ≡ Greater))
-lower_first n m ts us greater =
-    ⊎_elim
-    (λ lt. inl lt)
-    (λ ge. ⊎_elim
-    (λ e. inr (e, sym (ap (λ o. ordering_then o (slice_cmp nat_cmp ts us)) (subst (λ z. nat_cmp n z ≡ Equal) e (tied_itself nat_cmp_total n))) ∙ greater))
-    (λ ne. let less : Less ≡ Greater = sym (ap (λ o. ordering_then o (slice_cmp nat_cmp ts us)) (less_number n m (omega (arith, ge, ne)))) ∙ greater in cc)
-    (cases_eq n m))
-    (cases_lt m n)
+lower_first n m ts us greater = grind (arith, common_steps)
 
 -- the same of lists of one length, by their order
 lists_all : (k : ℕ) (P : List ℕ → Type 0) → ((xs : List ℕ) → length xs ≡ k → ((ys : List ℕ) → length ys ≡ k → slice_cmp nat_cmp xs ys ≡ Greater → P ys) → P xs) → (xs : List ℕ) → length xs ≡ k → P xs
@@ -151,3 +145,82 @@ module _ (Needs : ℕ → ℕ → Type 0) where
 
     pub no_cycle_without_least : (cycle : List ℕ) → IsCycle Needs cycle → ⊥
     no_cycle_without_least cycle h = none_from (first_of cycle) cycle h refl
+
+-- ---- needs of finitely many nodes are orderable or have a cycle
+
+-- none of the nodes below is ready
+abbrev NoneReady : List (List ℕ) → List ℕ → ℕ → Type 0
+NoneReady graph ordered k = (other : ℕ) → other < k → ¬ Contains ordered other → ¬ IsReady (NodeNeeds graph) ordered other
+
+first_ready : (graph : List (List ℕ)) (ordered : List ℕ) (k : ℕ) → k ≤ length graph → ((node : ℕ) × IsSmallestReady (length graph) (NodeNeeds graph) ordered node) ⊎ NoneReady graph ordered k
+first_ready graph ordered zero le = inr (λ other lt. absurd (omega (arith, lt)))
+first_ready graph ordered (suc k) le =
+    ⊎_elim
+    (λ found. inl found)
+    (λ none. ⊎_elim
+    (λ has. inr (λ other lt fresh ready. ⊎_elim (λ below. none other below fresh ready) (λ ge. let e : k ≡ other = omega (arith, lt, ge) in fresh (subst (Contains ordered) e has)) (cases_lt other k)))
+    (λ lacks. ⊎_elim
+    (λ all. inl (
+      k,
+      record {
+        in_range = omega (arith, le);
+        fresh = lacks;
+        ready = all;
+        smallest = λ other lt fresh ready. ⊎_elim (λ below. absurd (none other below fresh ready)) (λ ge. ge) (cases_lt other k);
+      },
+    ))
+    (λ some. inr (λ other lt fresh ready.
+    ⊎_elim
+    (λ below. none other below fresh ready)
+    (λ ge. let e : other ≡ k = omega (arith, lt, ge) in some.2 (ready some.0 (subst (λ z. NodeNeeds graph z some.0) (let f : k ≡ other = omega (arith, lt, ge) in f) some.1)))
+    (cases_lt other k)))
+    (all_or_missing (needs_of graph k) ordered))
+    (has_or_not ordered k))
+    (first_ready graph ordered k (omega (arith, le)))
+
+-- this many nodes are in order
+record AreFirstOrdered (graph : List (List ℕ)) (steps : ℕ) : Type 0 where
+  ordered : List ℕ
+  each : EachSmallest (length graph) (NodeNeeds graph) ordered
+  as_many : length ordered ≡ steps
+
+-- nodes are put in order until none is ready
+record Ended (graph : List (List ℕ)) : Type 0 where
+  ordered : List ℕ
+  each : EachSmallest (length graph) (NodeNeeds graph) ordered
+  none_ready : NoneReady graph ordered (length graph)
+
+run : (graph : List (List ℕ)) (steps : ℕ) → AreFirstOrdered graph steps ⊎ Ended graph
+run graph zero = inl (record { ordered = []; each = λ index lt. absurd (omega (arith, lt)); as_many = refl })
+run graph (suc steps) =
+    ⊎_elim
+    (λ p. ⊎_elim
+    (λ next. inl (record { ordered = p.ordered ++ next.0 ∷ []; each = each_push (length graph) (NodeNeeds graph) p.ordered next.0 p.each next.1; as_many = omega (arith, p.as_many, length_push p.ordered next.0) }))
+    (λ none. inr (record { ordered = p.ordered; each = p.each; none_ready = none }))
+    (first_ready graph p.ordered (length graph) (omega arith)))
+    (λ e. inr e)
+    (run graph steps)
+
+ended : (graph : List (List ℕ)) → NeedsAreNodes graph → Ended graph → IsOrderable (length graph) (NodeNeeds graph) ⊎ HasCycle (NodeNeeds graph)
+ended graph nodes e =
+    ⊎_elim
+    (λ left. inr (has_cycle (length graph) (IsLeft graph e.ordered) (NodeNeeds graph) left.0 (λ x l. l.0)
+    (λ thing l. ⊎_elim
+    (λ all. absurd (e.none_ready thing l.0 l.1 all))
+    (λ some. (some.0, some.1, ((within graph nodes thing some.0 some.1).1, some.2)))
+    (all_or_missing (needs_of graph thing) e.ordered))
+    left.1))
+    (λ all. inl (orderable (length graph) (NodeNeeds graph) e.ordered (within graph nodes) (record {
+      as_many = let n : length e.ordered ≡ length graph = omega (arith, not_more (length graph) (NodeNeeds graph) e.ordered e.each, le-length_from_below e.ordered (length graph) (λ q lt. any_from_has e.ordered q (all q lt))) in n;
+      all = all;
+      each = e.each;
+    })))
+    (some_left graph e.ordered (length graph) (omega arith))
+
+-- needs are orderable, or there is a cycle
+pub orderable_or_cycle : (graph : List (List ℕ)) → NeedsAreNodes graph → IsOrderable (length graph) (NodeNeeds graph) ⊎ HasCycle (NodeNeeds graph)
+orderable_or_cycle graph nodes =
+    ⊎_elim
+    (λ p. absurd (omega (arith, p.as_many, not_more (length graph) (NodeNeeds graph) p.ordered p.each)))
+    (λ e. ended graph nodes e)
+    (run graph (suc (length graph)))

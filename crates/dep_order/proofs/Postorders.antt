@@ -1,4 +1,5 @@
 -- A search in depth, from node to node, and what its order says of chains of needs.
+use Rattle.std.proofs.lemmas.Grind.{common_steps}
 use Rattle.std.proofs.Common.{◌≡◌, ℕ, ◌+◌, ◌<◌, ◌≤◌, Bool, true, false, List, [], ◌∷◌, ◌++◌, length, get_or, set, slice_index, eqb, refl, sym, ◌∙◌, ap, subst, inl, inr, ◌⊎◌, ⊎_elim, arith, zero, suc, length-set, Option}
 use Rattle.std.specs.List.{Contains, All}
 use Rattle.std.proofs.lemmas.Bool.{cases_Bool, cases_eq, cases_lt, false≢true}
@@ -7,8 +8,7 @@ use Rattle.std.proofs.lemmas.List.Elements.{Contains-append_left, Contains-push_
 use Rattle.dep_order.specs.Needs.{needs_of, NodeNeeds, IsChain, Reaches}
 use Rattle.dep_order.specs.inner.Users.{one_if, count_of}
 use Rattle.dep_order.specs.inner.Postorders.{is_seen, IsBeforeOrLeads, IsPostorder, IsWalk, IsInDepth, SeesMore, IsFirstUnseen}
-use Rattle.dep_order.proofs.Members.{has_none, has_cons_cases, count-cons, count_push, count_from_has, has_from_count, same_itself, other_number}
-use Rattle.dep_order.proofs.Chains.{chain_append}
+use Rattle.dep_order.proofs.Orders.{has_none, has_cons_cases, count-cons, count_push, count_from_has, has_from_count, same_itself, chain_append}
 
 -- chains of needs lead on
 pub reaches_on : (Needs : ℕ → ℕ → Type 0) (x y z : ℕ) → Reaches Needs x y → Reaches Needs y z → Reaches Needs x z
@@ -67,11 +67,7 @@ seen_in_range seen node e = ⊎_elim (λ lt. lt) (λ ge. absurd (false≢true (s
 
 -- one more is seen
 pub sees_more : (seen : List Bool) (next : ℕ) → next < length seen → SeesMore seen (set seen next true)
-sees_more seen next lt node e =
-    ⊎_elim
-    (λ same. subst (λ x. is_seen (set seen next true) x ≡ true) (sym same) (get_or-set_same seen next true false lt))
-    (λ ne. get_or-set_other seen next node true false ne ∙ e)
-    (cases_eq node next)
+sees_more seen next lt node e = grind (arith, common_steps)
 
 -- what is on the path is seen
 pub path_seen : (needs : List (List ℕ)) (seen : List Bool) (scanned path left : List ℕ) (node : ℕ) → IsInDepth needs seen scanned path left → Contains path node → is_seen seen node ≡ true
@@ -89,18 +85,7 @@ seen_where needs seen scanned path left node h e =
 
 -- a node is counted when it comes onto the path
 counted_push : (seen : List Bool) (path left : List ℕ) (next : ℕ) → next < length seen → is_seen seen next ≡ false → ((node : ℕ) → count_of node left + count_of node path ≡ one_if (is_seen seen node)) → (node : ℕ) → count_of node left + count_of node (path ++ next ∷ []) ≡ one_if (is_seen (set seen next true) node)
-counted_push seen path left next lt unseen h node =
-    ⊎_elim
-    (λ same.
-    let now : one_if (is_seen (set seen next true) node) ≡ 1 = ap one_if (subst (λ x. is_seen (set seen next true) x ≡ true) (sym same) (get_or-set_same seen next true false lt)) in
-    let was : one_if (is_seen seen node) ≡ 0 = ap one_if (subst (λ x. is_seen seen x ≡ false) (sym same) unseen) in
-    let one : one_if (eqb node next) ≡ 1 = ap one_if (subst (λ x. eqb node x ≡ true) same (same_itself node)) in
-    omega (arith, now, was, one, h node, count_push node next path))
-    (λ ne.
-    let now : one_if (is_seen (set seen next true) node) ≡ one_if (is_seen seen node) = ap one_if (get_or-set_other seen next node true false ne) in
-    let none : one_if (eqb node next) ≡ 0 = ap one_if (other_number node next ne) in
-    omega (arith, now, none, h node, count_push node next path))
-    (cases_eq node next)
+counted_push seen path left next lt unseen h node = grind (arith, common_steps)
 
 -- the search begins at a root
 pub begun : (needs : List (List ℕ)) (seen : List Bool) (scanned path left : List ℕ) (root : ℕ) → path ≡ root ∷ [] → root < length needs → is_seen seen root ≡ false → IsInDepth needs seen scanned [] left → IsInDepth needs (set seen root true) scanned path left

@@ -10,8 +10,7 @@ use Rattle.std.proofs.lemmas.Map.Keys.{IsDistinct-push}
 use Rattle.std.proofs.lemmas.Map.Steps.{length-le_from_distinct_below}
 use Rattle.dep_order.specs.Needs.{IsNumbering, IsOrderable, IsChain}
 use Rattle.dep_order.specs.inner.CyclesFrom.{HasCycle}
-use Rattle.dep_order.proofs.Members.{has_or_not, has_from_any}
-use Rattle.dep_order.proofs.Chains.{chain_append, chain_split, split_at}
+use Rattle.dep_order.proofs.Orders.{has_or_not, has_from_any, chain_append, chain_split, split_at}
 
 -- each thing that is left needs one that is left
 abbrev pub IsStuck : (ℕ → Type 0) → (ℕ → ℕ → Type 0) → Type 0

@@ -1,11 +1,10 @@
-use Rattle.std.proofs.Common.{◌≡◌, ◌+◌, ◌<◌, sym, ◌∙◌, ap, subst, arith, rules, length, replicate, None}
+use Rattle.std.proofs.Common.{◌≡◌, ◌<◌, sym, ◌∙◌, ap, subst, arith, rules, length, replicate, None}
 use Rattle.std.specs.List.{Contains}
 use Rattle.std.proofs.lemmas.Bool.{false≢true}
-use Rattle.std.proofs.lemmas.List.{length_push}
 use Rattle.std.proofs.lemmas.List.Elements.{All-contains, Contains-append_left, Contains-push}
 use Rattle.dep_order.specs.Rows.{lists}
 use Rattle.dep_order.specs.inner.Components.{AreNumbersFrom, IsNumberAdded}
-use Rattle.dep_order.proofs.UserCounts.{length_lists}
+use Rattle.dep_order.proofs.Releases.{length_lists}
 use Rattle.dep_order.proofs.Searches.{emptied_by}
 use Rattle.dep_order.proofs.Answered.{users_are_nodes}
 use Rattle.dep_order.proofs.Connected.{none_so_far, more_so_far, all_so_far}
@@ -24,11 +23,6 @@ add_component-requires-clause-root c =
     let in_left : Contains c.loop-root.postorder.items c.in-Some.root = subst (λ xs. Contains xs c.in-Some.root) (sym c.in-Some.ensures.items) (Contains-push c.pop.new.self.items c.in-Some.root) in
     let in_all : Contains c.in_ok-postorder.postorder.items c.in-Some.root = subst (λ xs. Contains xs c.in-Some.root) (sym c.loop-root.invariant.front) (Contains-append_left c.loop-root.postorder.items c.loop-root.invariant.behind c.in-Some.root in_left) in
     omega (arith, All-contains (λ node. node < length (lists c.args.needs.now)) c.in_ok-postorder.postorder.items c.in-Some.root c.in_ok-postorder.ensures.nodes in_all, c.requires.users.each, length_lists c.args.users.now)
-
-pub add_component-requires-clause-numbers : goal.add_component-requires-clause-numbers
-add_component-requires-clause-numbers c =
-    let e : length c.loop-root.postorder.items ≡ c.len.result + 1 = omega (arith, ap length c.in-Some.ensures.items, length_push c.pop.new.self.items c.in-Some.root, c.len.ensures, c.pop.new.self.ok.0) in
-    subst (λ n. AreNumbersFrom (lists c.args.users.now) n c.loop-root.components.items) e c.loop-root.invariant.in_order
 
 pub loop-root-preserved : goal.loop-root-preserved
 loop-root-preserved c =

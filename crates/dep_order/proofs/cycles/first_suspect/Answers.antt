@@ -2,8 +2,8 @@ use Rattle.std.proofs.Common.{arith, ◌∙◌, sym, length}
 use Rattle.dep_order.specs.Rows.{lists}
 use Rattle.dep_order.specs.Needs.{NodeNeeds}
 use Rattle.std.proofs.lemmas.List.{nil_from_length}
-use Rattle.dep_order.proofs.Members.{same}
-use Rattle.dep_order.proofs.UserCounts.{length_lists}
+use Rattle.dep_order.proofs.Orders.{same}
+use Rattle.dep_order.proofs.Releases.{length_lists}
 use Rattle.dep_order.proofs.Answered.{none_from, none_without_needs, none_without_users, first_in_range}
 use Rattle.dep_order.proofs.cycles.first_suspect.Goals as goal
 use Rattle.dep_order.proofs.cycles.first_suspect.Goals.{else-not-is_empty-via-then-not-is_empty+else-not-is_empty-2, else-not-is_empty-via-else-not-is_empty}

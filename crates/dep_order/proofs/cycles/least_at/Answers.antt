@@ -3,7 +3,7 @@ use Rattle.std.specs.List.{filter, reduce}
 use Rattle.std.proofs.lemmas.Iterator.{YieldsList-from_slice}
 use Rattle.std.proofs.lemmas.Iterator.Adapters.{option_map_id}
 use Rattle.std.proofs.lemmas.Iterator.Consumers.{YieldsList-at, YieldsList-from_copied, YieldsList-from_filter, min_from_yields_List}
-use Rattle.dep_order.proofs.Choices.{is_at, IsLeastIfAny, is_least}
+use Rattle.dep_order.proofs.Greedy.{is_at, IsLeastIfAny, is_least}
 use Rattle.dep_order.proofs.cycles.least_at.Goals as goal
 
 pub returns : goal.returns

@@ -1,13 +1,11 @@
-use Rattle.std.proofs.Common.{arith, sym, subst, None, ◌∷◌, refl, ◌≡◌, ◌<◌, ◌∙◌, ap, length}
+use Rattle.std.proofs.Common.{sym, subst, None, ◌∷◌, refl}
 use Rattle.std.proofs.lemmas.Bool.{false≢true}
 use Rattle.dep_order.specs.Rows.{lists}
 use Rattle.dep_order.specs.Needs.{NodeNeeds, needs_of}
 use Rattle.dep_order.specs.inner.Components.{SharesComponent}
 use Rattle.dep_order.specs.inner.CyclesFrom.{IsLeastFromIfAny}
-use Rattle.dep_order.proofs.UserCounts.{length_lists}
-use Rattle.dep_order.proofs.Answered.{least_of_all, none_from, first_in_range, row_nodes}
+use Rattle.dep_order.proofs.Answered.{least_of_all, none_from}
 use Rattle.dep_order.proofs.Connected.{shared_from, cycle_from_shared}
-use Rattle.std.specs.List.{All}
 use Rattle.dep_order.proofs.cycles.least_cycle.Goals as goal
 
 pub returns-in-Some : goal.returns-in-Some
@@ -36,17 +34,3 @@ loop-first-preserved c =
     subst (λ row. SharesComponent row c.as_slice.result.now c.loop-first.first) (sym c.row_of.ensures) (subst (λ xs. SharesComponent (needs_of (lists c.args.needs.now) c.loop-first.first) xs c.loop-first.first) (sym c.as_slice.ensures.value) own) in
     false≢true (c.if-shares_component.ensures.1 seen))
     c.loop-first.invariant
-
-pub unreachable-requires-2 : goal.unreachable-requires-2
-unreachable-requires-2 c =
-    let cycle = c.requires.cycle in
-    absurd (omega (arith, c.loop-first.invariant cycle.0 cycle.1, first_in_range (lists c.args.needs.now) cycle.0 c.requires.nodes cycle.1, length_lists c.args.needs.now))
-
-pub shares_component-requires-clause-row : goal.shares_component-requires-clause-row
-shares_component-requires-clause-row c =
-    let as_many : length c.as_slice.result.now ≡ length (lists c.args.needs.now) = ap length c.as_slice.ensures.value ∙ c.in_ok-components.ensures.each in
-    subst (All (λ other. other < length c.as_slice.result.now)) (sym c.row_of.ensures)
-    (row_nodes (lists c.args.needs.now) c.loop-first.first (length c.as_slice.result.now) as_many (omega (arith, c.loop-first-test.true, length_lists c.args.needs.now)) c.requires.nodes)
-
-pub shares_component-requires-clause-node : goal.shares_component-requires-clause-node
-shares_component-requires-clause-node c = omega (arith, ap length c.as_slice.ensures.value, c.in_ok-components.ensures.each, c.loop-first-test.true, length_lists c.args.needs.now)

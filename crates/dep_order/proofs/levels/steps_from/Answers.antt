@@ -5,7 +5,7 @@ use Rattle.dep_order.specs.Rows.{lists}
 use Rattle.dep_order.specs.Needs.{NodeNeeds}
 use Rattle.dep_order.specs.inner.Marks.{AreMarked}
 use Rattle.dep_order.specs.inner.Steps.{AreSteps, AreAdvanced}
-use Rattle.dep_order.proofs.UserCounts.{length_lists}
+use Rattle.dep_order.proofs.Releases.{length_lists}
 use Rattle.dep_order.proofs.Answered.{row_nodes}
 use Rattle.dep_order.proofs.Searches.{IsSearching, search_begun, next_level, all_levels, nonempty, emptied, frontier_in_range, advanced_more}
 use Rattle.dep_order.proofs.levels.steps_from.Goals as goal
@@ -38,9 +38,6 @@ levels-preserved c =
     next_level (lists c.args.slices.now) c.args.start c.levels.steps.items c.loop-node.steps.items c.levels.frontier.items c.loop-node.next.items c.levels.count (nonempty c.levels.frontier c.levels-test.ensures) c.levels.invariant
     (subst (λ nodes. AreAdvanced (lists c.args.slices.now) nodes (c.levels.count + 1) c.levels.steps.items c.loop-node.steps.items c.loop-node.next.items)
     (take_all c.loop-node.node-index c.deref-node-items.result.now c.loop-node-test.false ∙ c.deref-node-items.ensures.value) c.loop-node.invariant)
-
-pub levels-smaller : goal.levels-smaller
-levels-smaller c = omega (arith, c.loop-node.invariant.accounted, nonempty c.levels.frontier c.levels-test.ensures)
 
 pub returns : goal.returns
 returns c =

@@ -1,8 +1,6 @@
-use Rattle.std.proofs.Common.{arith, ℕ, ◌<◌, Vec, Option, Some, sym, ap, ◌∙◌, subst, length, slice_index, take, set, ◌+◌, Global, refl, inl}
+use Rattle.std.proofs.Common.{arith, ℕ, ◌<◌, Vec, Option, Some, sym, ap, ◌∙◌, subst, length, slice_index, take, set, ◌+◌, Global}
 use Rattle.dep_order.specs.inner.Marks.{AreMarked}
 use Rattle.dep_order.proofs.Searches.{visited_old, visited_new, read_none, read_some}
-use Rattle.std.proofs.lemmas.List.{take_all}
-use Rattle.dep_order.proofs.Members.{has_none}
 use Rattle.dep_order.proofs.marking.mark_row.Goals as goal
 use Rattle.dep_order.proofs.marking.mark_row.Goals.{then-is_none+in_ok-push, else-is_none}
 
@@ -21,25 +19,3 @@ loop-node-preserved c =
           (subst (λ (v : Vec ℕ Global). AreMarked (take (c.loop-node.node-index + 1) c.args.row.now) c.args.mark c.args.marks.now.items c.loop-node.marks.items c.args.next.now.items v.items) (sym w.next-is)
           (visited_old c.args.row.now c.loop-node.node-index c.args.mark c.args.marks.now.items c.loop-node.marks.items c.args.next.now.items c.loop-node.next.items c.loop-node-test.true old.0 old.1 c.loop-node.invariant))
     ]
-
-pub index-requires : goal.index-requires
-index-requires c = omega (arith, c.requires c.loop-node.node-index 0 c.loop-node-test.true, c.loop-node.invariant.as_many, c.loop-node.marks.ok.0)
-
-pub index_mut-requires : goal.index_mut-requires
-index_mut-requires c = omega (arith, c.requires c.loop-node.node-index 0 c.loop-node-test.true, c.loop-node.invariant.as_many, c.loop-node.marks.ok.0)
-
-pub returns : goal.returns
-returns c =
-    subst (λ row. AreMarked row c.args.mark c.args.marks.now.items c.loop-node.marks.items c.args.next.now.items c.loop-node.next.items) (take_all c.loop-node.node-index c.args.row.now c.loop-node-test.false)
-    c.loop-node.invariant
-
-pub loop-node-init : goal.loop-node-init
-loop-node-init c = record {
-  as_many = refl;
-  kept = λ node k is. is;
-  came = λ node k is. inl is;
-  reached = λ node has. absurd (has_none node has);
-  next_kept = λ node has. has;
-  next_came = λ node has. inl has;
-  accounted = refl;
-}

@@ -1,11 +1,11 @@
-use Rattle.std.proofs.Common.{length-set, Bool, true, eqb, ltb, ◌≡◌, ◌<◌, ◌≤◌, ◌∙◌, ◌+◌, [], ◌∷◌, ◌++◌, ap, sym, subst, length, slice_index, take, set, arith, ℕ, Vec, List}
+use Rattle.std.proofs.Common.{Bool, true, eqb, ltb, ◌≡◌, ◌<◌, ◌≤◌, ◌∙◌, ◌+◌, [], ◌∷◌, ◌++◌, ap, sym, subst, length, slice_index, take, set, arith, ℕ, Vec, List}
 use Rattle.std.specs.declared.alloc.Global.{Global}
 use Rattle.std.specs.List.{Contains}
 use Rattle.std.proofs.lemmas.Bool.{false≢true, ltb-true}
 use Rattle.dep_order.specs.inner.Found.{IsRowFound, AreFound}
-use Rattle.dep_order.proofs.Reached.{row_old, row_new, row_begun, found_there, there_if_found}
-use Rattle.dep_order.proofs.Members.{same, same_itself}
-use Rattle.std.proofs.lemmas.List.{take_all, get_or_read}
+use Rattle.dep_order.proofs.Searches.{row_old, row_new, found_there, there_if_found}
+use Rattle.dep_order.proofs.Orders.{same, same_itself}
+use Rattle.std.proofs.lemmas.List.{get_or_read}
 use Rattle.dep_order.proofs.reaching.find_row.Goals as goal
 use Rattle.dep_order.proofs.reaching.find_row.Goals.{then-index-len, else-index-len, then-not-is_found+in_ok-push, else-not-is_found}
 
@@ -58,20 +58,3 @@ loop-node-preserved c =
           (subst (λ (v : Vec ℕ Global). IsRowFound (take (i + 1) row) indexes found now_indexes v.items) (sym w.found-is)
           (row_old row indexes found now_indexes now_found i c.loop-node-test.true c.loop-node.invariant known))
     ]
-
-pub loop-node-init : goal.loop-node-init
-loop-node-init c = row_begun c.args.indexes.now.items c.args.found.now.items c.requires.found
-
-pub index_mut-requires : goal.index_mut-requires
-index_mut-requires c = omega (arith, c.requires.row c.loop-node.node-index 0 c.loop-node-test.true, c.loop-node.invariant.as_many, c.loop-node.indexes.ok.0)
-
-pub returns-clause-as_many : goal.returns-clause-as_many
-returns-clause-as_many c = c.loop-node.invariant.as_many
-
-pub returns-clause-found : goal.returns-clause-found
-returns-clause-found c =
-    subst (λ row. IsRowFound row c.args.indexes.now.items c.args.found.now.items c.loop-node.indexes.items c.loop-node.found.items) (take_all c.loop-node.node-index c.args.row.now c.loop-node-test.false)
-    c.loop-node.invariant
-
-pub returns-in_err-push-clause-as_many : goal.returns-in_err-push-clause-as_many
-returns-in_err-push-clause-as_many c = length-set c.loop-node.indexes.items (slice_index c.args.row.now c.loop-node.node-index) _ ∙ c.loop-node.invariant.as_many

@@ -1,5 +1,5 @@
 use Rattle.std.proofs.Common.{◌≡◌, ◌-◌, length}
-use Rattle.dep_order.proofs.Reached.{AreReachedSoFar}
+use Rattle.dep_order.proofs.Searches.{AreReachedSoFar}
 use Rattle.dep_order.proofs.reaching.Reaching.from.Given as goal
 
 -- the graph stays, and this much of it is reached
