@@ -80,8 +80,7 @@ same_length paths = length-map paths (λ p. p.now)
 -- what is written of one more element
 pub flat_map_next : {X : Type 0} (f : X → List ℕ) (xs : List X) (i : ℕ) (x : X) → i < length xs → get_or xs i x ≡ x → flat_map f (take (i + 1) xs) ≡ flat_map f (take i xs) ++ f x
 flat_map_next f xs i x lt is =
-    ap (flat_map f) (take_more xs i x lt ∙ ap (λ y. take i xs ++ y ∷ []) is)
-    ∙ flat_map-append f (take i xs) (x ∷ [])
+    ap (flat_map f) (take_more xs i x lt ∙ ap (λ y. take i xs ++ y ∷ []) is) ∙ flat_map-append f (take i xs) (x ∷ [])
     ∙ ap (λ t. flat_map f (take i xs) ++ t) (append-nil (f x))
 
 -- the same of a path, given as it is borrowed
@@ -123,12 +122,9 @@ pub takes_more : (old : List Symbol) (values : List (List ℕ)) (word value : Li
     → TakesWords old values (WordSymbol word ∷ new) → value ≡ value_of word → TakesWords old (values ++ value ∷ []) new
 takes_more old values word value new t is = record {
   words = t.words ++ word ∷ [];
-  are = t.are
-      ∙ sym (append_assoc (map WordSymbol t.words) (WordSymbol word ∷ []) new)
+  are = t.are ∙ sym (append_assoc (map WordSymbol t.words) (WordSymbol word ∷ []) new)
       ∙ ap (λ s. s ++ new) (sym (map-append WordSymbol t.words (word ∷ [])));
-  is = ap (λ vs. vs ++ value ∷ []) t.is
-      ∙ ap (λ v. map value_of t.words ++ v ∷ []) is
-      ∙ sym (map-append value_of t.words (word ∷ []));
+  is = ap (λ vs. vs ++ value ∷ []) t.is ∙ ap (λ v. map value_of t.words ++ v ∷ []) is ∙ sym (map-append value_of t.words (word ∷ []));
 }
 
 -- statements of equal parts are equal

@@ -197,8 +197,7 @@ or_nothing (Some x) = refl
 behind : (before : List StatementValue) (s : StatementValue) (after : List StatementValue) → write_fault before ≡ None
     → write_fault (before ++ s ∷ after) ≡ option_or (statement_fault (length before) s) (fault_from (length before + 1) after)
 behind before s after none =
-    fault_from-append 0 before (s ∷ after)
-    ∙ ap (λ n. option_or (fault_from 0 before) (fault_from n (s ∷ after))) (omega arith)
+    fault_from-append 0 before (s ∷ after) ∙ ap (λ n. option_or (fault_from 0 before) (fault_from n (s ∷ after))) (omega arith)
     ∙ ap (λ o. option_or o (fault_from (length before) (s ∷ after))) none
 
 -- the first fault of all statements
