@@ -1,22 +1,18 @@
 -- What the parts of a run have led to, the calls that they make, and what their loops make.
-use Rattle.std.proofs.Common.{◌≡◌, ◌∙◌, ℕ, ◌+◌, ◌<◌, List, [], ◌∷◌, ◌++◌, drop, length, get_or, suc, Option, Some, None, Result, Ok, Err, true, false, refl, ap, sym, append_assoc, append-nil, add-one, drop-cons, ◌≤◌, map, take, inl, inr, string_bytes, subst, ◌-◌, arith}
+use Rattle.std.proofs.Common.{◌≡◌, ◌∙◌, ℕ, ◌+◌, ◌<◌, List, [], ◌∷◌, ◌++◌, drop, length, get_or, suc, Option, Some, None, Result, Ok, Err, true, false, refl, ap, sym, append_assoc, append-nil, add-one, drop-cons, ◌≤◌, map, take, inl, string_bytes, subst, ◌-◌}
 use Rattle.std.specs.Result.{is_err}
 use Rattle.std.specs.declared.io.Error.{Error}
 use Rattle.commands.specs.Folder.{FileCall, Adds, MakesCalls, reading, up_to}
-use Rattle.std.specs.Prelude.{slice_get, String, Vec, IfOk, IfErr, IsErr, IsErrAnd, MatchResult, codes}
+use Rattle.std.specs.Prelude.{slice_get, String, Vec, IfOk, IfErr, IsErr, IsErrAnd, MatchResult}
 use Rattle.std.specs.Global.{Global}
 use Rattle.std.specs.declared.alloc.AllocError.{AllocError}
-use Rattle.std.specs.List.{flat_map}
-use Rattle.std.proofs.lemmas.Grind.{flat_map-append}
-use Rattle.std.proofs.lemmas.List.{map-append, map_push, take_all, take_more}
+use Rattle.std.proofs.lemmas.List.{map_push, take_all, take_more}
 use Rattle.std.proofs.lemmas.Option.{slice_get_within, get_or_from_slice_get, slice_get-get_or}
-use Rattle.std.specs.IoError.{error_kind}
-use Rattle.std.specs.declared.io.ErrorKind.TheVariants.{OutOfMemory}
 use Rattle.ninja_text.specs.Bytes.{Bytes, Text}
 use Rattle.ninja_text.specs.Failure.{ForFault, Gives}
 use Rattle.ninja_text.specs.declared.failure.Failure.{Failure}
 use Rattle.ninja_text.specs.declared.failure.Failure.TheVariants.{Memory, Fault}
-use Rattle.commands.specs.Outcomes.{LineValue, Outcome, Part, InTurn, goes_on, stops, Returns, Reports, Runs, IsUnread, ReadsAll, document_most, failed, refusal}
+use Rattle.commands.specs.Outcomes.{LineValue, Outcome, Part, InTurn, goes_on, stops, Returns, Reports, Runs, ReadsAll, document_most, failed, refusal}
 use Rattle.commands.specs.inner.Stops.{IsStoppedWith, ReportsPrinted}
 
 -- ---- calls that are made one after another
@@ -60,27 +56,9 @@ done_of (Err error) e = absurd (let no : false ≡ true = e in cc)
 
 -- ---- lists that a loop makes, element by element
 
--- a loop that makes something of each element
-pub made_more : {X Y : Type 0} (f : X → Y) (xs : List X) (i : ℕ) (x : X) (now new : List Y) → i < length xs → x ≡ get_or xs i x → new ≡ now ++ f x ∷ [] → now ≡ map f (take i xs) → new ≡ map f (take (i + 1) xs)
-made_more f xs i x now new within at more before =
-    more ∙ ap (λ ys. ys ++ f x ∷ []) before ∙ ap (λ y. map f (take i xs) ++ f y ∷ []) at
-    ∙ sym (ap (map f) (take_more xs i x within) ∙ map-append f (take i xs) (get_or xs i x ∷ []))
-
--- and what is made of the elements so far is that of all
+-- what is made of the elements so far is that of all
 pub of_all : {X Y : Type 0} (f : List X → Y) (xs : List X) (i : ℕ) (now : Y) → length xs ≤ i → now ≡ f (take i xs) → now ≡ f xs
 of_all f xs i now past so_far = so_far ∙ ap f (take_all i xs past)
-
--- a loop that appends something of each element
-pub appended_more : (f : ℕ → List ℕ) (start xs : List ℕ) (i : ℕ) (now new : List ℕ) → i < length xs → now ≡ start ++ flat_map f (take i xs) → new ≡ now ++ f (get_or xs i 0) → new ≡ start ++ flat_map f (take (i + 1) xs)
-appended_more f start xs i now new within before more =
-    more ∙ ap (λ z. z ++ f (get_or xs i 0)) before
-    ∙ append_assoc start (flat_map f (take i xs)) (f (get_or xs i 0))
-    ∙ ap (λ z. start ++ z) (sym (ap (flat_map f) (take_more xs i 0 within) ∙ flat_map-append f (take i xs) (get_or xs i 0 ∷ []) ∙ ap (λ z. flat_map f (take i xs) ++ z) (append-nil (f (get_or xs i 0)))))
-
--- a list that has a first item
-pub parts : (xs : List ℕ) → 1 ≤ length xs → xs ≡ get_or xs 0 0 ∷ take (length xs - 1) (drop 1 xs)
-parts [] some = absurd (omega (arith, some))
-parts (x ∷ xs) some = ap (λ ys. x ∷ ys) (sym (take_all (length (x ∷ xs) - 1) xs (omega arith)))
 
 -- ---- elements by index
 
@@ -251,13 +229,6 @@ leads_end old mid new Left Whole outcome (before, so_far, leads) (calls, after, 
     (before ++ calls, both_made old mid new before calls so_far after, leads calls outcome h)
 
 -- ---- files
-
--- a file that can't be read
-pub unread : (name : List ℕ) (error : Error) (stop : Failure LineValue) → (error_kind error ≡ OutOfMemory → ⊥) →
-    ForFault (λ l. l ≡ failed 3 (codes "cannot read " ++ name)) stop →
-    IsUnread name (reading name (Err error) ∷ []) stop
-unread name error Memory other h = inr (error, refl)
-unread name error (Fault l) other h = ((error, refl, other), h)
 
 -- the call that read a document
 abbrev pub document_call : Text → Bytes → FileCall

@@ -1,5 +1,5 @@
-use Rattle.std.proofs.Common.{rules, ◌≡◌, List, [], ◌∷◌, ◌++◌, map, append_assoc, ap, ap₂, string_bytes, subst, sym, ◌∙◌}
-use Rattle.std.specs.Prelude.{All, IsUtf8, OnOk, Result, Ok, Err, false}
+use Rattle.std.proofs.Common.{rules, ◌≡◌, List, [], ◌∷◌, ◌++◌, map, append_assoc, ap, ap₂, string_bytes, ◌∙◌}
+use Rattle.std.specs.Prelude.{OnOk, Result, Ok, Err, false}
 use Rattle.std.specs.declared.alloc.AllocError.{AllocError}
 use Rattle.scan_docs.specs.Target.{TargetDocumentValue}
 use Rattle.commands.specs.Answers.{file_value}
@@ -12,9 +12,6 @@ use Rattle.commands.proofs.collate.append_files.Goals as goal
 if_done : {T E : Type 0} (r : Result T E) (P Q : Type 0) → (P → Q) → OnOk r P → OnOk r Q
 if_done (Ok x) P Q to h = to h
 if_done (Err e) P Q to h = tt
-
-pub append_maps-requires : goal.append_maps-requires
-append_maps-requires c = subst (All IsUtf8) (sym (c.deref.ensures.value ∙ c.into_parts-dyndep_text.ensures.objects)) c.requires
 
 -- the maps, the info and the dyndep text, in this order
 pub returns : goal.returns

@@ -1,4 +1,4 @@
-use Rattle.std.proofs.Common.{rules, ◌≡◌, ℕ, List, ◌∷◌, [], ◌++◌, append_assoc, append-nil, length, map, zip, ap, string_bytes, sym, subst, ◌∙◌, arith}
+use Rattle.std.proofs.Common.{rules, ◌≡◌, ℕ, List, ◌∷◌, [], ◌++◌, append_assoc, length, map, zip, ap, string_bytes, sym, subst, ◌∙◌, arith}
 use Rattle.std.specs.Prelude.{IsUtf8, Ok, Vec}
 use Rattle.std.specs.Global.{Global}
 use Rattle.std.specs.Vec.Iter.{into_iter_items, into_iter_len}
@@ -25,9 +25,6 @@ unreachable-requires c =
     (All-get_or (λ (p : List ℕ × Vec ℕ Global). IsUtf8 p.0) (zip objects maps) (length c.loop-object.yielded) _ turn.0 (first_all IsUtf8 objects maps c.requires)) in
     let read : IsUtf8 c.bytes.result.now = subst IsUtf8 (sym c.bytes.ensures.text) text in
     search rules
-
-pub loop-object-init : goal.loop-object-init
-loop-object-init c = ap (map file_value) c.reserve.ensures.items ∙ sym (append-nil (map file_value c.args.files.now.items))
 
 -- the file of one object more
 pub loop-object-preserved : goal.loop-object-preserved

@@ -1,16 +1,13 @@
-use Rattle.std.proofs.Common.{rules, ◌≡◌, ◌∙◌, ◌++◌, ◌∷◌, [], List, append_assoc, get_or, refl, ap, ap₂, map, subst, sym, length, ℕ}
+use Rattle.std.proofs.Common.{rules, ◌≡◌, ◌∙◌, refl, ap, ap₂, subst, length, ℕ}
 use Rattle.std.specs.Prelude.{Vec}
 use Rattle.std.specs.Global.{Global}
-use Rattle.ninja_text.specs.Bytes.{line_feed}
 use Rattle.ninja_text.specs.Failure.{ForFault}
 use Rattle.dep_order.specs.Sortings.{IsSortingOf}
-use Rattle.build_effect.specs.EdgeValue.{EdgeValue}
 use Rattle.build_effect.specs.Graphs.{EdgeNeeds}
-use Rattle.commands.specs.Answers.{visible}
-use Rattle.commands.specs.EdgeFaults.{cycle_text, first_output}
+use Rattle.commands.specs.EdgeFaults.{cycle_text}
 use Rattle.commands.specs.Order.{order_text, PrintsOrder}
 use Rattle.commands.specs.Outcomes.{refusal, printed}
-use Rattle.commands.proofs.Outcomes.{appended_more, its_line, of_all, next, last, said}
+use Rattle.commands.proofs.Outcomes.{its_line, of_all, next, last, said}
 use Rattle.commands.proofs.order.order_read.Goals as goal
 
 pub returns-in_err-graph : goal.returns-in_err-graph
@@ -21,17 +18,6 @@ returns-in_err-order c = next c.graph_of.ensures c.in_ok-graph.was (search rules
 
 pub returns-in_err-push_line-in-Order : goal.returns-in_err-push_line-in-Order
 returns-in_err-push_line-in-Order c = next c.graph_of.ensures c.in_ok-graph.was (search rules)
-
--- the line of one edge more
-pub loop-edge_index-preserved : goal.loop-edge_index-preserved
-loop-edge_index-preserved c =
-    let edges = c.graph.inside.edges.items in
-    let text : List ℕ = c.loop-edge_index.text.items in
-    let name : List ℕ = c.first_output.result.now in
-    let index : ℕ = get_or c.deref-edge_index-items.result.now c.loop-edge_index.edge_index-index 0 in
-    let here : name ≡ first_output edges index = c.first_output.ensures ∙ ap (λ (es : List EdgeValue). first_output es index) (c.edges.ensures.edges ∙ sym c.graph.view_is) in
-    appended_more (λ index. map visible (first_output edges index) ++ line_feed ∷ []) [] c.deref-edge_index-items.result.now c.loop-edge_index.edge_index-index _ _ c.loop-edge_index-test.true c.loop-edge_index.invariant
-    (c.in_ok-push_line-in-Order.ensures ∙ append_assoc text (map visible name) (line_feed ∷ []) ∙ ap (λ z. text ++ (map visible z ++ line_feed ∷ [])) here)
 
 pub returns-in-Order : goal.returns-in-Order
 returns-in-Order c =

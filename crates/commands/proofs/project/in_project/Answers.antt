@@ -11,14 +11,6 @@ use Rattle.commands.proofs.project.in_project.Goals as goal
 abbrev texts : Vec (Bor (List ℕ)) Global → List (List ℕ)
 texts lent = map (λ (text : Bor (List ℕ)). text.now) lent.items
 
--- each target has its scan documents
-pub bounds-scans-index : goal.bounds-scans-index
-bounds-scans-index c =
-    let within : c.loop-index.index < length c.args.targets.now = c.loop-index-test.true in
-    let same : length c.args.scans.now ≡ length c.args.targets.now =
-    same_length texts (λ (t : ReadTargetValue). t.scans) c.args.scans.now c.args.targets.now c.requires in
-    omega (arith, within, same)
-
 -- what a target is for the project
 its_part : (part : ProjectTargetValue) (t : ReadTargetValue) → part.name ≡ t.spec.target → part.setting ≡ t.spec.setting → part.scans ≡ t.scans → part.linked ≡ t.linked → part.kept ≡ t.spec.kept →
     part ≡ project_target t

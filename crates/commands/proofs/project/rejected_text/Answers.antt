@@ -3,7 +3,7 @@ use Rattle.std.specs.Prelude.{Vec}
 use Rattle.std.specs.Global.{Global}
 use Rattle.std.specs.Borrow.{Bor}
 use Rattle.std.proofs.lemmas.List.{map_push, take_all}
-use Rattle.std.proofs.lemmas.Option.{get_or_from_slice_get, slice_get_within}
+use Rattle.std.proofs.lemmas.Option.{get_or_from_slice_get}
 use Rattle.std.proofs.lemmas.Result.{IfOk-weaker}
 use Rattle.collate_core.specs.declared.fault.RefusedTarget.{RefusedTarget}
 use Rattle.commands.specs.declared.project_targets.ReadTarget.TheInside.{Inside}
@@ -22,14 +22,6 @@ links_there : (targets : List ReadTargetValue) (index : ℕ) (target : ReadTarge
     IsReportable targets index → target ≡ get_or targets index target → linked ≡ target.linked → All (λ k. k < length targets) linked
 links_there targets index target linked (t, here, there) at are =
     subst (All (λ k. k < length targets)) (sym (are ∙ ap (λ (t : ReadTargetValue). t.linked) (at ∙ get_or_from_slice_get targets index t target here))) there
-
-pub bounds-targets-index : goal.bounds-targets-index
-bounds-targets-index c = slice_get_within c.args.targets.now c.args.index c.requires.0 c.requires.1
-
-pub bounds-targets-earlier : goal.bounds-targets-earlier
-bounds-targets-earlier c =
-    links_there c.args.targets.now c.args.index c.index-targets-index.result c.deref-earlier-items.result.now c.requires c.index-targets-index.is
-    (c.deref-earlier-items.ensures.value ∙ ap (λ (t : ReadTargetValue). t.linked) c.target.view_is) c.loop-earlier.earlier-index 0 c.loop-earlier-test.true
 
 -- one name more
 pub loop-earlier-preserved : goal.loop-earlier-preserved

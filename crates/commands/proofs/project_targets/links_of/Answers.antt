@@ -1,13 +1,10 @@
-use Rattle.std.proofs.Common.{rules, ◌≡◌, ℕ, ◌+◌, ◌<◌, List, [], ◌∷◌, ◌++◌, length, take, get_or, map, string_bytes, Option, Some, None, refl, ap, ap₂, sym, subst, ◌∙◌, codes}
-use Rattle.std.specs.Prelude.{option_map, String}
+use Rattle.std.proofs.Common.{rules, ◌≡◌, ℕ, ◌+◌, ◌<◌, List, [], ◌∷◌, ◌++◌, length, take, get_or, map, string_bytes, Option, Some, ap, ap₂, sym, ◌∙◌}
+use Rattle.std.specs.Prelude.{String}
 use Rattle.std.specs.Global.{Global}
-use Rattle.std.proofs.lemmas.List.{map_push, take_all}
-use Rattle.std.proofs.lemmas.Option.{slice_get-map}
-use Rattle.commands.specs.ProjectCommand.{ReadTargetValue, last_with, LinksTo, LinksLater, LinksOf}
-use Rattle.commands.specs.Outcomes.{seen}
-use Rattle.commands.specs.inner.Parts.{bytes_of}
+use Rattle.std.proofs.lemmas.List.{map_push}
+use Rattle.commands.specs.ProjectCommand.{ReadTargetValue, last_with, LinksTo}
 use Rattle.commands.specs.inner.ProjectTargets.{writer_of}
-use Rattle.commands.proofs.Outcomes.{its_line, said, passed, at_index, mapped_next}
+use Rattle.commands.proofs.Outcomes.{mapped_next}
 use Rattle.commands.proofs.project_targets.links_of.Goals as goal
 
 -- the index of one info file more
@@ -31,30 +28,3 @@ loop-info-preserved c =
     links_next c.args.targets.now c.args.infos.now c.loop-info.info-index c.info-item.result c.loop-info.linked.items _ c.in-Some.index.now c.loop-info-test.true c.info-item.is
     (by_table c.targets.inside.list.items c.args.targets.now (writer_of c.targets.inside.writers) c.as_str.result.now (string_bytes c.info-item.result) (Some c.in-Some.index.now) c.targets.invariant.1 c.targets.view_is c.as_str.ensures.value found)
     c.in_ok-linked-2.ensures c.loop-info.invariant
-
-pub returns-in_err-linked : goal.returns-in_err-linked
-returns-in_err-linked c = subst (λ s. LinksOf c.args.targets.now (map string_bytes c.args.infos.now) [] (seen bytes_of s)) (sym (passed c.from_residual.ensures)) refl
-
-pub returns-in_err-linked-2 : goal.returns-in_err-linked-2
-returns-in_err-linked-2 c = subst (λ s. LinksOf c.args.targets.now (map string_bytes c.args.infos.now) [] (seen bytes_of s)) (sym (passed c.from_residual-in_err-linked-2.ensures)) refl
-
--- no target writes this info file
-pub returns-in_default : goal.returns-in_default
-returns-in_default c =
-    let infos = map string_bytes c.args.infos.now in
-    let none : None ≡ writer_of c.targets.inside.writers c.as_str.result.now = search rules in
-    said (LinksTo c.args.targets.now infos) (λ (fault : Unit {0}). LinksLater c.args.targets.now infos) (λ fault. codes "K3 LinkedLater") tt c.stopped.result (
-      c.loop-info.info-index,
-      string_bytes c.info-item.result,
-      slice_get-map string_bytes c.args.infos.now c.loop-info.info-index
-          ∙ ap (option_map string_bytes) (at_index c.args.infos.now c.loop-info.info-index c.info-item.result c.loop-info-test.true c.info-item.is),
-      by_table c.targets.inside.list.items c.args.targets.now (writer_of c.targets.inside.writers) c.as_str.result.now (string_bytes c.info-item.result) None c.targets.invariant.1 c.targets.view_is c.as_str.ensures.value none,
-    ) (its_line 1 (codes "K3 LinkedLater") _ c.stopped.result c.from_slice-message.ensures.items c.stopped.ensures)
-
--- all info files were looked up
-pub returns : goal.returns
-returns c = (
-  refl,
-  subst (λ infos. LinksTo c.args.targets.now (map string_bytes infos) c.loop-info.linked.items)
-      (take_all c.loop-info.info-index c.args.infos.now c.loop-info-test.false) c.loop-info.invariant,
-)
