@@ -14,7 +14,7 @@ use Rattle.dep_order.specs.inner.Marks.{mark_of, AreMarked}
 use Rattle.dep_order.specs.inner.Steps.{LeadsBack}
 use Rattle.dep_order.specs.inner.Postorders.{IsPostorder}
 use Rattle.dep_order.specs.inner.Components.{AreComponents, SharesComponent, AreNumbersFrom, LeadsFree, IsNumberAdded}
-use Rattle.dep_order.proofs.Orders.{has_none, has_from_count, same, same_itself, Implies, chain_same}
+use Rattle.dep_order.proofs.Orders.{has_none, has_from_count, same_itself, Implies, chain_same}
 use Rattle.dep_order.proofs.Releases.{has_more}
 use Rattle.dep_order.proofs.Searches.{some_or_none, none_is_no_some, one_value, node_in_range}
 use Rattle.dep_order.proofs.Postorders.{reaches_on, led_back}
