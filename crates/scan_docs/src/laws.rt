@@ -1,6 +1,7 @@
 //! Laws of documents, for callers' proofs: each is the contract of a function that does nothing.
-ghost use Rattle.std.specs.Prelude.{◌≡◌, List};
+ghost use Rattle.std.specs.Prelude.{◌≡◌, List, true, IsUtf8};
 ghost use Rattle.ninja_text.specs.Bytes.{Bytes};
+ghost use Rattle.scan_docs.specs.Name.{is_target_name};
 ghost use Rattle.scan_docs.specs.Document.{IsAccepted, HasOneAnswer};
 ghost use Rattle.scan_docs.specs.Scan.{SettingValue, RuleValue, AreRules};
 ghost use Rattle.scan_docs.specs.ScanChecks.{scan_checks};
@@ -13,6 +14,8 @@ ghost use Rattle.scan_docs.specs.TargetChecks.{target_checks};
 ghost use Rattle.scan_docs.specs.Project.{ProjectValue, IsProject};
 ghost use Rattle.scan_docs.specs.ProjectChecks.{project_checks};
 ghost use Rattle.scan_docs.specs.Values.{rules_of, info_of, spec_of, project_of};
+
+use crate::target_name::TargetName;
 
 /// All bytes, read as a document of one kind, have at most one result: one value or one fault, and
 /// never both.
@@ -47,3 +50,11 @@ pub fn value_of_bytes()
 pub fn info_again()
     ensures { (info : InfoValue) → IsSoundInfo info → ReadsBack info (info_text info) }
 {}
+
+/// The name of a target is accepted, and it is UTF-8.
+pub fn target_names(name: &TargetName)
+    ensures accepted { is_target_name name.now ≡ true }
+    ensures utf8 { IsUtf8 name.now }
+{
+    name.text();
+}
