@@ -12,7 +12,7 @@ use Rattle.ninja_text.specs.declared.fault.PathFault.{PathFault}
 use Rattle.ninja_text.proofs.ForCallers.{assignment_not_empty}
 use Rattle.dyndep_file.specs.Classes.{Symbol, WordSymbol, SignSymbol, symbols, begins_at_start, begins_with_space}
 use Rattle.dyndep_file.specs.Faults.{same_bytes, after_build}
-use Rattle.dyndep_file.proofs.LineLemmas.{same_bytes-true, no_indent_at_token}
+use Rattle.dyndep_file.proofs.ForCallers.{same_bytes-true, no_indent_at_token}
 use Rattle.build_effect.specs.Effect.{ArePaths}
 use Rattle.build_effect.specs.ListingLines.{EdgeTexts, IsEdgeLine, Row, CommentRow, BlankRow, BuildRow, DyndepRow, RestatRow, TextIsOfRow, AreEdgePaths, ListingClass, Comment, Blank, Build, Dyndep, Restat, RowIsOfClass, IsListingLine}
 use Rattle.build_effect.specs.inner.ListingWalk.{edge_texts, edge_paths, then_paths, build_class, binding_row, build_row, unindented_row, sound_row, row_of, paths_of, dyndep_class, class_of_row, FindsClass}

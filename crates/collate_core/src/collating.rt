@@ -21,7 +21,7 @@ use crate::target::Target;
 use module_maps::MapStyle;
 use module_table::{Table, added_files};
 use ninja_text::{Failure, Path};
-use scan_docs::laws::info_again;
+use scan_docs::laws::{info_again, target_names};
 use scan_docs::lent_info_write;
 use std::alloc::{AllocError, Global};
 
@@ -132,9 +132,9 @@ pub fn collate_dyndep_or_refused(
 {
     headline();
     added_files();
+    // The contract is also about the info file, which is not written.
     info_again();
-    // The contract is also about the info file, which is not written. Its name is a valid name.
-    let _ = target.name.text();
+    target_names(target.name);
     let table = table_of(alloc, target)?;
     let resolved = table.into_resolved();
     match dyndep_text(alloc, &resolved) {

@@ -104,7 +104,7 @@ fn collate_by_part<M: MapStyle>(
     let Some(part) = pool.part(alloc, &objects, linked, style.is_some())? else {
         return Ok(None);
     };
-    match Table::build(alloc, objects, part, target.kept) {
+    match Table::build_or_refused(alloc, objects, part, target.kept, Some(pool.key())) {
         Ok(table) => part_collated(alloc, target, &table, style),
         Err(Failure::Memory) => Err(AllocError),
         Err(Failure::Fault(_)) => Ok(None),

@@ -39,7 +39,7 @@ pub(crate) fn table_of(alloc: Global, target: &Target<'_>) -> Result<Table, Fail
         Ok(infos) => infos,
         Err(failure) => return Err(nothing_read(alloc, failure)),
     };
-    Table::build_or_refused(alloc, objects, infos, target.kept).map_err(of_table)
+    Table::build_or_refused(alloc, objects, infos, target.kept, None).map_err(of_table)
 }
 
 /// Returns the failure of a target whose table has a fault.

@@ -6,3 +6,4 @@ pub mod ReadLemmas
 pub mod WrittenText
 pub mod LawLemmas
 pub mod WriteLemmas
+pub mod ForCallers

@@ -1,4 +1,4 @@
-use Rattle.std.proofs.Common.{◌≡◌, List, [], map, None, Ok, refl, ap, subst, IsUtf8, All, sym}
+use Rattle.std.proofs.Common.{◌≡◌, List, [], map, None, Ok, refl, ap, subst, All, sym}
 use Rattle.std.proofs.lemmas.Result.{err_from_is_err_and}
 use Rattle.dyndep_file.specs.StatementValue.{StatementValue}
 use Rattle.dyndep_file.specs.WriteFaults.{text_or_fault}
@@ -43,7 +43,7 @@ returns-in-Ok-clause-dyndep c =
     let are : statements ≡ statements_of t = ap statements_of c.into_resolved-resolved.ensures in
     let info : InfoValue = info_of_table target.name target.kept t in
     let named : IsTargetName target.name =
-    subst IsTargetName (ap (λ (t : TargetValue). t.name) c.target.view_is) (record { accepted = c.text.ensures.accepted; utf8 = subst IsUtf8 c.text.ensures.text c.text.utf8 }) in
+    subst IsTargetName (ap (λ (t : TargetValue). t.name) c.target.view_is) (record { accepted = c.target_names.ensures.accepted; utf8 = c.target_names.ensures.utf8 }) in
     let sound = info_is_sound t table.text c.added_files.ensures.required target.name target.kept named (subst (All HasPaths) are (has_paths statements text.spelled)) in
     let collated : CollatedValue = record { dyndep = c.in-Ok.dyndep.items; info = info_text info; objects = map (λ rule. rule.object) t.objects; maps = [] } in
     let is : Collates target None collated =

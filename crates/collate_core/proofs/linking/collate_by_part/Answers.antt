@@ -18,4 +18,4 @@ part_collated-requires-clause-enough g c =
     let enough = subst (λ (os : List RuleValue). IsEnough os c.in-Some.part.items found.0) c.deref.ensures.value found.2 in
     let enough_here = enough_for_target (option_map g.M.MapStyle.written (option_copied c.args.style)) target c.requires.0 c.args.pool.now c.args.linked.now objects c.in-Some.part.items found.0
     c.requires.1 c.requires.2 c.requires.3 scans rules c.in-Ok.ensures.text found.1 enough (keeps_for_style c.args.style g.M.MapStyle.written c.is_some.result c.in-Some.part.items found.0 c.is_some.ensures found.3) in
-    subst (IsEnoughFor target (option_map g.M.MapStyle.written (option_copied c.args.style))) (sym c.in-Ok-build.ensures.table) enough_here
+    subst (IsEnoughFor target (option_map g.M.MapStyle.written (option_copied c.args.style))) (sym c.in-Ok-build_or_refused.ensures.table) enough_here

@@ -4,7 +4,7 @@ use Rattle.ninja_text.specs.Assignments.{SeenAssignment}
 use Rattle.ninja_text.specs.LineViews.{seen_line}
 use Rattle.ninja_text.specs.TokenViews.{seen_token, tokens_left}
 use Rattle.dyndep_file.specs.Classes.{begins_with_space}
-use Rattle.dyndep_file.proofs.LineLemmas.{starts_with_space}
+use Rattle.dyndep_file.proofs.ForCallers.{starts_with_space}
 use Rattle.build_effect.specs.inner.ListingWalk.{binding_row, build_row}
 use Rattle.build_effect.specs.inner.ListingRows.{row_value}
 use Rattle.build_effect.proofs.ListingLineLemmas.{comment_row, faulty_row, blank_row, indented, unindented}
