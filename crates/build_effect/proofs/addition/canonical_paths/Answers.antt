@@ -1,6 +1,5 @@
-use Rattle.std.proofs.Common.{◌≡◌, ℕ, ◌+◌, List, [], Some, arith, map, take, refl, ap, sym, subst, ◌∙◌, slice_get}
+use Rattle.std.proofs.Common.{◌≡◌, ℕ, ◌+◌, List, Some, map, take, refl, ap, sym, subst, ◌∙◌, slice_get}
 use Rattle.std.proofs.lemmas.Result.{err_from_is_err_and}
-use Rattle.std.proofs.lemmas.List.{length-map, take_all}
 use Rattle.std.proofs.lemmas.Option.{slice_get_read}
 use Rattle.build_effect.specs.inner.BadPaths.{IsBadText, IsBadTextFrom}
 use Rattle.build_effect.specs.Effect.{ArePaths}
@@ -26,12 +25,3 @@ loop-text_index-preserved c =
     let text : List ℕ = c.deref.result.now in
     let at : slice_get texts i ≡ Some text = to_map (λ text. text.items) c.args.texts.now i c.index-texts-text_index.result (slice_get_read c.args.texts.now _ i c.index-texts-text_index.result refl c.loop-text_index-test.true c.index-texts-text_index.is) ∙ ap (λ x. Some x) (sym c.deref.ensures.value) in
     subst (ArePaths (take (i + 1) texts)) (sym c.in_ok-push.ensures.items) (more_paths texts c.loop-text_index.paths.items i text c.in_ok-path.path at c.loop-text_index.invariant c.in_ok-path.ensures.path)
-
-pub loop-text_index-init : goal.loop-text_index-init
-loop-text_index-init c = subst (ArePaths []) (sym c.in_ok-paths.ensures.items) refl
-
-pub returns-clause-paths : goal.returns-clause-paths
-returns-clause-paths c =
-    let texts : List (List ℕ) = map (λ text. text.items) c.args.texts.now in
-    subst (λ xs. ArePaths xs c.loop-text_index.paths.items)
-    (take_all c.loop-text_index.text_index texts (omega (arith, length-map c.args.texts.now (λ text. text.items), c.loop-text_index-test.false))) c.loop-text_index.invariant

@@ -1,6 +1,6 @@
 use Rattle.std.proofs.Common.{◌≡◌, ℕ, ◌+◌, Some, Ok, length, take, refl, ap, sym, subst, slice_get, ◌∙◌, arith}
 use Rattle.std.proofs.lemmas.Result.{err_from_is_err_and}
-use Rattle.std.proofs.lemmas.List.{take_all, length-map}
+use Rattle.std.proofs.lemmas.List.{length-map}
 use Rattle.std.proofs.lemmas.Option.{slice_get_read}
 use Rattle.dep_order.specs.Rows.{rows}
 use Rattle.ninja_text.specs.Paths.{path_of}
@@ -66,11 +66,3 @@ loop-statement_index-preserved c =
       inputs = subst (λ t. ArePaths t c.in_ok-implicit_inputs.implicit_inputs.items) inputs c.in_ok-implicit_inputs.ensures.paths;
       restat = ap (λ (x : StatementValue). x.restat) (sym c.statement.view_is);
     }))
-
-pub loop-statement_index-init : goal.loop-statement_index-init
-loop-statement_index-init c = record { count = ap length (sym c.in_ok-additions.ensures.items); each = λ k s a at at_a. cc }
-
-pub returns-clause-canonical : goal.returns-clause-canonical
-returns-clause-canonical c =
-    let ss = c.args.statements.now in
-    subst (λ xs. AreCanonical xs c.loop-statement_index.additions.items) (take_all c.loop-statement_index.statement_index ss c.loop-statement_index-test.false) c.loop-statement_index.invariant

@@ -1,6 +1,5 @@
-use Rattle.std.proofs.Common.{Option, rules, ◌≡◌, ◌∙◌, ◌+◌, ◌++◌, ◌||◌, [], Bool, ℕ, List, take, ap, refl, sym, subst}
+use Rattle.std.proofs.Common.{Option, rules, ◌≡◌, ◌∙◌, ◌+◌, ◌++◌, ◌||◌, Bool, ℕ, List, take, ap, refl, sym, subst}
 use Rattle.std.specs.List.{each_same}
-use Rattle.std.proofs.lemmas.List.{take_all}
 use Rattle.std.proofs.lemmas.Option.{slice_get_read, slice_get_within}
 use Rattle.dyndep_file.specs.StatementValue.{StatementValue}
 use Rattle.build_effect.specs.EdgeValue.{EdgeValue}
@@ -8,7 +7,7 @@ use Rattle.build_effect.specs.Effect.{extended}
 use Rattle.build_effect.specs.inner.Extended.{IsEdgeAfter, AreExtended}
 use Rattle.build_effect.specs.inner.StatementEdges.{statement_on}
 use Rattle.ninja_text.proofs.ForCallers.{same_some}
-use Rattle.build_effect.proofs.Extensions.{unchanged, none_extended, more_extended}
+use Rattle.build_effect.proofs.Extensions.{unchanged, more_extended}
 use Rattle.build_effect.proofs.addition.extended_edges.Goals as goal
 use Rattle.build_effect.proofs.addition.extended_edges.Goals.{in-Some+in_ok-extend_from_slice+in_ok-extend_from_slice-2, in_default}
 
@@ -71,9 +70,3 @@ loop-edge_index-preserved c =
     ] in
     subst (AreExtended (take (i + 1) g) additions c.args.statement_of.now) (sym c.in_ok-push.ensures.items)
     (more_extended g additions c.args.statement_of.now c.loop-edge_index.new.items i e after (slice_get_read g _ i e refl c.loop-edge_index-test.true c.index-edges-edge_index.is) c.loop-edge_index.invariant is)
-
-pub loop-edge_index-init : goal.loop-edge_index-init
-loop-edge_index-init c = subst (AreExtended [] c.args.additions.now c.args.statement_of.now) (sym c.in_ok-new.ensures.items) (none_extended c.args.additions.now c.args.statement_of.now)
-
-pub returns : goal.returns
-returns c = subst (λ es. AreExtended es c.args.additions.now c.args.statement_of.now c.loop-edge_index.new.items) (take_all c.loop-edge_index.edge_index c.args.edges.now c.loop-edge_index-test.false) c.loop-edge_index.invariant

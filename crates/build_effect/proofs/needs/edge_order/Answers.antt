@@ -37,9 +37,6 @@ loop-edge-preserved c =
     let row : c.in_ok-collect.field-0.items ≡ makers_row maker edge = subst (λ r. IfOk r (λ row. row.items ≡ makers_row maker edge)) c.in_ok-collect.was made in
     mapped_next (λ (row : Vec ℕ Global). row.items) (makers_row maker) edges i edge c.loop-edge.needs.items c.push.new.self.items c.in_ok-collect.field-0 at c.loop-edge.invariant c.in_ok-push.ensures.items row
 
-pub loop-edge-init : goal.loop-edge-init
-loop-edge-init c = ap rows c.in_ok-needs.ensures.items
-
 pub new-digraph-requires : goal.new-digraph-requires
 new-digraph-requires c =
     let g : List EdgeValue = c.args.graph.now in

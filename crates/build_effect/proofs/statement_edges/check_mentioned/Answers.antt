@@ -1,6 +1,6 @@
-use Rattle.std.proofs.Common.{◌≡◌, ◌∙◌, true, false, Some, None, refl, ap, arith, sym}
+use Rattle.std.proofs.Common.{◌≡◌, ◌∙◌, true, false, Some, None, refl, ap, sym}
 use Rattle.std.specs.Prelude.{not}
-use Rattle.std.proofs.lemmas.Option.{slice_get_read, slice_get_within}
+use Rattle.std.proofs.lemmas.Option.{slice_get_read}
 use Rattle.build_effect.specs.EdgeValue.{EdgeValue}
 use Rattle.build_effect.proofs.StatementChecks.{more_have, is_there}
 use Rattle.build_effect.proofs.statement_edges.check_mentioned.Goals as goal
@@ -36,8 +36,3 @@ loop-edge_index-preserved c =
       | else-is_none-via-then-is_none+else-names w ↦ absurd (w.if-names.ensures names)
       | else-is_none-via-else-is_none w ↦ is_there _ true (c.is_none.ensures ∙ ap not w.if-is_none.false)
     ])
-
-pub returns-clause-ok : goal.returns-clause-ok
-returns-clause-ok c = λ i e at names.
-    let within = slice_get_within c.args.edges.now i e at in
-    c.loop-edge_index.invariant i e (omega (arith, within, c.loop-edge_index-test.false)) at names

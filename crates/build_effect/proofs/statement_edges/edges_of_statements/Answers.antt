@@ -1,15 +1,11 @@
-use Rattle.std.proofs.Common.{◌≡◌, ◌+◌, ◌∙◌, List, length, take, refl, ap, sym, subst}
-use Rattle.std.proofs.lemmas.List.{take_all}
+use Rattle.std.proofs.Common.{◌≡◌, ◌+◌, ◌∙◌, take, refl, ap, sym, subst}
 use Rattle.std.proofs.lemmas.Option.{slice_get_read}
 use Rattle.dyndep_file.specs.StatementValue.{StatementValue}
 use Rattle.build_effect.specs.inner.Makers.{maker_in}
 use Rattle.build_effect.specs.inner.StatementEdges.{AreEdgesOf, IsUnboundOutput}
-use Rattle.build_effect.proofs.StatementChecks.{maker_within, bound_maker, unbound_maker, no_maker, more_edges, first_unbound}
+use Rattle.build_effect.proofs.StatementChecks.{bound_maker, unbound_maker, no_maker, more_edges, first_unbound}
 use Rattle.build_effect.proofs.statement_edges.edges_of_statements.Goals as goal
 use Rattle.build_effect.proofs.statement_edges.edges_of_statements.Goals.{in_default-via-in-Some+else-names, in_default-via-in_default}
-
-pub bounds-edges-edge : goal.bounds-edges-edge
-bounds-edges-edge c = maker_within c.args.edges.now (maker_in c.args.makers.now.table) c.addition.inside.output c.requires.makers c.in-Some.edge (sym c.in-Some.ensures)
 
 pub returns-in_default-clause-fault : goal.returns-in_default-clause-fault
 returns-in_default-clause-fault c =
@@ -38,11 +34,3 @@ loop-addition-preserved c =
     (more_edges g c.args.name.now c.args.additions.now c.loop-addition.edge_of.items i a c.in-Some.edge
     (slice_get_read c.args.additions.now _ i a refl c.loop-addition-test.true c.addition-item.is) c.loop-addition.invariant
     (bound_maker g maker a.output c.requires.makers c.args.name.now c.in-Some.edge c.index-edges-edge.result (ap maker (sym same) ∙ sym c.in-Some.ensures) c.index-edges-edge.is c.if-names.ensures))
-
-pub loop-addition-init : goal.loop-addition-init
-loop-addition-init c = record { count = ap length c.in_ok-edge_of.ensures.items; each = λ k a i at at_i. cc }
-
-pub returns-clause-edges : goal.returns-clause-edges
-returns-clause-edges c =
-    let additions : List StatementValue = c.args.additions.now in
-    subst (λ xs. AreEdgesOf c.args.edges.now c.args.name.now xs c.loop-addition.edge_of.items) (take_all c.loop-addition.addition-index additions c.loop-addition-test.false) c.loop-addition.invariant

@@ -1,8 +1,8 @@
-use Rattle.std.proofs.Common.{true, false, ◌≡◌, ◌∙◌, ℕ, ◌<◌, length, get_or, Some, None, refl, ap, sym, arith, slice_get, subst}
+use Rattle.std.proofs.Common.{true, false, ◌≡◌, ◌∙◌, ℕ, ◌<◌, length, get_or, Some, None, refl, ap, sym, arith, slice_get}
 use Rattle.std.proofs.lemmas.Option.{slice_get_read, slice_get-get_or}
-use Rattle.std.proofs.lemmas.List.{get_or_read, take_all}
+use Rattle.std.proofs.lemmas.List.{get_or_read}
 use Rattle.dyndep_file.specs.StatementValue.{StatementValue}
-use Rattle.build_effect.specs.inner.StatementEdges.{statement_on, AreInverse}
+use Rattle.build_effect.specs.inner.StatementEdges.{statement_on}
 use Rattle.build_effect.specs.declared.fault.EffectFault.TheVariants.{StatementTwice}
 use Rattle.build_effect.proofs.StatementChecks.{more_inverse, still_differ, repeated_on, is_there}
 use Rattle.build_effect.proofs.statement_edges.statements_of_edges.Goals as goal
@@ -43,21 +43,3 @@ loop-statement_index-preserved c =
       inverse = more_inverse c.args.count edge_of i edge statement_of at c.loop-statement_index.invariant.inverse low free;
       differ = still_differ c.args.count edge_of i edge statement_of at c.loop-statement_index.invariant.inverse free c.loop-statement_index.invariant.differ;
     }
-
-pub index-requires : goal.index-requires
-index-requires c =
-    let i = c.loop-statement_index.statement_index in
-    omega (arith, c.requires.edges i 0 c.loop-statement_index-test.true, c.loop-statement_index.invariant.inverse.as_many, c.loop-statement_index.statement_of.ok.0)
-
-pub index_mut-requires : goal.index_mut-requires
-index_mut-requires c =
-    let i = c.loop-statement_index.statement_index in
-    omega (arith, c.requires.edges i 0 c.loop-statement_index-test.true, c.loop-statement_index.invariant.inverse.as_many, c.loop-statement_index.statement_of.ok.0)
-
-pub bounds-additions-statement_index : goal.bounds-additions-statement_index
-bounds-additions-statement_index c = omega (arith, c.loop-statement_index-test.true, c.requires.each)
-
-pub returns-clause-statements : goal.returns-clause-statements
-returns-clause-statements c =
-    subst (λ edge_of. AreInverse c.args.count edge_of c.loop-statement_index.statement_of.items)
-    (take_all c.loop-statement_index.statement_index c.args.edge_of.now c.loop-statement_index-test.false) c.loop-statement_index.invariant.inverse

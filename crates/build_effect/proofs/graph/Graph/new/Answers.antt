@@ -1,5 +1,4 @@
 use Rattle.std.proofs.Common.{◌≢◌, [], sym, subst, ap, ◌∙◌, slice_get}
-use Rattle.std.specs.Prelude.{All}
 use Rattle.build_effect.specs.EdgeValue.{EdgeValue}
 use Rattle.build_effect.specs.Graphs.{MadeOnce}
 use Rattle.build_effect.proofs.Lists.{all_at}
@@ -16,6 +15,3 @@ invariant_of-result c =
       made_once = subst MadeOnce c.as_slice.ensures.value c.in_ok-check_made.ensures.ok;
       dyndep_is_input = λ i e file at names. c.in_ok-check_dyndeps.ensures.ok i e file (ap (λ xs. slice_get xs i) c.as_slice-2.ensures.value ∙ at) names;
     }
-
-pub check_dyndeps-requires-clause-outputs : goal.check_dyndeps-requires-clause-outputs
-check_dyndeps-requires-clause-outputs c = subst (All (λ e. e.outputs ≢ [])) (sym c.as_slice-2.ensures.value) c.requires

@@ -1,4 +1,4 @@
-use Rattle.std.proofs.Common.{refl, ◌≡◌, ◌∙◌, ◌+◌, ◌<◌, ◌≤◌, ◌++◌, List, ℕ, length, Ok, Err, ap, sym, subst, arith, length-append}
+use Rattle.std.proofs.Common.{◌≡◌, ◌∙◌, ◌+◌, ◌<◌, ◌≤◌, ◌++◌, List, ℕ, length, Ok, Err, ap, sym, subst, arith, length-append}
 use Rattle.std.proofs.lemmas.List.{append-nil, at_drop_all}
 use Rattle.ninja_text.specs.Escapes.{escaped}
 use Rattle.ninja_text.specs.Lines.{line_limit}
@@ -8,9 +8,6 @@ use Rattle.build_effect.specs.declared.fault.ListingWriteFault.TheVariants.{List
 use Rattle.build_effect.proofs.ListingWrites.{dyndep_added, text_goes_on, too_long_here, none_so_far}
 use Rattle.build_effect.proofs.graph.Graph.to_text.Goals as goal
 use Rattle.build_effect.proofs.graph.Graph.to_text.Goals.{in-Some+in_ok-extend_from_slice+in_ok-escape_into+in_ok-extend_from_slice-2, in_default, then-edge+in_ok-extend_from_slice-3, else-edge}
-
-pub loop-edge_index-init : goal.loop-edge_index-init
-loop-edge_index-init c = record { text = ap (λ t. t ++ listing_text c.edges-edge-items.result.now) c.new-text.ensures.items; none = refl }
 
 -- stated here, so that an edit of the limit is rejected early
 pub returns-then-len-start-gt-LINE_LIMIT : goal.returns-then-len-start-gt-LINE_LIMIT

@@ -7,7 +7,7 @@ use Rattle.dyndep_file.specs.Classes.{begins_with_space}
 use Rattle.dyndep_file.proofs.ForCallers.{starts_with_space}
 use Rattle.build_effect.specs.inner.ListingWalk.{binding_row, build_row}
 use Rattle.build_effect.specs.inner.ListingRows.{row_value}
-use Rattle.build_effect.proofs.ListingLineLemmas.{comment_row, faulty_row, blank_row, indented, unindented}
+use Rattle.build_effect.proofs.ListingLineLemmas.{blank_row, indented, unindented}
 use Rattle.build_effect.proofs.listing.rows.row_of.Goals as goal
 
 pub returns-in-Ok-assignment : goal.returns-in-Ok-assignment
@@ -41,16 +41,6 @@ returns-in-None c =
     unindented line.text line.comment (sym c.is_comment.ensures ∙ c.if-is_comment.false) c.in-Ok.ensures.tokens.0 (seen_token c.in-Some.first) (tokens_left c.next.new.self)
     (sym c.in-Some.ensures.steps ∙ c.in-Ok.ensures.tokens.1) true space (sym c.if-not-begins_build_line.false ∙ c.begins_build_line.ensures)
     ∙ ap build_row (sym c.in_ok-texts.ensures ∙ c.in-None.is)
-
-pub returns-then-is_comment : goal.returns-then-is_comment
-returns-then-is_comment c =
-    let line = seen_line c.args.line in
-    comment_row line.text line.comment (sym c.is_comment.ensures ∙ c.if-is_comment.true)
-
-pub returns-in-Err : goal.returns-in-Err
-returns-in-Err c =
-    let line = seen_line c.args.line in
-    faulty_row line.text line.comment c.in-Err.fault (sym c.is_comment.ensures ∙ c.if-is_comment.false) c.in-Err.ensures.tokens
 
 pub returns-in_default : goal.returns-in_default
 returns-in_default c =

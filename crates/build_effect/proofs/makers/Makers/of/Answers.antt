@@ -1,15 +1,11 @@
 use Rattle.std.proofs.Common.{◌∙◌, ap, refl, subst}
-use Rattle.std.proofs.lemmas.List.{take_all}
 use Rattle.std.proofs.lemmas.Option.{slice_get_read}
 use Rattle.std.proofs.lemmas.Iterator.{YieldsList-from_slice}
 use Rattle.std.proofs.lemmas.Iterator.Consumers.{YieldsList-at, YieldsList-from_chain, YieldsList-end}
 use Rattle.build_effect.specs.EdgeValue.{EdgeValue}
-use Rattle.build_effect.specs.inner.Makers.{maker_in, AreMakers, AreAdded}
-use Rattle.build_effect.proofs.MakerTables.{none_added, added_next, makers_next}
+use Rattle.build_effect.specs.inner.Makers.{maker_in, AreAdded}
+use Rattle.build_effect.proofs.MakerTables.{added_next, makers_next}
 use Rattle.build_effect.proofs.makers.Makers.of.Goals as goal
-
-pub loop-file-init : goal.loop-file-init
-loop-file-init c = none_added c.loop-edge_index.edge_index (maker_in c.loop-edge_index.table)
 
 pub loop-file-preserved : goal.loop-file-preserved
 loop-file-preserved c =
@@ -29,6 +25,3 @@ loop-edge_index-preserved c =
     (YieldsList-at c.chain-file-items.ensures.second (YieldsList-from_slice edge.implicit_outputs implicit_outputs)) c.chain-file-items.ensures.first_done c.chain-file-items.ensures.second_done)) c.loop-file.yielded _ c.loop-file.yielded_by _ _ c.in-None.is c.next.ensures.steps in
     makers_next edges i edge before after (slice_get_read edges _ i edge refl c.loop-edge_index-test.true c.index-edges-edge_index.is) c.loop-edge_index.invariant
     (subst (λ files. AreAdded files i before after) all.0 c.loop-file.invariant)
-
-pub returns : goal.returns
-returns c = subst (λ es. AreMakers es (maker_in c.loop-edge_index.table)) (take_all c.loop-edge_index.edge_index c.args.edges.now c.loop-edge_index-test.false) c.loop-edge_index.invariant

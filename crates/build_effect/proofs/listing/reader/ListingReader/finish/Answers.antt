@@ -24,10 +24,3 @@ returns-in-Err-clause-all c = λ bytes before.
     let has : HasReadListing bytes c.self.inside.lines = subst (HasReadListing bytes) (sym c.self.view_is) before in
     let same : c.map.result ≡ line_failure c.in-Err.failure = turned_to AtLine line_failure refl (λ fault. refl) c.in-Err.failure _ c.map.ensures in
     subst (λ f. EndsListing bytes (Err f)) (sym same) (ended bytes c.self.inside.lines c.in-Err.failure has (c.in-Err.ensures.all bytes))
-
-pub returns-in-Err-clause-failed : goal.returns-in-Err-clause-failed
-returns-in-Err-clause-failed c = λ failure failed.
-    let same : c.map.result ≡ line_failure c.in-Err.failure = turned_to AtLine line_failure refl (λ fault. refl) c.in-Err.failure _ c.map.ensures in
-    let is = c.in-Err.ensures.failed failure (ap (λ v. v.failed) c.self.view_is ∙ failed) in
-    let first : c.in-Err.failure ≡ failure = cc in
-    ap (λ f. Err f) (same ∙ ap line_failure first)
