@@ -36,14 +36,6 @@ last_at : {X : Type 0} (xs : List X) (y : X) → slice_get (xs ++ y ∷ []) (len
 last_at [] y = refl
 last_at (x ∷ xs) y = last_at xs y
 
--- no edge yet
-pub none_extended : (additions : List StatementValue) (statement_of : List (Option ℕ)) → AreExtended [] additions statement_of []
-none_extended additions statement_of = record {
-  as_many = refl;
-  plain = λ i e at none. absurd (omega (arith, slice_get_within {A = EdgeValue} [] i e at));
-  more = λ i k e a at is b. absurd (omega (arith, slice_get_within {A = EdgeValue} [] i e at));
-}
-
 -- one more edge
 pub more_extended : (g : List EdgeValue) (additions : List StatementValue) (statement_of : List (Option ℕ)) (new : List EdgeValue) (i : ℕ) (e x : EdgeValue) → slice_get g i ≡ Some e → AreExtended (take i g) additions statement_of new → IsEdgeAfter e additions (statement_on statement_of i) x → AreExtended (take (i + 1) g) additions statement_of (new ++ x ∷ [])
 more_extended g additions statement_of new i e x at are comes =

@@ -1,7 +1,7 @@
 -- The reader of edge listings, line by line, and the laws of lines and of texts.
 use Rattle.std.proofs.Common.{◌≡◌, ◌≢◌, append_assoc, ℕ, ◌+◌, ◌<◌, drop, get_or, Vec, Global, Bool, true, false, zero, suc, List, [], ◌∷◌, ◌++◌, length, refl, sym, ap, ◌∙◌, Some, None, Ok, Err, arith, inl, inr, ◌≤◌, subst, ◌⊎◌}
 use Rattle.std.specs.Prelude.{Result, All, slice_set, slice_index_or, nat_lt}
-use Rattle.std.proofs.lemmas.List.{append-nil, at_drop_more}
+use Rattle.std.proofs.lemmas.List.{at_drop_more}
 use Rattle.dep_order.specs.Rows.{rows}
 use Rattle.ninja_text.specs.Paths.{path_of}
 use Rattle.ninja_text.specs.declared.fault.PathFault.{PathFault}
@@ -95,29 +95,12 @@ pub behind_one_more : (paths : List (List ℕ)) (path : List ℕ) (found : Resul
 behind_one_more paths path found (Ok more) is = rw is (ap Ok (sym (append_assoc paths (path ∷ []) more)))
 behind_one_more paths path found (Err fault) is = rw is refl
 
--- before the first path all paths are to come
-pub behind_nothing : (more : Result (List (List ℕ)) PathFault) → behind [] more ≡ more
-behind_nothing (Ok more) = refl
-behind_nothing (Err fault) = refl
-
--- and after the last path none is to come
-pub nothing_behind : (paths : List (List ℕ)) → behind paths (paths_of []) ≡ Ok paths
-nothing_behind paths = ap Ok (append-nil paths)
-
 -- the current string is the first of those to come
 text_at_hand : (texts : List (Vec ℕ Global)) (i : ℕ) (text : Vec ℕ Global) → i < length texts → text ≡ get_or texts i text
     → paths_of (rows (drop i texts)) ≡ with_path (path_of text.items) (paths_of (rows (drop (i + 1) texts)))
 text_at_hand texts i text within is =
     at_drop_more (λ ts. paths_of (rows ts)) texts i text within
     ∙ ap (λ (t : Vec ℕ Global). with_path (path_of t.items) (paths_of (rows (drop (i + 1) texts)))) (sym is)
-
--- one more path in a loop over the strings
-pub paths_go_on : (texts : List (Vec ℕ Global)) (i : ℕ) (text : Vec ℕ Global) (paths new : List (List ℕ)) (path : List ℕ) → i < length texts → text ≡ get_or texts i text
-    → path_of text.items ≡ Ok path → new ≡ paths ++ path ∷ [] → paths_of (rows texts) ≡ behind paths (paths_of (rows (drop i texts)))
-    → paths_of (rows texts) ≡ behind new (paths_of (rows (drop (i + 1) texts)))
-paths_go_on texts i text paths new path within is found pushed so_far =
-    let more = paths_of (rows (drop (i + 1) texts)) in
-    so_far ∙ ap (behind paths) (text_at_hand texts i text within is) ∙ behind_one_more paths path (path_of text.items) more found ∙ ap (λ ps. behind ps more) (sym pushed)
 
 -- if there are strings, there are paths
 pub paths_somehow : (texts paths : List (List ℕ)) → paths_of texts ≡ Ok paths → texts ≢ [] → paths ≢ []

@@ -1,11 +1,10 @@
 -- The row of a line, by its tokens or its assignment, and what a build line says, by its parts.
-use Rattle.std.proofs.Common.{◌≡◌, ℕ, arith, length, ◌==◌, ◌&&◌, Bool, true, false, List, [], ◌∷◌, ◌++◌, append_assoc, map, Vec, Global, Ok, Err, refl, sym, ap, ◌∙◌, Option, Some, None}
+use Rattle.std.proofs.Common.{◌≡◌, ℕ, arith, length, ◌==◌, ◌&&◌, Bool, true, false, List, [], ◌∷◌, map, Vec, Global, Ok, Err, refl, sym, ap, ◌∙◌, Option, Some, None}
 use Rattle.std.specs.Prelude.{codes, not, if◌then◌else◌}
 use Rattle.std.proofs.lemmas.Bool.Decides.{nat_tests}
-use Rattle.std.proofs.lemmas.List.{map-append}
 use Rattle.dep_order.specs.Rows.{rows}
 use Rattle.ninja_text.specs.Lexical.{lexical_fault}
-use Rattle.ninja_text.specs.Tokens.{TokenAt, SeenToken, tokens, raw, with_raw, seen_tokens, value_of}
+use Rattle.ninja_text.specs.Tokens.{TokenAt, SeenToken, tokens, raw, with_raw, seen_tokens}
 use Rattle.ninja_text.specs.Assignments.{assignment_of}
 use Rattle.ninja_text.specs.declared.fault.LexFault.{LexFault}
 use Rattle.ninja_text.specs.declared.token.TokenKind.{TokenKind}
@@ -19,7 +18,7 @@ use Rattle.std.specs.Iterator.{YieldsFirstBy}
 use Rattle.ninja_text.specs.TokenViews.{seen_token, tokens_left}
 use Rattle.ninja_text.specs.declared.token.Words.{Words}
 use Rattle.ninja_text.specs.declared.token.Token.{Token}
-use Rattle.build_effect.specs.ListingLines.{CommentRow, BlankRow, is_rule_name}
+use Rattle.build_effect.specs.ListingLines.{BlankRow, is_rule_name}
 use Rattle.build_effect.specs.inner.ListingWalk.{row_of, binding_row, unindented_row, edge_texts, right_texts, front_words, past_words, past_sign, part_words, past_part}
 use Rattle.build_effect.specs.declared.fault.LineCause.TheVariants.{Lexical}
 
@@ -27,10 +26,6 @@ use Rattle.build_effect.specs.declared.fault.LineCause.TheVariants.{Lexical}
 not_blank : (text : List ℕ) (ts : List TokenAt) (head : SeenToken) (others : List SeenToken) → head ∷ others ≡ map (with_raw text) ts → is_empty ts ≡ false
 not_blank text [] head others h = absurd (let x : head ∷ others ≡ [] = h in cc)
 not_blank text (t ∷ ts) head others h = refl
-
--- a comment
-pub comment_row : (text : List ℕ) (comment : Bool) → comment ≡ true → row_of text comment ≡ Ok CommentRow
-comment_row text comment is = rw is refl
 
 -- a line with a lexical fault
 pub faulty_row : (text : List ℕ) (comment : Bool) (fault : LexFault) → comment ≡ false → lexical_fault text ≡ Some fault → row_of text comment ≡ Err (Lexical fault)
@@ -97,13 +92,6 @@ pub no_rule : (outputs implicit_outputs : List (List ℕ)) (symbols : List Symbo
 no_rule outputs implicit_outputs [] h = refl
 no_rule outputs implicit_outputs (SignSymbol sign ∷ more) h = refl
 no_rule outputs implicit_outputs (WordSymbol word ∷ more) h = absurd (let x : _ ∷ _ ≡ [] = h in cc)
-
--- one more word in a loop
-pub words_go_on : (values new : List (Vec ℕ Global)) (value : Vec ℕ Global) (word : List ℕ) (all : List (List ℕ)) (symbols more : List Symbol) → symbols ≡ WordSymbol word ∷ more
-    → value.items ≡ value_of word → new ≡ values ++ value ∷ [] → rows values ++ front_words symbols ≡ all → rows new ++ front_words more ≡ all
-words_go_on values new value word all symbols more at is pushed so_far =
-    ap (λ vs. vs ++ front_words more) (ap rows pushed ∙ map-append (λ (v : Vec ℕ Global). v.items) values (value ∷ [])) ∙ append_assoc (rows values) (value.items ∷ []) (front_words more)
-    ∙ ap (λ w. rows values ++ w ∷ front_words more) is ∙ ap (λ s. rows values ++ front_words s) (sym at) ∙ so_far
 
 -- what it says by what is on the right of the colon
 pub right_are : (outputs implicit_outputs inputs implicit_inputs order_only : List (List ℕ)) (rule name : List ℕ) (s0 s1 s2 s3 : List Symbol) → name ≡ rule → inputs ≡ front_words s0

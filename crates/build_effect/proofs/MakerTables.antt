@@ -32,9 +32,6 @@ still : (b : Bool) (edge i : ℕ) (old : Option ℕ) → old ≡ Some i → (k :
 still true edge i old e = (edge, refl)
 still false edge i old e = (i, e)
 
-pub none_added : (edge : ℕ) (maker : List ℕ → Option ℕ) → AreAdded [] edge maker maker
-none_added edge maker = record { found = λ file i e. inr e; kept = λ file i e. (i, e); added = λ j file e. cc }
-
 pub one_added : (file : List ℕ) (edge : ℕ) (maker new : List ℕ → Option ℕ) → Updated file edge maker new → AreAdded (file ∷ []) edge maker new
 one_added file edge maker new updated = record { found = found; kept = kept; added = added }
   where
