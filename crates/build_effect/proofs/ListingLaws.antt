@@ -1,8 +1,6 @@
 -- The reader of edge listings, line by line, and the laws of lines and of texts.
-use Rattle.std.proofs.Common.{◌≡◌, ◌≢◌, append_assoc, ℕ, ◌+◌, ◌<◌, drop, get_or, Vec, Global, Bool, true, false, zero, suc, List, [], ◌∷◌, ◌++◌, length, refl, sym, ap, ◌∙◌, Some, None, Ok, Err, arith, inl, inr, ◌≤◌, subst, ◌⊎◌}
+use Rattle.std.proofs.Common.{◌≡◌, ◌≢◌, ℕ, ◌+◌, ◌<◌, Bool, true, false, zero, suc, List, [], ◌∷◌, ◌++◌, length, refl, sym, ap, ◌∙◌, Some, None, Ok, Err, arith, inl, inr, ◌≤◌, subst, ◌⊎◌}
 use Rattle.std.specs.Prelude.{Result, All, slice_set, slice_index_or, nat_lt}
-use Rattle.std.proofs.lemmas.List.{at_drop_more}
-use Rattle.dep_order.specs.Rows.{rows}
 use Rattle.ninja_text.specs.Paths.{path_of}
 use Rattle.ninja_text.specs.declared.fault.PathFault.{PathFault}
 use Rattle.build_effect.specs.EdgeValue.{EdgeValue}
@@ -88,19 +86,6 @@ build_passes binding es new edge paths t is same pushed = (Build t, ap build_cla
 abbrev pub behind : List (List ℕ) → Result (List (List ℕ)) PathFault → Result (List (List ℕ)) PathFault
 behind paths (Ok more) = Ok (paths ++ more)
 behind paths (Err fault) = Err fault
-
--- one more path
-pub behind_one_more : (paths : List (List ℕ)) (path : List ℕ) (found : Result (List ℕ) PathFault) (more : Result (List (List ℕ)) PathFault) → found ≡ Ok path
-    → behind paths (with_path found more) ≡ behind (paths ++ path ∷ []) more
-behind_one_more paths path found (Ok more) is = rw is (ap Ok (sym (append_assoc paths (path ∷ []) more)))
-behind_one_more paths path found (Err fault) is = rw is refl
-
--- the current string is the first of those to come
-text_at_hand : (texts : List (Vec ℕ Global)) (i : ℕ) (text : Vec ℕ Global) → i < length texts → text ≡ get_or texts i text
-    → paths_of (rows (drop i texts)) ≡ with_path (path_of text.items) (paths_of (rows (drop (i + 1) texts)))
-text_at_hand texts i text within is =
-    at_drop_more (λ ts. paths_of (rows ts)) texts i text within
-    ∙ ap (λ (t : Vec ℕ Global). with_path (path_of t.items) (paths_of (rows (drop (i + 1) texts)))) (sym is)
 
 -- if there are strings, there are paths
 pub paths_somehow : (texts paths : List (List ℕ)) → paths_of texts ≡ Ok paths → texts ≢ [] → paths ≢ []

@@ -1,9 +1,9 @@
-use Rattle.std.proofs.Common.{◌≡◌, ◌∙◌, ◌+◌, ◌<◌, ◌≤◌, ◌++◌, List, ℕ, length, Ok, Err, ap, sym, subst, arith, length-append}
-use Rattle.std.proofs.lemmas.List.{append-nil, at_drop_all}
+use Rattle.std.proofs.Common.{◌≡◌, ◌∙◌, ◌+◌, ◌<◌, ◌≤◌, ◌++◌, List, ℕ, length, Err, ap, sym, subst, arith, length-append}
+use Rattle.std.proofs.lemmas.List.{append-nil}
 use Rattle.ninja_text.specs.Escapes.{escaped}
 use Rattle.ninja_text.specs.Lines.{line_limit}
 use Rattle.build_effect.specs.EdgeValue.{EdgeValue}
-use Rattle.build_effect.specs.ListingWriting.{edge_line, dyndep_line, restat_line, listing_text, too_long_from, listing_text_unless, listing_text_or_fault}
+use Rattle.build_effect.specs.ListingWriting.{edge_line, dyndep_line, restat_line, listing_text_or_fault}
 use Rattle.build_effect.specs.declared.fault.ListingWriteFault.TheVariants.{ListingTooLong}
 use Rattle.build_effect.proofs.ListingWrites.{dyndep_added, text_goes_on, too_long_here, none_so_far}
 use Rattle.build_effect.proofs.graph.Graph.to_text.Goals as goal
@@ -47,13 +47,3 @@ loop-edge_index-preserved c =
       text = text_goes_on edges i e before c.if-edge.text.items c.loop-edge_index-test.true c.edge-item.is added c.loop-edge_index.invariant.text;
       none = none_so_far edges i e c.loop-edge_index-test.true c.edge-item.is c.loop-edge_index.invariant.none short;
     }
-
-pub returns : goal.returns
-returns c =
-    let edges : List EdgeValue = c.edges-edge-items.result.now in
-    let text : List ℕ = c.loop-edge_index.text.items in
-    let i : ℕ = c.loop-edge_index.edge_index in
-    let same : text ≡ listing_text edges = sym (append-nil text) ∙ sym (at_drop_all (λ es. text ++ listing_text es) edges i c.loop-edge_index-test.false) ∙ c.loop-edge_index.invariant.text in
-    let none = c.loop-edge_index.invariant.none ∙ at_drop_all (too_long_from i) edges i c.loop-edge_index-test.false in
-    subst (λ (es : List EdgeValue). listing_text_or_fault es ≡ Ok text) c.edges-edge-items.ensures.edges
-    (subst (λ t. listing_text_or_fault edges ≡ Ok t) (sym same) (ap (λ o. listing_text_unless o edges) none))
