@@ -16,4 +16,3 @@ mod ListingStays
 mod WrittenSymbols
 mod WrittenLines
 mod WrittenListings
-pub mod ListingWrites

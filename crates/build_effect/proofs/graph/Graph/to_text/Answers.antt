@@ -5,7 +5,7 @@ use Rattle.ninja_text.specs.Lines.{line_limit}
 use Rattle.build_effect.specs.EdgeValue.{EdgeValue}
 use Rattle.build_effect.specs.ListingWriting.{edge_line, dyndep_line, restat_line, listing_text_or_fault}
 use Rattle.build_effect.specs.declared.fault.ListingWriteFault.TheVariants.{ListingTooLong}
-use Rattle.build_effect.proofs.ListingWrites.{dyndep_added, text_goes_on, too_long_here, none_so_far}
+use Rattle.build_effect.proofs.WrittenListings.{dyndep_added, text_goes_on, too_long_here, none_so_far}
 use Rattle.build_effect.proofs.graph.Graph.to_text.Goals as goal
 use Rattle.build_effect.proofs.graph.Graph.to_text.Goals.{in-Some+in_ok-extend_from_slice+in_ok-escape_into+in_ok-extend_from_slice-2, in_default, then-edge+in_ok-extend_from_slice-3, else-edge}
 

@@ -5,7 +5,7 @@ use Rattle.ninja_text.specs.Bytes.{line_feed}
 use Rattle.dyndep_file.specs.Writing.{spaced}
 use Rattle.build_effect.specs.EdgeValue.{EdgeValue}
 use Rattle.build_effect.specs.ListingWriting.{marked_text, left_text, right_text}
-use Rattle.build_effect.proofs.ListingWrites.{grows, appended}
+use Rattle.build_effect.proofs.WrittenListings.{grows, appended}
 use Rattle.build_effect.proofs.listing.writing.push_line.Goals as goal
 
 abbrev as_is : List ℕ → List ℕ
