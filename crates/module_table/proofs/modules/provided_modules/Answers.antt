@@ -64,4 +64,3 @@ loop-info-preserved c =
       provisions = gathers_next info_provisions infos i value _ _ _ at c.loop-info.invariant.provisions (c.loop-index-2.invariant.provisions ∙ ap (λ modules. map provision_of c.loop-info.all.items ++ info_provisions (i, record { target = []; modules = modules })) whole);
       origins = gathers_next info_origins infos i value _ _ _ at c.loop-info.invariant.origins (c.loop-index-2.invariant.origins ∙ ap (λ modules. map origin_of c.loop-info.all.items ++ info_origins (i, record { target = []; modules = modules })) whole);
     }
-

@@ -53,4 +53,3 @@ loop-required-preserved c =
     let tested : is_allowed (looked_up c.required-item.result) ≡ c.match-required.is_allowed = elim c.match-required.branch [ in-Some+in-Info+then-not-module w ↦ rw (w.in-Some.is, w.in-Info.is) (search (rules, tests)) | in-Some+in-Info+else-not-module w ↦ rw (w.in-Some.is, w.in-Info.is) (search (rules, tests)) | in-Some+in-Object w ↦ rw (w.in-Some.is, w.in-Object.is) (search (rules, tests)) | in-None w ↦ rw w.in-None.is (sym w.is_allowed-is) ] in
     let by = decided t all c.requires.all i c.required-item.result at is_allowed (IsAllowed ps) (IsNotAllowed ps) (allowed ps c.requires.all.differ) _ (tested ∙ c.if-not-is_allowed.false) in
     accepts_next (IsAllowed ps) (IsNotAllowed ps) (info_requirements t) i r there c.loop-required.invariant by
-

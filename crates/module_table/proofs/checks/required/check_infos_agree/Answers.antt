@@ -45,4 +45,3 @@ loop-required-preserved c =
     let tested : agrees (looked_up c.required-item.result) ≡ c.match-required.agrees = elim c.match-required.branch [ in-Some w ↦ rw w.in-Some.is (sym (w.agrees-is ∙ w.eq-agrees.ensures)) | in-None w ↦ rw w.in-None.is (sym w.agrees-is) ] in
     let by = decided t all c.requires.all i c.required-item.result at agrees (Agrees ps) (Differs ps) (agreeing ps c.requires.all.differ) _ (tested ∙ c.if-not-agrees.false) in
     accepts_next (Agrees ps) (Differs ps) (info_requirements t) i r there c.loop-required.invariant by
-

@@ -45,4 +45,3 @@ loop-required-preserved c =
     let tested : is_by_info (looked_up c.required-item.result) ≡ c.match-required.is_known = elim c.match-required.branch [ in-Some+in-Info w ↦ rw (w.in-Some.is, w.in-Info.is) (sym w.is_known-is) | in-Some+in-Object w ↦ rw (w.in-Some.is, w.in-Object.is) (sym w.is_known-is) | in-None w ↦ rw w.in-None.is (sym w.is_known-is) ] in
     let by = decided t all c.requires i c.required-item.result at is_by_info (IsByInfo ps) (IsNotByInfo ps) (by_info ps c.requires.differ) _ (tested ∙ c.if-not-is_known.false) in
     accepts_next (IsByInfo ps) (IsNotByInfo ps) (info_requirements t) i r there c.loop-required.invariant by
-
