@@ -12,8 +12,8 @@ from collections import defaultdict
 
 from tests.reading import CRATES, TOP, functions
 
-SHARES = {"ninja_text": 23, "dep_order": 37, "dyndep_file": 31, "table_keys": 0, "scan_docs": 31, "module_maps": 30, "module_table": 46,
-          "build_effect": 37, "collate_core": 33, "command_line": 75, "commands": 35, "dyncollate": 56, "in_memory": 20, "c_library": 0}
+SHARES = {"ninja_text": 21, "dep_order": 34, "dyndep_file": 29, "table_keys": 0, "scan_docs": 30, "module_maps": 25, "module_table": 45,
+          "build_effect": 36, "collate_core": 30, "command_line": 75, "commands": 32, "dyncollate": 50, "in_memory": 20, "c_library": 0}
 
 
 def of_crate(crate):

@@ -14,7 +14,7 @@ from tests.program import TOP
 
 HEADER = Path(TOP, "include/dyncollate.h")
 EXPORTS = Path(TOP, "crates/c_library/src/lib.rt")
-OUTCOME = Path(TOP, "crates/in_memory/src/outcome.rt")
+OUTCOME = Path(TOP, "crates/in_memory/src/reply.rt")
 # the types of parameters in the exports: the pointer in C, and how the name of its count ends
 POINTERS = {"&[u8]": ("const uint8_t *", "_size"), "&[usize]": ("const size_t *", "_count"),
             "&mut [usize]": ("size_t *", "_room"), "&mut [u8]": ("uint8_t *", "_room")}

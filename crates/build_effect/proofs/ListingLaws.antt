@@ -48,6 +48,11 @@ last_set change (x ∷ []) (suc n) e len at = absurd (omega arith)
 last_set change (x ∷ y ∷ es) zero e len at = absurd (omega arith)
 last_set change (x ∷ y ∷ es) (suc n) e len at = ap (λ l. x ∷ l) (last_set change (y ∷ es) n e (omega arith) at)
 
+-- an empty list has no last edge to change
+pub none_set : (change : EdgeValue → EdgeValue) (es : List EdgeValue) → (0 < length es → ⊥) → es ≡ with_last change es
+none_set change [] none = refl
+none_set change (e ∷ es) none = absurd (none (omega arith))
+
 -- each edge has an output
 abbrev pub HaveOutputs : List EdgeValue → Type 0
 HaveOutputs es = All (λ e. e.outputs ≢ []) es

@@ -4,6 +4,7 @@ ghost use Rattle.std.specs.Prelude.{◌≡◌, ◌<◌, ◌+◌, ◌^◌, ℕ, l
 ghost use Rattle.dep_order.specs.Rows.{rows};
 ghost use Rattle.ninja_text.specs.Failure.{ForFault};
 ghost use Rattle.ninja_text.specs.Paths.{path_of};
+ghost use Rattle.dyndep_file.specs.StatementValue.{StatementValue};
 ghost use Rattle.build_effect.specs.Effect.{ArePaths, AreCanonical};
 ghost use Rattle.build_effect.specs.inner.BadPaths.{IsBadText, IsBadTextFrom, IsBadStatement};
 ghost use Rattle.build_effect.specs.inner.Added.{AddsFresh, AddsMade};
@@ -11,8 +12,8 @@ ghost use Rattle.build_effect.specs.inner.Extended.{AreExtended};
 ghost use Rattle.build_effect.specs.inner.Makers.{maker_in};
 ghost use Rattle.build_effect.specs.inner.StatementEdges.{statement_on};
 
-use crate::edge::Edge;
 use crate::fault::EffectFault;
+use crate::graph::Edge;
 use crate::makers::{Makers, table_key};
 use dyndep_file::Statement;
 use indexmap::IndexSet;
@@ -30,8 +31,6 @@ pub(crate) struct Addition {
 }
 
 impl Model for Addition {
-    ghost use Rattle.dyndep_file.specs.StatementValue.{StatementValue};
-
     ghost Value = { StatementValue };
 
     ghost view = { λ a. record {
@@ -51,21 +50,11 @@ pub(crate) fn canonical_statements(
     ensures fault { IfErr result (ForFault (IsBadStatement statements.now)) }
 {
     let mut additions = Vec::with_capacity(alloc, statements.len())?;
-    for (statement_index, statement) in statements.iter().enumerate() {
-        let inputs_from = 1 + statement.implicit_outputs.len();
-        let output = canonical_path(alloc, &statement.output, statement_index, 0)?;
-        let implicit_outputs = canonical_paths(
-            alloc,
-            &statement.implicit_outputs,
-            statement_index,
-            1,
-        )?;
-        let implicit_inputs = canonical_paths(
-            alloc,
-            &statement.implicit_inputs,
-            statement_index,
-            inputs_from,
-        )?;
+    for (index, statement) in statements.iter().enumerate() {
+        let from = 1 + statement.implicit_outputs.len();
+        let output = canonical_path(alloc, &statement.output, index, 0)?;
+        let implicit_outputs = canonical_paths(alloc, &statement.implicit_outputs, index, 1)?;
+        let implicit_inputs = canonical_paths(alloc, &statement.implicit_inputs, index, from)?;
         additions.push(Addition {
             output,
             implicit_outputs,
@@ -81,38 +70,37 @@ pub(crate) fn canonical_statements(
 fn canonical_paths(
     alloc: Global,
     texts: &[Vec<u8>],
-    statement_index: usize,
+    statement: usize,
     from: usize,
 ) -> Result<Vec<Path>, Failure<EffectFault>>
     requires { from + length texts.now < 2 ^ 64 }
     ensures paths { IfOk result (λ paths. ArePaths (rows texts.now) paths.items) }
-    ensures fault { IfErr result (ForFault (IsBadTextFrom (rows texts.now) statement_index from)) }
+    ensures fault { IfErr result (ForFault (IsBadTextFrom (rows texts.now) statement from)) }
 {
     let mut paths = Vec::with_capacity(alloc, texts.len())?;
     for (text_index, text) in texts.iter().enumerate() {
-        let path = canonical_path(alloc, text, statement_index, from + text_index)?;
+        let path = canonical_path(alloc, text, statement, from + text_index)?;
         paths.push(path)?;
     }
     Ok(paths)
 }
 
-/// Returns the canonical path of a string. The error has the index of the statement and the index of
-/// the string in it.
+/// Returns the canonical path of a string, which has the index `path` in its statement.
 fn canonical_path(
     alloc: Global,
     text: &[u8],
-    statement_index: usize,
-    text_index: usize,
+    statement: usize,
+    path: usize,
 ) -> Result<Path, Failure<EffectFault>>
     ensures path { IfOk result (λ path. path_of text.now ≡ Ok path) }
-    ensures fault { IfErr result (ForFault (IsBadText text.now statement_index text_index)) }
+    ensures fault { IfErr result (ForFault (IsBadText text.now statement path)) }
 {
     match Path::of(alloc, text) {
         Ok(path) => Ok(path),
         Err(Failure::Memory) => Err(Failure::Memory),
         Err(Failure::Fault(fault)) => Err(Failure::Fault(EffectFault::BadPath {
-            statement: statement_index,
-            path: text_index,
+            statement,
+            path,
             fault,
         })),
     }

@@ -2,8 +2,9 @@
 //!
 //! A path need not be UTF-8, so a fault does not print the file that it is about. `path` returns the
 //! file.
-ghost use Rattle.std.specs.Prelude.{◌≡◌, option_copied};
-ghost use Rattle.build_effect.specs.FaultTexts.{graph_fault_path, effect_fault_path};
+ghost use Rattle.std.specs.Prelude.{◌≡◌, Some, option_copied};
+ghost use Rattle.build_effect.specs.FaultTexts.{graph_fault_text, graph_fault_path, effect_fault_text, effect_fault_path};
+ghost use Rattle.build_effect.specs.ListingFaultTexts.{line_cause_text, listing_line_fault_text, listing_fault_text, listing_write_fault_text};
 
 use ninja_text::{LexFault, Path, PathFault};
 use std::fmt;
@@ -32,9 +33,6 @@ impl GraphFault {
 }
 
 impl fmt::Display for GraphFault {
-    ghost use Rattle.std.specs.Prelude.{Some};
-    ghost use Rattle.build_effect.specs.FaultTexts.{graph_fault_text};
-
     ghost output = { λ fault. Some (graph_fault_text fault) };
 
     fn fmt<W: fmt::Write>(&self, f: &mut fmt::Formatter<W>) -> fmt::Result {
@@ -91,9 +89,6 @@ impl EffectFault {
 }
 
 impl fmt::Display for EffectFault {
-    ghost use Rattle.std.specs.Prelude.{Some};
-    ghost use Rattle.build_effect.specs.FaultTexts.{effect_fault_text};
-
     ghost output = { λ fault. Some (effect_fault_text fault) };
 
     fn fmt<W: fmt::Write>(&self, f: &mut fmt::Formatter<W>) -> fmt::Result {
@@ -129,20 +124,16 @@ pub enum LineCause {
 }
 
 impl fmt::Display for LineCause {
-    ghost use Rattle.std.specs.Prelude.{Some};
-    ghost use Rattle.build_effect.specs.ListingFaultTexts.{line_cause_text};
-
     ghost output = { λ cause. Some (line_cause_text cause) };
 
     fn fmt<W: fmt::Write>(&self, f: &mut fmt::Formatter<W>) -> fmt::Result {
-        let name = match self {
-            LineCause::LineTooLong => "N5 LineTooLong",
-            LineCause::Truncated => "N6 Truncated",
-            LineCause::Lexical(fault) => return fmt::Display::fmt(fault, f),
-            LineCause::Form => "E3 Form",
-            LineCause::BadPath(fault) => return write!(f, "E3 Path {fault}"),
-        };
-        f.write_str(name)
+        match self {
+            LineCause::LineTooLong => f.write_str("N5 LineTooLong"),
+            LineCause::Truncated => f.write_str("N6 Truncated"),
+            LineCause::Lexical(fault) => fmt::Display::fmt(fault, f),
+            LineCause::Form => f.write_str("E3 Form"),
+            LineCause::BadPath(fault) => write!(f, "E3 Path {fault}"),
+        }
     }
 }
 
@@ -155,9 +146,6 @@ pub struct LineFault {
 }
 
 impl fmt::Display for LineFault {
-    ghost use Rattle.std.specs.Prelude.{Some};
-    ghost use Rattle.build_effect.specs.ListingFaultTexts.{listing_line_fault_text};
-
     ghost output = { λ fault. Some (listing_line_fault_text fault) };
 
     fn fmt<W: fmt::Write>(&self, f: &mut fmt::Formatter<W>) -> fmt::Result {
@@ -175,9 +163,6 @@ pub enum ListFault {
 }
 
 impl fmt::Display for ListFault {
-    ghost use Rattle.std.specs.Prelude.{Some};
-    ghost use Rattle.build_effect.specs.ListingFaultTexts.{listing_fault_text};
-
     ghost output = { λ fault. Some (listing_fault_text fault) };
 
     fn fmt<W: fmt::Write>(&self, f: &mut fmt::Formatter<W>) -> fmt::Result {
@@ -200,9 +185,6 @@ pub enum ListingWriteFault {
 }
 
 impl fmt::Display for ListingWriteFault {
-    ghost use Rattle.std.specs.Prelude.{Some};
-    ghost use Rattle.build_effect.specs.ListingFaultTexts.{listing_write_fault_text};
-
     ghost output = { λ fault. Some (listing_write_fault_text fault) };
 
     fn fmt<W: fmt::Write>(&self, f: &mut fmt::Formatter<W>) -> fmt::Result {

@@ -1,17 +1,54 @@
-//! Graphs of build edges.
-ghost use Rattle.std.specs.Prelude.{◌≡◌, ◌≢◌, [], slice_get, Some, IfOk, IfErr, OnOk, MatchBool, All};
+//! Build edges and their graphs.
+ghost use Rattle.std.specs.Prelude.{◌≡◌, ◌≢◌, List, [], slice_get, Some, IfOk, IfErr, OnOk, MatchBool, All};
 ghost use Rattle.ninja_text.specs.Failure.{ForFault};
+ghost use Rattle.build_effect.specs.EdgeValue.{EdgeValue};
 ghost use Rattle.build_effect.specs.Graphs.{IsGraph, MadeOnce, DyndepsAreInputs};
 ghost use Rattle.build_effect.specs.Faults.{IsGraphFault, NamesUnread};
 ghost use Rattle.build_effect.specs.inner.Inputs.{NamesInput};
 
-use crate::edge::Edge;
 use crate::fault::GraphFault;
 use crate::makers::{made_files, table_key};
 use indexmap::IndexSet;
 use ninja_text::{Failure, Path};
 use std::alloc::{AllocError, Global};
 use std::marker::Model;
+
+/// A build statement of a manifest: the files that it makes and the files that it needs (Ninja 1.11
+/// manual, "Build statements").
+#[derive(Clone, Drop)]
+pub struct Edge {
+    /// The name of the rule.
+    pub rule: Vec<u8>,
+    /// The explicit outputs.
+    pub outputs: Vec<Path>,
+    /// The implicit outputs, after `|` on the left of the colon.
+    pub implicit_outputs: Vec<Path>,
+    /// The explicit inputs.
+    pub inputs: Vec<Path>,
+    /// The implicit inputs, after `|` on the right of the colon.
+    pub implicit_inputs: Vec<Path>,
+    /// The order-only inputs, after `||`.
+    pub order_only: Vec<Path>,
+    /// The dyndep file that the binding `dyndep` names.
+    pub dyndep: Option<Path>,
+    /// Whether the binding `restat` is on.
+    pub restat: bool,
+}
+
+impl Model for Edge {
+    ghost Value = { EdgeValue };
+
+    ghost view = { λ e. record {
+      rule = e.rule.items;
+      outputs = e.outputs.items;
+      implicit_outputs = e.implicit_outputs.items;
+      inputs = e.inputs.items;
+      implicit_inputs = e.implicit_inputs.items;
+      order_only = e.order_only.items;
+      dyndep = e.dyndep;
+      restat = e.restat;
+    } };
+}
 
 /// Build edges, by index. Each edge has an explicit output, no file is made twice, and each edge that
 /// names a dyndep file has it among its inputs.
@@ -21,10 +58,6 @@ pub struct Graph {
 }
 
 impl Model for Graph {
-    ghost use Rattle.std.specs.Prelude.{List};
-    ghost use Rattle.build_effect.specs.EdgeValue.{EdgeValue};
-    ghost use Rattle.build_effect.specs.Graphs.{IsGraph};
-
     ghost Value = { List EdgeValue };
 
     ghost view = { λ g. g.edges.items };
@@ -88,16 +121,11 @@ fn check_dyndeps(alloc: Global, edges: &[Edge]) -> Result<(), Failure<GraphFault
     ensures ok { OnOk result (DyndepsAreInputs edges.now) }
     ensures fault { IfErr result (ForFault (IsGraphFault edges.now)) }
 {
-    for (edge_index, edge) in edges.iter().enumerate() {
-        if !reads_dyndep(edge) {
-            let output = first_output(alloc, edge)?;
-            return Err(Failure::Fault(GraphFault::DyndepNotInput {
-                edge: edge_index,
-                output,
-            }));
-        }
-    }
-    Ok(())
+    let Some(edge) = edges.iter().position(|edge| !reads_dyndep(edge)) else {
+        return Ok(());
+    };
+    let output = first_output(alloc, &edges[edge])?;
+    Err(Failure::Fault(GraphFault::DyndepNotInput { edge, output }))
 }
 
 /// Returns whether the dyndep file of the edge, if it names one, is among its inputs of any kind.

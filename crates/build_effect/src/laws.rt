@@ -47,8 +47,7 @@ pub fn files_order()
     ensures { FilesOrder }
 {}
 
-/// A text lists at most one list of edges, and a text that lists edges has no fault. So if no
-/// allocation fails, a reader returns the edges if and only if the text lists some.
+/// A text lists at most one list of edges, and a text that lists edges has no fault.
 pub fn one_listing()
     ensures one { OneListing }
     ensures faultless { ListedIsFaultless }

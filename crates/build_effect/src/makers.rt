@@ -1,14 +1,42 @@
-//! The files that edges make, and which edge makes which file.
-ghost use Rattle.std.specs.Prelude.{◌≡◌, IfOk};
-ghost use Rattle.build_effect.specs.Faults.{made_files};
-ghost use Rattle.build_effect.specs.inner.Makers.{maker_in, AreMakers};
+//! Which edge makes which file, and the order of edges.
+ghost use Rattle.std.specs.Prelude.{◌≡◌, length, IfOk};
 ghost use Rattle.dep_order.specs.Rows.{lists};
+ghost use Rattle.dep_order.specs.Sortings.{IsSortingOf};
+ghost use Rattle.build_effect.specs.Faults.{made_files};
+ghost use Rattle.build_effect.specs.Graphs.{EdgeNeeds};
+ghost use Rattle.build_effect.specs.inner.Makers.{maker_in, AreMakers};
 
-use crate::edge::Edge;
+use crate::graph::{Edge, Graph};
+use dep_order::{Digraph, Sorting, order};
 use indexmap::IndexMap;
 use ninja_text::Path;
 use std::alloc::{AllocError, Global};
 use table_keys::{KeyDigest, TableKey};
+
+/// Returns the indexes of all edges in an order in which they can run. Each edge comes after the
+/// edges that produce its inputs of all kinds, and the smallest index that may come next does.
+///
+/// If there is no such order, returns the least cycle: each edge in it needs the next one, and the
+/// last edge needs the first.
+pub fn edge_order(alloc: Global, graph: &Graph) -> Result<Sorting, AllocError>
+    ensures { IfOk result (IsSortingOf (length graph.now) (EdgeNeeds graph.now)) }
+{
+    let edges = graph.edges();
+    let makers = Makers::of(alloc, edges)?;
+    let mut needs = Vec::with_capacity(alloc, edges.len())?;
+    for edge in edges {
+        let inputs = edge
+            .inputs
+            .iter()
+            .chain(edge.implicit_inputs.iter())
+            .chain(edge.order_only.iter());
+        // A source file has no such edge.
+        let row = inputs.filter_map(|file| makers.maker_of(file));
+        needs.push(row.collect(alloc)?)?;
+    }
+    let digraph = Digraph::new(needs);
+    order(alloc, &digraph)
+}
 
 /// A table of the edge that makes each file, by the edge's index.
 #[derive(Drop)]
@@ -39,8 +67,7 @@ impl<'t> Makers<'t> {
     }
 }
 
-/// Returns the files that the edges make, edge after edge: the outputs of an edge, then its implicit
-/// outputs.
+/// Returns the files that the edges make, edge after edge: outputs, then implicit outputs.
 pub(crate) fn made_files<'t>(alloc: Global, edges: &'t [Edge]) -> Result<Vec<&'t Path>, AllocError>
     ensures { IfOk result (λ files. lists files.items ≡ made_files edges.now) }
 {

@@ -1,10 +1,8 @@
 //! The C library `libdyncollate`: the commands of `dyncollate`, and a reader of dyndep files, for
 //! programs in any language that have their files in memory.
 //!
-//! Each export is the function of `in_memory` that it calls, with its clause. The page of the crate
-//! says what a caller in C has to see to.
-//!
-//! It uses `in_memory` alone, and of the system `malloc`, `realloc` and `free`.
+//! Each export is the function of `in_memory` that it calls, with its clause. It uses nothing else,
+//! and of the system `malloc`, `realloc` and `free`.
 #![tactic(auto)]
 
 ghost use Rattle.std.specs.Prelude.{[], IsUtf8, ⊤};
@@ -25,8 +23,7 @@ use in_memory::{
 };
 use std::alloc::Global;
 
-/// Runs `collate` on the bytes of a target document, and on files that lie one after another in one
-/// text.
+/// Runs `collate` on a target document, and on files that lie one after another in one text.
 #[unsafe(no_mangle)]
 pub extern "C" fn dyncollate_collate(
     alloc: Global,
@@ -43,8 +40,7 @@ pub extern "C" fn dyncollate_collate(
     collate_into(alloc, document, lengths, files, numbers, text)
 }
 
-/// Runs `project` on the bytes of a project document, and on files that lie one after another in
-/// one text.
+/// Runs `project` on a project document, and on files that lie one after another in one text.
 #[unsafe(no_mangle)]
 pub extern "C" fn dyncollate_project(
     alloc: Global,
@@ -61,7 +57,7 @@ pub extern "C" fn dyncollate_project(
     project_into(alloc, document, lengths, files, numbers, text)
 }
 
-/// Runs `one` on the bytes of a scan document.
+/// Runs `one` on a scan document.
 #[unsafe(no_mangle)]
 pub extern "C" fn dyncollate_one(
     alloc: Global,
@@ -71,14 +67,13 @@ pub extern "C" fn dyncollate_one(
     numbers: &mut [usize],
     text: &mut [u8],
 ) -> Outcome
-    ensures { Puts (IsUtf8 dir.now × IsUtf8 ext.now)
-        (Replies (OneRun scan.now dir.now ext.now []))
+    ensures { Puts (IsUtf8 dir.now × IsUtf8 ext.now) (Replies (OneRun scan.now dir.now ext.now []))
         numbers.old text.old numbers.new text.new result }
 {
     one_into(alloc, scan, dir, ext, numbers, text)
 }
 
-/// Runs `effect` on a name, and on the bytes of an edge list and of a dyndep file.
+/// Runs `effect` on a name, an edge list and a dyndep file.
 #[unsafe(no_mangle)]
 pub extern "C" fn dyncollate_effect(
     alloc: Global,
@@ -94,7 +89,7 @@ pub extern "C" fn dyncollate_effect(
     effect_into(alloc, name, edges, dyndep, numbers, text)
 }
 
-/// Runs `order` on the bytes of an edge list.
+/// Runs `order` on an edge list.
 #[unsafe(no_mangle)]
 pub extern "C" fn dyncollate_order(
     alloc: Global,
@@ -108,7 +103,7 @@ pub extern "C" fn dyncollate_order(
     order_into(alloc, edges, numbers, text)
 }
 
-/// Runs `show` on the bytes of a dyndep file.
+/// Runs `show` on a dyndep file.
 #[unsafe(no_mangle)]
 pub extern "C" fn dyncollate_show(
     alloc: Global,

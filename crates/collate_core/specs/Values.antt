@@ -1,8 +1,9 @@
 -- What contracts see of targets, and of what they collate to.
-use Rattle.std.specs.Prelude.{List}
+use Rattle.std.specs.Prelude.{List, map}
 use Rattle.ninja_text.specs.Bytes.{Text, PathText, Name}
 use Rattle.dep_order.specs.Numbers.{Numbers}
 use Rattle.scan_docs.specs.Scan.{SettingValue}
+use Rattle.collate_core.specs.declared.collated.CollatedParts.{CollatedParts}
 
 -- a target: its name, the setting of its files, its scan documents, the info files of the targets
 -- that it links, and the names of its private modules
@@ -20,6 +21,15 @@ pub record CollatedValue : Type 0 where
   pub info : Text
   pub objects : List PathText
   pub maps : List Text
+
+-- the value that has these parts
+abbrev pub collated_of : CollatedParts → CollatedValue
+collated_of parts = record {
+  dyndep = parts.dyndep.items;
+  info = parts.info.items;
+  objects = parts.objects.items;
+  maps = map (λ m. m.items) parts.maps.items;
+}
 
 -- a target of a project, which links earlier ones by index
 pub record ProjectTargetValue : Type 0 where

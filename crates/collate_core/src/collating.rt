@@ -10,20 +10,49 @@ ghost use Rattle.collate_core.specs.Headline.{IsHeadline, IsDyndepOf};
 ghost use Rattle.collate_core.specs.Refusals.{IsRefusal, WasRead};
 ghost use Rattle.collate_core.specs.inner.Parts.{IsTableText, IsTextsRefusal, IsWrittenOf};
 
-use crate::collated::Collated;
+use crate::collated::{Collated, CollatedParts};
 use crate::fault::{Refusal, RefusedTarget, nothing_read, refusal_alone};
 use crate::info::lent_info;
 use crate::laws::headline;
 use crate::object_maps::maps_of;
 use crate::statements::dyndep_text;
 use crate::table::table_of;
-use crate::target::Target;
 use module_maps::MapStyle;
 use module_table::{Table, added_files};
 use ninja_text::{Failure, Path};
 use scan_docs::laws::{info_again, target_names};
-use scan_docs::lent_info_write;
+use scan_docs::{Name, Setting, TargetName, lent_info_write};
 use std::alloc::{AllocError, Global};
+use std::marker::Model;
+
+/// A target to collate: what its target document names (`scan_docs::TargetSpec`), with its documents
+/// as bytes. It borrows all its parts, because the info files may be those of other targets.
+#[derive(Drop)]
+pub struct Target<'a> {
+    pub name: &'a TargetName,
+    pub setting: &'a Setting,
+    /// The scan documents of its sources.
+    pub scans: &'a [&'a [u8]],
+    /// The info files of the targets that it links.
+    pub infos: &'a [&'a [u8]],
+    /// The names of the modules that it keeps to itself. A name may be listed twice.
+    pub kept: &'a [Name],
+}
+
+impl<'a> Model for Target<'a> {
+    ghost use Rattle.std.specs.Prelude.{map};
+    ghost use Rattle.collate_core.specs.Values.{TargetValue};
+
+    ghost Value = { TargetValue };
+
+    ghost view = { λ t. record {
+      name = t.name.now;
+      setting = t.setting.now;
+      scans = map (λ s. s.now) t.scans.now;
+      infos = map (λ s. s.now) t.infos.now;
+      kept = t.kept.now;
+    } };
+}
 
 /// Collates a target: its documents make a table, and the objects of the table make the dyndep
 /// file, the info file and, with a style, a map for each object (P1689R5 for the scan documents, the
@@ -102,7 +131,12 @@ pub(crate) fn written_of<M: MapStyle>(
     let info = lent_info(alloc, target.name, target.kept, table)?;
     let info = lent_info_write(alloc, &info)?;
     let objects = objects_of(alloc, table)?;
-    Ok(Collated::new(text, info, objects, maps))
+    Ok(Collated::new(CollatedParts {
+        dyndep: text,
+        info,
+        objects,
+        maps,
+    }))
 }
 
 /// Collates a target to its dyndep text alone: the text that [`collate`] without a style returns. It

@@ -6,7 +6,6 @@ ghost use Rattle.collate_core.specs.Infos.{is_private_name, modules_of, info_of_
 ghost use Rattle.collate_core.specs.inner.Parts.{IsTableText};
 ghost use Rattle.collate_core.specs.inner.ReadInfos.{IsReadAs};
 
-use crate::pairs::copy_pairs;
 use indexmap::IndexSet;
 use module_table::{Table, added_files};
 use ninja_text::Path;
@@ -39,7 +38,7 @@ pub(crate) fn info_again(
         modules.push(InfoModule {
             name: entry.name.copy(alloc)?,
             file: entry.file.copy(alloc)?,
-            required: copy_pairs(alloc, entry.required)?,
+            required: entry.required.to_vec(alloc)?,
             is_private: entry.is_private,
         })?;
     }

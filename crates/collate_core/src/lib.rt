@@ -23,13 +23,6 @@
 //!   object requires. An edge needs what it needed before and what it imports, and nothing else,
 //!   directly, in a chain or in a cycle.
 //!
-//! The laws are theorems about the definitions. They hold for the program because every call is
-//! proved against these definitions. The prover rejects the bodies that would make a race, such as
-//! `required_module_left_out`, `nothing_applied` and `order_of_the_graph_before` in `must-fail/`,
-//! and in `build_effect` `implicit_output_is_no_output` and `explicit_inputs_alone_order`. It also
-//! rejects those that would make a false wait and a false rebuild, such as
-//! `reached_modules_as_inputs`.
-//!
 //! The definitions speak of one table, which is a function of the documents' bytes
 //! (`specs/Documents.antt`, `table_of`). A target of a project is collated by the table of a part
 //! of what it links, if that is enough (`src/linking.rt`). Definitions that only private clauses
@@ -52,7 +45,6 @@
 //! `info_lent_as_dyndep` and `no_maps_lent` are for the clauses of [`Collated`].
 #![tactic(auto)]
 
-mod check;
 mod collated;
 mod collating;
 mod fault;
@@ -60,22 +52,20 @@ mod info;
 mod laws;
 mod linking;
 mod object_maps;
-mod pairs;
 mod projects;
 mod rehearsal;
 mod statements;
 mod table;
-mod target;
 
-pub use check::check_edges;
 pub use collated::{Collated, CollatedParts};
-pub use collating::{collate, collate_dyndep, collate_dyndep_or_refused, collate_or_refused};
+pub use collating::{
+    Target, collate, collate_dyndep, collate_dyndep_or_refused, collate_or_refused,
+};
 pub use fault::{Refusal, RefusedTarget, RehearseFault};
 pub use laws::{
     headline, no_false_cycle, no_false_rebuild, no_false_wait, no_race, one_outcome, project_maps,
     project_orders,
 };
 pub use projects::{ProjectOut, ProjectTarget, project, project_or_refused};
-pub use rehearsal::rehearse;
+pub use rehearsal::{check_edges, rehearse};
 pub use table::RULE_LIMIT;
-pub use target::Target;

@@ -11,12 +11,11 @@ ghost use Rattle.collate_core.specs.inner.PartTables.{IsEnoughFor};
 ghost use Rattle.collate_core.specs.inner.ReadInfos.{IsReadAs, AreKnown, AreLinkedInfos, CollatesAndReads};
 
 use crate::collated::Collated;
-use crate::collating::{collate_or_refused, written_of};
+use crate::collating::{Target, collate_or_refused, written_of};
 use crate::fault::{Refusal, RefusedTarget, without_table};
 use crate::info::info_again;
 use crate::projects::ProjectTarget;
 use crate::table::rules_of_all;
-use crate::target::Target;
 use module_maps::MapStyle;
 use module_table::{Pool, Table, parts, sound_tables};
 use ninja_text::Failure;

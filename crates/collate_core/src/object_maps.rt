@@ -7,7 +7,6 @@ ghost use Rattle.collate_core.specs.Collation.{AreMaps, IsMapText};
 ghost use Rattle.collate_core.specs.inner.Parts.{IsMapsRefusal, IsObjectRefusal};
 
 use crate::fault::Refusal;
-use crate::pairs::lend_pairs;
 use module_maps::{MapStyle, ModuleMap};
 use module_table::{Needs, Table};
 use ninja_text::Failure;
@@ -53,7 +52,8 @@ fn map_text<'t, M: MapStyle>(
     ensures refused { IfErr result
         (ForFault (IsObjectRefusal table.now (M.written style.now) object)) }
 {
-    let provided = lend_pairs(alloc, table.provided(object))?;
+    let provided = table.provided(object).iter();
+    let provided = provided.map(|pair| (&pair.0, &pair.1)).collect(alloc)?;
     let needed = needs.of(alloc, object)?;
     let map = ModuleMap::of_rising(provided, needed);
     style.write(alloc, &map).map_err(|failure| failure.map(|fault| Refusal::Map { object, fault }))

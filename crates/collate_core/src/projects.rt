@@ -102,16 +102,12 @@ pub fn project_or_refused<M: MapStyle>(
     ensures collated { IfOk result (λ out.
         CollatesProject (option_map M.written (option_copied style.entry))
         targets.now out.targets.items) }
-    // the dyndep files may be applied in any order, with the same result
     ensures orders { IfOk result (λ out. AllOrders (project_tables targets.now out.targets.items)) }
-    // all objects can be numbered so that producers of files have smaller numbers than users
     ensures numbered { IfOk result (λ out.
         IsProjectOrdered targets.now (project_tables targets.now out.targets.items)) }
-    // the style reads in each object's map what the object provides and needs in the project
     ensures maps { IfOk result (λ out. IfSome (option_copied style.entry) (λ s.
         MapsReadBack (M.entries s) targets.now
         (project_tables targets.now out.targets.items) out.targets.items)) }
-    // the graph after all dyndep files can be ordered
     ensures orderable { IfOk result
         (λ out. EndIsOrderable (project_tables targets.now out.targets.items)) }
     ensures refused { IfErr result (ForFault (λ refused.
@@ -125,7 +121,7 @@ pub fn project_or_refused<M: MapStyle>(
     project_orders();
     project_maps();
     let mut outs = Vec::new(alloc);
-    let mut pool = Pool::new(alloc, scans_key(targets));
+    let mut pool = Pool::new(alloc, project_key(targets));
     for (index, target) in targets.iter().enumerate() {
         match collate_linked(alloc, target, outs.as_slice(), &pool, style) {
             Ok((out, info)) => {
@@ -138,11 +134,16 @@ pub fn project_or_refused<M: MapStyle>(
     Ok(ProjectOut { targets: outs })
 }
 
-/// Returns the key of a table of the modules of these targets. It is made of the documents that name
-/// them, so whoever chooses the names cannot choose the key as well.
-fn scans_key(targets: &[ProjectTarget<'_>]) -> TableKey {
+/// Returns the key of a table of the modules of these targets. It is made of all that their names and
+/// paths come from, so whoever chooses these cannot choose the key as well.
+fn project_key(targets: &[ProjectTarget<'_>]) -> TableKey {
     let mut digest = KeyDigest::new();
     for target in targets {
+        let setting = target.setting;
+        for part in [&setting.module_dir, &setting.module_ext] {
+            digest.update(part.as_bytes());
+            digest.update(b"\n".as_slice());
+        }
         for scan in target.scans {
             digest.update(scan);
         }

@@ -9,8 +9,8 @@ ghost use Rattle.collate_core.specs.Refusals.{IsRefusal, IsScanRefusal, IsInfoRe
 ghost use Rattle.collate_core.specs.inner.Parts.{IsTableText, ForScan, ForInfo, IsOfTable};
 ghost use Rattle.collate_core.specs.inner.ReadInfos.{AreReadAs};
 
+use crate::collating::Target;
 use crate::fault::{Refusal, RefusedTarget, nothing_read};
-use crate::target::Target;
 use module_table::{RefusedTable, Table};
 use ninja_text::Failure;
 use scan_docs::{DocFault, Info, Place, Rule, Setting, info_read, scan};

@@ -18,28 +18,20 @@ pub enum Task<'a> {
         dir: &'a str,
         ext: &'a str,
     },
-    /// Write the files of the target of a target document.
-    Collate {
-        target: &'a str,
-    },
-    /// Print the statements of a dyndep file.
-    Show {
-        dyndep: &'a str,
-    },
+    /// Write the files of the target of this target document.
+    Collate(&'a str),
+    /// Print the statements of this dyndep file.
+    Show(&'a str),
     /// Print an edge list as a dyndep file changes it. Edges refer to the file by this name.
     Effect {
         name: &'a str,
         edges: &'a str,
         dyndep: &'a str,
     },
-    /// Print the edges of an edge list in build order.
-    Order {
-        edges: &'a str,
-    },
-    /// Write the files of the targets of a project document.
-    Project {
-        document: &'a str,
-    },
+    /// Print the edges of this edge list in build order.
+    Order(&'a str),
+    /// Write the files of the targets of this project document.
+    Project(&'a str),
 }
 
 /// Returns the task that the arguments ask for, or `None` if they are not a valid command line. The
@@ -115,23 +107,15 @@ fn task_by<'a>(command: &str, given: &ArgMatches<'a>) -> Option<Task<'a>>
             dir: given.get_str("dir")?,
             ext: given.get_str("ext")?,
         }),
-        "collate" => Some(Task::Collate {
-            target: given.get_str("target")?,
-        }),
-        "show" => Some(Task::Show {
-            dyndep: given.get_str("dyndep")?,
-        }),
+        "collate" => Some(Task::Collate(given.get_str("target")?)),
+        "show" => Some(Task::Show(given.get_str("dyndep")?)),
         "effect" => Some(Task::Effect {
             name: given.get_str("name")?,
             edges: given.get_str("edges")?,
             dyndep: given.get_str("dyndep")?,
         }),
-        "order" => Some(Task::Order {
-            edges: given.get_str("edges")?,
-        }),
-        "project" => Some(Task::Project {
-            document: given.get_str("document")?,
-        }),
+        "order" => Some(Task::Order(given.get_str("edges")?)),
+        "project" => Some(Task::Project(given.get_str("document")?)),
         _ => None,
     }
 }

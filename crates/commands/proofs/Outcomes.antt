@@ -134,11 +134,19 @@ held text Post r s to h = given (λ value. r ≡ Ok value) (λ fault. r ≡ Err 
     own_fault (Err Memory) = tt
     own_fault (Err (Fault fault)) = refl
 
--- of a text that can't be written
-pub unwritten : {T F : Type 0} (view : T → Text) (text : F → Text) (failure : Failure F) (stop : Failure LineValue) (meaning : Result Text F) →
+-- of what can't be made
+pub unwritten : {T V F : Type 0} (view : T → V) (text : F → Text) (failure : Failure F) (stop : Failure LineValue) (meaning : Result V F) →
     Gives view (Err failure) meaning → Reports text failure stop → Returns (λ t. meaning ≡ Ok t) (λ fault. meaning ≡ Err fault) text [] (Err stop)
 unwritten view text Memory stop meaning is h = fault_reported (λ t. meaning ≡ Ok t) (λ fault. meaning ≡ Err fault) text Memory stop tt h
 unwritten view text (Fault fault) stop meaning is h = fault_reported (λ t. meaning ≡ Ok t) (λ fault. meaning ≡ Err fault) text (Fault fault) stop is h
+
+-- of what a call gives
+pub given_as : {V F : Type 0} (text : F → Text) (Post : Failure F → Failure LineValue → Type 0) (meaning : Result V F) (r : Result V (Failure F)) (s : Outcome V) →
+    ((failure : Failure F) (stop : Failure LineValue) → Post failure stop → Reports text failure stop) → Gives (λ (value : V). value) r meaning →
+    MatchResult r (λ value. s ≡ Ok value) (λ failure. IsErrAnd s (Post failure)) → Returns (λ value. meaning ≡ Ok value) (λ fault. meaning ≡ Err fault) text [] s
+given_as text Post meaning (Ok value) s to is h = subst (Returns (λ value. meaning ≡ Ok value) (λ fault. meaning ≡ Err fault) text []) (sym h) (refl, is)
+given_as text Post meaning (Err failure) (Err stop) to is h = unwritten (λ value. value) text failure stop meaning is (to failure stop h)
+given_as text Post meaning (Err failure) (Ok value) to is h = absurd h
 
 -- the same in other words
 pub in_words : {V F G : Type 0} (IsValue : V → Type 0) (IsFault : F → Type 0) (text : F → Text) (IsOther : G → Type 0) (other : G → Text)

@@ -1,8 +1,10 @@
-//! The command `collate`: the files of a target.
+//! The commands `collate`, which leaves the files of a target, and `one`, which prints the dyndep
+//! text of one scan document.
 
 ghost use Rattle.std.specs.Prelude.{◌≡◌, [], ◌++◌, map, All, IsUtf8, OnOk};
 ghost use Rattle.commands.specs.Answers.{file_value};
 ghost use Rattle.commands.specs.CollateCommand.{style_of, map_files, files_of, target_with, SpecOf, CollateRun};
+ghost use Rattle.commands.specs.One.{OneRun};
 ghost use Rattle.commands.specs.Outcomes.{Runs};
 ghost use Rattle.commands.specs.Targets.{TargetOf};
 
@@ -10,10 +12,12 @@ use crate::edges::pass_edges;
 use crate::folder::Folder;
 use crate::reading::{TargetFiles, add, slices};
 use crate::stop::{self, Output, OutputFile, Stop};
-use collate_core::{Collated, CollatedParts, Target, collate_or_refused};
+use collate_core::{
+    Collated, CollatedParts, Target, collate_dyndep_or_refused, collate_or_refused,
+};
 use module_maps::{Clang, Gcc};
 use ninja_text::Path;
-use scan_docs::{MapForm, TargetSpec, spec_read};
+use scan_docs::{MapForm, Setting, TargetName, TargetSpec, spec_read};
 use std::alloc::{AllocError, Global};
 
 /// Runs `collate TARGETFILE` on the bytes of the target document. The files that it names are read
@@ -41,7 +45,11 @@ pub fn collate_target<F: Folder>(
 pub(crate) fn read_spec(alloc: Global, document: &[u8]) -> Result<TargetSpec, Stop>
     ensures { SpecOf document.now [] result }
 {
-    spec_read(alloc, document).map_err(|f| stop::of_fault(alloc, "target: ", f))
+    // By hand: the closure of a `map_err` over this fault takes the prover a minute and a half.
+    match spec_read(alloc, document) {
+        Ok(spec) => Ok(spec),
+        Err(failure) => Err(stop::of_fault(alloc, "target: ", failure)),
+    }
 }
 
 /// Collates the target of a document, of these files.
@@ -118,4 +126,32 @@ fn append_maps(
         add(files, OutputFile { name, bytes, keeps })?;
     }
     Ok(())
+}
+
+/// Runs `one SCAN DIR EXT` on the bytes of the scan document, the directory that modules are
+/// compiled to and the ending of their file names. The document is collated as a target by itself:
+/// a module that a rule requires is looked up among those that the document's own rules provide.
+pub fn collate_scan(alloc: Global, scan: &[u8], dir: &str, ext: &str) -> Result<Output, Stop>
+    ensures { OneRun scan.now dir.now ext.now [] result }
+{
+    // Any name would do: it is not printed.
+    let Some(name) = TargetName::of(alloc, "t")? else {
+        unreachable!()
+    };
+    let setting = Setting {
+        module_dir: String::from_str(alloc, dir)?,
+        module_ext: String::from_str(alloc, ext)?,
+        build_dir: None,
+    };
+    let target = Target {
+        name: &name,
+        setting: &setting,
+        scans: &[scan],
+        infos: &[],
+        kept: &[],
+    };
+    match collate_dyndep_or_refused(alloc, &target) {
+        Ok(text) => Ok(Output::text(alloc, text)),
+        Err(failure) => Err(stop::of_target(alloc, failure)),
+    }
 }

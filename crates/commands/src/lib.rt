@@ -20,11 +20,8 @@
 //! - [`Output`] is what a run leaves that succeeds, and [`Stop`] why a run stops: memory ran out,
 //!   or a [`Line`]. Every part of a run returns a `Result` with a [`Stop`], so `?` passes it on
 //!   (`specs/Outcomes.antt`). `stop` makes its message.
-//! - `reading` reads files, and `project_targets` the targets of a project.
-//! - `listing` and `dyndep_text` read edge lists and dyndep files, and `edges` checks the edges
-//!   that a target document names.
-//! - `refusal` says why a target is rejected, `table_fault` why its modules have no table, and
-//!   `edge_fault` what is wrong with edges.
+//! - `reading` reads documents and the files of a target, and `edges` also checks the edges that a
+//!   target document names. `refusal` says why a target is rejected and what is wrong with edges.
 //!
 //! The definitions that only private clauses speak of are in `specs/inner/`.
 //!
@@ -39,34 +36,20 @@
 
 mod answer;
 mod collate;
-mod dyndep_text;
-mod edge_fault;
+mod dyndeps;
 mod edges;
-mod effect;
 mod folder;
-mod listing;
-mod one;
-mod order;
-mod printing;
-mod program;
 mod project;
-mod project_targets;
 mod reading;
 mod refusal;
 mod run;
-mod show;
 mod stop;
-mod table_fault;
 
-pub use answer::Answer;
-pub use collate::collate_target;
-pub use effect::apply_dyndep;
+pub use answer::{Answer, print};
+pub use collate::{collate_scan, collate_target};
+pub use dyndeps::show_dyndep;
+pub use edges::{apply_dyndep, order_edges};
 pub use folder::{Folder, PieceReader};
-pub use one::collate_scan;
-pub use order::order_edges;
-pub use printing::print;
-pub use program::program_run;
 pub use project::collate_project;
-pub use run::{task_run, write_files};
-pub use show::show_dyndep;
+pub use run::{program_run, task_run, write_files};
 pub use stop::{Line, Output, OutputFile, Stop};

@@ -1,26 +1,29 @@
-//! The command `project`: the files of all targets of a project.
+//! The command `project`: the targets of a project, as their documents and the files that these name
+//! are read, and the files that they leave.
 
-ghost use Rattle.std.specs.Prelude.{◌≡◌, ◌<◌, [], All, IsUtf8, length, map, zip, string_bytes, IfOk, IfErr};
+ghost use Rattle.std.specs.Prelude.{◌≡◌, ◌<◌, ◌++◌, ◌∷◌, [], All, IsUtf8, length, map, zip, string_bytes, IfOk, IfErr};
 ghost use Rattle.ninja_text.specs.Failure.{ForFault};
 ghost use Rattle.module_table.specs.TableValue.{table_with};
 ghost use Rattle.collate_core.specs.Projects.{CollatesProject, IsProjectRefusal, WasReadAt};
 ghost use Rattle.commands.specs.CollateCommand.{style_of};
 ghost use Rattle.commands.specs.Outcomes.{Runs, Writes, seen};
-ghost use Rattle.commands.specs.ProjectCommand.{project_target, form_of, all_files, AllEdgesPass, ProjectOf, ProjectRun, TargetsAfter};
+ghost use Rattle.commands.specs.ProjectCommand.{project_target, form_of, all_files, AllEdgesPass, FormOf, LinksOf, ProjectOf, ProjectRun, TargetOfFile, TargetsAfter};
+ghost use Rattle.commands.specs.inner.Parts.{bytes_of};
 ghost use Rattle.commands.specs.inner.ProjectTargets.{LinkEarlier, IsReportable, ReportsAt};
 
-use crate::collate::append_files;
+use crate::collate::{append_files, read_spec};
 use crate::edges::pass_edges;
 use crate::folder::Folder;
-use crate::project_targets::{ReadTarget, Targets, read_target};
-use crate::reading::{pushed, slices};
+use crate::reading::{TargetFiles, pushed, read, slices};
 use crate::refusal::refusal_line;
 use crate::stop::{self, Output, Stop};
 use collate_core::{Collated, ProjectOut, ProjectTarget, RefusedTarget, project_or_refused};
 use module_maps::{Clang, Gcc};
 use ninja_text::Failure;
-use scan_docs::{MapForm, project_read};
+use scan_docs::{DocFault, MapForm, Member, Place, TargetSpec, project_read};
 use std::alloc::{AllocError, Global};
+use std::collections::BTreeMap;
+use std::marker::Model;
 
 /// Runs `project FILE` on the bytes of the project document. The files of the targets are read from
 /// the `Folder`, target by target: the document of each, which may only link targets before it and
@@ -36,7 +39,11 @@ pub fn collate_project<F: Folder>(
 ) -> Result<Output, Stop>
     ensures { Runs (F.calls folder.old) (F.calls folder.new) (ProjectRun document.now) result }
 {
-    let project = project_read(alloc, document).map_err(|f| stop::of_fault(alloc, "project: ", f))?;
+    // By hand, as in `read_spec`.
+    let project = match project_read(alloc, document) {
+        Ok(project) => project,
+        Err(failure) => return Err(stop::of_fault(alloc, "project: ", failure)),
+    };
     let read = read_targets(alloc, &project.targets, folder)?;
     let targets = read.list.as_slice();
     let outs = all_collated(alloc, targets)?;
@@ -186,4 +193,121 @@ fn write_all(alloc: Global, targets: &[ReadTarget], outs: Vec<Collated>) -> Resu
         append_files(alloc, collated, &target.spec, &mut files)?;
     }
     Ok(Output::files(alloc, files))
+}
+
+/// A target that was read.
+#[derive(Drop)]
+pub(crate) struct ReadTarget {
+    pub spec: TargetSpec,
+    /// The indexes of the targets that it links.
+    pub linked: Vec<usize>,
+    /// Its files, without info files.
+    pub files: TargetFiles,
+}
+
+impl Model for ReadTarget {
+    ghost use Rattle.commands.specs.ProjectCommand.{ReadTargetValue, read_target};
+
+    ghost Value = { ReadTargetValue };
+
+    ghost view = { λ t. read_target t.spec t.linked.items t.files };
+}
+
+/// The targets of a project that were read so far, and for each info file that they write the index
+/// of the last one that does.
+#[derive(Drop)]
+pub(crate) struct Targets {
+    pub list: Vec<ReadTarget>,
+    writers: BTreeMap<String, usize>,
+}
+
+impl Model for Targets {
+    ghost use Rattle.ninja_text.specs.Bytes.{PathText};
+    ghost use Rattle.std.specs.Prelude.{◌≡◌, List, ℕ};
+    ghost use Rattle.commands.specs.ProjectCommand.{ReadTargetValue, last_with};
+    ghost use Rattle.commands.specs.inner.ProjectTargets.{writer_of, LinkEarlier};
+
+    ghost Value = { List ReadTargetValue };
+
+    ghost view = { λ t. t.list.items };
+
+    ghost invariant = { λ t. LinkEarlier t.list.items × ((info : PathText) →
+        writer_of t.writers info ≡ last_with t.list.items info) };
+}
+
+impl Targets {
+    /// Returns no targets.
+    fn new(alloc: Global) -> Targets
+        ensures { result ≡ [] }
+    {
+        Targets {
+            list: Vec::new(alloc),
+            writers: BTreeMap::new(alloc),
+        }
+    }
+
+    /// Returns these targets and one more, which links some of these.
+    fn with(self, alloc: Global, target: ReadTarget) -> Result<Targets, AllocError>
+        requires { All (λ k. k < length self) target.linked }
+        ensures { IfOk result (λ targets. targets ≡ self ++ target ∷ []) }
+    {
+        let Targets { list, mut writers } = self;
+        let index = list.len();
+        let list = pushed(list, target)?;
+        let info = String::from_str(alloc, &list[index].spec.info)?;
+        writers.insert(info, index)?;
+        Ok(Targets { list, writers })
+    }
+}
+
+/// Reads the target of the document of this name, after earlier ones.
+fn read_target<F: Folder>(
+    alloc: Global,
+    earlier: &Targets,
+    name: &str,
+    folder: &mut F,
+) -> Result<ReadTarget, Stop>
+    ensures read { Runs (F.calls folder.old) (F.calls folder.new)
+        (TargetOfFile earlier.now name.now) result }
+    ensures links { IfOk result (λ target. All (λ k. k < length earlier.now) target.linked) }
+{
+    let document = read(alloc, name, folder)?;
+    let index = earlier.list.len();
+    let spec = stop::at_target(alloc, index, read_spec(alloc, &document))?;
+    stop::at_target(alloc, index, pass_form(alloc, earlier, &spec))?;
+    let linked = stop::at_target(alloc, index, links_of(alloc, earlier, &spec.linked))?;
+    let files = TargetFiles::read(alloc, &spec, &[], folder)?;
+    Ok(ReadTarget {
+        spec,
+        linked,
+        files,
+    })
+}
+
+/// Checks that the maps of a target have the form of those of the first one.
+fn pass_form(alloc: Global, earlier: &Targets, spec: &TargetSpec) -> Result<(), Stop>
+    ensures { FormOf earlier.now spec.now [] result }
+{
+    if earlier.list.is_empty() || spec.map == form_of(&earlier.list) {
+        return Ok(());
+    }
+    let fault = DocFault::BadShape {
+        place: Place::Document,
+        member: Member::Map,
+    };
+    Err(stop::of_fault(alloc, "target: ", Failure::Fault(fault)))
+}
+
+/// Returns the indexes of the last targets that write these info files.
+fn links_of(alloc: Global, targets: &Targets, infos: &[String]) -> Result<Vec<usize>, Stop>
+    ensures { LinksOf targets.now (map string_bytes infos.now) [] (seen bytes_of result) }
+{
+    let mut linked = Vec::with_capacity(alloc, infos.len())?;
+    for info in infos {
+        let Some(index) = targets.writers.get(info.as_str()) else {
+            return Err(stop::stopped(1, Vec::from_slice(alloc, b"K3 LinkedLater")));
+        };
+        linked = pushed(linked, *index)?;
+    }
+    Ok(linked)
 }

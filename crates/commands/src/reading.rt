@@ -6,8 +6,8 @@ ghost use Rattle.commands.specs.Files.{FilesOf};
 ghost use Rattle.commands.specs.Outcomes.{Runs, ReadsDocument, ReadsAll, seen};
 ghost use Rattle.commands.specs.inner.Parts.{bytes_of, contents};
 
+use crate::edges::{ListingRead, read_listing};
 use crate::folder::Folder;
-use crate::listing::{ListingRead, read_listing};
 use crate::stop::{self, Stop};
 use scan_docs::{DOCUMENT_LIMIT, TargetSpec};
 use std::alloc::{AllocError, Global};

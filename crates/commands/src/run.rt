@@ -1,26 +1,64 @@
-//! A run of the program, from its task to what it leaves.
+//! The whole program, except for the calls of the system: the task of its arguments, the run, and
+//! the writing and printing of what it leaves.
 
 ghost use Rattle.command_line.specs.Tasks.{task_value};
-ghost use Rattle.commands.specs.Answers.{file_value};
-ghost use Rattle.commands.specs.Files.{WritesFile, WritesFiles};
-ghost use Rattle.commands.specs.Folder.{MakesCalls};
+ghost use Rattle.commands.specs.Files.{WritesFiles};
 ghost use Rattle.commands.specs.Outcomes.{Runs};
+ghost use Rattle.commands.specs.Program.{ArgumentsRun, IsProgramRun, words_of};
 ghost use Rattle.commands.specs.Runs.{TaskRun};
 
-use crate::collate::collate_target;
-use crate::dyndep_text::read_dyndep;
-use crate::effect::effect_read;
+use crate::answer::{Answer, print};
+use crate::collate::{collate_scan, collate_target};
+use crate::dyndeps::{read_dyndep, show_read};
+use crate::edges::{effect_read, order_read, read_listing};
 use crate::folder::Folder;
-use crate::listing::read_listing;
-use crate::one::collate_scan;
-use crate::order::order_read;
 use crate::project::collate_project;
 use crate::reading::read;
-use crate::show::show_read;
-use crate::stop::{self, Output, OutputFile, Stop};
-use command_line::Task;
+use crate::stop::{self, Output, Stop};
+use command_line::{Task, task_of};
+use ninja_text::{Counted, Failure, WriteCall};
 use std::alloc::Global;
 use std::io;
+use std::io::ErrorKind;
+
+/// Runs the program on its arguments, the program's own name the first of them: runs their task,
+/// writes its files to the `Folder` and its texts to the two writers, and returns the exit status.
+/// Arguments that could not be got are not a valid command line, unless memory ran out.
+pub fn program_run<F: Folder, O: WriteCall, E: WriteCall>(
+    alloc: Global,
+    arguments: &io::Result<Vec<String>>,
+    folder: &mut F,
+    out: &mut Counted<O>,
+    err: &mut Counted<E>,
+) -> u8
+    ensures { IsProgramRun O.contents E.contents (F.calls folder.old) (F.calls folder.new)
+        out.old out.new err.old err.new (words_of arguments.now) result }
+{
+    let outcome = arguments_run(alloc, arguments, folder);
+    let answer = Answer::of(alloc, outcome);
+    print(&answer, out, err)
+}
+
+/// Runs the task of the arguments, and writes its files.
+fn arguments_run<F: Folder>(
+    alloc: Global,
+    arguments: &io::Result<Vec<String>>,
+    folder: &mut F,
+) -> Result<Output, Stop>
+    ensures { Runs (F.calls folder.old) (F.calls folder.new)
+        (ArgumentsRun (words_of arguments.now)) result }
+{
+    let task = match arguments {
+        Ok(words) => task_of(alloc, words)?,
+        Err(error) if error.kind() == ErrorKind::OutOfMemory => return Err(Failure::Memory),
+        Err(_) => None,
+    };
+    let Some(task) = task else {
+        return Err(stop::stopped(2, Vec::from_slice(alloc, b"usage")));
+    };
+    let output = task_run(alloc, &task, folder)?;
+    write_files(alloc, output, folder)
+}
 
 /// Runs a task. The files that it names are read, each when its turn comes; none is
 /// written.
@@ -33,14 +71,11 @@ pub fn task_run<F: Folder>(alloc: Global, task: &Task, folder: &mut F) -> Result
             let scan = read(alloc, scan, folder)?;
             collate_scan(alloc, &scan, dir, ext)
         }
-        Task::Collate { target } => {
+        Task::Collate(target) => {
             let document = read(alloc, target, folder)?;
             collate_target(alloc, &document, folder)
         }
-        Task::Show { dyndep } => {
-            let dyndep = read_dyndep(alloc, dyndep, folder)?;
-            show_read(alloc, dyndep)
-        }
+        Task::Show(dyndep) => show_read(alloc, read_dyndep(alloc, dyndep, folder)?),
         Task::Effect {
             name,
             edges,
@@ -50,11 +85,8 @@ pub fn task_run<F: Folder>(alloc: Global, task: &Task, folder: &mut F) -> Result
             let dyndep = read_dyndep(alloc, dyndep, folder)?;
             effect_read(alloc, name, listing, dyndep)
         }
-        Task::Order { edges } => {
-            let listing = read_listing(alloc, edges, folder)?;
-            order_read(alloc, listing)
-        }
-        Task::Project { document } => {
+        Task::Order(edges) => order_read(alloc, read_listing(alloc, edges, folder)?),
+        Task::Project(document) => {
             let document = read(alloc, document, folder)?;
             collate_project(alloc, &document, folder)
         }
@@ -69,22 +101,15 @@ pub fn write_files<F: Folder>(alloc: Global, output: Output, folder: &mut F) -> 
 {
     let Output { text, files } = output;
     for file in &files {
-        if write_file(file, folder).is_err() {
-            let name = file.name.as_str();
+        let name = file.name.as_str();
+        let bytes = file.bytes.as_slice();
+        if file.keeps && folder.has(name, bytes) {
+            continue;
+        }
+        if folder.write(name, bytes).is_err() {
             let message = format!(in alloc; "cannot write {name}");
             return Err(stop::stopped(3, message.map(String::into_bytes)));
         }
     }
     Ok(Output { text, files })
-}
-
-/// Writes a file, unless it is left alone if it has its bytes, and has them.
-fn write_file<F: Folder>(file: &OutputFile, folder: &mut F) -> io::Result<()>
-    ensures { MakesCalls (F.calls folder.old) (F.calls folder.new)
-        (λ calls. WritesFile (file_value file.now) calls result) }
-{
-    if file.keeps && folder.has(file.name.as_str(), file.bytes.as_slice()) {
-        return Ok(());
-    }
-    folder.write(file.name.as_str(), file.bytes.as_slice())
 }

@@ -2,17 +2,15 @@
 
 ghost use Rattle.std.specs.Prelude.{◌≡◌, ◌∷◌, [], Err, map, IfOk};
 ghost use Rattle.commands.specs.Answers.{file_value};
-ghost use Rattle.commands.specs.EdgeFaults.{edges_fault_text, effect_text, listing_write_text};
+ghost use Rattle.commands.specs.EdgeFaults.{edges_fault_text, effect_text};
 ghost use Rattle.commands.specs.Folder.{reading};
 ghost use Rattle.commands.specs.Outcomes.{printed, written, IsUnread, Reports};
 ghost use Rattle.commands.specs.ProjectCommand.{IsTargetOutcome, target_text};
 ghost use Rattle.commands.specs.inner.Refusals.{refused_line};
 ghost use Rattle.commands.specs.inner.Stops.{IsStoppedWith, ReportsPrinted};
 
-use crate::edge_fault::{edges_fault_text, effect_text, first_output};
-use crate::refusal::refused_text;
-use crate::table_fault::joined;
-use build_effect::{EffectFault, Graph, ListFault, ListingWriteFault};
+use crate::refusal::{edges_fault_text, effect_text, refused_text};
+use build_effect::{EffectFault, ListFault};
 use collate_core::RefusedTarget;
 use ninja_text::Failure;
 use std::alloc::{AllocError, Global};
@@ -137,22 +135,6 @@ pub(crate) fn of_effect(alloc: Global, failure: Failure<EffectFault>) -> Stop
         return Failure::Memory;
     };
     stopped(1, effect_text(alloc, &fault))
-}
-
-/// Stops the run at a graph whose listing can't be written: the edge whose build line is too long
-/// is named by its first output.
-pub(crate) fn of_listing_write(
-    alloc: Global,
-    graph: &Graph,
-    failure: Failure<ListingWriteFault>,
-) -> Stop
-    ensures { Reports (listing_write_text graph.now) failure result }
-{
-    let Failure::Fault(ListingWriteFault::ListingTooLong { edge }) = failure else {
-        return Failure::Memory;
-    };
-    let output = first_output(graph.edges(), edge);
-    stopped(1, joined(alloc, &[b"E9 ListingTooLong ", output]))
 }
 
 /// Stops the run at a target that is rejected. Its info files are named by the names in them.

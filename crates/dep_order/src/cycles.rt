@@ -10,8 +10,8 @@ ghost use Rattle.dep_order.specs.inner.Steps.{IsFewest, IsLeastAt, SomeIsAway};
 ghost use Rattle.dep_order.specs.inner.CyclesFrom.{HasCycle, IsLeastFromIfAny};
 
 use crate::components::{components_of, shares_component};
-use crate::levels::steps_from;
 use crate::rows::row_of;
+use crate::searching::steps_from;
 use std::alloc::{AllocError, Global};
 
 /// Returns the least cycle of a digraph with a cycle.

@@ -52,13 +52,11 @@
 
 mod components;
 mod cycles;
-mod depth_first;
 pub mod laws;
-mod levels;
-mod marking;
 mod ordering;
 mod reaching;
 mod rows;
+mod searching;
 mod users;
 
 ghost use Rattle.std.specs.Prelude.{◌≡◌, ◌<◌, All, length, IfOk};
@@ -102,13 +100,6 @@ impl Digraph {
         ensures { result ≡ rows needs.items }
     {
         Digraph { needs }
-    }
-
-    /// Returns the number of nodes.
-    fn len(&self) -> usize
-        ensures { result ≡ length self.now }
-    {
-        self.needs.len()
     }
 
     /// Returns what a node needs.

@@ -39,7 +39,7 @@ impl<'g> Reaching<'g> {
     pub fn new(alloc: Global, graph: &'g Digraph) -> Result<Reaching<'g>, AllocError>
         ensures { IfOk result (λ reaching. reaching ≡ graph.now) }
     {
-        let indexes = vec![in alloc; 0; graph.len()]?;
+        let indexes = vec![in alloc; 0; graph.needs.len()]?;
         Ok(Reaching { graph, indexes })
     }
 

@@ -5,12 +5,9 @@
 //! file could not be read or written, or memory ran out. Every status other than 0 comes with one
 //! line on standard error, which gives the reason.
 //!
-//! What it does between the system calls is, with its promises, in the libraries
-//! `command_line` and `commands`. What is left to `main` is to get the arguments, to pass the files
-//! of the system to `commands` as a `Folder` and its two outputs as writers, and to end with the
-//! status.
-//!
-//! It uses `commands` for the run, and `ninja_text` for writers whose calls are counted.
+//! What it does between the system calls is, with its promises, in the library `commands`. `main`
+//! gets the arguments, passes the files of the system as a `Folder` and its two outputs as writers
+//! whose calls are counted, and ends with the status.
 #![tactic(auto)]
 
 mod system_files;

@@ -3,7 +3,7 @@ use Rattle.std.proofs.Common.{inl, inr, ◌⊎◌, ◌≡◌, ℕ, ◌≤◌, �
 use Rattle.std.specs.Prelude.{Result}
 use Rattle.std.specs.Result.{IsErrAnd}
 use Rattle.std.specs.Io.KnownBytes.{Consumes, Keeps, IsAtEnd}
-use Rattle.std.proofs.lemmas.List.{append-nil, length-take-le}
+use Rattle.std.proofs.lemmas.List.{append-nil, length-take-le, flat_map_more}
 use Rattle.ninja_text.specs.declared.failure.Failure.{Failure}
 use Rattle.ninja_text.specs.declared.failure.Failure.TheVariants.{Fault}
 use Rattle.dyndep_file.specs.Classes.{DyndepClass}
@@ -12,7 +12,6 @@ use Rattle.dyndep_file.specs.Reader.{LeadToStatements, DyndepReaderState, HasRea
 use Rattle.std.specs.declared.io.Error.{Error}
 use Rattle.ninja_text.specs.Counting.{held, failures, one_more, Call, Counts}
 use Rattle.ninja_text.specs.declared.counting.Counted.{Counted}
-use Rattle.std.proofs.lemmas.List.{flat_map_more}
 use Rattle.dyndep_file.specs.ReadingAll.{IsUnrefused, buffer_len, ReadTurn, bytes_of, bytes_read, GivesSome, ReadsInTurn, AtEnd, Failed, Refused, NotMade, IsReadFrom}
 use Rattle.dyndep_file.specs.declared.fault.LineFault.{LineFault}
 use Rattle.dyndep_file.specs.declared.fault.LineFault.TheVariants.{LineTooLong}

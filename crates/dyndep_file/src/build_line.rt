@@ -5,7 +5,7 @@ ghost use Rattle.ninja_text.specs.TokenViews.{seen_token};
 ghost use Rattle.dyndep_file.specs.Classes.{WordSymbol, SignSymbol};
 ghost use Rattle.dyndep_file.specs.Faults.{same_bytes, output_fault, after_output_fault, implicit_outputs_fault, rule_fault, after_rule_fault, implicit_inputs_fault};
 ghost use Rattle.dyndep_file.specs.BuildTokens.{is_this_word, symbol_of, symbols_left};
-ghost use Rattle.dyndep_file.specs.inner.BuildLines.{TakesOr, TakesOutput, TakesOutputs, TakesInputs, TakesWords, IsNamed};
+ghost use Rattle.dyndep_file.specs.inner.BuildLines.{TakesOr, TakesOutputs, TakesInputs, TakesWords, IsNamed};
 ghost use Rattle.dyndep_file.specs.inner.Paths.{texts};
 
 use crate::fault::LineFault;
@@ -19,7 +19,10 @@ pub(crate) fn statement(alloc: Global, words: Words<'_>) -> Result<Statement, Fa
         (λ statement. IsNamed (symbols_left words.entry) statement) result }
 {
     let mut words = words;
-    let output = output(alloc, &mut words)?;
+    let output = match words.next() {
+        Some(token) if token.kind() == TokenKind::Word => word_value(alloc, token)?,
+        _ => return Err(Failure::Fault(LineFault::NoOutput)),
+    };
     let implicit_outputs = implicit_outputs(alloc, &mut words)?;
     match words.next() {
         Some(token) if is_keyword(token, b"dyndep") => {}
@@ -32,22 +35,6 @@ pub(crate) fn statement(alloc: Global, words: Words<'_>) -> Result<Statement, Fa
         implicit_inputs,
         restat: false,
     })
-}
-
-/// Parses the explicit output.
-fn output(alloc: Global, words: &mut Words<'_>) -> Result<Vec<u8>, Failure<LineFault>>
-    ensures { TakesOr (output_fault (symbols_left words.old)) (λ output.
-        TakesOutput (symbols_left words.old) output.items (symbols_left words.new)) result }
-{
-    let Some(token) = words.next() else {
-        return Err(Failure::Fault(LineFault::NoOutput));
-    };
-    match token.kind() {
-        TokenKind::Word => Ok(word_value(alloc, token)?),
-        TokenKind::Bar | TokenKind::Colon | TokenKind::DoubleBar | TokenKind::BarAt => Err(
-            Failure::Fault(LineFault::NoOutput),
-        ),
-    }
 }
 
 /// Parses the implicit outputs after `|`, if there are any, and the `:`.

@@ -1,8 +1,6 @@
 //! Errors of dyndep files.
-
-ghost use Rattle.std.specs.Prelude.{◌≡◌, MatchResult};
-ghost use Rattle.ninja_text.specs.FaultTexts.{lex_fault_text};
-ghost use Rattle.dyndep_file.specs.FaultTexts.{line_fault_text};
+ghost use Rattle.std.specs.Prelude.{◌≡◌};
+ghost use Rattle.dyndep_file.specs.declared.fault.ReadFault.TheVariants.{AtLine};
 
 use ninja_text::LexFault;
 use std::fmt;
@@ -18,8 +16,7 @@ pub enum LineFault {
     Truncated,
     /// A lexical error, N7 to N10.
     Lexical(LexFault),
-    /// A line that is neither a comment nor blank precedes the version line, or there is no version
-    /// line.
+    /// No version line, or a line before it that is neither a comment nor blank.
     NoVersion,
     /// The version is neither `1` nor `1.0`.
     BadVersion,
@@ -48,14 +45,23 @@ pub enum LineFault {
 }
 
 impl LineFault {
-    /// Returns the code and the name, or the lexical error, which is printed as itself.
-    fn name(self) -> Result<&'static str, LexFault>
-        ensures { MatchResult result
-            (λ name. name.now ≡ line_fault_text self)
-            (λ fault. lex_fault_text fault ≡ line_fault_text self) }
+    /// Returns the error of the line with this number.
+    pub(crate) fn at(self, line: u64) -> ReadFault
+        ensures { result ≡ AtLine line self }
     {
+        ReadFault::AtLine { line, fault: self }
+    }
+}
+
+impl fmt::Display for LineFault {
+    ghost use Rattle.std.specs.Prelude.{Some};
+    ghost use Rattle.dyndep_file.specs.FaultTexts.{line_fault_text};
+
+    ghost output = { λ fault. Some (line_fault_text fault) };
+
+    fn fmt<W: fmt::Write>(&self, f: &mut fmt::Formatter<W>) -> fmt::Result {
         let name = match self {
-            LineFault::Lexical(fault) => return Err(fault),
+            LineFault::Lexical(fault) => return fmt::Display::fmt(fault, f),
             LineFault::LineTooLong => "N5 LineTooLong",
             LineFault::Truncated => "N6 Truncated",
             LineFault::NoVersion => "Y4 NoVersion",
@@ -71,21 +77,7 @@ impl LineFault {
             LineFault::Validation => "Y14 Validation",
             LineFault::BadBinding => "Y15 BadBinding",
         };
-        Ok(name)
-    }
-}
-
-impl fmt::Display for LineFault {
-    ghost use Rattle.std.specs.Prelude.{Some};
-    ghost use Rattle.dyndep_file.specs.FaultTexts.{line_fault_text};
-
-    ghost output = { λ fault. Some (line_fault_text fault) };
-
-    fn fmt<W: fmt::Write>(&self, f: &mut fmt::Formatter<W>) -> fmt::Result {
-        match self.name() {
-            Ok(name) => f.write_str(name),
-            Err(fault) => fmt::Display::fmt(&fault, f),
-        }
+        f.write_str(name)
     }
 }
 

@@ -5,19 +5,12 @@
 //!   any reader. The result does not depend on the pieces: it is the list that the grammar
 //!   (`specs/Grammar.antt`) gives the whole text, or the first faulty line and its error
 //!   (`specs/Reading.antt`, `specs/Faults.antt`).
-//! - [`Dyndep::to_text`] returns the text of the statements, byte for byte as `specs/Writing.antt`
-//!   defines it. [`DyndepText`] builds it from statements that borrow their paths
-//!   (`specs/Texts.antt`), and [`write`] writes it. The first error (`specs/WriteFaults.antt`) is
-//!   reported before the first byte is written. The text stands for the statements and for no other
-//!   list. [`laws::writable_statements`] proves that there is no error if and only if each path can be
-//!   escaped and each build line keeps the limit.
+//! - [`Dyndep::to_text`] returns the text of the statements (`specs/Writing.antt`). [`DyndepText`]
+//!   builds it from statements that borrow their paths (`specs/Texts.antt`), and [`write`] writes it.
+//!   The first error (`specs/WriteFaults.antt`) is reported before the first byte is written. The text
+//!   stands for the statements and for no other list.
 //! - `specs/FaultTexts.antt` defines how [`LineFault`], [`ReadFault`] and [`WriteFault`] are printed.
 //! - [`laws`] proves that a text has either a list of statements or an error.
-//!
-//! Definitions that only private contracts use are in `specs/inner/`.
-//!
-//! The crate uses `ninja_text` for lines, tokens, escapes and counted calls, and `thiserror` for its
-//! faults.
 //!
 //! `must-fail/` has a wrong body of each public function, or of a private one that it calls, except for
 //! laws, which have no body. `first_byte_out_before_a_fault_is_reported` shows that nothing is written
@@ -26,18 +19,13 @@
 
 mod build_line;
 mod fault;
-mod from_reader;
 pub mod laws;
-mod line;
 mod progress;
 mod reader;
 mod statement;
 mod text;
-mod writing;
 
 pub use fault::{LineFault, ReadFault, WriteFault};
-pub use from_reader::read_all;
-pub use reader::DyndepReader;
+pub use reader::{DyndepReader, read_all};
 pub use statement::{Dyndep, LentStatement, Statement};
-pub use text::DyndepText;
-pub use writing::write;
+pub use text::{DyndepText, write};

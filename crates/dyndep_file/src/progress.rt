@@ -1,16 +1,17 @@
-//! The statements so far, and the effect of each kind of line.
+//! Reads the lines of a dyndep file: the statements so far, and the effect of each kind of line.
 ghost use Rattle.std.specs.Prelude.{◌≡◌, codes, is_some, option_map, IfOk};
+ghost use Rattle.ninja_text.specs.LineViews.{seen_line};
 ghost use Rattle.ninja_text.specs.Tokens.{value_of};
 ghost use Rattle.ninja_text.specs.AssignmentViews.{seen_assignment};
-ghost use Rattle.dyndep_file.specs.Classes.{is_version_one};
-ghost use Rattle.dyndep_file.specs.Faults.{value_assigned, indented_fault, build_fault, unindented_fault};
+ghost use Rattle.dyndep_file.specs.Classes.{is_version_one, IsDyndepLine};
+ghost use Rattle.dyndep_file.specs.Faults.{value_assigned, indented_fault, build_fault, text_line_fault, unindented_fault};
 ghost use Rattle.dyndep_file.specs.BuildTokens.{symbols_left};
 ghost use Rattle.dyndep_file.specs.inner.LineReading.{PassesOr, IsBuildOf, IsBindingOf, IsVersionLineOf, with_name};
 
-use crate::build_line::{is_same, statement};
-use crate::fault::LineFault;
+use crate::build_line::{is_keyword, is_same, statement};
+use crate::fault::{LineFault, ReadFault};
 use crate::statement::Statement;
-use ninja_text::{Assignment, Failure, Words};
+use ninja_text::{Assignment, CutFault, Failure, Line, LineState, Words, assignment, words};
 use std::alloc::{AllocError, Global};
 use std::marker::Model;
 
@@ -40,9 +41,68 @@ impl Model for Progress {
     ghost view = { λ p. record { stage = p.stage; statements = p.statements.items } };
 }
 
+impl LineState for Progress {
+    type Fault = ReadFault;
+
+    ghost use Rattle.dyndep_file.specs.inner.LineStates.{PassesLine, RefusesLine, fault_of_cutter};
+
+    ghost passes = { PassesLine };
+
+    ghost refuses = { RefusesLine };
+
+    ghost of_cutter = { fault_of_cutter };
+
+    fn read_line(&mut self, alloc: Global, line: Line<'_>) -> Result<(), Failure<ReadFault>> {
+        let number = line.number();
+        read_text(alloc, self, line).map_err(|failure| failure.map(|fault| fault.at(number)))
+    }
+
+    fn cut_fault(fault: CutFault) -> ReadFault {
+        match fault {
+            CutFault::LineTooLong { line } => LineFault::LineTooLong.at(line),
+            CutFault::Truncated { line } => LineFault::Truncated.at(line),
+        }
+    }
+}
+
+/// Reads the text of a line that is not a comment.
+fn read_text(
+    alloc: Global,
+    progress: &mut Progress,
+    line: Line<'_>,
+) -> Result<(), Failure<LineFault>>
+    ensures { let view = seen_line line.entry in
+        PassesOr (text_line_fault progress.old.stage view.text view.comment)
+        (IsDyndepLine view.text view.comment)
+        progress.old result progress.new }
+{
+    if line.is_comment() {
+        return Ok(());
+    }
+    let mut tokens = match words(line) {
+        Ok(tokens) => tokens,
+        Err(fault) => return Err(Failure::Fault(LineFault::Lexical(fault))),
+    };
+    let Some(first) = tokens.next() else {
+        // A blank line closes the open statement.
+        if let Stage::Open = progress.stage {
+            progress.stage = Stage::NoneOpen;
+        }
+        return Ok(());
+    };
+    if first.start() == 0 && is_keyword(first, b"build") {
+        return build_line(alloc, progress, tokens);
+    }
+    match assignment(line) {
+        Err(fault) => Err(Failure::Fault(LineFault::Lexical(fault))),
+        Ok(found) if line.text().starts_with(b" ") => indented_line(alloc, progress, found),
+        Ok(found) => unindented_line(alloc, progress, found),
+    }
+}
+
 /// An indented line sets the flag of the open statement if it assigns to `restat`, and closes the
 /// statement.
-pub(crate) fn indented_line(
+fn indented_line(
     alloc: Global,
     progress: &mut Progress,
     assignment: Option<Assignment<'_>>,
@@ -69,7 +129,7 @@ pub(crate) fn indented_line(
 }
 
 /// A build line opens a statement. These are the tokens after its keyword.
-pub(crate) fn build_line(
+fn build_line(
     alloc: Global,
     progress: &mut Progress,
     words: Words<'_>,
@@ -90,7 +150,7 @@ pub(crate) fn build_line(
 
 /// A line that is neither indented nor a build line is a version line, or it is not allowed. A version
 /// line is allowed once, before all statements, with the value `1` or `1.0`.
-pub(crate) fn unindented_line(
+fn unindented_line(
     alloc: Global,
     progress: &mut Progress,
     assignment: Option<Assignment<'_>>,

@@ -1,17 +1,17 @@
-//! Reads dyndep files that arrive in pieces, line by line.
+//! Reads dyndep files, line by line.
 ghost use Rattle.std.specs.Prelude.{◌≡◌, ◌++◌, [], Some};
+ghost use Rattle.dyndep_file.specs.ReadingAll.{IsReadFrom};
 
 use crate::fault::{LineFault, ReadFault};
 use crate::progress::{Progress, Stage};
 use crate::statement::Dyndep;
-use ninja_text::{Failure, LineReader};
+use ninja_text::{Counted, Failure, LineReader, ReadCall};
 use std::alloc::Global;
 use std::marker::Model;
 
-/// Reads a dyndep file that arrives in pieces (Ninja 1.11 manual, "Dyndep file reference").
-///
-/// A piece may end anywhere, also within a continuation or between CR and LF. The result is the same
-/// for all divisions of a text into pieces.
+/// Reads a dyndep file that arrives in pieces (Ninja 1.11 manual, "Dyndep file reference"). A piece may
+/// end anywhere, also within a continuation or between CR and LF. The result is the same for all
+/// divisions of a text into pieces.
 #[derive(Drop)]
 pub struct DyndepReader {
     lines: LineReader<Progress, ReadFault>,
@@ -75,11 +75,33 @@ impl DyndepReader {
         let (progress, next_line) = self.lines.finish()?;
         let Progress { stage, statements } = progress;
         match stage {
-            Stage::BeforeVersion => Err(Failure::Fault(ReadFault::AtLine {
-                line: next_line,
-                fault: LineFault::NoVersion,
-            })),
+            Stage::BeforeVersion => Err(Failure::Fault(LineFault::NoVersion.at(next_line))),
             Stage::NoneOpen | Stage::Open => Ok(Dyndep { statements }),
         }
     }
+}
+
+/// Reads a dyndep file up to the reader's end, at most 4,096 bytes per call.
+///
+/// # Errors
+///
+/// Returns `Io` if a call of the reader fails, or if 2^64 - 1 bytes were read without reaching the
+/// end. Returns the other errors as [`DyndepReader`] does. After the end or an error the reader is not
+/// called again.
+pub fn read_all<R: ReadCall>(
+    alloc: Global,
+    input: &mut Counted<R>,
+) -> Result<Dyndep, Failure<ReadFault>>
+    ensures { IsReadFrom R.remaining R.reads input.old input.new result }
+{
+    let mut reader = DyndepReader::new(alloc);
+    let mut piece = [0; 4096];
+    'read: for calls in 0..u64::MAX {
+        match input.read(&mut piece) {
+            Ok(0) => return reader.finish(),
+            Ok(count) => reader.feed(&piece[..count])?,
+            Err(_) => return Err(Failure::Fault(ReadFault::Io)),
+        }
+    }
+    Err(Failure::Fault(ReadFault::Io))
 }

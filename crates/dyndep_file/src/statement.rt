@@ -2,9 +2,7 @@
 use std::marker::Model;
 
 /// What a dyndep file adds to one build statement of the manifest (Ninja 1.11 manual, "Dyndep file
-/// reference").
-///
-/// Paths are without escapes. They need not be canonical.
+/// reference"). Paths are without escapes. They need not be canonical.
 #[derive(Debug, Drop)]
 pub struct Statement {
     /// The explicit output, which identifies the build statement.

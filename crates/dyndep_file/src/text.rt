@@ -1,17 +1,18 @@
-//! Builds the text of a dyndep file, statement by statement.
-ghost use Rattle.std.specs.Prelude.{◌≡◌, ◌++◌, List, [], ◌∷◌, All, IfOk, OnOk, OnErr, IfErr, None, Some};
+//! Builds the text of a dyndep file, statement by statement, and writes it.
+ghost use Rattle.std.specs.Prelude.{◌≡◌, ◌++◌, List, [], ◌∷◌, All, IfOk, OnOk, OnErr, IfErr, MatchResult, None, Some};
 ghost use Rattle.ninja_text.specs.Failure.{Gives, ForFault};
+ghost use Rattle.ninja_text.specs.Counting.{held, IsWritten};
 ghost use Rattle.ninja_text.specs.Escapes.{IsWritable};
 ghost use Rattle.dyndep_file.specs.StatementValue.{StatementValue};
 ghost use Rattle.dyndep_file.specs.Reading.{StandsForOnly};
-ghost use Rattle.dyndep_file.specs.Writing.{part_text};
-ghost use Rattle.dyndep_file.specs.WriteFaults.{text_or_fault, paths_of, statement_fault, write_fault};
+ghost use Rattle.dyndep_file.specs.Writing.{dyndep_text, part_text};
+ghost use Rattle.dyndep_file.specs.WriteFaults.{text_or_fault, paths_of, statement_fault, write_fault, LeavesWriter, WritesInTurn, AnswersWriteFault};
 ghost use Rattle.dyndep_file.specs.Texts.{IsTextOf, IsFinished};
 ghost use Rattle.dyndep_file.specs.inner.Paths.{texts, lent_texts};
 
 use crate::fault::WriteFault;
 use crate::statement::{Dyndep, LentStatement};
-use ninja_text::{Failure, LINE_LIMIT, escape_into, is_writable};
+use ninja_text::{Counted, Failure, LINE_LIMIT, WriteCall, escape_into, is_writable};
 use std::alloc::{AllocError, Global};
 use std::marker::Model;
 
@@ -141,7 +142,6 @@ impl Dyndep {
     pub fn to_text(&self, alloc: Global) -> Result<Vec<u8>, Failure<WriteFault>>
         ensures text { Gives (λ text. text.items) result (text_or_fault self.now) }
         ensures unfaulted { IfOk result (λ _. write_fault self.now ≡ None) }
-        // The text stands for these statements, and for no others.
         ensures meaning { IfOk result (λ text. StandsForOnly text.items self.now) }
     {
         let mut text = DyndepText::new(alloc)?;
@@ -158,6 +158,35 @@ impl Dyndep {
             })?;
         }
         Ok(text.finish())
+    }
+}
+
+/// Writes the text of a dyndep file. Each call of the writer gets what is left of the text.
+///
+/// # Errors
+///
+/// Returns Y1 or Y2 if a statement cannot be written, or [`Failure::Memory`] if an allocation fails.
+/// Nothing is written then. Returns `Io` after the first failed call; exactly the first `written` bytes
+/// of the text were written.
+pub fn write<W: WriteCall>(
+    alloc: Global,
+    dyndep: &Dyndep,
+    out: &mut Counted<W>,
+) -> Result<(), Failure<WriteFault>>
+    ensures text { MatchResult result
+        (λ _. IsWritten W.contents out.old out.new (dyndep_text dyndep.now))
+        (λ failure. LeavesWriter W.contents out.old out.new (dyndep_text dyndep.now) failure) }
+    ensures calls { WritesInTurn W.writes (held out.old) (held out.new)
+        (dyndep_text dyndep.now) result }
+    ensures fault { AnswersWriteFault (write_fault dyndep.now) result }
+    ensures meaning { OnOk result (StandsForOnly (dyndep_text dyndep.now) dyndep.now) }
+{
+    let text = dyndep.to_text(alloc)?;
+    match out.write_text(&text) {
+        Ok(()) => Ok(()),
+        Err(stopped) => Err(Failure::Fault(WriteFault::Io {
+            written: stopped.written,
+        })),
     }
 }
 

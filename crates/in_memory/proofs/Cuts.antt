@@ -1,9 +1,10 @@
 -- Files that lie one after another in one text: what their first file tells.
-use Rattle.std.proofs.Common.{◌≡◌, ◌∙◌, ℕ, List, [], ◌∷◌, ◌++◌, length, take, drop, ap, ap₂, sym, subst, append_assoc}
-use Rattle.std.specs.Prelude.{◌==◌, Bool, true, false, IsUtf8, ⊤}
+use Rattle.std.proofs.Common.{◌≡◌, ◌∙◌, ℕ, List, [], ◌∷◌, ◌++◌, length, take, drop, ap, ap₂, refl, sym, subst, append_assoc}
+use Rattle.std.specs.Prelude.{◌==◌, ◌&&◌, Bool, true, false, IsUtf8, ⊤}
 use Rattle.std.specs.List.{flat_map}
 use Rattle.std.proofs.Math.Seq.{take-append_seam, drop-append_seam}
-use Rattle.std.proofs.lemmas.List.Elements.{All-cons, All-head, All-tail}
+use Rattle.std.proofs.lemmas.List.Elements.{All-cons, All-head, All-nil, All-tail}
+use Rattle.std.proofs.lemmas.List.{nil_from_length}
 use Rattle.ninja_text.specs.Bytes.{Bytes}
 use Rattle.in_memory.specs.Given.{GivenFile}
 use Rattle.in_memory.specs.Cuts.{AreCut, IsCut, BeginsWithFile, lengths_of}
@@ -58,6 +59,19 @@ no_first lengths text (first ∷ files) none cut =
 abbrev IsFalse : Bool → Type 0
 IsFalse true = ⊥
 IsFalse false = ⊤
+
+-- of two tests that both hold
+pub both : (a b : Bool) → (a && b) ≡ true → (a ≡ true) × (b ≡ true)
+both true b is = (refl, is)
+both false b is = absurd (subst IsFalse is tt)
+
+-- nothing is cut into no files
+pub no_files : (lengths : List ℕ) (text : Bytes) → length lengths ≡ 0 → length text ≡ 0 → AreCut lengths text []
+no_files lengths text no_lengths no_text = record {
+  lengths_are = nil_from_length lengths no_lengths;
+  text_is = nil_from_length text no_text;
+  names = All-nil (λ file. IsUtf8 file.name);
+}
 
 -- of a list that is not empty
 pub some_left : {X : Type 0} (xs : List X) (is_empty : Bool) → is_empty ≡ (length xs == 0) → is_empty ≡ false → xs ≡ [] → ⊥

@@ -12,11 +12,9 @@ with_more [] calls more = refl
 with_more (file ∷ files) calls more = ap (λ cs. writing file.name file.bytes (Ok tt) ∷ cs) (with_more files calls more)
 
 -- a folder after one more call
-pub one_more : (files new_files : List GivenFile) (calls new_calls : List FileCall) (call : FileCall) →
-    (new_files ≡ files) × (new_calls ≡ calls ++ call ∷ []) →
-    Some (calls_on new_files new_calls) ≡ Some (calls_on files calls ++ call ∷ [])
-one_more files new_files calls new_calls call is =
-    ap Some (ap₂ calls_on is.0 is.1 ∙ with_more files calls (call ∷ []))
+pub one_more : (files : List GivenFile) (calls new_calls : List FileCall) (call : FileCall) → new_calls ≡ calls ++ call ∷ [] →
+    Some (calls_on files new_calls) ≡ Some (calls_on files calls ++ call ∷ [])
+one_more files calls new_calls call is = ap Some (ap (calls_on files) is ∙ with_more files calls (call ∷ []))
 
 -- ---- two folders with the same calls
 

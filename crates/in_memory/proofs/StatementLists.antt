@@ -1,54 +1,48 @@
 -- Statements one after another, as numbers and a text.
-use Rattle.std.proofs.Common.{◌≡◌, ◌∙◌, ℕ, List, [], ◌∷◌, ◌++◌, length, map, Ok, Err, ap, ap₂, sym, append_assoc, append-nil}
-use Rattle.std.specs.Prelude.{IfOk, Result}
+use Rattle.std.proofs.Common.{◌≡◌, ◌∙◌, ℕ, List, Bor, [], ◌∷◌, ◌++◌, length, map, Ok, Err, ap, ap₂, refl, append_assoc}
+use Rattle.std.specs.Prelude.{IfOk, Result, Vec}
+use Rattle.std.specs.Global.{Global}
 use Rattle.std.specs.List.{flat_map}
 use Rattle.std.specs.declared.alloc.AllocError.{AllocError}
-use Rattle.std.proofs.lemmas.List.{map-append}
-use Rattle.std.proofs.lemmas.Grind.{flat_map-append}
 use Rattle.ninja_text.specs.Bytes.{Text, PathText}
 use Rattle.dyndep_file.specs.Reading.{StandsFor}
 use Rattle.dyndep_file.specs.StatementValue.{StatementValue}
 use Rattle.dyndep_file.specs.declared.fault.ReadFault.{ReadFault}
 use Rattle.in_memory.specs.Replies.{ReplyValue, as_number}
-use Rattle.in_memory.specs.Statements.{IsFaultOf, Tells, after_paths, after_statement, fault_reply, faulty, stands, statements_reply}
+use Rattle.in_memory.specs.Statements.{IsFaultOf, Tells, fault_reply, faulty, stands, statement_numbers, statement_paths, statements_reply}
 
-abbrev Paths : Type 0
-Paths = List PathText
+abbrev pub text_of : Bor (Vec ℕ Global) → PathText
+text_of path = path.now.items
 
--- the numbers of a statement, appended to others one after another
-numbers_after : (old : List ℕ) (a b c d : ℕ) (xs ys : List ℕ) →
-    ((((((old ++ a ∷ []) ++ b ∷ []) ++ c ∷ []) ++ d ∷ []) ++ xs) ++ ys) ≡ old ++ (a ∷ b ∷ c ∷ d ∷ (xs ++ ys))
-numbers_after old a b c d xs ys =
-    append_assoc ((((old ++ a ∷ []) ++ b ∷ []) ++ c ∷ []) ++ d ∷ []) xs ys
-    ∙ append_assoc (((old ++ a ∷ []) ++ b ∷ []) ++ c ∷ []) (d ∷ []) (xs ++ ys)
-    ∙ append_assoc ((old ++ a ∷ []) ++ b ∷ []) (c ∷ []) (d ∷ (xs ++ ys))
-    ∙ append_assoc (old ++ a ∷ []) (b ∷ []) (c ∷ d ∷ (xs ++ ys))
-    ∙ append_assoc old (a ∷ []) (b ∷ c ∷ d ∷ (xs ++ ys))
+pub texts_of : (paths : List (Bor (Vec ℕ Global))) → map text_of paths ≡ map (λ (p : Vec ℕ Global). p.items) (map (λ (p : Bor (Vec ℕ Global)). p.now) paths)
+texts_of [] = refl
+texts_of (path ∷ paths) = ap (λ ps. text_of path ∷ ps) (texts_of paths)
+
+numbers_after : (old : List ℕ) (r n m k : ℕ) (ns : List ℕ) →
+    ((((old ++ r ∷ []) ++ n ∷ []) ++ m ∷ []) ++ k ∷ []) ++ ns ≡ old ++ (r ∷ n ∷ m ∷ k ∷ ns)
+numbers_after old r n m k ns =
+    append_assoc (((old ++ r ∷ []) ++ n ∷ []) ++ m ∷ []) (k ∷ []) ns
+    ∙ append_assoc ((old ++ r ∷ []) ++ n ∷ []) (m ∷ []) (k ∷ ns)
+    ∙ append_assoc (old ++ r ∷ []) (n ∷ []) (m ∷ k ∷ ns)
+    ∙ append_assoc old (r ∷ []) (n ∷ m ∷ k ∷ ns)
+
+-- the numbers of a statement, appended one after another
+pub numbers_told : (old : List ℕ) (s : StatementValue) (one two three four numbers : List ℕ) (r n m k : ℕ) (paths : List PathText) →
+    one ≡ old ++ r ∷ [] → two ≡ one ++ n ∷ [] → three ≡ two ++ m ∷ [] → four ≡ three ++ k ∷ [] → numbers ≡ four ++ map length paths →
+    r ≡ as_number s.restat → n ≡ length s.implicit_outputs → m ≡ length s.implicit_inputs → k ≡ length s.output →
+    paths ≡ s.implicit_outputs ++ s.implicit_inputs → numbers ≡ old ++ statement_numbers s
+numbers_told old s one two three four numbers r n m k paths is_one is_two is_three is_four is is_r is_n is_m is_k are =
+    is ∙ ap₂ (λ ns ps. ns ++ map length ps) (is_four ∙ ap₂ (λ ns x. ns ++ x ∷ []) (is_three ∙ ap₂ (λ ns x. ns ++ x ∷ [])
+    (is_two ∙ ap₂ (λ ns x. ns ++ x ∷ []) (is_one ∙ ap (λ x. old ++ x ∷ []) is_r) is_n) is_m) is_k) are
+    ∙ numbers_after old (as_number s.restat) (length s.implicit_outputs) (length s.implicit_inputs) (length s.output) (map length (s.implicit_outputs ++ s.implicit_inputs))
 
 -- and its paths
-texts_after : (old path : Text) (xs ys : Paths) →
-    ((old ++ (path ++ [])) ++ flat_map (λ p. p) xs) ++ flat_map (λ p. p) ys ≡ old ++ (path ++ flat_map (λ p. p) (xs ++ ys))
-texts_after old path xs ys =
-    let x = flat_map (λ (p : Text). p) xs in
-    let y = flat_map (λ (p : Text). p) ys in
-    append_assoc (old ++ (path ++ [])) x y
-    ∙ ap (λ t. (old ++ t) ++ (x ++ y)) (append-nil path)
-    ∙ append_assoc old path (x ++ y)
-    ∙ ap (λ t. old ++ (path ++ t)) (sym (flat_map-append (λ p. p) xs ys))
-
-pub one_more : (old d e : ReplyValue) (numbers : List ℕ) (s : StatementValue) (result : Result ReplyValue AllocError) →
-    numbers ≡ ((old.numbers ++ as_number s.restat ∷ []) ++ length s.implicit_outputs ∷ []) ++ length s.implicit_inputs ∷ [] →
-    d ≡ after_paths (record { status = old.status; numbers = numbers; text = old.text }) (s.output ∷ []) → e ≡ after_paths d s.implicit_outputs →
-    IfOk result (λ r. r ≡ after_paths e s.implicit_inputs) → IfOk result (λ r. r ≡ after_statement old s)
-one_more old d e numbers s (Err none) is_n is_d is_e is = tt
-one_more old d e numbers s (Ok r) is_n is_d is_e is =
-    is
-    ∙ ap (λ q. after_paths q s.implicit_inputs) (is_e ∙ ap (λ q. after_paths q s.implicit_outputs) (is_d
-    ∙ ap (λ ns. after_paths (record { status = old.status; numbers = ns; text = old.text }) (s.output ∷ [])) is_n))
-    ∙ ap₂ (λ ns t. record { status = old.status; numbers = ns; text = t })
-    (numbers_after old.numbers (as_number s.restat) (length s.implicit_outputs) (length s.implicit_inputs) (length s.output) (map length s.implicit_outputs) (map length s.implicit_inputs)
-    ∙ ap (λ ns. old.numbers ++ (as_number s.restat ∷ length s.implicit_outputs ∷ length s.implicit_inputs ∷ length s.output ∷ ns)) (sym (map-append length s.implicit_outputs s.implicit_inputs)))
-    (texts_after old.text s.output s.implicit_outputs s.implicit_inputs)
+pub text_told : (old : Text) (s : StatementValue) (one text output : Text) (paths : List PathText) →
+    one ≡ old ++ output → text ≡ one ++ flat_map (λ p. p) paths → output ≡ s.output → paths ≡ s.implicit_outputs ++ s.implicit_inputs →
+    text ≡ old ++ flat_map (λ p. p) (statement_paths s)
+text_told old s one text output paths is_one is is_output are =
+    is ∙ ap₂ (λ t ps. t ++ flat_map (λ p. p) ps) (is_one ∙ ap (λ o. old ++ o) is_output) are
+    ∙ append_assoc old s.output (flat_map (λ p. p) (s.implicit_outputs ++ s.implicit_inputs))
 
 pub tells_stands : (text : Text) (statements : List StatementValue) (result : Result ReplyValue AllocError) → StandsFor text statements →
     IfOk result (λ reply. reply ≡ statements_reply statements) → IfOk result (Tells text)

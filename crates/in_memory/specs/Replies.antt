@@ -9,7 +9,7 @@ use Rattle.commands.specs.Outcomes.{FileValue, OutputValue}
 use Rattle.commands.specs.Outcomes as commands
 use Rattle.commands.specs.declared.answer.Answer.{Answer}
 use Rattle.in_memory.specs.Runs.{Answers}
-use Rattle.in_memory.specs.declared.outcome.Outcome.{Outcome}
+use Rattle.in_memory.specs.declared.reply.Outcome.{Outcome}
 
 -- a status, numbers, and a text of which the numbers tell the parts
 pub record ReplyValue : Type 0 where

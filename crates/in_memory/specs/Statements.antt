@@ -10,14 +10,6 @@ use Rattle.dyndep_file.specs.declared.fault.ReadFault.{ReadFault}
 use Rattle.dyndep_file.specs.declared.fault.ReadFault.TheVariants.{AtLine, Io}
 use Rattle.in_memory.specs.Replies.{ReplyValue, as_number}
 
--- a reply with the lengths of these paths after its numbers, and the paths after its text
-abbrev pub after_paths : ReplyValue → List PathText → ReplyValue
-after_paths reply paths = record {
-  status = reply.status;
-  numbers = reply.numbers ++ map length paths;
-  text = reply.text ++ flat_map (λ path. path) paths;
-}
-
 -- the paths of a statement: its output, its implicit outputs, and its implicit inputs
 abbrev pub statement_paths : StatementValue → List PathText
 statement_paths s = s.output ∷ s.implicit_outputs ++ s.implicit_inputs
@@ -28,14 +20,6 @@ abbrev pub statement_numbers : StatementValue → Numbers
 statement_numbers s =
     as_number s.restat ∷ length s.implicit_outputs ∷ length s.implicit_inputs
     ∷ map length (statement_paths s)
-
--- a reply with a statement after it
-abbrev pub after_statement : ReplyValue → StatementValue → ReplyValue
-after_statement reply s = record {
-  status = reply.status;
-  numbers = reply.numbers ++ statement_numbers s;
-  text = reply.text ++ flat_map (λ path. path) (statement_paths s);
-}
 
 -- the reply that has these statements, one after another
 abbrev pub statements_reply : List StatementValue → ReplyValue

@@ -1,53 +1,49 @@
 //! Files that lie one after another in one text.
 
-ghost use Rattle.std.specs.Prelude.{◌≡◌, ℕ, List, true, false, IfOk, IfErr, IfSome, IfNone};
+ghost use Rattle.std.specs.Prelude.{◌≡◌, ◌⊎◌, IfErr, IfNone, IfOk, IfSome};
 ghost use Rattle.dep_order.specs.Numbers.{Numbers};
 ghost use Rattle.ninja_text.specs.Bytes.{Bytes};
 ghost use Rattle.in_memory.specs.Given.{GivenFile};
 ghost use Rattle.in_memory.specs.Cuts.{AreCut, IsCut, BeginsWithFile};
+ghost use Rattle.in_memory.specs.Replies.{without};
 
-use crate::file::File;
-use std::alloc::{AllocError, Global};
+use crate::files::File;
+use crate::reply::Outcome;
+use std::alloc::Global;
 
 /// Returns the files of a text in which they lie one after another, the name of each before its
-/// bytes, and whose parts have these lengths. Returns `None` if the lengths do not cut the text, or
-/// a name is not UTF-8, whether or not there is memory for the files.
+/// bytes, and whose parts have these lengths.
+///
+/// # Errors
+///
+/// Returns the outcome 5 if the lengths do not cut the text, or a name is not UTF-8, whether or not
+/// there is memory for the files. Otherwise returns the outcome 4 if an allocation fails.
 pub(crate) fn files_of<'a>(
     alloc: Global,
     lengths: &[usize],
     text: &'a [u8],
-) -> Result<Option<Vec<File<'a>>>, AllocError>
-    ensures files { IfOk result (λ found.
-        IfSome found (λ files. AreCut lengths.now text.now files.items)) }
-    ensures none { IfOk result (λ found. IfNone found (IsCut lengths.now text.now → ⊥)) }
-    ensures memory { IfErr result (λ _. IsCut lengths.now text.now) }
+) -> Result<Vec<File<'a>>, Outcome>
+    ensures files { IfOk result (λ files. AreCut lengths.now text.now files.items) }
+    ensures outcome { IfErr result (λ outcome.
+        (IsCut lengths.now text.now × (outcome ≡ without 4))
+        ⊎ ((IsCut lengths.now text.now → ⊥) × (outcome ≡ without 5))) }
 {
-    if !is_cut(lengths, text) {
-        return Ok(None);
-    }
-    let mut files: Vec<File<'a>> = Vec::new(alloc);
+    let mut files = Vec::new(alloc);
+    let mut stored = true;
     let mut left = lengths;
     let mut rest = text;
     while let Some((file, more, after)) = first_file(left, rest) {
-        files.push(file)?;
+        stored &= files.push(file).is_ok();
         left = more;
         rest = after;
     }
-    Ok(Some(files))
-}
-
-/// Returns whether these lengths cut the text into files whose names are UTF-8.
-fn is_cut(lengths: &[usize], text: &[u8]) -> bool
-    ensures cut { result ≡ true → IsCut lengths.now text.now }
-    ensures uncut { result ≡ false → IsCut lengths.now text.now → ⊥ }
-{
-    let mut left = lengths;
-    let mut rest = text;
-    while let Some((_, more, after)) = first_file(left, rest) {
-        left = more;
-        rest = after;
+    if !left.is_empty() || !rest.is_empty() {
+        return Err(Outcome::without(5));
     }
-    left.is_empty() && rest.is_empty()
+    if !stored {
+        return Err(Outcome::without(4));
+    }
+    Ok(files)
 }
 
 /// Returns the first file of a text whose parts have these lengths, and the lengths and the text

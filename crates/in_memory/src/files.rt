@@ -1,63 +1,72 @@
-//! A folder of files that are values.
+//! Files that are values, and a folder of them.
 
 ghost use Rattle.std.specs.Prelude.{◌≡◌, [], All, Some, option_copied};
-ghost use Rattle.in_memory.specs.Given.{IsCallOf, bytes_named};
+ghost use Rattle.commands.specs.Folder.{answer_of};
+ghost use Rattle.in_memory.specs.Given.{Gets, IsCallOf, bytes_named};
 ghost use Rattle.in_memory.specs.inner.Facts.{calls-prop};
 
-use crate::file::File;
 use crate::history::{Call, History};
 use commands::Folder;
 use std::alloc::Global;
 use std::io;
 use std::io::ErrorKind;
+use std::marker::Model;
+
+/// A file: its name and its bytes.
+#[derive(Debug, Drop)]
+pub struct File<'a> {
+    pub name: &'a str,
+    pub bytes: &'a [u8],
+}
+
+impl<'a> Model for File<'a> {
+    ghost use Rattle.in_memory.specs.Given.{GivenFile};
+
+    ghost Value = { GivenFile };
+
+    ghost view = { λ f. record { name = f.name.now; bytes = f.bytes.now } };
+}
 
 /// A folder of these files. The first file of a name counts, and none can be written.
 #[derive(Drop)]
 pub(crate) struct Files<'a, 'f> {
     alloc: Global,
-    files: &'a [File<'f>],
+    pub(crate) files: &'a [File<'f>],
     pub(crate) history: History,
-    ghost same: { history.files ≡ files.now },
     ghost got: { All (IsCallOf files.now) history.calls } by { calls-prop files.now history.calls },
 }
 
 impl<'a, 'f> Files<'a, 'f> {
     /// Returns the folder of these files, on which no call was made yet.
     pub(crate) fn new(alloc: Global, files: &'a [File<'f>]) -> Files<'a, 'f>
-        ensures files { result.history.files ≡ files.now }
+        ensures files { result.files.now ≡ files.now }
         ensures calls { result.history.calls ≡ [] }
     {
         Files {
             alloc,
             files,
-            history: History::of(files),
+            history: History::new(),
         }
+    }
+
+    /// Returns a copy of the bytes of a file, or of the first `most` of them if there are more.
+    fn copy(&self, name: &str, most: usize) -> io::Result<Vec<u8>>
+        ensures { Gets (bytes_named self.now.files.now name.now) (answer_of most result) }
+    {
+        let bytes = bytes_named(self.files, name).ok_or(ErrorKind::NotFound)?;
+        Ok(Vec::from_slice(self.alloc, &bytes[..bytes.len().min(most)])?)
     }
 }
 
 impl Folder for Files<'_, '_> {
     ghost use Rattle.in_memory.specs.inner.Calls.{calls_on};
 
-    ghost calls = { λ s. Some (calls_on s.history.files s.history.calls) };
+    ghost calls = { λ s. Some (calls_on s.files.now s.history.calls) };
 
     fn read(&mut self, name: &str, most: usize) -> io::Result<Vec<u8>> {
-        let Some(bytes) = bytes_named(self.files, name) else {
-            let error = io::Error::from(ErrorKind::NotFound);
-            self.history = self.history.then(&Call::Unread(name, error));
-            return Err(error);
-        };
-        let bytes = &bytes[..bytes.len().min(most)];
-        match Vec::from_slice(self.alloc, bytes) {
-            Ok(copy) => {
-                self.history = self.history.then(&Call::Read(name, bytes, most));
-                Ok(copy)
-            }
-            Err(_) => {
-                let error = io::Error::from(ErrorKind::OutOfMemory);
-                self.history = self.history.then(&Call::Unread(name, error));
-                Err(error)
-            }
-        }
+        let answer = self.copy(name, most);
+        self.history = self.history.then(&Call::Read(name, most, &answer));
+        answer
     }
 
     fn has(&mut self, name: &str, bytes: &[u8]) -> bool {
@@ -67,9 +76,9 @@ impl Folder for Files<'_, '_> {
     }
 
     fn write(&mut self, name: &str, bytes: &[u8]) -> io::Result<()> {
-        let error = io::Error::from(ErrorKind::Unsupported);
-        self.history = self.history.then(&Call::Unwritten(name, bytes, error));
-        Err(error)
+        let answer = Err(io::Error::from(ErrorKind::Unsupported));
+        self.history = self.history.then(&Call::Written(name, bytes, &answer));
+        answer
     }
 }
 

@@ -12,8 +12,7 @@ ghost use Rattle.in_memory.specs.Replies.{HasAnswer, Puts, Replies};
 ghost use Rattle.in_memory.specs.Runs.{Over};
 
 use crate::cut::files_of;
-use crate::outcome::{Outcome, put};
-use crate::reply::Reply;
+use crate::reply::{Outcome, Reply, put};
 use crate::runs::{collate_run, effect_run, one_run, order_run, project_run, show_run};
 use commands::Answer;
 use std::alloc::{AllocError, Global};
@@ -27,8 +26,7 @@ pub fn one_into(
     numbers: &mut [usize],
     text: &mut [u8],
 ) -> Outcome
-    ensures { Puts (IsUtf8 dir.now × IsUtf8 ext.now)
-        (Replies (OneRun scan.now dir.now ext.now []))
+    ensures { Puts (IsUtf8 dir.now × IsUtf8 ext.now) (Replies (OneRun scan.now dir.now ext.now []))
         numbers.old text.old numbers.new text.new result }
 {
     let Ok(dir) = str::from_utf8(dir) else {
@@ -60,10 +58,10 @@ pub fn effect_into(
     ensures { Puts (IsUtf8 name.now) (Replies (EffectRun name.now edges.now dyndep.now []))
         numbers.old text.old numbers.new text.new result }
 {
-    let Ok(name) = str::from_utf8(name) else {
-        return Outcome::without(5);
-    };
-    put_answer(alloc, effect_run(alloc, name, edges, dyndep), numbers, text)
+    match str::from_utf8(name) {
+        Ok(name) => put_answer(alloc, effect_run(alloc, name, edges, dyndep), numbers, text),
+        Err(_) => Outcome::without(5),
+    }
 }
 
 /// Runs `order`, as [`order_run`] does.
@@ -88,11 +86,8 @@ pub fn collate_into(
         numbers.old text.old numbers.new text.new result }
 {
     match files_of(alloc, lengths, files) {
-        Ok(Some(given)) => {
-            put_answer(alloc, collate_run(alloc, document, &given), numbers, text)
-        }
-        Ok(None) => Outcome::without(5),
-        Err(AllocError) => Outcome::without(4),
+        Ok(given) => put_answer(alloc, collate_run(alloc, document, &given), numbers, text),
+        Err(outcome) => outcome,
     }
 }
 
@@ -110,11 +105,8 @@ pub fn project_into(
         numbers.old text.old numbers.new text.new result }
 {
     match files_of(alloc, lengths, files) {
-        Ok(Some(given)) => {
-            put_answer(alloc, project_run(alloc, document, &given), numbers, text)
-        }
-        Ok(None) => Outcome::without(5),
-        Err(AllocError) => Outcome::without(4),
+        Ok(given) => put_answer(alloc, project_run(alloc, document, &given), numbers, text),
+        Err(outcome) => outcome,
     }
 }
 
@@ -127,11 +119,8 @@ fn put_answer(
 ) -> Outcome
     ensures { Puts ⊤ (HasAnswer answer) numbers.old text.old numbers.new text.new result }
 {
-    let Ok(answer) = answer else {
-        return Outcome::without(4);
-    };
-    match Reply::of(alloc, &answer) {
-        Ok(reply) => put(&reply, numbers, text),
+    match answer {
+        Ok(answer) => put(Reply::of(alloc, &answer), numbers, text),
         Err(AllocError) => Outcome::without(4),
     }
 }

@@ -9,8 +9,7 @@ ghost use Rattle.commands.specs.ProjectCommand.{ProjectRun};
 ghost use Rattle.commands.specs.Show.{ShowRun};
 ghost use Rattle.in_memory.specs.Runs.{Answers, Over, AreNamesOf};
 
-use crate::file::File;
-use crate::files::Files;
+use crate::files::{File, Files};
 use commands::Answer;
 use ninja_text::Failure;
 use scan_docs::project_read;
@@ -61,11 +60,8 @@ pub fn order_run(alloc: Global, edges: &[u8]) -> Result<Answer, AllocError>
 pub fn collate_run(alloc: Global, document: &[u8], files: &[File<'_>]) -> Result<Answer, AllocError>
     ensures { Answers (Over files.now (CollateRun document.now)) result }
 {
-    let mut folder = Files::new(alloc, files);
-    Answer::of(
-        alloc,
-        commands::collate_target(alloc, document, &mut folder),
-    )
+    let outcome = commands::collate_target(alloc, document, &mut Files::new(alloc, files));
+    Answer::of(alloc, outcome)
 }
 
 /// Runs `project FILE` on the bytes of a project document. The target documents are among the
@@ -73,11 +69,8 @@ pub fn collate_run(alloc: Global, document: &[u8], files: &[File<'_>]) -> Result
 pub fn project_run(alloc: Global, document: &[u8], files: &[File<'_>]) -> Result<Answer, AllocError>
     ensures { Answers (Over files.now (ProjectRun document.now)) result }
 {
-    let mut folder = Files::new(alloc, files);
-    Answer::of(
-        alloc,
-        commands::collate_project(alloc, document, &mut folder),
-    )
+    let outcome = commands::collate_project(alloc, document, &mut Files::new(alloc, files));
+    Answer::of(alloc, outcome)
 }
 
 /// Returns the names of the target documents of a project document, in its order, or none if the

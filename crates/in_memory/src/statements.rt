@@ -1,13 +1,13 @@
 //! The statements of a dyndep file, as data.
 
-ghost use Rattle.std.specs.Prelude.{◌≡◌, [], ◌∷◌, map, ⊤, IfOk, IfErr};
+ghost use Rattle.std.specs.Prelude.{◌≡◌, ◌++◌, ⊤, IfErr, IfOk, OnOk};
+ghost use Rattle.std.specs.List.{flat_map};
 ghost use Rattle.ninja_text.specs.Failure.{ForFault};
 ghost use Rattle.dyndep_file.specs.Reading.{StandsFor};
 ghost use Rattle.in_memory.specs.Replies.{Puts};
-ghost use Rattle.in_memory.specs.Statements.{IsFaultOf, Tells, after_paths, after_statement, fault_reply, statements_reply};
+ghost use Rattle.in_memory.specs.Statements.{IsFaultOf, Tells, fault_reply, statement_numbers, statement_paths, statements_reply};
 
-use crate::outcome::{Outcome, put};
-use crate::reply::Reply;
+use crate::reply::{Outcome, Reply, put};
 use dyndep_file::{Dyndep, DyndepReader, ReadFault, Statement};
 use ninja_text::Failure;
 use std::alloc::{AllocError, Global};
@@ -22,20 +22,10 @@ pub fn statements_into(
 ) -> Outcome
     ensures { Puts ⊤ (Tells dyndep.now) numbers.old text.old numbers.new text.new result }
 {
-    match reply(alloc, dyndep) {
-        Ok(reply) => put(&reply, numbers, text),
-        Err(AllocError) => Outcome::without(4),
-    }
-}
-
-/// Returns what is reported of a dyndep file.
-fn reply(alloc: Global, dyndep: &[u8]) -> Result<Reply, AllocError>
-    ensures { IfOk result (Tells dyndep.now) }
-{
     match read(alloc, dyndep) {
-        Ok(dyndep) => of_statements(alloc, &dyndep),
-        Err(Failure::Fault(fault)) => of_fault(alloc, fault),
-        Err(Failure::Memory) => Err(AllocError),
+        Ok(dyndep) => put(of_statements(alloc, &dyndep), numbers, text),
+        Err(Failure::Fault(fault)) => put(of_fault(alloc, fault), numbers, text),
+        Err(Failure::Memory) => Outcome::without(4),
     }
 }
 
@@ -45,60 +35,48 @@ fn read(alloc: Global, text: &[u8]) -> Result<Dyndep, Failure<ReadFault>>
     ensures faulty { IfErr result (ForFault (IsFaultOf text.now)) }
 {
     let mut reader = DyndepReader::new(alloc);
-    match reader.feed(text) {
-        Ok(()) => reader.finish(),
-        Err(failure) => Err(failure),
-    }
+    reader.feed(text)?;
+    reader.finish()
 }
 
 /// Returns what is reported of these statements.
 fn of_statements(alloc: Global, dyndep: &Dyndep) -> Result<Reply, AllocError>
     ensures { IfOk result (λ reply. reply ≡ statements_reply dyndep.now) }
 {
-    let mut parts = Reply {
-        status: 0,
-        numbers: Vec::new(alloc),
-        text: Vec::new(alloc),
-    };
+    let mut numbers = Vec::new(alloc);
+    let mut text = Vec::new(alloc);
     for statement in &dyndep.statements {
-        parts = with_statement(parts, statement)?;
+        push_statement(statement, &mut numbers, &mut text)?;
     }
-    Ok(parts)
+    Ok(Reply {
+        status: 0,
+        numbers,
+        text,
+    })
 }
 
-/// Returns the reply with one more statement.
-fn with_statement(parts: Reply, statement: &Statement) -> Result<Reply, AllocError>
-    ensures { IfOk result (λ reply. reply ≡ after_statement parts statement.now) }
+/// Appends what is reported of a statement.
+fn push_statement(
+    statement: &Statement,
+    numbers: &mut Vec<usize>,
+    text: &mut Vec<u8>,
+) -> Result<(), AllocError>
+    ensures numbers { OnOk result (numbers.new.items
+        ≡ numbers.old.items ++ statement_numbers statement.now) }
+    ensures text { OnOk result (text.new.items
+        ≡ text.old.items ++ flat_map (λ path. path) (statement_paths statement.now)) }
 {
-    let mut parts = parts;
-    parts.numbers.push(usize::from(statement.restat))?;
-    parts.numbers.push(statement.implicit_outputs.len())?;
-    parts.numbers.push(statement.implicit_inputs.len())?;
-    let parts = with_path(parts, &statement.output)?;
-    let parts = with_paths(parts, &statement.implicit_outputs)?;
-    with_paths(parts, &statement.implicit_inputs)
-}
-
-/// Returns the reply with these paths after it.
-fn with_paths(parts: Reply, paths: &[Vec<u8>]) -> Result<Reply, AllocError>
-    ensures { IfOk result (λ reply.
-        reply ≡ after_paths parts (map (λ path. path.items) paths.now)) }
-{
-    let mut parts = parts;
-    for path in paths {
-        parts = with_path(parts, path)?;
+    numbers.push(usize::from(statement.restat))?;
+    numbers.push(statement.implicit_outputs.len())?;
+    numbers.push(statement.implicit_inputs.len())?;
+    numbers.push(statement.output.len())?;
+    text.extend_from_slice(&statement.output)?;
+    let outputs = statement.implicit_outputs.iter();
+    for path in outputs.chain(statement.implicit_inputs.iter()) {
+        numbers.push(path.len())?;
+        text.extend_from_slice(path)?;
     }
-    Ok(parts)
-}
-
-/// Returns the reply with this path after it.
-fn with_path(parts: Reply, path: &[u8]) -> Result<Reply, AllocError>
-    ensures { IfOk result (λ reply. reply ≡ after_paths parts (path.now ∷ [])) }
-{
-    let mut parts = parts;
-    parts.numbers.push(path.len())?;
-    parts.text.extend_from_slice(path)?;
-    Ok(parts)
+    Ok(())
 }
 
 /// Returns what is reported of a fault.

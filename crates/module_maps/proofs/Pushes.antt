@@ -27,7 +27,7 @@ three-parts old a b c first middle last e f g =
     g ∙ ap (λ t. t ++ last) (f ∙ ap (λ t. t ++ middle) e) ∙ ap (λ t. t ++ last) (append_assoc old first middle) ∙ append_assoc old (first ++ middle) last
 
 -- in five
-pub five-parts : (old a b c d e one two three four five : List ℕ) → a ≡ old ++ one → b ≡ a ++ two → c ≡ b ++ three → d ≡ c ++ four → e ≡ d ++ five → e ≡ old ++ ((one ++ (two ++ (three ++ four))) ++ five)
+pub five-parts : (old a b c d e one two three four five : List ℕ) → a ≡ old ++ one → b ≡ a ++ two → c ≡ b ++ three → d ≡ c ++ four → e ≡ d ++ five → e ≡ old ++ (((one ++ two) ++ (three ++ four)) ++ five)
 five-parts old a b c d e one two three four five first second third fourth fifth =
     fifth ∙ ap (λ t. t ++ five) (fourth ∙ ap (λ t. t ++ four) (third ∙ ap (λ t. t ++ three) (second ∙ ap (λ t. t ++ two) first)))
     ∙ simp append_assoc

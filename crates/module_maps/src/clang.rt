@@ -1,14 +1,15 @@
 //! The maps of Clang.
-ghost use Rattle.std.specs.Prelude.{◌≡◌, ◌++◌, ◌-◌, map, length, slice_get, IfOk, OnOk};
+ghost use Rattle.std.specs.Prelude.{◌≡◌, ◌++◌, ◌-◌, length, slice_get, IfOk, OnOk};
 ghost use Rattle.std.specs.List.{flat_map};
 ghost use Rattle.ninja_text.specs.Failure.{Gives};
 ghost use Rattle.module_maps.specs.Maps.{IsWrittenText, lent_pairs};
-ghost use Rattle.module_maps.specs.MapLines.{ended_line, behind, lines_of};
-ghost use Rattle.module_maps.specs.ClangMaps.{file_line, output_flag, output_path, output_text, rises_behind, read_provided};
+ghost use Rattle.module_maps.specs.MapLines.{lines_of};
+ghost use Rattle.module_maps.specs.ClangMaps.{output_text, rises_behind, read_provided};
 
 use crate::fault::MapFault;
 use crate::map_lines::{
-    LineForm, cut_line, first_unfit, pair_in, path_in, push_named, push_nameless, read_lines,
+    LineForm, cut_line, first_unfit, pair_in, path_in, push_lines, push_named, push_nameless,
+    read_lines,
 };
 use crate::map_style::MapStyle;
 use crate::module_map::{MapEntry, ModuleMap};
@@ -51,23 +52,19 @@ impl MapStyle for Clang {
     }
 
     fn write(&self, alloc: Global, map: &ModuleMap<'_>) -> Result<Vec<u8>, Failure<MapFault>> {
-        match first_unfit(map) {
-            Some(path) => {
-                let path = path.copy(alloc)?;
-                Err(Failure::Fault(MapFault::MapPath { path }))
-            }
-            None => {
-                if map.provided().len() > 1 {
-                    return Err(Failure::Fault(MapFault::TwoProvided));
-                }
-                let output = b"-x c++-module\n-fmodule-output=\n".len();
-                let len = map.text_len(output, b"-fmodule-file==\n".len());
-                let mut text = Vec::with_capacity(alloc, len)?;
-                push_outputs(&mut text, map.provided())?;
-                push_files(&mut text, map.needed())?;
-                Ok(text)
-            }
+        if let Some(path) = first_unfit(map) {
+            let path = path.copy(alloc)?;
+            return Err(Failure::Fault(MapFault::MapPath { path }));
         }
+        if map.provided().len() > 1 {
+            return Err(Failure::Fault(MapFault::TwoProvided));
+        }
+        let output = b"-x c++-module\n-fmodule-output=\n".len();
+        let len = map.text_len(output, b"-fmodule-file==\n".len());
+        let mut text = Vec::with_capacity(alloc, len)?;
+        push_outputs(&mut text, map.provided())?;
+        push_lines(&mut text, b"-fmodule-file=", b'=', map.needed())?;
+        Ok(text)
     }
 
     /// Reads the entries of a text.
@@ -111,17 +108,11 @@ impl LineForm for Clang {
             return Ok(None);
         };
         match pair_in(alloc, b'=', rest)? {
-            Some((name, path)) => {
-                if rises_behind(entries, &name) {
-                    Ok(Some(MapEntry {
-                        name: Some(name),
-                        path,
-                    }))
-                } else {
-                    Ok(None)
-                }
-            }
-            None => Ok(None),
+            Some((name, path)) if rises_behind(entries, &name) => Ok(Some(MapEntry {
+                name: Some(name),
+                path,
+            })),
+            _ => Ok(None),
         }
     }
 }
@@ -130,29 +121,23 @@ impl LineForm for Clang {
 fn read_provided(alloc: Global, text: &[u8]) -> Result<Vec<MapEntry>, Failure<MapFault>>
     ensures { Gives (λ found. found.items) result (read_provided (lines_of text.now)) }
 {
-    let Some((line, rest)) = cut_line(text) else {
-        return Err(Failure::Fault(MapFault::BadMapLine { line: 2 }));
-    };
-    let Some(output) = line.strip_prefix(b"-fmodule-output=") else {
-        return Err(Failure::Fault(MapFault::BadMapLine { line: 2 }));
-    };
-    let Some(path) = path_in(alloc, output)? else {
-        return Err(Failure::Fault(MapFault::BadMapLine { line: 2 }));
-    };
-    let mut entries = Vec::new(alloc);
-    entries.push(MapEntry { name: None, path })?;
-    read_lines(alloc, &Clang, entries, 3, rest)
+    if let Some((line, rest)) = cut_line(text)
+        && let Some(output) = line.strip_prefix(b"-fmodule-output=")
+        && let Some(path) = path_in(alloc, output)?
+    {
+        let mut entries = Vec::new(alloc);
+        entries.push(MapEntry { name: None, path })?;
+        return read_lines(alloc, &Clang, entries, 3, rest);
+    }
+    Err(Failure::Fault(MapFault::BadMapLine { line: 2 }))
 }
 
 /// Returns whether a name comes after the name of the last entry, if it has one.
 fn rises_behind(entries: &[MapEntry], name: &Name) -> bool
     ensures { result ≡ rises_behind (slice_get entries.now (length entries.now - 1)) name.now }
 {
-    match entries.last() {
-        Some(entry) => match &entry.name {
-            Some(before) => before < name,
-            None => true,
-        },
+    match entries.last().and_then(|entry| entry.name.as_ref()) {
+        Some(before) => before < name,
         None => true,
     }
 }
@@ -162,20 +147,6 @@ fn push_outputs(text: &mut Vec<u8>, pairs: &[(&Name, &Path)]) -> Result<(), Allo
 {
     for pair in pairs {
         text.extend_from_slice(b"-x c++-module\n-fmodule-output=")?;
-        text.extend_from_slice(pair.1.bytes())?;
-        text.push(b'\n')?;
-    }
-    Ok(())
-}
-
-fn push_files(text: &mut Vec<u8>, pairs: &[(&Name, &Path)]) -> Result<(), AllocError>
-    ensures { OnOk result (text.new.items ≡
-        text.old.items ++ flat_map (λ pair. ended_line (file_line pair)) (lent_pairs pairs.now)) }
-{
-    for pair in pairs {
-        text.extend_from_slice(b"-fmodule-file=")?;
-        text.extend_from_slice(pair.0.bytes())?;
-        text.push(b'=')?;
         text.extend_from_slice(pair.1.bytes())?;
         text.push(b'\n')?;
     }

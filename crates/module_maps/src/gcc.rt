@@ -1,18 +1,13 @@
 //! The maps of GCC.
-ghost use Rattle.std.specs.Prelude.{◌≡◌, ◌++◌, Ok, IfOk, OnOk};
-ghost use Rattle.std.specs.List.{flat_map};
+ghost use Rattle.std.specs.Prelude.{IfOk};
 ghost use Rattle.ninja_text.specs.Failure.{Gives};
-ghost use Rattle.module_maps.specs.Maps.{IsWrittenText, pairs_of, lent_pairs};
-ghost use Rattle.module_maps.specs.MapLines.{ended_line};
-ghost use Rattle.module_maps.specs.GccMaps.{gcc_line};
-ghost use Rattle.module_maps.specs.declared.module_map.MapEntry.{MapEntry};
+ghost use Rattle.module_maps.specs.Maps.{IsWrittenText};
 
 use crate::fault::MapFault;
-use crate::map_lines::{LineForm, first_unfit, pair_in, push_named, read_lines};
+use crate::map_lines::{LineForm, first_unfit, pair_in, push_lines, push_named, read_lines};
 use crate::map_style::MapStyle;
 use crate::module_map::{MapEntry, ModuleMap};
-use ninja_text::{Failure, Path};
-use scan_docs::Name;
+use ninja_text::Failure;
 use std::alloc::{AllocError, Global};
 
 /// The style of GCC's module mapper files (GCC manual, "C++ Module Mapper").
@@ -49,18 +44,14 @@ impl MapStyle for Gcc {
     }
 
     fn write(&self, alloc: Global, map: &ModuleMap<'_>) -> Result<Vec<u8>, Failure<MapFault>> {
-        match first_unfit(map) {
-            Some(path) => {
-                let path = path.copy(alloc)?;
-                Err(Failure::Fault(MapFault::MapPath { path }))
-            }
-            None => {
-                let mut text = Vec::with_capacity(alloc, map.text_len(b" \n".len(), b" \n".len()))?;
-                push_lines(&mut text, map.provided())?;
-                push_lines(&mut text, map.needed())?;
-                Ok(text)
-            }
+        if let Some(path) = first_unfit(map) {
+            let path = path.copy(alloc)?;
+            return Err(Failure::Fault(MapFault::MapPath { path }));
         }
+        let mut text = Vec::with_capacity(alloc, map.text_len(b" \n".len(), b" \n".len()))?;
+        push_lines(&mut text, b"", b' ', map.provided())?;
+        push_lines(&mut text, b"", b' ', map.needed())?;
+        Ok(text)
     }
 
     /// Reads the entries of a text.
@@ -90,25 +81,9 @@ impl LineForm for Gcc {
         _entries: &[MapEntry],
         line: &[u8],
     ) -> Result<Option<MapEntry>, AllocError> {
-        match pair_in(alloc, b' ', line)? {
-            Some((name, path)) => Ok(Some(MapEntry {
-                name: Some(name),
-                path,
-            })),
-            None => Ok(None),
-        }
+        Ok(pair_in(alloc, b' ', line)?.map(|(name, path)| MapEntry {
+            name: Some(name),
+            path,
+        }))
     }
-}
-
-fn push_lines(text: &mut Vec<u8>, pairs: &[(&Name, &Path)]) -> Result<(), AllocError>
-    ensures { OnOk result (text.new.items ≡
-        text.old.items ++ flat_map (λ pair. ended_line (gcc_line pair)) (lent_pairs pairs.now)) }
-{
-    for pair in pairs {
-        text.extend_from_slice(pair.0.bytes())?;
-        text.push(b' ')?;
-        text.extend_from_slice(pair.1.bytes())?;
-        text.push(b'\n')?;
-    }
-    Ok(())
 }

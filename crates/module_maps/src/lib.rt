@@ -10,14 +10,8 @@
 //!   or K2, the text of a map is read as what the style keeps of the map, and what is kept are the
 //!   map's paths in order, with names of their own pairs (`specs/Maps.antt`, `FaultsAreOfMaps`,
 //!   `ReadsWritten`, `KeepsPairs`). [`Gcc`] and [`Clang`] also read no other texts than those that
-//!   they write (`IsWrittenText`).
-//!
-//! `specs/map_laws/` has the lemmas for the laws. They are in `specs/` because the proof of a trait's
-//! law is part of its `impl`, which can only use the crate's `specs/`. You do not need them to read a
-//! public contract.
-//!
-//! The crate uses `ninja_text` for paths, `scan_docs` for names and `thiserror` for its fault. It does
-//! not know the module table: the caller knows which modules an object needs.
+//!   they write (`IsWrittenText`). The lemmas for the laws are in `specs/map_laws/`, because the
+//!   proof of a trait's law is part of its `impl`, which can only use the crate's `specs/`.
 //!
 //! `must-fail/` has a wrong body of each public function. `needed_lent_as_provided` shows the clause
 //! of `provided` and `needed`, `names_left_out` that of both functions that push entries, and

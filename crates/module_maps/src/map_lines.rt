@@ -1,8 +1,9 @@
 //! Helpers for styles of module maps: which paths a map can have, and how its lines are read.
 ghost use Rattle.std.specs.Prelude.{◌≡◌, ◌<◌, ◌≤◌, ◌==◌, ◌++◌, [], ◌∷◌, length, map, Some, None, IfOk, OnOk, IfSome, MatchOption, option_copied, position};
+ghost use Rattle.std.specs.List.{flat_map};
 ghost use Rattle.ninja_text.specs.Failure.{Gives};
 ghost use Rattle.module_maps.specs.Maps.{pairs_of, lent_pairs};
-ghost use Rattle.module_maps.specs.MapLines.{LineForm, is_map_byte, is_fit, first_unfit, named, nameless, lines_of, cut, path_in, name_in, pair_in, read_lines};
+ghost use Rattle.module_maps.specs.MapLines.{LineForm, is_map_byte, is_fit, first_unfit, named, nameless, ended_line, lines_of, cut, path_in, pair_in, read_lines};
 
 use crate::fault::MapFault;
 use crate::module_map::{MapEntry, ModuleMap};
@@ -132,15 +133,9 @@ pub fn path_in(alloc: Global, text: &[u8]) -> Result<Option<Path>, AllocError>
         return Ok(None);
     }
     match Path::of(alloc, text) {
-        Ok(path) => {
-            if path.bytes() == text {
-                Ok(Some(path))
-            } else {
-                Ok(None)
-            }
-        }
+        Ok(path) if path.bytes() == text => Ok(Some(path)),
         Err(Failure::Memory) => Err(AllocError),
-        Err(Failure::Fault(_)) => Ok(None),
+        _ => Ok(None),
     }
 }
 
@@ -183,6 +178,26 @@ fn unfit_in<'m>(pairs: &[(&'m Name, &'m Path)]) -> Option<&'m Path>
     None
 }
 
+/// Appends a line for each module: the prefix, the name, the mark and the path.
+pub(crate) fn push_lines(
+    text: &mut Vec<u8>,
+    prefix: &[u8],
+    mark: u8,
+    pairs: &[(&Name, &Path)],
+) -> Result<(), AllocError>
+    ensures { OnOk result (text.new.items ≡ text.old.items
+        ++ flat_map (λ pair. ended_line (prefix.now ++ pair.0 ++ mark ∷ pair.1)) (lent_pairs pairs.now)) }
+{
+    for pair in pairs {
+        text.extend_from_slice(prefix)?;
+        text.extend_from_slice(pair.0.bytes())?;
+        text.push(mark)?;
+        text.extend_from_slice(pair.1.bytes())?;
+        text.push(b'\n')?;
+    }
+    Ok(())
+}
+
 /// Appends the entries of modules, with their names.
 ///
 /// # Errors
@@ -196,12 +211,9 @@ pub fn push_named(
     ensures { OnOk result (entries.new.items ≡ entries.old.items ++ map named (lent_pairs pairs.now)) }
 {
     for pair in pairs {
-        let name = pair.0.copy(alloc)?;
+        let name = Some(pair.0.copy(alloc)?);
         let path = pair.1.copy(alloc)?;
-        entries.push(MapEntry {
-            name: Some(name),
-            path,
-        })?;
+        entries.push(MapEntry { name, path })?;
     }
     Ok(())
 }

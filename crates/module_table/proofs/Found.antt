@@ -171,13 +171,6 @@ module _ (ps : List Provision) (differ : AllDiffer (names_of ps)) where
   abbrev pub IsPrivateAt : ℕ → Type 0
   IsPrivateAt index = is_public_at ps index ≡ false
 
-  pub at_index : (index : ℕ) → MatchBool (is_public_at ps index) (IsPublicAt index) (IsPrivateAt index)
-  at_index index = by (is_public_at ps index)
-    where
-      by : (b : Bool) → MatchBool b (b ≡ true) (b ≡ false)
-      by true = refl
-      by false = refl
-
   -- the first private module of a row, by the names that the row stands for
   module _ (row : List ℕ) (names : List (List ℕ)) (same : map (slice_get (names_of ps)) row ≡ map (λ name. Some name) names) where
     pub name_here : (k index : ℕ) (name : List ℕ) → slice_get row k ≡ Some index → slice_get names k ≡ Some name → slice_get (names_of ps) index ≡ Some name

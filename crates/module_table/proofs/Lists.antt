@@ -1,6 +1,6 @@
 -- What loops push, lists that differ or have the same indexes, and what is the first to be rejected.
-use Rattle.std.proofs.Common.{◌≡◌, ℕ, ◌+◌, List, [], ◌∷◌, ◌++◌, map, take, Some, ap, sym, ◌∙◌, append_assoc, slice_get, zero, suc, length, refl, subst, arith, ◌<◌, Bool, true, false, ⊎_elim, MatchBool, not, true≢false, Option, None, position, get_or, append-nil, ◌≤◌, bytes_eq, cond, IfSome, IfNone, is_some}
-use Rattle.std.proofs.lemmas.List.{map-append, take_all}
+use Rattle.std.proofs.Common.{◌≡◌, ℕ, ◌+◌, List, [], ◌∷◌, ◌++◌, map, take, Some, ap, sym, ◌∙◌, append_assoc, slice_get, zero, suc, length, refl, subst, arith, ◌<◌, Bool, true, false, ⊎_elim, MatchBool, not, true≢false, Option, None, position, get_or, append-nil, bytes_eq, cond, IfSome, IfNone, is_some}
+use Rattle.std.proofs.lemmas.List.{map-append}
 use Rattle.ninja_text.proofs.ForCallers.{take_next, same_some, from_push, in_take, to_map, from_map, from_take, differ_push, not_among, found_if, new_if}
 use Rattle.std.specs.List.{flat_map, enumerate_from, AllZip, position_or_len, list_any}
 use Rattle.std.proofs.lemmas.Grind.{flat_map-append, common_steps}
@@ -171,10 +171,6 @@ parts_next f xs i x at =
 pub gathers_next : {X A : Type 0} (f : ℕ × X → List A) (xs : List X) (i : ℕ) (x : X) (old now new : List A) → slice_get xs i ≡ Some x → now ≡ old ++ flat_map f (enumerate_from 0 (take i xs)) → new ≡ now ++ f (i, x) → new ≡ old ++ flat_map f (enumerate_from 0 (take (i + 1) xs))
 gathers_next f xs i x old now new at before more =
     more ∙ ap (λ ys. ys ++ f (i, x)) before ∙ append_assoc old (flat_map f (enumerate_from 0 (take i xs))) (f (i, x)) ∙ ap (λ ys. old ++ ys) (sym (parts_next f xs i x at))
-
--- and its end
-pub gathers_all : {X A : Type 0} (f : ℕ × X → List A) (xs : List X) (i : ℕ) (old now : List A) → length xs ≤ i → now ≡ old ++ flat_map f (enumerate_from 0 (take i xs)) → now ≡ old ++ flat_map f (enumerate_from 0 xs)
-gathers_all f xs i old now past so_far = so_far ∙ ap (λ ys. old ++ flat_map f (enumerate_from 0 ys)) (take_all i xs past)
 
 -- a text is put into a table of the texts before it
 module _ {X : Type 0} (f : X → List ℕ) (texts : List (List ℕ)) (j : ℕ) (x : X) (keys new : List X) (at : slice_get texts j ≡ Some (f x))

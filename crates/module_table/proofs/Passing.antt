@@ -24,7 +24,6 @@ use Rattle.ninja_text.specs.Failure.{ForFault}
 use Rattle.ninja_text.specs.declared.failure.Failure.{Failure}
 use Rattle.dep_order.specs.Needs.{IsOrderable}
 use Rattle.dep_order.proofs.ForCallers.{no_cycle}
-use Rattle.module_table.specs.Outcomes.{HasNoFault}
 use Rattle.module_table.specs.inner.Numbered.{AreIndexes}
 use Rattle.module_table.specs.inner.Passed.{Lacks, Passed}
 
@@ -260,9 +259,6 @@ module _ (t : TableValue) (kept : List (List ℕ)) where
 
   pub fails : (n : ℕ) (failure : Failure (Box TableFault Global)) → Passed n t kept → ForFault (λ fault. (kept : List (List ℕ)) → Reports n t kept fault.value) failure → ForFault (λ fault. IsReported t kept fault.value) failure
   fails n failure passed h = for_fault _ _ failure (λ fault is. reported n fault.value (is kept) passed) h
-
-  pub without_fault : Passed 11 t kept → HasNoFault t kept
-  without_fault passed fault is = let low = passed fault is in let high = (code_within fault).1 in absurd (omega (arith, low, high))
 
   -- ---- what each check excludes
 

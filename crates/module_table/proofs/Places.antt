@@ -1,5 +1,5 @@
 -- The indexes of modules in the lists of all modules, files and requirements.
-use Rattle.std.proofs.Common.{⊎_elim, ◌≡◌, ℕ, zero, suc, ◌+◌, ◌<◌, ◌≤◌, Bool, true, false, List, [], ◌∷◌, length, map, Some, ◌||◌, IsTrue, refl, ap, subst, sym, ◌∙◌, inl, inr, arith, slice_get, ◌++◌, ap₂, bytes_eq, true≢false, MatchBool, take}
+use Rattle.std.proofs.Common.{⊎_elim, ◌≡◌, ℕ, zero, suc, ◌+◌, ◌<◌, Bool, true, false, List, [], ◌∷◌, length, map, Some, ◌||◌, IsTrue, refl, ap, subst, sym, ◌∙◌, inl, inr, arith, slice_get, ◌++◌, ap₂, bytes_eq, true≢false, MatchBool}
 use Rattle.std.specs.List.{flat_map, enumerate_from}
 use Rattle.scan_docs.specs.Scan.{RuleValue}
 use Rattle.scan_docs.specs.Info.{InfoValue, ModuleValue}
@@ -13,11 +13,11 @@ use Rattle.module_table.specs.Added.{AddedNeeds, AddedOrderable, FilesOnce, File
 use Rattle.module_table.specs.declared.fault.Maker.{Maker}
 use Rattle.module_table.specs.declared.fault.Maker.TheVariants.{Object, Info}
 use Rattle.ninja_text.proofs.ForCallers.{same_some, to_map, in_first, in_second, three_ways, from_map}
-use Rattle.std.proofs.lemmas.List.{map-append, length-map, take_all}
+use Rattle.std.proofs.lemmas.List.{map-append}
 use Rattle.std.specs.Cmp.Lexicographic.{bytes_decides}
 use Rattle.std.proofs.lemmas.Option.{slice_get-get_or}
 use Rattle.module_table.specs.inner.Views.{requirement_of as requirement_seen}
-use Rattle.module_table.specs.inner.Finds.{LookedUp, AcceptsAll}
+use Rattle.module_table.specs.inner.Finds.{LookedUp}
 use Rattle.module_table.specs.inner.Found.{looked_up, with_module, lookups_of, AreLookedUp}
 use Rattle.module_table.specs.declared.requirements.InfoRequired.{InfoRequired}
 
@@ -223,8 +223,3 @@ module _ (t : TableValue) where
   -- what a test says of a requirement that was looked up, it says of the one at the same index
   pub decided : (all : List InfoRequired) → AreLookedUp t all → (k : ℕ) (r : InfoRequired) → slice_get all k ≡ Some r → (test : LookedUp → Bool) (Yes No : InfoRequirement → Type 0) → ((q : InfoRequirement) → MatchBool (test (with_found q)) (Yes q) (No q)) → (b : Bool) → test (looked_up r) ≡ b → MatchBool b (Yes (requirement_seen r)) (No (requirement_seen r))
   decided all looked k r at test Yes No decides b tested = subst (λ b. MatchBool b (Yes (requirement_seen r)) (No (requirement_seen r))) (ap test (sym (found_there all looked k r at)) ∙ tested) (decides (requirement_seen r))
-
-  pub accepts_required : (P : InfoRequirement → Type 0) (all : List InfoRequired) → AreLookedUp t all → (n : ℕ) → length all ≤ n → AcceptsAll P (take n (info_requirements t)) → AcceptsAll P (info_requirements t)
-  accepts_required P all looked n past accepted =
-      let long = sym (length-map all looked_up) ∙ ap length looked.same ∙ length-map (info_requirements t) with_found in
-      subst (AcceptsAll P) (take_all n (info_requirements t) (omega (arith, past, long))) accepted

@@ -1,6 +1,6 @@
 //! All checks of a table in the order of their codes, and what a table keeps for look-ups after
-//! they have passed. M1 to M4 are in `repeated.rt`, M5 to M7 in `required.rt`, M8 in `rings.rt`, M9
-//! and M10 in `privacy.rt`.
+//! they have passed. M1 to M4 are in `repeated.rt`, M5 to M8 in `required.rt`, M9 and M10 in
+//! `privacy.rt`.
 ghost use Rattle.std.specs.Prelude.{◌≡◌, map, IfOk, IfErr, OnOk};
 ghost use Rattle.ninja_text.specs.Bytes.{Name};
 ghost use Rattle.ninja_text.specs.Failure.{ForFault};
@@ -24,8 +24,7 @@ use indexmap::IndexSet;
 use ninja_text::{Failure, Path};
 use privacy::{check_infos_allowed, check_kept, check_objects_allowed};
 use repeated::{check_files, check_infos, check_names, check_objects};
-use required::{check_infos_agree, check_infos_known, check_objects_known};
-use rings::check_rings;
+use required::{check_infos_agree, check_infos_known, check_objects_known, check_rings};
 use scan_docs::{Info, Name, Rule};
 use std::alloc::{AllocError, Global};
 use table_keys::TableKey;
@@ -33,7 +32,6 @@ use table_keys::TableKey;
 mod privacy;
 mod repeated;
 mod required;
-mod rings;
 
 /// What a table keeps for look-ups besides its objects and info files.
 #[derive(Drop)]

@@ -28,14 +28,13 @@
 //!
 //! # How it works
 //!
-//! - `keys.rt` computes the key of a table's hash tables.
 //! - `modules.rt` lists the provided modules. The index of a module in the list is the index of its
 //!   name in a table of names. This is the invariant of `Modules`.
 //! - `checks.rt` makes the checks in the order of the codes and reports the fault of the first that
-//!   fails. `checks/repeated.rt` has M1 to M4, `checks/required.rt` M5 to M7, `checks/rings.rt` M8,
-//!   and `checks/privacy.rt` M9 and M10. M8 calls `order` of `dep_order`. `requirements.rt` looks
-//!   up once what the modules of info files require. M6, M7 and M9 use what it finds.
-//! - `table.rt`: a table has the objects and what each requires with the files (`resolved.rt`).
+//!   fails. `checks/repeated.rt` has M1 to M4, `checks/required.rt` M5 to M8, and
+//!   `checks/privacy.rt` M9 and M10. M8 calls `order` of `dep_order`. `requirements.rt` looks up once
+//!   what the modules of info files require. M6, M7 and M9 use what it finds.
+//! - `table.rt`: a table has the objects and what each requires with the files ([`Resolved`]).
 //!   Names and paths have numbers, which are their indexes in two hash tables. Names are numbered
 //!   by first mention, the names of provided modules before those that are required. By these
 //!   numbers the table has the producer of each module and all requirements, as a graph. In the
@@ -64,18 +63,15 @@
 
 mod checks;
 mod fault;
-mod keys;
 mod laws;
 mod modules;
 mod needed;
 mod pool;
 mod requirements;
-mod resolved;
 mod table;
 
 pub use fault::{Maker, RefusedTable, TableFault};
 pub use laws::{added_files, one_fault, parts, sound_tables};
 pub use needed::Needs;
 pub use pool::Pool;
-pub use resolved::Resolved;
-pub use table::Table;
+pub use table::{Resolved, Table};

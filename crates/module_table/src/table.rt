@@ -1,5 +1,5 @@
 //! The table of the modules of one target, and its look-ups.
-ghost use Rattle.std.specs.Prelude.{◌≡◌, ◌<◌, IfOk, IfErr, IfSome, IfNone, length, slice_get, Some};
+ghost use Rattle.std.specs.Prelude.{◌≡◌, ◌<◌, IfOk, IfErr, IfSome, IfNone, length, map, slice_get, Some};
 ghost use Rattle.ninja_text.specs.Failure.{ForFault};
 ghost use Rattle.scan_docs.specs.Scan.{RuleValue};
 ghost use Rattle.module_table.specs.TableValue.{table_with};
@@ -12,17 +12,15 @@ ghost use Rattle.module_table.specs.declared.fault.TableFault.{TableFault};
 
 use crate::checks::check_all;
 use crate::fault::{Maker, RefusedTable, TableFault};
-use crate::keys::table_key;
 use crate::modules::index_of;
 use crate::needed::{Needs, copy_pair, named_at};
-use crate::resolved::Resolved;
 use dep_order::Digraph;
 use indexmap::IndexSet;
 use ninja_text::{Failure, Path};
 use scan_docs::{Info, Name, Rule};
 use std::alloc::{AllocError, Global};
 use std::marker::Model;
-use table_keys::TableKey;
+use table_keys::{KeyDigest, TableKey};
 
 /// The modules of one target and of the targets that it links. It has none of the faults M1 to M10.
 #[derive(Drop)]
@@ -231,4 +229,112 @@ impl Table {
             &self.origins,
         )
     }
+}
+
+/// The objects of a [`Table`], and the modules that each requires. It has no look-ups.
+#[derive(Drop)]
+pub struct Resolved {
+    objects: Vec<Rule>,
+    infos: Vec<Info>,
+    /// The modules that each object requires, with their files.
+    required: Vec<Vec<(Name, Path)>>,
+}
+
+impl Model for Resolved {
+    ghost use Rattle.std.specs.Prelude.{◌≡◌, map};
+    ghost use Rattle.module_table.specs.TableValue.{TableValue, table_with};
+    ghost use Rattle.module_table.specs.Sound.{IsSound};
+    ghost use Rattle.module_table.specs.Added.{required_of};
+
+    ghost Value = { TableValue };
+
+    ghost view = { λ r. table_with r.objects.items r.infos.items };
+
+    ghost invariant = { λ r. IsSound (table_with r.objects.items r.infos.items)
+        × (map (λ row. row.items) r.required.items ≡ map
+        (required_of (table_with r.objects.items r.infos.items)) r.objects.items) };
+}
+
+impl Resolved {
+    /// Returns the objects of a sound table with what each requires.
+    pub(crate) fn new(
+        objects: Vec<Rule>,
+        infos: Vec<Info>,
+        required: Vec<Vec<(Name, Path)>>,
+    ) -> Resolved
+        requires sound { IsSound (table_with objects.items infos.items) }
+        requires required { map (λ row. row.items) required.items
+            ≡ map (required_of (table_with objects.items infos.items)) objects.items }
+        ensures { result ≡ table_with objects.items infos.items }
+    {
+        Resolved {
+            objects,
+            infos,
+            required,
+        }
+    }
+
+    /// Returns the objects, by index.
+    pub fn objects(&self) -> &[Rule]
+        ensures objects { result.now ≡ self.now.objects }
+        ensures sound { IsSound self.now }
+    {
+        self.objects.as_slice()
+    }
+
+    /// Consumes the value and returns the objects and the info files, both by index.
+    pub fn into_parts(self) -> (Vec<Rule>, Vec<Info>)
+        ensures objects { result.0.items ≡ self.objects }
+        ensures infos { result.1.items ≡ self.infos }
+    {
+        let Resolved {
+            objects,
+            infos,
+            required: _,
+        } = self;
+        (objects, infos)
+    }
+
+    /// Returns the info files, by index.
+    pub(crate) fn infos(&self) -> &[Info]
+        ensures { result.now ≡ self.now.infos }
+    {
+        self.infos.as_slice()
+    }
+
+    /// Returns the modules that an object requires, each once, in order of first mention.
+    pub fn required(&self, object: usize) -> &[(Name, Path)]
+        requires { object < length self.now.objects }
+        ensures { (rule : RuleValue) → slice_get self.now.objects object ≡ Some rule
+            → result.now ≡ required_of self.now rule }
+    {
+        &self.required[object]
+    }
+}
+
+/// Returns the key of the table of these objects and info files. It is made of all names and paths
+/// that the table holds, so whoever chooses them cannot choose the key as well.
+fn table_key(objects: &[Rule], infos: &[Info]) -> TableKey {
+    let mut digest = KeyDigest::new();
+    for rule in objects {
+        add_entry(&mut digest, rule.object.bytes());
+        for pair in &rule.provided {
+            add_entry(&mut digest, pair.0.bytes());
+            add_entry(&mut digest, pair.1.bytes());
+        }
+    }
+    for info in infos {
+        add_entry(&mut digest, info.target.text().as_bytes());
+        for module in &info.modules {
+            add_entry(&mut digest, module.name.bytes());
+            add_entry(&mut digest, module.file.bytes());
+        }
+    }
+    digest.key()
+}
+
+/// Adds an entry and its end. No entry has a line end, so no two lists of entries have one digest.
+fn add_entry(digest: &mut KeyDigest, entry: &[u8]) {
+    digest.update(entry);
+    digest.update(b"\n".as_slice());
 }

@@ -1,10 +1,9 @@
 -- The pieces between the slashes of a text.
 use Rattle.std.proofs.Common.{◌≡◌, ℕ, zero, suc, Bool, true, false, cond, ◌==◌, List, [], ◌∷◌, ◌++◌, take, refl, sym, ◌∙◌, ap, subst, append_assoc}
-use Rattle.std.specs.List.{AllByRecursion, onto_first}
+use Rattle.std.specs.List.{AllByRecursion, onto_first, list_any}
 use Rattle.std.proofs.lemmas.List.Splits.{slice_split-cons_no, join_with_byte-slice_split}
 use Rattle.std.proofs.lemmas.Slice.Eq.{bytes_eq-Decides}
 use Rattle.std.proofs.Common.{bytes_eq, Option, Some, None, option_map, ◌≢◌}
-use Rattle.std.specs.List.{list_any}
 use Rattle.ninja_text.specs.Reduction.{is_parent, components}
 use Rattle.ninja_text.specs.Paths.{below}
 use Rattle.ninja_text.specs.inner.ComponentLists.{list_text, LacksSlash, EachLacksSlash}

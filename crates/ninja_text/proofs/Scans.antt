@@ -1,6 +1,6 @@
 -- The scan of a line: it finds the end that the units have, and how far the line goes into a piece.
 use Rattle.std.proofs.Common.{inl, inr, subst, ◌≡◌, ℕ, ◌+◌, ◌-◌, List, [], ◌∷◌, map, refl, sym, ap, ◌∙◌, true, false, ◌==◌, arith, Some, None, zero, suc, ◌<◌, ◌≤◌, ◌++◌, length, take, add-zero, ◌⊎◌, min, length-append, Ok}
-use Rattle.std.specs.Prelude.{Option, Result, Bool, nat_le}
+use Rattle.std.specs.Prelude.{Option, Result, nat_le}
 use Rattle.std.proofs.lemmas.Bool.{cases_Bool, eqb-true}
 use Rattle.ninja_text.specs.Units.{units}
 use Rattle.ninja_text.specs.declared.unit.LineUnit.TheVariants.{Byte}
@@ -17,7 +17,6 @@ use Rattle.std.proofs.lemmas.Bool.Decides.{nat_tests}
 use Rattle.ninja_text.specs.Cutting.{CutterState, feed_outcome}
 use Rattle.ninja_text.specs.declared.fault.CutFault.{CutFault}
 use Rattle.ninja_text.specs.inner.Reaching.{Takes, Reaches}
-use Rattle.ninja_text.specs.Phases.{bytes_in}
 use Rattle.ninja_text.specs.CutterViews.{state_in}
 use Rattle.ninja_text.specs.declared.cutter.Phase.{Phase}
 use Rattle.ninja_text.specs.declared.cutter.Phase.TheVariants.{Gathering, Waiting, Lent, Failed}
@@ -322,12 +321,6 @@ module _ (B P : List ℕ) (s : ScanState) (reach : ℕ) (room : length B < line_
 -- a cutter at work on these bytes
 abbrev pub at_work : ℕ → List ℕ → CutterState
 at_work number bytes = record { number = number; bytes = bytes; waits = false; failed = false }
-
--- what a cutter holds if no line waits
-pub is_at_work : (phase : Phase) (bytes B : List ℕ) (number : ℕ) (h : CutterState) → state_in phase bytes number ≡ h → h.waits ≡ false → h.failed ≡ false → bytes_in phase bytes ≡ B → h ≡ at_work number B
-is_at_work phase bytes B number h v w f e = sym v ∙ rebuilt e (ap (λ k. k.waits) v ∙ w) (ap (λ k. k.failed) v ∙ f) where
-  rebuilt : {x y : List ℕ} {p q : Bool} → x ≡ y → p ≡ false → q ≡ false → ◌≡◌ {A = CutterState} (record { number = number; bytes = x; waits = p; failed = q }) (at_work number y)
-  rebuilt i j k = rw (i, j, k) refl
 
 -- the line takes so much of the piece
 pub feeds_on : (number : ℕ) (bytes piece new : List ℕ) (taken : ℕ) (phase : Phase) → Takes bytes piece taken phase → new ≡ bytes ++ take taken piece

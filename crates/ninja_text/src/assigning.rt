@@ -7,7 +7,7 @@ ghost use Rattle.ninja_text.specs.inner.Runs.{Run};
 
 use crate::assignments::Assignment;
 use crate::fault::LexFault;
-use crate::lexing::{blank_end, fault_in};
+use crate::lexing::{blank_end, check_units};
 use crate::line::Line;
 use crate::unit::{LineUnit, unit_at};
 
@@ -28,21 +28,16 @@ pub fn assignment(line: Line<'_>) -> Result<Option<Assignment<'_>>, LexFault>
         (λ a. LiesIn (seen_line line.entry).text (seen_assignment a))) }
 {
     let text = line.text();
-    if let Some(fault) = fault_in(text) {
-        return Err(fault);
-    }
+    check_units(text)?;
     let name_start = blank_end(text, 0);
     let name_end = name_end(text, name_start);
     let sign = blank_end(text, name_end);
-    if name_start == name_end {
+    if name_start == name_end || sign == text.len() {
         return Ok(None);
     }
-    if sign == text.len() {
+    let LineUnit::Byte(b'=') = unit_at(text, sign) else {
         return Ok(None);
-    }
-    if !unit_at(text, sign).is_byte(b'=') {
-        return Ok(None);
-    }
+    };
     let value_start = blank_end(text, sign + 1);
     Ok(Some(Assignment {
         name_start,

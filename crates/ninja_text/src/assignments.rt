@@ -1,7 +1,9 @@
 //! The name and the value of an assignment.
-ghost use Rattle.std.specs.Prelude.{◌≡◌};
+ghost use Rattle.std.specs.Prelude.{◌≡◌, ◌++◌, OnOk, OnErr};
+ghost use Rattle.ninja_text.specs.Tokens.{value_of};
+ghost use Rattle.ninja_text.specs.AssignmentViews.{seen_assignment};
 
-use crate::meaning::append_meaning;
+use crate::unit::append_meaning;
 use std::alloc::AllocError;
 
 /// The name and the value of an assignment, as slices of the line's text.
@@ -13,10 +15,6 @@ pub struct Assignment<'a> {
 }
 
 impl<'a> Assignment<'a> {
-    ghost use Rattle.std.specs.Prelude.{◌≡◌, ◌++◌, OnOk, OnErr};
-    ghost use Rattle.ninja_text.specs.Tokens.{value_of};
-    ghost use Rattle.ninja_text.specs.AssignmentViews.{seen_assignment};
-
     /// Returns the offset of the name in the line's text. It is 0 if the line is not indented.
     pub fn name_start(&self) -> usize
         ensures { result ≡ (seen_assignment self.now).name_start }

@@ -1,8 +1,8 @@
 //! Divides bytes that arrive in pieces into logical lines.
 ghost use Rattle.std.specs.Prelude.{◌≡◌, ◌+◌, ◌<◌, ◌≤◌, List, [], length, false, IfOk};
 ghost use Rattle.ninja_text.specs.Lines.{is_comment, line_feeds_in};
-ghost use Rattle.ninja_text.specs.inner.Reaching.{IsGoing, Reaches};
-ghost use Rattle.ninja_text.specs.Phases.{PhaseFits, bytes_in};
+ghost use Rattle.ninja_text.specs.inner.Reaching.{Reaches};
+ghost use Rattle.ninja_text.specs.Phases.{PhaseFits};
 
 use crate::failure::Failure;
 use crate::fault::CutFault;
@@ -86,11 +86,25 @@ impl LineCutter {
         ensures all { (taken : Bytes) (lent : List LogicalLine) → Cuts taken lent self.old
             → FeedsAll taken lent piece.now result self.new }
     {
-        match self.phase {
-            Phase::Failed => Err(Failure::Fault(CutFault::LineTooLong { line: self.number })),
-            Phase::Waiting { .. } => Ok(0),
-            Phase::Lent | Phase::Gathering(_) => self.gather(piece),
-        }
+        let too_long = Err(Failure::Fault(CutFault::LineTooLong { line: self.number }));
+        let state = match self.phase {
+            Phase::Failed => return too_long,
+            Phase::Waiting { .. } => return Ok(0),
+            Phase::Gathering(state) => state,
+            Phase::Lent => {
+                self.buffer.clear();
+                ScanState::Start
+            }
+        };
+        self.phase = Phase::Gathering(state);
+        // The bytes are scanned before memory for them is allocated.
+        let Some((taken, phase)) = reach_of(self.buffer.as_slice(), state, piece) else {
+            self.phase = Phase::Failed;
+            return too_long;
+        };
+        self.buffer.extend_from_slice(&piece[..taken])?;
+        self.phase = phase;
+        Ok(taken)
     }
 
     /// Returns the line that waits, borrowed from the cutter, or `None` if no line waits. Each line is
@@ -147,44 +161,6 @@ impl LineCutter {
             _ => Ok(()),
         }
     }
-
-    /// Takes bytes from the piece when no line waits. The bytes are scanned before memory for them is
-    /// allocated.
-    fn gather(&mut self, piece: &[u8]) -> Result<usize, Failure<CutFault>>
-        requires { (self.old.waits ≡ false) × (self.old.failed ≡ false) }
-        ensures exact { Feeds self.old piece.now result self.new }
-        ensures within { IfOk result (λ n. n ≤ length piece.now) }
-        ensures some { 0 < length piece.now → IfOk result (λ n. 0 < n) }
-    {
-        let state = go_on(&mut self.buffer, self.phase);
-        self.phase = Phase::Gathering(state);
-        match reach_of(self.buffer.as_slice(), state, piece) {
-            Some((taken, phase)) => {
-                self.buffer.extend_from_slice(&piece[..taken])?;
-                self.phase = phase;
-                Ok(taken)
-            }
-            None => {
-                self.phase = Phase::Failed;
-                Err(Failure::Fault(CutFault::LineTooLong { line: self.number }))
-            }
-        }
-    }
-}
-
-/// Returns the state of the current line. A line that was handed out is dropped first.
-fn go_on(buffer: &mut Vec<u8>, phase: Phase) -> ScanState
-    requires { IsGoing phase × PhaseFits phase buffer.old.items }
-    ensures fits { PhaseFits (Phase.Gathering result) buffer.new.items }
-    ensures same { bytes_in phase buffer.old.items ≡ buffer.new.items }
-{
-    match phase {
-        Phase::Gathering(state) => state,
-        Phase::Lent | Phase::Waiting { .. } | Phase::Failed => {
-            buffer.clear();
-            ScanState::Start
-        }
-    }
 }
 
 /// Returns how many bytes of the piece belong to the line that begins in the buffer, and the phase
@@ -197,13 +173,8 @@ fn reach_of(buffer: &[u8], state: ScanState, piece: &[u8]) -> Option<(usize, Pha
     let reach = piece.len().min(LINE_LIMIT - held);
     match scan_bytes(held, state, &piece[..reach]) {
         Scanned::End { text_len, line_len } => Some((line_len - held, Phase::Waiting { text_len })),
-        Scanned::Open(next) => {
-            if held + reach == LINE_LIMIT {
-                None
-            } else {
-                Some((reach, Phase::Gathering(next)))
-            }
-        }
+        Scanned::Open(_) if held + reach == LINE_LIMIT => None,
+        Scanned::Open(next) => Some((reach, Phase::Gathering(next))),
     }
 }
 
@@ -223,11 +194,5 @@ fn begins_comment(bytes: &[u8]) -> bool
 fn line_feeds(bytes: &[u8]) -> u64
     ensures { result ≡ line_feeds_in bytes.now }
 {
-    let mut count = 0;
-    for byte in bytes {
-        if *byte == b'\n' {
-            count += 1;
-        }
-    }
-    count
+    bytes.iter().filter(|byte| **byte == b'\n').count() as u64
 }

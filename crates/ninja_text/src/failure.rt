@@ -1,14 +1,13 @@
 //! The error type of calls that allocate memory.
 ghost use Rattle.std.specs.Prelude.{◌≡◌};
-ghost use Rattle.ninja_text.specs.Failure.{Turns, ForFault};
+ghost use Rattle.ninja_text.specs.Failure.{Turns, ForFault, failure_text};
+ghost use Rattle.ninja_text.specs.declared.failure.Failure.TheVariants.{Memory};
 
 use std::alloc::{AllocError, AllocFailed};
 use std::fmt;
 use thiserror::Error;
 
 /// The error of a call that allocates memory: an allocation failed, or the input has a fault.
-///
-/// Fault types themselves never mention memory, so a fault is always a fact about the input.
 #[derive(Clone, Copy, Debug, PartialEq, Eq, Error)]
 pub enum Failure<F> {
     /// An allocation failed.
@@ -31,8 +30,6 @@ impl<F> Failure<F> {
 }
 
 impl<F: fmt::Display> fmt::Display for Failure<F> {
-    ghost use Rattle.ninja_text.specs.Failure.{failure_text};
-
     ghost output = { failure_text F.output };
 
     fn fmt<W: fmt::Write>(&self, f: &mut fmt::Formatter<W>) -> fmt::Result {
@@ -44,8 +41,6 @@ impl<F: fmt::Display> fmt::Display for Failure<F> {
 }
 
 impl<F> From<AllocError> for Failure<F> {
-    ghost use Rattle.ninja_text.specs.declared.failure.Failure.TheVariants.{Memory};
-
     ghost from_gives = { λ _ e. e ≡ Memory };
 
     fn from(_e: AllocError) -> Failure<F> {
@@ -54,8 +49,6 @@ impl<F> From<AllocError> for Failure<F> {
 }
 
 impl<F, T: Drop> From<AllocFailed<T>> for Failure<F> {
-    ghost use Rattle.ninja_text.specs.declared.failure.Failure.TheVariants.{Memory};
-
     ghost from_gives = { λ _ e. e ≡ Memory };
 
     fn from(_e: AllocFailed<T>) -> Failure<F> {

@@ -1,4 +1,6 @@
 //! Errors in a text. They are facts about its bytes and never mention memory.
+ghost use Rattle.std.specs.Prelude.{Some};
+ghost use Rattle.ninja_text.specs.FaultTexts.{path_fault_text, cut_fault_text, lex_fault_text};
 
 use std::fmt;
 use thiserror::Error;
@@ -18,9 +20,6 @@ pub enum PathFault {
 }
 
 impl fmt::Display for PathFault {
-    ghost use Rattle.std.specs.Prelude.{Some};
-    ghost use Rattle.ninja_text.specs.FaultTexts.{path_fault_text};
-
     ghost output = { λ fault. Some (path_fault_text fault) };
 
     fn fmt<W: fmt::Write>(&self, f: &mut fmt::Formatter<W>) -> fmt::Result {
@@ -43,9 +42,6 @@ pub enum CutFault {
 }
 
 impl fmt::Display for CutFault {
-    ghost use Rattle.std.specs.Prelude.{Some};
-    ghost use Rattle.ninja_text.specs.FaultTexts.{cut_fault_text};
-
     ghost output = { λ fault. Some (cut_fault_text fault) };
 
     fn fmt<W: fmt::Write>(&self, f: &mut fmt::Formatter<W>) -> fmt::Result {
@@ -71,9 +67,6 @@ pub enum LexFault {
 }
 
 impl fmt::Display for LexFault {
-    ghost use Rattle.std.specs.Prelude.{Some};
-    ghost use Rattle.ninja_text.specs.FaultTexts.{lex_fault_text};
-
     ghost output = { λ fault. Some (lex_fault_text fault) };
 
     fn fmt<W: fmt::Write>(&self, f: &mut fmt::Formatter<W>) -> fmt::Result {

@@ -1,5 +1,6 @@
 //! Finds the tokens and the lexical errors of a line.
 ghost use Rattle.std.specs.Prelude.{◌≡◌, ◌+◌, ◌<◌, ◌≤◌, length, false, IfOk};
+ghost use Rattle.std.specs.Result.{result_err};
 ghost use Rattle.ninja_text.specs.LineViews.{seen_line};
 ghost use Rattle.ninja_text.specs.TokenViews.{IsWords, tokens_left};
 ghost use Rattle.std.specs.List.{AllByRecursion};
@@ -29,29 +30,25 @@ pub fn words(line: Line<'_>) -> Result<Words<'_>, LexFault>
     ensures rise { IfOk result (λ words. RiseFrom 0 (tokens_left words)) }
 {
     let text = line.text();
-    match fault_in(text) {
-        Some(fault) => Err(fault),
-        None => Ok(Words { text, index: 0 }),
-    }
+    check_units(text)?;
+    Ok(Words { text, index: 0 })
 }
 
 /// Returns the first lexical error of a text.
-pub(crate) fn fault_in(text: &[u8]) -> Option<LexFault>
-    ensures { result ≡ lexical_fault text.now }
+pub(crate) fn check_units(text: &[u8]) -> Result<(), LexFault>
+    ensures { result_err result ≡ lexical_fault text.now }
 {
     // Hardly any line has such a byte.
     if !text.iter().any(is_suspect) {
-        return None;
+        return Ok(());
     }
     let mut index = 0;
     while index < text.len() {
         let unit = unit_at(text, index);
-        if let Some(fault) = fault_at(index, unit) {
-            return Some(fault);
-        }
+        check_unit(index, unit)?;
         index += unit.len();
     }
-    None
+    Ok(())
 }
 
 /// Returns whether an error, or a unit of several bytes, can begin with this byte.
@@ -61,21 +58,19 @@ fn is_suspect(byte: &u8) -> bool
     matches!(*byte, b'$' | 0 | b'\r')
 }
 
-/// Returns the lexical error of a unit at this offset, if it has one.
-fn fault_at(index: usize, unit: LineUnit) -> Option<LexFault>
-    ensures { result ≡ unit_fault index unit }
+/// Returns the lexical error of a unit at this offset.
+fn check_unit(place: usize, unit: LineUnit) -> Result<(), LexFault>
+    ensures { result_err result ≡ unit_fault place unit }
 {
     match unit {
-        LineUnit::Continuation(_) => None,
-        LineUnit::Escape(byte) if byte.is_ascii_alphanumeric() => Some(LexFault::Variable {
-            place: index,
-        }),
-        LineUnit::Escape(b'{' | b'_' | b'-') => Some(LexFault::Variable { place: index }),
-        LineUnit::Escape(b'$' | b' ' | b':') => None,
-        LineUnit::Escape(_) => Some(LexFault::BadEscape { place: index }),
-        LineUnit::Byte(0) => Some(LexFault::Nul { place: index }),
-        LineUnit::Byte(b'\r') => Some(LexFault::LoneCr { place: index }),
-        LineUnit::Byte(_) => None,
+        LineUnit::Continuation(_) => Ok(()),
+        LineUnit::Escape(byte) if byte.is_ascii_alphanumeric() => Err(LexFault::Variable { place }),
+        LineUnit::Escape(b'{' | b'_' | b'-') => Err(LexFault::Variable { place }),
+        LineUnit::Escape(b'$' | b' ' | b':') => Ok(()),
+        LineUnit::Escape(_) => Err(LexFault::BadEscape { place }),
+        LineUnit::Byte(0) => Err(LexFault::Nul { place }),
+        LineUnit::Byte(b'\r') => Err(LexFault::LoneCr { place }),
+        LineUnit::Byte(_) => Ok(()),
     }
 }
 

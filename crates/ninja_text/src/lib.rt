@@ -3,43 +3,37 @@
 //! syntax".
 //!
 //! - [`Path`] is a canonical path. [`Path::of`] and [`place`] return the path that a string means, or
-//!   the first error. The meaning of a string is defined by rewriting steps (`specs/Reduction.antt`,
-//!   `specs/Paths.antt`); [`laws::one_canonical_list`] proves that their order does not matter.
-//! - [`escape_into`] writes a path as Ninja reads it, and [`laws::one_meaning`] proves that an escaped
-//!   path stands for one value (`specs/Escapes.antt`).
-//! - [`LineCutter`] divides bytes that arrive in pieces of any size into logical lines. The lines are
-//!   those of the whole text, in order and numbered, whatever the pieces are (`specs/Lines.antt`,
-//!   `specs/Cutting.antt`). Its buffer never exceeds [`LINE_LIMIT`] bytes.
-//! - [`LineReader`] reads such bytes into a [`LineState`], line by line. It returns the state after all
-//!   lines or the first line that is rejected (`specs/LineReading.antt`).
-//! - `specs/LineFormats.antt` defines, once for all formats whose lines fall into classes, which value
-//!   a text stands for and which error it has. `specs/FormatReading.antt` does the same for what a
-//!   reader has read so far. That a text has either a value or an error is proved for every format in
-//!   which single lines and ends have.
+//!   the first error (`specs/Paths.antt`). The path is what rewriting steps leave of the string
+//!   (`specs/Reduction.antt`); by [`laws::one_canonical_list`] their order does not matter.
+//! - [`escape_into`] writes a path as Ninja reads it (`specs/Escapes.antt`). By [`laws::one_meaning`]
+//!   an escaped path stands for one value.
+//! - [`LineCutter`] divides bytes that arrive in pieces into logical lines, which are those of the
+//!   whole text (`specs/Lines.antt`, `specs/Cutting.antt`). [`LineReader`] reads them into a
+//!   [`LineState`], up to the first line that is rejected (`specs/LineReading.antt`).
+//! - `specs/LineFormats.antt` defines, for all formats whose lines fall into classes, which value a
+//!   text stands for and which error it has, and `specs/FormatReading.antt` what a reader has read.
 //! - [`words`] returns the tokens of a line (`specs/Tokens.antt`), and [`assignment`] its name and value
-//!   (`specs/Assignments.antt`), or the first lexical error (`specs/Lexical.antt`). These definitions
-//!   speak of whole texts and do not mention pieces.
+//!   (`specs/Assignments.antt`), or the first lexical error (`specs/Lexical.antt`).
 //! - [`laws`] proves that a text is divided into lines, and a line into tokens, in one way only, and
 //!   that readers and writers of words agree (`specs/Meanings.antt`).
 //! - [`Counted`] counts the failed calls of a reader or a writer (`specs/Counting.antt`).
 //! - [`Failure`] is the error type of calls that allocate memory (`specs/Failure.antt`).
-//! - `specs/FaultTexts.antt` defines how [`PathFault`], [`CutFault`] and [`LexFault`] are printed, and
-//!   `specs/Firsts.antt` has words for the first of several errors, for the crates above.
+//! - `specs/FaultTexts.antt` defines how faults are printed, and `specs/Firsts.antt` has words for the
+//!   first of several errors, for the crates above.
 //!
 //! Definitions that only private contracts use are in `specs/inner/`. Lemmas for other crates are in
 //! `proofs/ForCallers.antt`.
 //!
 //! `must-fail/` has a wrong body of each public function, except for laws, which have no body, and for
-//! [`Failure::map`] and [`Counted::into_inner`], which can only pass on values of any type. Functions
-//! that return one field each have clauses of the same form, which `token_begins_at_its_end` shows. For
-//! constructors and for what is kept from call to call, see `lines_numbered_from_0`,
-//! `failed_calls_are_not_counted` and `refusal_forgotten`. `escapes_stay_in_a_value` shows the clause
-//! of both functions `value_into`.
+//! [`Failure::map`] and [`Counted::into_inner`], which can only pass on values of any type.
+//! `token_begins_at_its_end` stands for all functions that return one field, and
+//! `escapes_stay_in_a_value` for both functions `value_into`. For constructors and for what is kept
+//! from call to call, see `lines_numbered_from_0`, `failed_calls_are_not_counted` and
+//! `refusal_forgotten`.
 #![tactic(auto)]
 
 mod assigning;
 mod assignments;
-mod calls;
 mod counting;
 mod cutter;
 mod escapes;
@@ -49,7 +43,6 @@ pub mod laws;
 mod lexing;
 mod line;
 mod line_reader;
-mod meaning;
 mod paths;
 mod reduction;
 mod scan;
@@ -58,8 +51,7 @@ mod unit;
 
 pub use assigning::assignment;
 pub use assignments::Assignment;
-pub use calls::{ReadCall, WriteCall};
-pub use counting::{Counted, Stopped};
+pub use counting::{Counted, ReadCall, Stopped, WriteCall};
 pub use cutter::LineCutter;
 pub use escapes::{escape_into, is_writable};
 pub use failure::Failure;

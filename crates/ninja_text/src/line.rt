@@ -1,5 +1,6 @@
 //! Logical lines.
 ghost use Rattle.std.specs.Prelude.{◌≡◌};
+ghost use Rattle.ninja_text.specs.LineViews.{seen_line};
 
 /// The maximum length of a logical line in bytes, including its end.
 pub const LINE_LIMIT: usize = 1_048_576;
@@ -13,8 +14,6 @@ pub struct Line<'a> {
 }
 
 impl<'a> Line<'a> {
-    ghost use Rattle.ninja_text.specs.LineViews.{seen_line};
-
     /// Returns the line without its end. Continuations are included as they were read.
     pub fn text(&self) -> &'a [u8]
         ensures { result.now ≡ (seen_line self.now).text }

@@ -1,11 +1,12 @@
 //! Reads the lines of a text that arrives in pieces into a state, one by one.
-ghost use Rattle.std.specs.Prelude.{◌≡◌, ℕ, List, ◌++◌, false};
+ghost use Rattle.std.specs.Prelude.{◌≡◌, ℕ, List, [], ◌++◌, false, None, Some, Err};
 ghost use Rattle.ninja_text.specs.Bytes.{Bytes};
 ghost use Rattle.ninja_text.specs.Lines.{LogicalLine};
 ghost use Rattle.ninja_text.specs.LineViews.{seen_line};
-ghost use Rattle.ninja_text.specs.LineReading.{ReadsLine, HasLent};
+ghost use Rattle.ninja_text.specs.LineReading.{ReadsLine, HasLent, LinesRead, HasLentAll, StaysRefused, FeedsLines, EndsLines};
 ghost use Rattle.ninja_text.specs.inner.PieceReading.{ReadsPiece, failure_of};
 ghost use Rattle.ninja_text.specs.declared.fault.CutFault.{CutFault};
+ghost use Rattle.ninja_text.specs.declared.failure.Failure.{Failure};
 
 use crate::cutter::LineCutter;
 use crate::failure::Failure;
@@ -56,23 +57,14 @@ pub struct LineReader<S, F> {
 }
 
 impl<S, F> Model for LineReader<S, F> {
-    ghost use Rattle.ninja_text.specs.LineReading.{LinesRead};
-
     ghost Value = { LinesRead S F };
 
     ghost view = { λ r. record { cutter = r.cutter; state = r.state; failed = r.failed } };
-
-    ghost use Rattle.std.specs.Prelude.{◌≡◌, false};
 
     ghost invariant = { λ r. r.cutter.waits ≡ false };
 }
 
 impl<F: Copy, S: LineState<Fault = F> + Drop> LineReader<S, F> {
-    ghost use Rattle.ninja_text.specs.Bytes.{Bytes};
-    ghost use Rattle.std.specs.Prelude.{[], None, Some, Err};
-    ghost use Rattle.ninja_text.specs.LineReading.{HasLentAll, StaysRefused, FeedsLines, EndsLines};
-    ghost use Rattle.ninja_text.specs.declared.failure.Failure.{Failure};
-
     /// Returns a reader that has read nothing. It does not allocate.
     pub fn new(alloc: Global, state: S) -> LineReader<S, F>
         ensures nothing { HasLentAll [] [] result }
@@ -104,13 +96,9 @@ impl<F: Copy, S: LineState<Fault = F> + Drop> LineReader<S, F> {
         if let Some(failure) = self.failed {
             return Err(failure);
         }
-        match read_piece(self.alloc, &mut self.cutter, &mut self.state, piece) {
-            Ok(()) => Ok(()),
-            Err(failure) => {
-                self.failed = Some(failure);
-                Err(failure)
-            }
-        }
+        let read = read_piece(self.alloc, &mut self.cutter, &mut self.state, piece);
+        self.failed = read.err();
+        read
     }
 
     /// Returns the state after all lines, and the number of the line that would come next.
@@ -124,10 +112,10 @@ impl<F: Copy, S: LineState<Fault = F> + Drop> LineReader<S, F> {
             → EndsLines S.of_cutter bytes lent self.state result }
     {
         let LineReader {
-            alloc: _,
             cutter,
             state,
             failed,
+            ..
         } = self;
         if let Some(failure) = failed {
             return Err(failure);

@@ -1,6 +1,13 @@
 //! Canonical paths.
-ghost use Rattle.std.specs.Prelude.{◌≡◌, ◌∷◌, ◌++◌, [], Ok, IfOk, IsUtf8, true, option_map, option_copied};
+ghost use Rattle.std.specs.Prelude.{◌≡◌, ◌∷◌, ◌++◌, [], length, bytes_eq, Ok, IfOk, IsUtf8, true, option_map, option_copied};
 ghost use Rattle.std.specs.Option.{ForSome};
+ghost use Rattle.std.specs.Cmp.{partial_equiv_from_equiv, partial_order_from_own_ties};
+ghost use Rattle.std.specs.Cmp.Rules.{comparing, hashing};
+ghost use Rattle.std.specs.Cmp.Lexicographic.{slice_cmp};
+ghost use Rattle.std.specs.Ordering.{nat_cmp, as_partial_cmp};
+ghost use Rattle.std.specs.Hash as fed;
+ghost use Rattle.std.proofs.Common.{rules};
+ghost use Rattle.std.proofs.lemmas.Cmp.{nat_list_eq_equiv};
 ghost use Rattle.ninja_text.specs.Bytes.{Text};
 ghost use Rattle.ninja_text.specs.Failure.{Gives};
 ghost use Rattle.ninja_text.specs.Escapes.{IsWritable};
@@ -84,12 +91,9 @@ impl Path {
     pub fn copy(&self, alloc: Global) -> Result<Path, AllocError>
         ensures { IfOk result (λ copy. copy ≡ self.now) }
     {
-        match self.text.clone() {
-            Ok(text) => Ok(Path { text }),
-            Err(_) => Ok(Path {
-                text: RcSlice::from_slice(alloc, &self.text)?,
-            }),
-        }
+        let shared: Result<_, _> = self.text.clone();
+        let text = shared.or_else(|_| RcSlice::from_slice(alloc, &self.text))?;
+        Ok(Path { text })
     }
 }
 
@@ -202,10 +206,6 @@ fn below<'t>(build: &Path, list: &'t [u8]) -> Option<&'t [u8]>
 
 /// Two paths are equal if their canonical strings are.
 impl PartialEq for Path {
-    ghost use Rattle.std.specs.Prelude.{bytes_eq};
-    ghost use Rattle.std.specs.Cmp.{partial_equiv_from_equiv};
-    ghost use Rattle.std.proofs.lemmas.Cmp.{nat_list_eq_equiv};
-
     ghost eq = { bytes_eq };
 
     ghost laws = { partial_equiv_from_equiv nat_list_eq_equiv };
@@ -216,18 +216,11 @@ impl PartialEq for Path {
 }
 
 impl Eq for Path {
-    ghost use Rattle.std.proofs.lemmas.Cmp.{nat_list_eq_equiv};
-
     ghost laws = { nat_list_eq_equiv };
 }
 
 /// Paths are ordered as their canonical strings, byte by byte.
 impl Ord for Path {
-    ghost use Rattle.std.proofs.Common.{rules};
-    ghost use Rattle.std.specs.Cmp.Rules.{comparing};
-    ghost use Rattle.std.specs.Ordering.{nat_cmp};
-    ghost use Rattle.std.specs.Cmp.Lexicographic.{slice_cmp};
-
     ghost cmp = { slice_cmp nat_cmp };
 
     ghost total = { Prim.search (comparing, rules) };
@@ -242,12 +235,6 @@ impl Ord for Path {
 }
 
 impl PartialOrd for Path {
-    ghost use Rattle.std.proofs.Common.{rules};
-    ghost use Rattle.std.specs.Cmp.{partial_order_from_own_ties};
-    ghost use Rattle.std.specs.Cmp.Rules.{comparing};
-    ghost use Rattle.std.specs.Ordering.{nat_cmp, as_partial_cmp};
-    ghost use Rattle.std.specs.Cmp.Lexicographic.{slice_cmp};
-
     ghost partial_cmp = { as_partial_cmp (slice_cmp nat_cmp) };
 
     ghost laws = { partial_order_from_own_ties
@@ -260,11 +247,6 @@ impl PartialOrd for Path {
 
 /// Hashes the length and then all bytes in one call, so that a hasher can read whole words.
 impl Hash for Path {
-    ghost use Rattle.std.specs.Prelude.{length};
-    ghost use Rattle.std.proofs.Common.{rules};
-    ghost use Rattle.std.specs.Cmp.Rules.{hashing};
-    ghost use Rattle.std.specs.Hash as fed;
-
     ghost hash_input = { λ p. fed.usize (length p) ++ p ∷ [] };
 
     ghost respects_eq = { Prim.search (hashing, rules) };

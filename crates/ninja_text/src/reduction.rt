@@ -1,8 +1,7 @@
 //! The canonical list of a path's components.
 //!
 //! The list is kept as a string: the components joined by slashes, without the first slash of an
-//! absolute path. It is never longer than the path that is read. If all components are names, the
-//! path is copied as a whole. Otherwise one pass over the components makes the list.
+//! absolute path. It is never longer than the path that is read.
 ghost use Rattle.std.specs.Prelude.{◌≡◌, ◌≢◌, ℕ, ◌+◌, ◌-◌, ◌<◌, ◌≤◌, ◌==◌, ◌&&◌, ◌||◌, List, [], ◌∷◌, ◌++◌, length, slice_index, take, MatchOption, IfOk, OnOk, true, false, position};
 ghost use Rattle.std.specs.List.{list_any};
 ghost use Rattle.ninja_text.specs.Bytes.{Component, slash};
@@ -55,10 +54,7 @@ pub(crate) fn is_unwritable(byte: &u8) -> bool
 pub(crate) fn is_rooted(text: &[u8]) -> bool
     ensures { result ≡ is_rooted text.now }
 {
-    match text {
-        [first, ..] => *first == b'/',
-        [] => false,
-    }
+    matches!(text, [b'/', ..])
 }
 
 /// Adds a component to a canonical list and makes the list canonical again.

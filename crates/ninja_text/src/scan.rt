@@ -39,10 +39,18 @@ pub(crate) fn scan_bytes(index: usize, from: ScanState, bytes: &[u8]) -> Scanned
             continue;
         }
         let at = index + i;
-        match next_state(state, *byte) {
-            Some(next) => state = next,
-            None => return line_ended(at, state),
-        }
+        let Some(next) = next_state(state, *byte) else {
+            // A CR just before the LF belongs to the end of the line.
+            let text_len = match state {
+                ScanState::Return | ScanState::CommentReturn => at.saturating_sub(1),
+                _ => at,
+            };
+            return Scanned::End {
+                text_len,
+                line_len: at + 1,
+            };
+        };
+        state = next;
     }
     Scanned::Open(state)
 }
@@ -64,20 +72,5 @@ fn next_state(state: ScanState, byte: u8) -> Option<ScanState>
         (_, b'\r') => Some(ScanState::Return),
         (_, b'$') => Some(ScanState::Dollar),
         (_, _) => Some(ScanState::Plain),
-    }
-}
-
-/// Returns the end of a line whose LF is at this offset. A CR just before it belongs to the end.
-fn line_ended(index: usize, before: ScanState) -> Scanned
-    requires { index + 1 < 2 ^ 64 }
-    ensures { result ≡ scan_end index before }
-{
-    let text_len = match before {
-        ScanState::Return | ScanState::CommentReturn => index.saturating_sub(1),
-        _ => index,
-    };
-    Scanned::End {
-        text_len,
-        line_len: index + 1,
     }
 }

@@ -2,7 +2,7 @@
 ghost use Rattle.std.specs.Prelude.{◌≡◌, ◌≤◌, length};
 
 use crate::lexing::{blank_end, token_at};
-use crate::meaning::append_meaning;
+use crate::unit::append_meaning;
 use std::alloc::AllocError;
 
 /// The kind of a token.

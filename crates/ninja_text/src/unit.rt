@@ -1,7 +1,10 @@
-//! The units of a line: single bytes, escapes and continuations.
-ghost use Rattle.std.specs.Prelude.{◌≡◌, ◌∷◌, ◌+◌, ◌<◌, ◌≤◌, length, drop};
-ghost use Rattle.ninja_text.specs.Units.{units, unit_len};
+//! The units of a line: single bytes, escapes and continuations, and what they stand for.
+ghost use Rattle.std.specs.Prelude.{◌≡◌, ◌∷◌, ◌++◌, ◌+◌, ◌<◌, ◌≤◌, length, drop, OnOk, OnErr};
+ghost use Rattle.ninja_text.specs.Units.{units, unit_len, is_byte};
+ghost use Rattle.ninja_text.specs.Tokens.{unit_value, value_of};
 ghost use Rattle.ninja_text.specs.inner.Runs.{spaces_at};
+
+use std::alloc::AllocError;
 
 /// A unit of a line that is not a comment.
 #[derive(Clone, Copy)]
@@ -15,8 +18,6 @@ pub(crate) enum LineUnit {
 }
 
 impl LineUnit {
-    ghost use Rattle.ninja_text.specs.Units.{is_byte};
-
     /// Returns its length in the text.
     pub(crate) fn len(&self) -> usize
         ensures { result ≡ unit_len self.now }
@@ -67,6 +68,33 @@ pub(crate) fn unit_at(text: &[u8], index: usize) -> LineUnit
         return LineUnit::Continuation(3 + leading_spaces(&bytes[3..]));
     }
     LineUnit::Escape(second)
+}
+
+/// Appends what the bytes of a word or a value stand for. If an allocation fails, the vector is
+/// unchanged.
+pub(crate) fn append_meaning(raw: &[u8], out: &mut Vec<u8>) -> Result<(), AllocError>
+    ensures ok { OnOk result (out.new.items ≡ out.old.items ++ value_of raw.now) }
+    ensures err { OnErr result (out.new.items ≡ out.old.items) }
+{
+    // Without a `$`, each byte stands for itself.
+    if !raw.contains(&b'$') {
+        return out.extend_from_slice(raw);
+    }
+    let before = out.len();
+    let mut index = 0;
+    while index < raw.len() {
+        let unit = unit_at(raw, index);
+        let appended = match unit {
+            LineUnit::Continuation(_) => Ok(()),
+            LineUnit::Escape(byte) | LineUnit::Byte(byte) => out.extend_from_slice(&[byte]),
+        };
+        if let Err(e) = appended {
+            out.truncate(before);
+            return Err(e);
+        }
+        index += unit.len();
+    }
+    Ok(())
 }
 
 /// Returns the number of spaces at the front.

@@ -25,9 +25,8 @@ pub(crate) fn read_tree(alloc: Global, bytes: &[u8]) -> Result<Value, Failure<Do
     ensures refused { IfErr result (λ e. e ≢ Memory → IsNoTree bytes.now e) }
 {
     if bytes.len() > DOCUMENT_LIMIT {
-        return Err(Failure::Fault(DocFault::TooLarge {
-            place: Place::Document,
-        }));
+        let place = Place::Document;
+        return Err(Failure::Fault(DocFault::TooLarge { place }));
     }
     match Value::from_slice(alloc, bytes) {
         Ok(tree) => Ok(tree),

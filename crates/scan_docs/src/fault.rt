@@ -42,10 +42,9 @@ impl fmt::Display for Place {
             Place::Provides { rule, entry } => write!(f, "rule {rule} provides {entry}"),
             Place::Requires { rule, entry } => write!(f, "rule {rule} requires {entry}"),
             Place::Module { number } => write!(f, "module {number}"),
-            Place::ModuleRequires { number, entry } => write!(
-                f,
-                "module {number} requires {entry}"
-            ),
+            Place::ModuleRequires { number, entry } => {
+                write!(f, "module {number} requires {entry}")
+            }
         }
     }
 }
@@ -112,9 +111,5 @@ pub(crate) fn path_at(
     ensures { (outcome : Result PathText PathFault) → Gives (λ path. path) read outcome
         → AnswersPath place outcome result }
 {
-    match read {
-        Ok(path) => Ok(path),
-        Err(Failure::Memory) => Err(Failure::Memory),
-        Err(Failure::Fault(fault)) => Err(Failure::Fault(DocFault::BadPath { place, fault })),
-    }
+    read.map_err(|failure| failure.map(|fault| DocFault::BadPath { place, fault }))
 }

@@ -1,15 +1,13 @@
 //! Info documents: what a target tells the targets that link it.
 
-ghost use Rattle.std.specs.Prelude.{◌≡◌, Some, Ok, IfOk, IfErr};
+ghost use Rattle.std.specs.Prelude.{◌≡◌, Some, IfOk, IfErr};
 ghost use Rattle.ninja_text.specs.Failure.{ForFault};
-ghost use Rattle.ninja_text.specs.Paths.{path_of};
 ghost use Rattle.serde_json.specs.View.{view};
 ghost use Rattle.scan_docs.specs.inner.Reading.{Answers};
 ghost use Rattle.scan_docs.specs.Document.{IsAccepted, IsRefused, HasOneAnswer};
 ghost use Rattle.scan_docs.specs.Shape.{text};
-ghost use Rattle.scan_docs.specs.Scan.{IsText};
 ghost use Rattle.scan_docs.specs.Info.{privacy, IsRequirement, IsModule, IsInfo};
-ghost use Rattle.scan_docs.specs.InfoChecks.{entry_shape_checks, visibility_check, named_file_checks, requirement_checks, module_checks, info_checks};
+ghost use Rattle.scan_docs.specs.InfoChecks.{entry_shape_checks, visibility_check, requirement_checks, module_checks, info_checks};
 ghost use Rattle.scan_docs.specs.InfoText.{IsInfoText};
 ghost use Rattle.scan_docs.specs.Values.{info_of};
 ghost use Rattle.scan_docs.specs.declared.member.Member.TheVariants as m;
@@ -109,7 +107,7 @@ fn names_of_modules(alloc: Global, modules: &[Value]) -> Result<Vec<u8>, AllocEr
     Ok(names)
 }
 
-#[tactic(auto, unfolding(crate::specs::InfoChecks::module_checks, crate::specs::InfoChecks::requires_check), using(crate::proofs::Each::failure_of_both))]
+#[tactic(auto, unfolding(crate::specs::InfoChecks::module_checks, crate::specs::InfoChecks::requires_check, crate::specs::InfoChecks::named_file_checks), using(crate::proofs::Each::failure_of_both))]
 fn read_module(
     alloc: Global,
     names: &mut SharedNames,
@@ -124,7 +122,8 @@ fn read_module(
     let (name, path) = read_entry_texts(place, value)?;
     let requirements = shape::required_entries(value, Member::Requires, place)?;
     let is_private = read_visibility(with_visibility, place, value)?;
-    let (name, file) = read_named_file(alloc, names, place, name, path)?;
+    let name = names.read(alloc, name, place)?;
+    let file = path_at(place, Path::of(alloc, path.as_bytes()))?;
     let mut required = Vec::with_capacity(alloc, requirements.len())?;
     for (entry, requirement) in requirements.iter().enumerate() {
         let place = Place::ModuleRequires {
@@ -177,23 +176,7 @@ fn read_visibility(
     }
 }
 
-#[tactic(auto, unfolding(crate::specs::InfoChecks::named_file_checks))]
-fn read_named_file(
-    alloc: Global,
-    names: &mut SharedNames,
-    place: Place,
-    name: &str,
-    path: &str,
-) -> Result<(Name, Path), Failure<DocFault>>
-    ensures { Answers (named_file_checks place name.now path.now)
-        (λ found. (found.0 ≡ name.now) × (path_of path.now ≡ Ok found.1) × IsText found.1) result }
-{
-    let name = names.read(alloc, name, place)?;
-    let file = path_at(place, Path::of(alloc, path.as_bytes()))?;
-    Ok((name, file))
-}
-
-#[tactic(auto, unfolding(crate::specs::InfoChecks::requirement_checks), using(crate::proofs::Each::failure_of_both))]
+#[tactic(auto, unfolding(crate::specs::InfoChecks::requirement_checks, crate::specs::InfoChecks::named_file_checks), using(crate::proofs::Each::failure_of_both))]
 fn read_requirement(
     alloc: Global,
     names: &mut SharedNames,
@@ -204,5 +187,7 @@ fn read_requirement(
         (IsRequirement (view value.now)) result }
 {
     let (name, path) = read_entry_texts(place, value)?;
-    read_named_file(alloc, names, place, name, path)
+    let name = names.read(alloc, name, place)?;
+    let file = path_at(place, Path::of(alloc, path.as_bytes()))?;
+    Ok((name, file))
 }

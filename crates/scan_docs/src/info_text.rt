@@ -1,10 +1,9 @@
 //! The text of an info document, written from borrowed parts.
 
 ghost use Rattle.std.specs.Prelude.{◌≡◌, IfOk, OnOk, Ok};
-ghost use Rattle.std.specs.List.{All};
 ghost use Rattle.serde_json.specs.Events.{SendsValue};
 ghost use Rattle.scan_docs.specs.Scan.{IsText};
-ghost use Rattle.scan_docs.specs.InfoText.{requirements_tree, module_tree, info_tree, info_text, IsModuleText, IsInfoText, ReadsBack};
+ghost use Rattle.scan_docs.specs.InfoText.{module_tree, info_tree, info_text, IsModuleText, IsInfoText, ReadsBack};
 ghost use Rattle.scan_docs.specs.Sound.{IsSoundPair, IsSoundModule, IsSoundInfo};
 ghost use Rattle.scan_docs.specs.inner.Writing.{SendsText, BeginsNamedFile};
 
@@ -91,8 +90,7 @@ pub fn lent_info_write(alloc: Global, info: &LentInfo<'_>) -> Result<Vec<u8>, Al
     ensures text { IfOk result (λ text. text.items ≡ info_text info.now) }
     ensures reads_back { IfOk result (λ text. ReadsBack info.now text.items) }
 {
-    let document = InfoDocument { info };
-    serde_json::to_vec(alloc, &document).map_err(|_| AllocError)
+    serde_json::to_vec(alloc, &InfoDocument { info }).map_err(|_| AllocError)
 }
 
 /// The document of an info whose paths are UTF-8.
@@ -141,8 +139,14 @@ fn send_module<S: Serializer>(out: &mut S, entry: &LentModule<'_>) -> Result<(),
     ensures sound { OnOk result (IsSoundModule entry.now) }
 {
     begin_named_file(out, 4, entry.name, entry.file)?;
+    let required = entry.required;
     out.key("requires")?;
-    send_requirements(out, entry.required)?;
+    out.begin_seq(Some(required.len()))?;
+    for pair in required {
+        begin_named_file(out, 2, &pair.0, &pair.1)?;
+        out.end_map()?;
+    }
+    out.end_seq()?;
     let visibility = if entry.is_private {
         "private"
     } else {
@@ -150,20 +154,6 @@ fn send_module<S: Serializer>(out: &mut S, entry: &LentModule<'_>) -> Result<(),
     };
     send_text(out, "visibility", visibility)?;
     out.end_map()
-}
-
-fn send_requirements<S: Serializer>(out: &mut S, pairs: &[(Name, Path)]) -> Result<(), S::Error>
-    requires { All (λ pair. IsText pair.1) pairs.now }
-    ensures sent { OnOk result
-        (SendsValue (requirements_tree pairs.now) (S.written out.old) (S.written out.new)) }
-    ensures sound { OnOk result (All (λ pair. IsSoundPair pair.0 pair.1) pairs.now) }
-{
-    out.begin_seq(Some(pairs.len()))?;
-    for pair in pairs {
-        begin_named_file(out, 2, &pair.0, &pair.1)?;
-        out.end_map()?;
-    }
-    out.end_seq()
 }
 
 /// Begins an object with the members that a module and a requirement have in common.
@@ -179,9 +169,8 @@ fn begin_named_file<S: Serializer>(
     ensures sound { OnOk result (IsSoundPair name.now file.now) }
 {
     out.begin_map(Some(members))?;
-    let path = match str::from_utf8(file.bytes()) {
-        Ok(path) => path,
-        Err(_) => unreachable!(),
+    let Ok(path) = str::from_utf8(file.bytes()) else {
+        unreachable!();
     };
     send_text(out, "bmi", path)?;
     send_text(out, "name", name.text())

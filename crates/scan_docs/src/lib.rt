@@ -4,28 +4,22 @@
 //! - [`scan`] reads the rules of a scan document, [`info_read`] what a target tells the targets
 //!   that link it, [`spec_read`] what a target is made of, and [`project_read`] which target
 //!   documents a project has. Each returns what the document means if all checks hold, and otherwise
-//!   the fault of the first check that fails. The checks are lists in `specs/ScanChecks.antt`,
-//!   `specs/InfoChecks.antt`, `specs/TargetChecks.antt` and `specs/ProjectChecks.antt`. The meanings
-//!   are in `specs/Scan.antt`, `specs/Info.antt`, `specs/Target.antt` and `specs/Project.antt`;
-//!   `specs/Document.antt` puts them together. `specs/Values.antt` gives the meaning as a function
-//!   of the bytes.
+//!   the fault of the first check that fails. The checks are lists, `specs/ScanChecks.antt` and so
+//!   on; the meanings are in `specs/Scan.antt` and so on. `specs/Document.antt` puts them together,
+//!   and `specs/Values.antt` gives the meaning as a function of the bytes.
 //! - `document` makes a tree of a document's bytes by `serde_json` and reads its version, and
 //!   `shape` returns members of the tree that have a type. The names of a scan document or an info
 //!   document share one string (`SharedNames` in `name`), which is collected from the tree first.
 //!   The tree is dropped once the value is made.
-//! - [`laws`] proves that all bytes have one result at most, and that the value of an accepted
-//!   document is the value of the function.
-//! - [`info_write`] returns the one text of an info (`specs/InfoText.antt`), which is read as the
-//!   same info. [`lent_info_write`] does so for an info whose parts are borrowed. The law
-//!   [`laws::info_again`] says so of the text of every sound info (`specs/Sound.antt`).
+//! - [`info_write`] returns the one text of an info (`specs/InfoText.antt`), and [`lent_info_write`]
+//!   does so for an info whose parts are borrowed. The text is read as the same info, which
+//!   `proofs/InfoTexts.antt` proves over what `serde_json` says a text is read as.
+//! - [`laws`] proves that all bytes have one result at most, that the value of an accepted document
+//!   is the value of the function, and that the text of every sound info (`specs/Sound.antt`) is
+//!   read as that info.
 //! - [`Name`] and [`TargetName`] hold strings that are names (`specs/Name.antt`).
 //! - [`DocFault`], [`Place`] and [`Member`] print themselves (`specs/FaultTexts.antt`,
 //!   `specs/Place.antt`, `specs/Member.antt`).
-//!
-//! Paths are those of `ninja_text`; JSON (RFC 8259) is read and written by `serde_json`. That the
-//! text of an info is read as that info is proved over what `serde_json` says a text is read as:
-//! the tokens of the text, what they are parsed as, and that the text is UTF-8, in
-//! `proofs/InfoTexts.antt`.
 //!
 //! `must-fail/` has a wrong body for each public function except the laws, which have no bodies.
 //! The clause that rejects `name_bytes_of_another` is also that of [`Name::text`] and
@@ -42,10 +36,7 @@ pub mod laws;
 mod map_form;
 mod member;
 mod name;
-mod project_document;
-mod rule;
 mod scan_document;
-mod setting;
 mod shape;
 mod target_document;
 mod target_name;
@@ -57,9 +48,6 @@ pub use info_text::{LentInfo, LentModule, info_write, lent_info_write};
 pub use map_form::MapForm;
 pub use member::Member;
 pub use name::{NAME_LIMIT, Name};
-pub use project_document::{ProjectSpec, project_read};
-pub use rule::Rule;
-pub use scan_document::{COUNT_LIMIT, scan};
-pub use setting::Setting;
-pub use target_document::{TargetSpec, spec_read};
+pub use scan_document::{COUNT_LIMIT, Rule, scan};
+pub use target_document::{ProjectSpec, Setting, TargetSpec, project_read, spec_read};
 pub use target_name::TargetName;

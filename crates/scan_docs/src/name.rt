@@ -1,6 +1,6 @@
 //! Names of modules.
 
-ghost use Rattle.std.specs.Prelude.{◌≡◌, ◌==◌, ◌&&◌, IfOk, IsTrue, IsUtf8};
+ghost use Rattle.std.specs.Prelude.{◌≡◌, IfOk, IsTrue, IsUtf8};
 ghost use Rattle.std.specs.Option.{SomeIff};
 ghost use Rattle.scan_docs.specs.Check.{◌otherwise◌};
 ghost use Rattle.scan_docs.specs.inner.Reading.{Tests};
@@ -33,7 +33,7 @@ pub struct Name {
 }
 
 impl Model for Name {
-    ghost use Rattle.std.specs.Prelude.{ℕ, ◌≤◌, List, length, slice_range, IsTrue, IsUtf8};
+    ghost use Rattle.std.specs.Prelude.{◌≤◌, length, slice_range, IsTrue, IsUtf8};
     ghost use Rattle.std.specs.Rc.{rc_slice_items};
     ghost use Rattle.ninja_text.specs.Bytes.{Bytes};
     ghost use Rattle.scan_docs.specs.Name.{is_name};
@@ -59,8 +59,7 @@ impl Name {
         if !is_name(text.as_bytes()) {
             return Ok(None);
         }
-        let name = Name::with_own_text(alloc, text.as_bytes())?;
-        Ok(Some(name))
+        Ok(Some(Name::with_own_text(alloc, text.as_bytes())?))
     }
 
     fn with_own_text(alloc: Global, text: &[u8]) -> Result<Name, AllocError>

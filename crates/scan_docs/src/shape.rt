@@ -31,10 +31,7 @@ pub(crate) fn check_object(
 pub(crate) fn given<'v>(object: &'v Value, member: Member) -> Option<&'v Value>
     ensures { option_map (λ v. view v.now) result ≡ given member (view object.now) }
 {
-    match object.get(member.key()) {
-        Some(value) if !value.is_null() => Some(value),
-        _ => None,
-    }
+    object.get(member.key()).filter(|value| !value.is_null())
 }
 
 /// Returns the member's entries, if it is an array.
@@ -42,10 +39,9 @@ pub(crate) fn given<'v>(object: &'v Value, member: Member) -> Option<&'v Value>
 fn array<'v>(object: &'v Value, member: Member) -> Option<&'v [Value]>
     ensures { option_map (λ vs. map view vs.now) result ≡ entries member (view object.now) }
 {
-    match given(object, member).and_then(Value::as_array) {
-        Some(list) => Some(list.as_slice()),
-        None => None,
-    }
+    given(object, member)
+        .and_then(Value::as_array)
+        .map(Vec::as_slice)
 }
 
 /// Returns the member's string, or `None` if the member is absent or null.
@@ -59,10 +55,7 @@ pub(crate) fn text<'v>(
 {
     match given(object, member) {
         None => Ok(None),
-        Some(value) => match value.as_str() {
-            Some(text) => Ok(Some(text)),
-            None => Err(bad_shape(place, member)),
-        },
+        Some(value) => value.as_str().map(Some).ok_or(bad_shape(place, member)),
     }
 }
 
@@ -75,10 +68,9 @@ pub(crate) fn required_text<'v>(
     ensures { Tests (shape_check place member (is_some (text member (view object.now))))
         (λ t. text member (view object.now) ≡ Some t.now) result }
 {
-    match given(object, member).and_then(Value::as_str) {
-        Some(text) => Ok(text),
-        None => Err(bad_shape(place, member)),
-    }
+    given(object, member)
+        .and_then(Value::as_str)
+        .ok_or(bad_shape(place, member))
 }
 
 /// Returns a copy of the member's string. The member is required.
@@ -106,10 +98,7 @@ pub(crate) fn flag(
 {
     match given(object, member) {
         None => Ok(None),
-        Some(value) => match value.as_bool() {
-            Some(flag) => Ok(Some(flag)),
-            None => Err(bad_shape(place, member)),
-        },
+        Some(value) => value.as_bool().map(Some).ok_or(bad_shape(place, member)),
     }
 }
 
@@ -137,10 +126,7 @@ pub(crate) fn required_entries<'v>(
     ensures { Tests (shape_check place member (is_some (entries member (view object.now))))
         (λ vs. entries member (view object.now) ≡ Some (map view vs.now)) result }
 {
-    match array(object, member) {
-        Some(list) => Ok(list),
-        None => Err(bad_shape(place, member)),
-    }
+    array(object, member).ok_or(bad_shape(place, member))
 }
 
 /// Returns the member's strings, or none if the member is absent or null.
@@ -187,10 +173,8 @@ pub(crate) fn push_text(
     object: &Value,
     member: Member,
 ) -> Result<(), AllocError> {
-    match given(object, member).and_then(Value::as_str) {
-        Some(text) => texts.extend_from_slice(text.as_bytes()),
-        None => Ok(()),
-    }
+    let text = given(object, member).and_then(Value::as_str).unwrap_or("");
+    texts.extend_from_slice(text.as_bytes())
 }
 
 /// Appends a member's string of each entry of a list, if the object has the list.
@@ -200,8 +184,7 @@ pub(crate) fn push_texts(
     list: Member,
     member: Member,
 ) -> Result<(), AllocError> {
-    let entries = array(object, list).unwrap_or(&[]);
-    for entry in entries {
+    for entry in array(object, list).unwrap_or(&[]) {
         push_text(texts, entry, member)?;
     }
     Ok(())

@@ -1,19 +1,19 @@
-//! Target documents.
+//! Target documents, and project documents, which list them.
 
-ghost use Rattle.std.specs.Prelude.{◌≡◌, Some, true, IfOk, IfErr, is_none, is_some, ◌||◌, map, string_bytes, option_map};
+ghost use Rattle.std.specs.Prelude.{◌≡◌, Some, IfOk, IfErr, map, string_bytes, option_map};
 ghost use Rattle.std.specs.List.{list_all};
-ghost use Rattle.std.specs.Option.{ForSome};
 ghost use Rattle.ninja_text.specs.Failure.{ForFault};
-ghost use Rattle.ninja_text.specs.Paths.{is_rooted};
 ghost use Rattle.serde_json.specs.View.{view};
-ghost use Rattle.scan_docs.specs.Check.{◌otherwise◌, shape_check};
+ghost use Rattle.scan_docs.specs.Check.{◌otherwise◌};
 ghost use Rattle.scan_docs.specs.inner.Reading.{Answers, Tests};
 ghost use Rattle.scan_docs.specs.Document.{IsAccepted, IsRefused, HasOneAnswer};
-ghost use Rattle.scan_docs.specs.Shape.{text, given};
+ghost use Rattle.scan_docs.specs.Shape.{text};
 ghost use Rattle.scan_docs.specs.Name.{is_name};
+ghost use Rattle.scan_docs.specs.Project.{IsProject};
+ghost use Rattle.scan_docs.specs.ProjectChecks.{project_checks};
 ghost use Rattle.scan_docs.specs.Target.{IsTarget, build_dir, map_form, restat};
 ghost use Rattle.scan_docs.specs.TargetChecks.{name_checks, directory_checks, file_checks, target_checks};
-ghost use Rattle.scan_docs.specs.Values.{spec_of};
+ghost use Rattle.scan_docs.specs.Values.{spec_of, project_of};
 ghost use Rattle.scan_docs.specs.declared.member.Member.TheVariants as m;
 
 use crate::document::{read_tree, read_version};
@@ -21,13 +21,40 @@ use crate::fault::{DocFault, Place, bad_shape, path_at};
 use crate::map_form::MapForm;
 use crate::member::Member;
 use crate::name::Name;
-use crate::setting::Setting;
 use crate::shape;
 use crate::target_name::TargetName;
 use ninja_text::{Failure, Path, place};
 use serde_json::Value;
 use std::alloc::Global;
 use std::marker::Model;
+
+/// The files that a target's modules are compiled to.
+#[derive(Drop)]
+pub struct Setting {
+    /// The directory of the BMIs, or an empty string.
+    pub module_dir: String,
+    /// The end of the name of a BMI.
+    pub module_ext: String,
+    /// The directory that Ninja runs in, which is absolute.
+    pub build_dir: Option<Path>,
+}
+
+impl Model for Setting {
+    ghost use Rattle.std.specs.Prelude.{◌≡◌, true, string_bytes};
+    ghost use Rattle.std.specs.Option.{ForSome};
+    ghost use Rattle.ninja_text.specs.Paths.{is_rooted};
+    ghost use Rattle.scan_docs.specs.Scan.{SettingValue};
+
+    ghost Value = { SettingValue };
+
+    ghost view = { λ s. record {
+      module_dir = string_bytes s.module_dir;
+      module_ext = string_bytes s.module_ext;
+      build_dir = s.build_dir;
+    } };
+
+    ghost invariant = { λ s. ForSome s.build_dir (λ path. is_rooted path ≡ true) };
+}
 
 /// The members of a target document. Strings are as in the document.
 #[derive(Drop)]
@@ -142,35 +169,22 @@ fn read_setting(alloc: Global, tree: &Value) -> Result<Setting, Failure<DocFault
         × (text m.ModuleExt (view tree.now) ≡ Some setting.module_ext)
         × (build_dir (view tree.now) ≡ setting.build_dir)) result }
 {
-    let module_dir = shape::owned_text(alloc, tree, Member::ModuleDir, Place::Document)?;
-    let module_ext = shape::owned_text(alloc, tree, Member::ModuleExt, Place::Document)?;
-    let build_dir = read_build_dir(alloc, tree)?;
+    let place = Place::Document;
+    let module_dir = shape::owned_text(alloc, tree, Member::ModuleDir, place)?;
+    let module_ext = shape::owned_text(alloc, tree, Member::ModuleExt, place)?;
+    let build_dir = match shape::text(tree, Member::BuildDir, place)? {
+        None => None,
+        Some(text) => match Path::of(alloc, text.as_bytes()) {
+            Ok(path) if path.is_rooted() => Some(path),
+            Err(Failure::Memory) => return Err(Failure::Memory),
+            _ => return Err(bad_shape(place, Member::BuildDir)),
+        },
+    };
     Ok(Setting {
         module_dir,
         module_ext,
         build_dir,
     })
-}
-
-fn read_build_dir(alloc: Global, tree: &Value) -> Result<Option<Path>, Failure<DocFault>>
-    ensures read { Tests (shape_check Place.Document m.BuildDir
-        (is_none (given m.BuildDir (view tree.now)) || is_some (build_dir (view tree.now))))
-        (λ path. build_dir (view tree.now) ≡ path) result }
-    ensures absolute { IfOk result (λ found. ForSome found (λ path. is_rooted path ≡ true)) }
-{
-    let refusal = bad_shape(Place::Document, Member::BuildDir);
-    let text = match shape::given(tree, Member::BuildDir) {
-        None => return Ok(None),
-        Some(value) => match value.as_str() {
-            Some(text) => text,
-            None => return Err(refusal),
-        },
-    };
-    match Path::of(alloc, text.as_bytes()) {
-        Ok(path) if path.is_rooted() => Ok(Some(path)),
-        Err(Failure::Memory) => Err(Failure::Memory),
-        _ => Err(refusal),
-    }
 }
 
 /// Returns the names of the strings, all of which have to be accepted.
@@ -220,4 +234,48 @@ fn read_outputs(
     };
     let restat = shape::flag(tree, Member::Restat, Place::Document)?;
     Ok((info, map, edges, restat.unwrap_or(false)))
+}
+
+/// The member of a project document. Strings are as in the document.
+#[derive(Drop)]
+pub struct ProjectSpec {
+    /// The target documents, in the order of the project.
+    pub targets: Vec<String>,
+}
+
+impl Model for ProjectSpec {
+    ghost use Rattle.std.specs.Prelude.{map, string_bytes};
+    ghost use Rattle.scan_docs.specs.Project.{ProjectValue};
+
+    ghost Value = { ProjectValue };
+
+    ghost view = { λ p. record { targets = map string_bytes p.targets.items } };
+}
+
+/// Returns the target documents of a project, in its order.
+///
+/// `version` has to be 1, and `targets` a list of strings, which may be empty. No file is accessed.
+///
+/// # Errors
+///
+/// Returns the fault of the first check that fails, or [`Failure::Memory`] if an allocation fails.
+pub fn project_read(alloc: Global, bytes: &[u8]) -> Result<ProjectSpec, Failure<DocFault>>
+    ensures accepted { IfOk result
+        (λ project. IsAccepted project_checks IsProject bytes.now project) }
+    ensures refused { IfErr result (ForFault (IsRefused project_checks bytes.now)) }
+    ensures value { IfOk result (λ project. project ≡ project_of bytes.now) }
+    ensures one_answer { HasOneAnswer project_checks IsProject bytes.now }
+{
+    let tree = read_tree(alloc, bytes)?;
+    read_project(alloc, &tree)
+}
+
+#[tactic(auto, unfolding(crate::specs::ProjectChecks::project_checks, crate::specs::ProjectChecks::targets_check), using(crate::proofs::Each::failure_of_both, crate::proofs::Exact::target_head))]
+fn read_project(alloc: Global, tree: &Value) -> Result<ProjectSpec, Failure<DocFault>>
+    ensures { Answers (project_checks (view tree.now))
+        (λ project. IsProject (view tree.now) project) result }
+{
+    read_version(tree, &[1])?;
+    let targets = shape::required_texts(alloc, tree, Member::Targets, Place::Document)?;
+    Ok(ProjectSpec { targets })
 }

@@ -1,6 +1,6 @@
 //! Names of targets.
 
-ghost use Rattle.std.specs.Prelude.{◌≡◌, ◌==◌, ◌&&◌, IfOk, IsTrue, not};
+ghost use Rattle.std.specs.Prelude.{◌≡◌, IfOk, IsTrue};
 ghost use Rattle.std.specs.Option.{SomeIff};
 ghost use Rattle.scan_docs.specs.Name.{is_target_name};
 
@@ -19,7 +19,7 @@ pub struct TargetName {
 
 impl Model for TargetName {
     ghost use Rattle.ninja_text.specs.Bytes.{Bytes};
-    ghost use Rattle.std.specs.Prelude.{ℕ, List, IsTrue, string_bytes};
+    ghost use Rattle.std.specs.Prelude.{IsTrue, string_bytes};
     ghost use Rattle.scan_docs.specs.Name.{is_target_name};
 
     ghost Value = { Bytes };

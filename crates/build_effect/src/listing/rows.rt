@@ -108,8 +108,7 @@ fn binding_row(alloc: Global, assignment: Option<Assignment<'_>>) -> Result<Row,
     }
 }
 
-/// Returns the build line whose tokens after the keyword `build` are these. Returns `None` if the
-/// tokens are not a build line.
+/// Returns what a build line says, by its tokens after `build`, or `None` if it is not a build line.
 fn edge_texts(alloc: Global, words: Words<'_>) -> Result<Option<EdgeTexts>, AllocError>
     ensures { IfOk result (λ texts. texts ≡ edge_texts (symbols_left words.entry)) }
 {

@@ -1,13 +1,14 @@
 //! The edges of the lines so far, and what the next line does to them.
-ghost use Rattle.std.specs.Prelude.{◌≡◌, ◌≢◌, [], IfOk};
+ghost use Rattle.std.specs.Prelude.{◌≡◌, ◌≢◌, [], IfOk, All};
 ghost use Rattle.ninja_text.specs.Failure.{Gives};
 ghost use Rattle.ninja_text.specs.LineViews.{seen_line};
-ghost use Rattle.build_effect.specs.inner.ListingWalk.{with_last_dyndep, with_last_restat, edge_paths, paths_of};
+ghost use Rattle.build_effect.specs.ListingSteps.{ListingValue};
+ghost use Rattle.build_effect.specs.inner.ListingWalk.{with_last_restat, edge_paths, paths_of};
 ghost use Rattle.build_effect.specs.inner.ListingRows.{TakesRow, ReadsText, row_value, GivesEdge};
 ghost use Rattle.dep_order.specs.Rows.{rows};
 
-use crate::edge::Edge;
 use crate::fault::LineCause;
+use crate::graph::Edge;
 use crate::listing::rows::{EdgeTexts, Row, row_of};
 use ninja_text::{Failure, Line, Path, PathFault};
 use std::alloc::Global;
@@ -30,13 +31,9 @@ pub(crate) struct ListingState {
 }
 
 impl Model for ListingState {
-    ghost use Rattle.build_effect.specs.ListingSteps.{ListingValue};
-
     ghost Value = { ListingValue };
 
     ghost view = { λ s. record { edges = s.edges.items; binding = s.binding } };
-
-    ghost use Rattle.std.specs.Prelude.{◌≢◌, [], All};
 
     ghost invariant = { λ s. All (λ e. e.outputs ≢ []) s.edges.items };
 }
@@ -90,19 +87,13 @@ fn dyndep_row(
     };
     match Path::of(alloc, &text) {
         Ok(path) => {
-            set_last_dyndep(&mut state.edges, path);
+            if let Some(edge) = state.edges.last_mut() {
+                edge.dyndep = Some(path);
+            }
             state.binding = Binding::Open(true, restat);
             Ok(())
         }
         Err(failure) => Err(failure.map(LineCause::BadPath)),
-    }
-}
-
-fn set_last_dyndep(edges: &mut Vec<Edge>, path: Path)
-    ensures { edges.new.items ≡ with_last_dyndep path edges.old.items }
-{
-    if let Some(edge) = edges.last_mut() {
-        edge.dyndep = Some(path);
     }
 }
 
@@ -120,26 +111,13 @@ fn edge_of(alloc: Global, texts: EdgeTexts) -> Result<Edge, Failure<PathFault>>
     ensures edge { GivesEdge result (edge_paths texts) }
     ensures outputs { IfOk result (λ edge. edge.outputs ≢ []) }
 {
-    let EdgeTexts {
-        rule,
-        outputs,
-        implicit_outputs,
-        inputs,
-        implicit_inputs,
-        order_only,
-    } = texts;
-    let outputs = paths_of(alloc, &outputs)?;
-    let implicit_outputs = paths_of(alloc, &implicit_outputs)?;
-    let inputs = paths_of(alloc, &inputs)?;
-    let implicit_inputs = paths_of(alloc, &implicit_inputs)?;
-    let order_only = paths_of(alloc, &order_only)?;
     Ok(Edge {
-        rule,
-        outputs,
-        implicit_outputs,
-        inputs,
-        implicit_inputs,
-        order_only,
+        outputs: paths_of(alloc, &texts.outputs)?,
+        implicit_outputs: paths_of(alloc, &texts.implicit_outputs)?,
+        inputs: paths_of(alloc, &texts.inputs)?,
+        implicit_inputs: paths_of(alloc, &texts.implicit_inputs)?,
+        order_only: paths_of(alloc, &texts.order_only)?,
+        rule: texts.rule,
         dyndep: None,
         restat: false,
     })

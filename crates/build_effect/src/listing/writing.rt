@@ -6,9 +6,8 @@ ghost use Rattle.ninja_text.specs.Failure.{Gives};
 ghost use Rattle.dyndep_file.specs.Writing.{spaced};
 ghost use Rattle.build_effect.specs.ListingWriting.{marked_text, edge_line, listing_text, first_too_long, LeavesListingWriter, WritesListingInTurn, AnswersTooLong, listing_text_or_fault};
 
-use crate::edge::Edge;
 use crate::fault::ListingWriteFault;
-use crate::graph::Graph;
+use crate::graph::{Edge, Graph};
 use ninja_text::{Counted, Failure, LINE_LIMIT, Path, WriteCall, escape_into};
 use std::alloc::{AllocError, Global};
 

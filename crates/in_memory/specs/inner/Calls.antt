@@ -1,16 +1,15 @@
 -- The calls of a folder of files that are values.
-use Rattle.std.specs.Prelude.{List, [], ◌∷◌, false, Ok, Err}
-use Rattle.commands.specs.Folder.{FileCall, reading, comparing, writing, up_to}
+use Rattle.std.specs.Prelude.{List, [], ◌∷◌, false, Ok}
+use Rattle.commands.specs.Folder.{FileCall, answer_of, reading, comparing, writing}
 use Rattle.in_memory.specs.Given.{GivenFile}
 use Rattle.in_memory.specs.declared.history.Call.{Call}
 use Rattle.in_memory.specs.declared.history.Call.TheVariants as call
 
 -- the call that a history notes
 abbrev pub call_of : Call → FileCall
-call_of (call.Read name bytes most) = reading name.now (Ok (up_to most bytes.now))
-call_of (call.Unread name error) = reading name.now (Err error)
+call_of (call.Read name most answer) = reading name.now (answer_of most answer.now)
 call_of (call.Compared name bytes same) = comparing name.now bytes.now same
-call_of (call.Unwritten name bytes error) = writing name.now bytes.now (Err error)
+call_of (call.Written name bytes answer) = writing name.now bytes.now answer.now
 
 -- The calls on a folder of these files. They begin with calls that write the files, and one that
 -- writes none: so they tell which files the folder has, whoever made the later calls.

@@ -1,19 +1,23 @@
-//! M5 to M7: what is required is provided. M5 speaks of objects, M6 and M7 of the modules of info
-//! files.
-ghost use Rattle.std.specs.Prelude.{◌≡◌, List, Some, IfOk, IfErr, OnOk};
+//! M5 to M8: what is required is provided, and not in a cycle. M5 and M8 speak of objects, M6 and M7
+//! of the modules of info files.
+ghost use Rattle.std.specs.Prelude.{◌≡◌, ◌<◌, List, Some, map, length, IfOk, IfErr, OnOk};
+ghost use Rattle.std.specs.List.{filter_map};
 ghost use Rattle.ninja_text.specs.Bytes.{Name};
 ghost use Rattle.ninja_text.specs.Failure.{ForFault};
+ghost use Rattle.dep_order.specs.Needs.{IsOrderable};
 ghost use Rattle.dep_order.specs.Rows.{rows};
-ghost use Rattle.module_table.specs.Modules.{provisions, info_requirements};
+ghost use Rattle.module_table.specs.Modules.{provisions, info_requirements, DependsOn};
 ghost use Rattle.module_table.specs.inner.Finds.{IsByInfo, Agrees, AcceptsAll};
 ghost use Rattle.module_table.specs.inner.Found.{AreLookedUp};
-ghost use Rattle.module_table.specs.inner.Numbered.{AreIndexes};
+ghost use Rattle.module_table.specs.inner.Numbered.{AreIndexes, maker_at};
+ghost use Rattle.module_table.specs.inner.Views.{provision_of};
 ghost use Rattle.module_table.specs.inner.Reported.{Reports};
 ghost use Rattle.module_table.specs.declared.fault.TableFault.TheVariants.{ModuleUnknown};
 
 use crate::fault::{Maker, TableFault, failure_of};
-use crate::modules::Modules;
+use crate::modules::{Module, Modules};
 use crate::requirements::InfoRequired;
+use dep_order::{Digraph, Sorting, order};
 use ninja_text::Failure;
 use scan_docs::{Name, TargetName};
 use std::alloc::{AllocError, Global};
@@ -124,4 +128,42 @@ fn copy_names(
     let module_name = required.module_name.copy(alloc)?;
     let name = required.name.copy(alloc)?;
     Ok((target, module_name, name))
+}
+
+/// M8: no objects need each other's modules in a cycle. `indexes[i]` are the modules that object i
+/// requires.
+pub(crate) fn check_rings(
+    alloc: Global,
+    modules: &Modules,
+    required: &[Vec<usize>],
+) -> Result<(), Failure<Box<TableFault>>>
+    requires { AreIndexes modules.now (rows required.now) }
+    ensures ok { OnOk result (IsOrderable (length modules.now.objects) (DependsOn modules.now)) }
+    ensures fault { IfErr result (ForFault
+        (λ fault. (kept : List Name) → Reports 8 modules.now kept fault.value)) }
+{
+    let provided = modules.provided();
+    let mut needs = Vec::with_capacity(alloc, required.len())?;
+    for row in required {
+        let objects = row.iter().filter_map(|index| maker_at(provided, *index));
+        needs.push(objects.collect(alloc)?)?;
+    }
+    let graph = Digraph::new(needs);
+    match order(alloc, &graph)? {
+        Sorting::Order(_) => Ok(()),
+        Sorting::Cycle(objects) => Err(failure_of(alloc, TableFault::ImportCycle { objects })),
+    }
+}
+
+/// Returns the object that provides the module of that index, if an object does.
+fn maker_at(provided: &[Module], index: usize) -> Option<usize>
+    ensures { result ≡ maker_at (map provision_of provided.now) index }
+{
+    match provided.get(index) {
+        Some(module) => match module.maker {
+            Maker::Object(object) => Some(object),
+            Maker::Info(_) => None,
+        },
+        None => None,
+    }
 }

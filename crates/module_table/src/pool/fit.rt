@@ -28,7 +28,7 @@ pub(crate) fn places_of(
 }
 
 /// Returns whether the info file of that index is linked.
-fn is_linked(places: &[Option<usize>], number: usize) -> bool
+pub(crate) fn is_linked(places: &[Option<usize>], number: usize) -> bool
     ensures linked { result ≡ true → IsLinked places.now number }
     ensures unlinked { result ≡ false → IsLinked places.now number → ⊥ }
 {

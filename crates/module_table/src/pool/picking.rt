@@ -2,13 +2,11 @@
 //! lacks a module, its table has a fault, and the table of all linked modules is built instead.
 
 use crate::pool::Pool;
+use crate::pool::fit::is_linked;
 use indexmap::IndexSet;
-use scan_docs::{Name, Rule};
+use scan_docs::Rule;
 use std::alloc::{AllocError, Global};
 use table_keys::TableKey;
-
-/// Modules by the index of the info file and the index of the module in it.
-type Modules = IndexSet<(usize, usize), TableKey>;
 
 impl Pool {
     /// Returns the indexes of the modules that the objects require, for each linked info file. If
@@ -25,7 +23,10 @@ impl Pool {
         let mut picked = IndexSet::with_hasher(alloc, self.key);
         for rule in objects {
             for name in &rule.required {
-                self.pick_name(places, name, &mut picked)?;
+                let mut row = self.names.of(name).iter();
+                if let Some(entry) = row.find(|entry| is_linked(places, entry.0)) {
+                    picked.insert(*entry)?;
+                }
             }
         }
         if keeps {
@@ -45,28 +46,12 @@ impl Pool {
         }
         by_place(alloc, &picked, places, count)
     }
-
-    /// Picks the first linked module of that name.
-    fn pick_name(
-        &self,
-        places: &[Option<usize>],
-        name: &Name,
-        picked: &mut Modules,
-    ) -> Result<(), AllocError> {
-        for entry in self.names.of(name) {
-            if matches!(places.get(entry.0), Some(Some(_))) {
-                picked.insert(*entry)?;
-                return Ok(());
-            }
-        }
-        Ok(())
-    }
 }
 
 /// Returns the indexes of the picked modules of each linked info file.
 fn by_place(
     alloc: Global,
-    picked: &Modules,
+    picked: &IndexSet<(usize, usize), TableKey>,
     places: &[Option<usize>],
     count: usize,
 ) -> Result<Vec<Vec<usize>>, AllocError> {

@@ -1,13 +1,9 @@
 -- How far the present line goes into a piece.
-use Rattle.std.specs.Prelude.{◌≡◌, ℕ, ◌+◌, ◌<◌, ◌≤◌, false, List, ◌++◌, length, take, Option, Some, None}
+use Rattle.std.specs.Prelude.{◌≡◌, ℕ, ◌+◌, ◌<◌, ◌≤◌, List, ◌++◌, length, take, Option, Some, None}
 use Rattle.ninja_text.specs.Lines.{line_limit, LineEnd, line_end}
-use Rattle.ninja_text.specs.Phases.{waits_in, failed_in, PhaseFits}
+use Rattle.ninja_text.specs.Phases.{PhaseFits}
 use Rattle.ninja_text.specs.declared.cutter.Phase.{Phase}
 use Rattle.ninja_text.specs.declared.cutter.Phase.TheVariants.{Gathering, Waiting, Lent, Failed}
-
--- no line waits, and the cutter has not failed
-abbrev pub IsGoing : Phase → Type 0
-IsGoing phase = (waits_in phase ≡ false) × (failed_in phase ≡ false)
 
 -- the end of the line that begins in the buffer and continues in a piece, if it is within the limit
 abbrev pub end_within : List ℕ → List ℕ → Option LineEnd

@@ -15,8 +15,8 @@ returns-in_err-path-clause-fault c =
     let text : List ℕ = c.deref.result.now in
     let at : slice_get texts i ≡ Some text = to_map (λ text. text.items) c.args.texts.now i c.index-texts-text_index.result (slice_get_read c.args.texts.now _ i c.index-texts-text_index.result refl c.loop-text_index-test.true c.index-texts-text_index.is) ∙ ap (λ x. Some x) (sym c.deref.ensures.value) in
     let p = err_from_is_err_and c.from_residual-in_err-path.result c.from_residual-in_err-path.ensures.1 in
-    rw (p.1, p.2) (for_fault (IsBadText text c.args.statement_index (c.args.from + i)) (IsBadTextFrom texts c.args.statement_index c.args.from)
-    (λ fault bad. first_bad texts c.loop-text_index.paths.items i c.args.statement_index c.args.from text fault at c.loop-text_index.invariant bad) _ c.in_err-path.ensures.fault)
+    rw (p.1, p.2) (for_fault (IsBadText text c.args.statement (c.args.from + i)) (IsBadTextFrom texts c.args.statement c.args.from)
+    (λ fault bad. first_bad texts c.loop-text_index.paths.items i c.args.statement c.args.from text fault at c.loop-text_index.invariant bad) _ c.in_err-path.ensures.fault)
 
 pub loop-text_index-preserved : goal.loop-text_index-preserved
 loop-text_index-preserved c =

@@ -1,36 +1,38 @@
-use Rattle.std.proofs.Common.{◌≡◌, refl, ap, sym, subst, ◌∙◌, arith, inl, inr, slice_get}
-use Rattle.std.proofs.lemmas.Option.{slice_get_read, slice_get_within}
+use Rattle.std.proofs.Common.{rules, tests, ◌<◌, ℕ, List, Option, length, refl, subst, arith}
+use Rattle.std.specs.Prelude.{MatchOption}
+use Rattle.std.specs.List.{AllWithin, HoldsAt}
+use Rattle.std.proofs.lemmas.Iterator.{IsFirst-from_position, YieldsList-from_slice}
+use Rattle.std.proofs.lemmas.Option.{slice_get_read, slice_get_within, get_or_from_slice_get}
 use Rattle.build_effect.specs.EdgeValue.{EdgeValue}
-use Rattle.build_effect.specs.Graphs.{Names, HasInput}
-use Rattle.ninja_text.proofs.ForCallers.{same_some, three_ways}
+use Rattle.build_effect.specs.Faults.{NamesUnread}
+use Rattle.build_effect.specs.inner.Inputs.{NamesInput}
 use Rattle.build_effect.proofs.graph.check_dyndeps.Goals as goal
 
-pub returns-then-not-reads_dyndep-clause-fault : goal.returns-then-not-reads_dyndep-clause-fault
-returns-then-not-reads_dyndep-clause-fault c =
-    let e : EdgeValue = c.index-edges-edge_index.result in
-    let at = slice_get_read c.args.edges.now _ c.loop-edge_index.edge_index e refl c.loop-edge_index-test.true c.index-edges-edge_index.is in (
+-- what a search for an edge that does not read its dyndep file finds
+abbrev Found : List EdgeValue → Option ℕ → Type 0
+Found g r = MatchOption r (AllWithin NamesInput g 0 (length g)) (λ i. (i < length g) × HoldsAt NamesUnread g i × AllWithin NamesInput g 0 i)
+
+pub returns-in_default-clause-ok : goal.returns-in_default-clause-ok
+returns-in_default-clause-ok c = λ i e file at names.
+    let g : List EdgeValue = c.args.edges.now in
+    let found : Found g c.position.result = IsFirst-from_position _ _ c.position.result NamesUnread NamesInput c.position.ensures.ran (YieldsList-from_slice g c.iter.ensures.rest) (λ x q k. search (rules, tests)) (λ x q k. search (rules, tests)) in
+    let all : AllWithin NamesInput g 0 (length g) = subst (Found g) c.in_default.is found in
+    subst NamesInput (get_or_from_slice_get g i e e at) (all i e (omega arith) (slice_get_within g i e at)) file names
+
+pub returns-clause-fault : goal.returns-clause-fault
+returns-clause-fault c =
+    let g : List EdgeValue = c.args.edges.now in
+    let i : ℕ = c.in-Some.edge in
+    let found : Found g c.position.result = IsFirst-from_position _ _ c.position.result NamesUnread NamesInput c.position.ensures.ran (YieldsList-from_slice g c.iter.ensures.rest) (λ x q k. search (rules, tests)) (λ x q k. search (rules, tests)) in
+    let first : (i < length g) × HoldsAt NamesUnread g i × AllWithin NamesInput g 0 i = subst (Found g) c.in-Some.is found in
+    let e : EdgeValue = c.index-edges-edge.result in
+    let at = slice_get_read g _ i e refl first.0 c.index-edges-edge.is in (
       e,
       c.requires.made_once,
-      record { here = at; holds = c.if-not-reads_dyndep.ensures; before = λ k d lt at_k unread. unread.2 (c.loop-edge_index.invariant k d unread.0 lt at_k unread.1) },
+      record {
+        here = at;
+        holds = subst NamesUnread (get_or_from_slice_get g i e e at) (first.1 e);
+        before = λ k d lt at_k unread. unread.2 (subst NamesInput (get_or_from_slice_get g k d d at_k) (first.2 k d (omega arith) lt) unread.0 unread.1);
+      },
       c.in_ok-output.ensures,
     )
-
-pub loop-edge_index-preserved : goal.loop-edge_index-preserved
-loop-edge_index-preserved c = λ k d file lt at_k names.
-    let i = c.loop-edge_index.edge_index in
-    let e : EdgeValue = c.index-edges-edge_index.result in
-    let at = slice_get_read c.args.edges.now _ i e refl c.loop-edge_index-test.true c.index-edges-edge_index.is in
-    elim (three_ways k i) [
-      | inl less ↦ c.loop-edge_index.invariant k d file less at_k names
-      | inr rest ↦ elim rest [
-        | inl same ↦
-            let edge : d ≡ e = same_some _ _ (sym at_k ∙ ap (slice_get c.args.edges.now) same ∙ at) in
-            subst (λ (x : EdgeValue). HasInput x file) (sym edge) (c.if-not-reads_dyndep.ensures file (subst (λ (x : EdgeValue). Names file x) edge names))
-        | inr more ↦ absurd (omega arith)
-      ]
-    ]
-
-pub returns-clause-ok : goal.returns-clause-ok
-returns-clause-ok c = λ i e file at names.
-    let within = slice_get_within c.args.edges.now i e at in
-    c.loop-edge_index.invariant i e file (omega (arith, within, c.loop-edge_index-test.false)) at names

@@ -66,11 +66,11 @@ returns c =
     (elim c.match-spec.branch [
       | in-None w ↦
           with_form target c.spec.inside.map None _ c.match-spec.collated w.collate_or_refused-collated.result c.map_err.result (λ failure stop h. search rules)
-          w.in-None.is w.collated-is (search rules) (search rules) (search rules) c.map_err.ensures.cases
+          w.in-None.is w.collated-is w.collate_or_refused-collated.ensures.collated w.collate_or_refused-collated.ensures.refused w.collate_or_refused-collated.ensures.read c.map_err.ensures.cases
       | in-Some-Gcc w ↦
           with_form target c.spec.inside.map (Some Gcc) _ c.match-spec.collated w.collate_or_refused-collated-in-Some-Gcc.result c.map_err.result (λ failure stop h. search rules)
-          (search rules) w.collated-is (search rules) (search rules) (search rules) c.map_err.ensures.cases
+          (search rules) w.collated-is w.collate_or_refused-collated-in-Some-Gcc.ensures.collated w.collate_or_refused-collated-in-Some-Gcc.ensures.refused w.collate_or_refused-collated-in-Some-Gcc.ensures.read c.map_err.ensures.cases
       | in-Some-Clang w ↦
           with_form target c.spec.inside.map (Some Clang) _ c.match-spec.collated w.collate_or_refused-collated-in-Some-Clang.result c.map_err.result (λ failure stop h. search rules)
-          (search rules) w.collated-is (search rules) (search rules) (search rules) c.map_err.ensures.cases
+          (search rules) w.collated-is w.collate_or_refused-collated-in-Some-Clang.ensures.collated w.collate_or_refused-collated-in-Some-Clang.ensures.refused w.collate_or_refused-collated-in-Some-Clang.ensures.read c.map_err.ensures.cases
     ])

@@ -1,8 +1,13 @@
-use Rattle.std.proofs.Common.{rules, codes}
+use Rattle.std.proofs.Common.{codes, refl}
 use Rattle.scan_docs.specs.FaultTexts.{doc_fault_text}
-use Rattle.commands.specs.CollateCommand.{spec_text}
-use Rattle.commands.proofs.Outcomes.{by_print, given}
+use Rattle.scan_docs.specs.Document.{IsRefused}
+use Rattle.scan_docs.specs.TargetChecks.{target_checks}
+use Rattle.commands.specs.CollateCommand.{HasSpec, spec_text}
+use Rattle.commands.proofs.Outcomes.{by_print, fault_reported}
 use Rattle.commands.proofs.collate.read_spec.Goals as goal
 
-pub returns : goal.returns
-returns c = given _ _ spec_text _ c.spec_read.result c.map_err.result (λ failure stop h. by_print (codes "target: ") doc_fault_text failure stop (search rules)) (search rules) (search rules) c.map_err.ensures.cases
+pub returns-in-Ok : goal.returns-in-Ok
+returns-in-Ok c = (refl, c.in-Ok.ensures.accepted)
+
+pub returns-in-Err : goal.returns-in-Err
+returns-in-Err c = fault_reported (HasSpec c.args.document.now) (IsRefused target_checks c.args.document.now) spec_text c.in-Err.failure c.of_fault.result c.in-Err.ensures.refused (by_print (codes "target: ") doc_fault_text c.in-Err.failure c.of_fault.result c.of_fault.ensures)

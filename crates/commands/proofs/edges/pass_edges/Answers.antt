@@ -62,7 +62,7 @@ returns-in-Ok-Order c =
 pub returns-in-Ok-Cycle : goal.returns-in-Ok-Cycle
 returns-in-Ok-Cycle c =
     let stop = c.stopped.result in
-    let line = its_line 1 _ _ stop c.cycle_text-message.ensures c.stopped.ensures in
+    let line = its_line 1 _ _ stop c.cycle_text.ensures c.stopped.ensures in
     passed_on _ _ _ _ _ (c.in-Some.is ∙ ap Some c.in-Ok.is)
     (cyclic c.args.name.now c.args.collated.now.dyndep c.in-Ok.graph c.in-Ok-Cycle.cycle stop (rw c.in-Ok-Cycle.field-0-is at c.in-Ok-Cycle.ensures.sorted)
     (subst (λ t. ForFault (λ l. l ≡ refusal t) stop) (ap₂ cycle_text c.edges.ensures.edges c.deref.ensures.value) line))

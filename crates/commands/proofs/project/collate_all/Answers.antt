@@ -1,4 +1,4 @@
-use Rattle.std.proofs.Common.{rules, ◌≡◌, ◌∙◌, ℕ, List, map, Option, Some, None, Result, subst, sym}
+use Rattle.std.proofs.Common.{◌≡◌, ◌∙◌, ℕ, List, map, Option, Some, None, Result, ap, subst, sym}
 use Rattle.std.specs.Prelude.{IfOk, IfErr}
 use Rattle.ninja_text.specs.Failure.{ForFault}
 use Rattle.ninja_text.specs.declared.failure.Failure.{Failure}
@@ -34,7 +34,7 @@ returns-in-None c =
 
 pub returns-in-Some-Gcc : goal.returns-in-Some-Gcc
 returns-in-Some-Gcc c =
-    let form : c.form_of.result ≡ Some Gcc = search rules in
+    let form = c.in-Some-Gcc.is ∙ ap Some c.in-Some-Gcc.field-0-is in
     let gives = c.project_or_refused-in-Some-Gcc.ensures in
     let (collated, refused, read) = of_targets c.args.targets.now (Some Gcc) _ c.project_or_refused-in-Some-Gcc.result (sym form ∙ c.form_of.ensures)
     (c.deref-in-Some-Gcc.ensures.value ∙ c.in_ok-parts.ensures) (gives.collated, gives.refused, gives.read) in
@@ -42,7 +42,7 @@ returns-in-Some-Gcc c =
 
 pub returns : goal.returns
 returns c =
-    let form : c.form_of.result ≡ Some Clang = search rules in
+    let form = c.in-Some-Clang.is ∙ ap Some c.in-Some-Clang.field-0-is in
     let gives = c.project_or_refused-in-Some-Clang.ensures in
     let (collated, refused, read) = of_targets c.args.targets.now (Some Clang) _ c.project_or_refused-in-Some-Clang.result (sym form ∙ c.form_of.ensures)
     (c.deref-in-Some-Clang.ensures.value ∙ c.in_ok-parts.ensures) (gives.collated, gives.refused, gives.read) in

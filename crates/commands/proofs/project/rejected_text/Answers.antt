@@ -6,7 +6,7 @@ use Rattle.std.proofs.lemmas.List.{map_push, take_all}
 use Rattle.std.proofs.lemmas.Option.{get_or_from_slice_get}
 use Rattle.std.proofs.lemmas.Result.{IfOk-weaker}
 use Rattle.collate_core.specs.declared.fault.RefusedTarget.{RefusedTarget}
-use Rattle.commands.specs.declared.project_targets.ReadTarget.TheInside.{Inside}
+use Rattle.commands.specs.declared.project.ReadTarget.TheInside.{Inside}
 use Rattle.commands.specs.ProjectCommand.{ReadTargetValue, names_at, target_text}
 use Rattle.commands.specs.inner.ProjectTargets.{IsReportable, ReportsAt}
 use Rattle.commands.specs.inner.Refusals.{refusal_line}

@@ -4,7 +4,7 @@ use Rattle.std.specs.Borrow.{Bor}
 use Rattle.std.specs.Global.{Global}
 use Rattle.std.proofs.lemmas.List.{map_push}
 use Rattle.commands.specs.ProjectCommand.{ReadTargetValue}
-use Rattle.commands.specs.declared.project_targets.ReadTarget.TheInside.{Inside}
+use Rattle.commands.specs.declared.project.ReadTarget.TheInside.{Inside}
 use Rattle.commands.proofs.Outcomes.{mapped_next}
 use Rattle.commands.proofs.project.scans_of.Goals as goal
 

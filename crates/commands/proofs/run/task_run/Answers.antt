@@ -74,27 +74,27 @@ returns-in_ok-document-in-Project g c =
 
 -- ---- the others
 
-pub returns-in_err-dyndep-in-Show : goal.returns-in_err-dyndep-in-Show
-returns-in_err-dyndep-in-Show g c =
-    unread _ _ _ _ (ReadsDyndep _) (ShowOfRead) c.in_err-dyndep-in-Show.field-0.0 _ (ap task_value c.in-Show.is) (λ calls o h. h)
-    c.in_err-dyndep-in-Show.ensures (passed c.from_residual-in_err-dyndep-in-Show.ensures)
+pub returns-in_err-read_dyndep-in-Show : goal.returns-in_err-read_dyndep-in-Show
+returns-in_err-read_dyndep-in-Show g c =
+    unread _ _ _ _ (ReadsDyndep _) (ShowOfRead) c.in_err-read_dyndep-in-Show.field-0.0 _ (ap task_value c.in-Show.is) (λ calls o h. h)
+    c.in_err-read_dyndep-in-Show.ensures (passed c.from_residual-in_err-read_dyndep-in-Show.ensures)
 
-pub returns-in_ok-dyndep-in-Show : goal.returns-in_ok-dyndep-in-Show
-returns-in_ok-dyndep-in-Show g c =
-    let read = c.in_ok-dyndep-in-Show in
-    read_then _ _ _ _ _ (ReadsDyndep _) ShowOfRead read.dyndep _ (ap task_value c.in-Show.is) (λ calls o h. h) read.ensures
-    (at_once _ (ShowOfRead read.dyndep) c.show_read.result c.show_read.ensures)
+pub returns-in_ok-read_dyndep-in-Show : goal.returns-in_ok-read_dyndep-in-Show
+returns-in_ok-read_dyndep-in-Show g c =
+    let read = c.in_ok-read_dyndep-in-Show in
+    read_then _ _ _ _ _ (ReadsDyndep _) ShowOfRead read.field-0 _ (ap task_value c.in-Show.is) (λ calls o h. h) read.ensures
+    (at_once _ (ShowOfRead read.field-0) c.show_read.result c.show_read.ensures)
 
-pub returns-in_err-listing-in-Order : goal.returns-in_err-listing-in-Order
-returns-in_err-listing-in-Order g c =
-    unread _ _ _ _ (ReadsListing _) (OrderOfRead) c.in_err-listing-in-Order.field-0.0 _ (ap task_value c.in-Order.is) (λ calls o h. h)
-    c.in_err-listing-in-Order.ensures (passed c.from_residual-in_err-listing-in-Order.ensures)
+pub returns-in_err-read_listing-in-Order : goal.returns-in_err-read_listing-in-Order
+returns-in_err-read_listing-in-Order g c =
+    unread _ _ _ _ (ReadsListing _) (OrderOfRead) c.in_err-read_listing-in-Order.field-0.0 _ (ap task_value c.in-Order.is) (λ calls o h. h)
+    c.in_err-read_listing-in-Order.ensures (passed c.from_residual-in_err-read_listing-in-Order.ensures)
 
-pub returns-in_ok-listing-in-Order : goal.returns-in_ok-listing-in-Order
-returns-in_ok-listing-in-Order g c =
-    let read = c.in_ok-listing-in-Order in
-    read_then _ _ _ _ _ (ReadsListing _) OrderOfRead read.listing _ (ap task_value c.in-Order.is) (λ calls o h. h) read.ensures
-    (at_once _ (OrderOfRead read.listing) c.order_read.result c.order_read.ensures)
+pub returns-in_ok-read_listing-in-Order : goal.returns-in_ok-read_listing-in-Order
+returns-in_ok-read_listing-in-Order g c =
+    let read = c.in_ok-read_listing-in-Order in
+    read_then _ _ _ _ _ (ReadsListing _) OrderOfRead read.field-0 _ (ap task_value c.in-Order.is) (λ calls o h. h) read.ensures
+    (at_once _ (OrderOfRead read.field-0) c.order_read.result c.order_read.ensures)
 
 -- what comes after the listing of `effect`
 abbrev AfterListing : Text → Text → ListingRead → Part OutputValue

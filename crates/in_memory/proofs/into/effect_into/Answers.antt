@@ -6,8 +6,8 @@ use Rattle.in_memory.specs.Runs.{Answers}
 use Rattle.in_memory.proofs.Replies.{put_as, replies_of}
 use Rattle.in_memory.proofs.into.effect_into.Goals as goal
 
-pub returns : goal.returns
-returns c =
+pub returns-in-Ok : goal.returns-in-Ok
+returns-in-Ok c =
     let name = c.args.name.now in
     let Run = EffectRun name c.args.edges.now c.args.dyndep.now [] in
     let is = c.in-Ok.ensures.cases in

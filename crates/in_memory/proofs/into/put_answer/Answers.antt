@@ -1,5 +1,7 @@
-use Rattle.in_memory.specs.Replies.{replies}
+use Rattle.in_memory.specs.Replies.{HasAnswer}
+use Rattle.in_memory.proofs.Replies.{has_answer, put_ok}
 use Rattle.in_memory.proofs.into.put_answer.Goals as goal
 
-pub returns-in-Ok-of : goal.returns-in-Ok-of
-returns-in-Ok-of c = replies tt c.in-Ok-of.reply (c.in-Ok.answer, c.in-Ok.is, c.in-Ok-of.ensures) c.put.ensures
+pub returns-in-Ok : goal.returns-in-Ok
+returns-in-Ok c =
+    put_ok (HasAnswer c.args.answer) c.of.result _ _ _ _ _ (has_answer c.args.answer c.in-Ok.answer c.of.result c.in-Ok.is c.of.ensures) c.put.ensures

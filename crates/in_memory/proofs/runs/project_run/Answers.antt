@@ -4,10 +4,8 @@ use Rattle.in_memory.proofs.runs.project_run.Goals as goal
 
 pub returns : goal.returns
 returns c =
-    let old = c.new-folder.result.history in
-    let new = c.collate_project.new.folder in
-    let is = c.new-folder.ensures in
-    let over = run_over c.args.files.now old.files new.history.files old.calls new.history.calls
-    (ProjectRun c.args.document.now) c.collate_project.result is.files is.calls
-    (rw new.same new.got) c.collate_project.ensures in
-    (c.collate_project.result, over, c.of.ensures)
+    let old = c.new.result in
+    let new = c.collate_project-outcome.new.folder in
+    let over = run_over c.args.files.now old.files.now new.files.now old.history.calls new.history.calls
+    (ProjectRun c.args.document.now) c.collate_project-outcome.result c.new.ensures.files c.new.ensures.calls new.got c.collate_project-outcome.ensures in
+    (c.collate_project-outcome.result, over, c.of.ensures)

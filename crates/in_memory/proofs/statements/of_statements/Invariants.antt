@@ -1,7 +1,11 @@
 use Rattle.std.proofs.Common.{◌≡◌, take}
-use Rattle.in_memory.specs.Statements.{statements_reply}
+use Rattle.std.specs.List.{flat_map}
+use Rattle.in_memory.specs.Statements.{statement_numbers, statement_paths}
 use Rattle.in_memory.proofs.statements.of_statements.Given as goal
 
 -- the statements so far
 abbrev pub invariant-loop-statement : goal.invariant-loop-statement
-invariant-loop-statement l = l.parts ≡ statements_reply (take l.statement-index l.statement-items)
+invariant-loop-statement l =
+    let statements = take l.statement-index l.statement-items in
+    (l.numbers.items ≡ flat_map statement_numbers statements)
+    × (l.text.items ≡ flat_map (λ s. flat_map (λ path. path) (statement_paths s)) statements)

@@ -8,8 +8,8 @@ overflow_sub-result c = past_held c.args.buffer.now c.args.piece.now c.args.stat
 pub returns-in-End : goal.returns-in-End
 returns-in-End c = reaches_whole c.args.buffer.now c.args.piece.now c.args.state c.min-reach.result c.requires.0 c.requires.1 c.min-reach.ensures c.in-End.text_len c.in-End.line_len (sym c.in-End.ensures)
 
-pub returns-then-held-reach-eq-LINE_LIMIT : goal.returns-then-held-reach-eq-LINE_LIMIT
-returns-then-held-reach-eq-LINE_LIMIT c = reaches_past c.args.buffer.now c.args.piece.now c.args.state c.min-reach.result c.requires.0 c.requires.1 c.min-reach.ensures c.in-Open.next (sym c.in-Open.ensures) c.if-held-reach-eq-LINE_LIMIT.true
+pub returns-in-Open : goal.returns-in-Open
+returns-in-Open c = reaches_past c.args.buffer.now c.args.piece.now c.args.state c.min-reach.result c.requires.0 c.requires.1 c.min-reach.ensures c.in-Open.field-0 (sym c.in-Open.ensures) c.if-held-reach-eq-LINE_LIMIT.true
 
-pub returns-else-held-reach-eq-LINE_LIMIT : goal.returns-else-held-reach-eq-LINE_LIMIT
-returns-else-held-reach-eq-LINE_LIMIT c = reaches_part c.args.buffer.now c.args.piece.now c.args.state c.min-reach.result c.requires.0 c.requires.1 c.min-reach.ensures c.in-Open.next (sym c.in-Open.ensures) c.if-held-reach-eq-LINE_LIMIT.false
+pub returns-in-Open-2 : goal.returns-in-Open-2
+returns-in-Open-2 c = reaches_part c.args.buffer.now c.args.piece.now c.args.state c.min-reach.result c.requires.0 c.requires.1 c.min-reach.ensures c.in-Open.field-0 (sym c.in-Open.ensures) c.if-held-reach-eq-LINE_LIMIT.false

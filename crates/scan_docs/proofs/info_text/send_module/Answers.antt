@@ -1,26 +1,49 @@
-use Rattle.std.proofs.Common.{◌≡◌, ap, subst, OnOk, arith}
+use Rattle.std.proofs.Common.{◌≡◌, ℕ, List, ap, subst, sym, OnOk, arith}
 use Rattle.std.proofs.lemmas.Grind.{common_steps}
 use Rattle.std.proofs.lemmas.Result.{on_ok_weaker}
-use Rattle.serde.specs.Event.{Logs, text}
+use Rattle.std.specs.List.{All}
+use Rattle.serde.specs.Event.{Log, Logs, text, map_ends}
 use Rattle.serde_json.specs.Events.{SendsValue}
-use Rattle.scan_docs.specs.InfoText.{module_tree, visibility_text}
-use Rattle.scan_docs.specs.Sound.{IsSoundModule}
+use Rattle.scan_docs.specs.Scan.{IsText}
+use Rattle.scan_docs.specs.InfoText.{requirement_tree, requirements_tree, module_tree, visibility_text}
+use Rattle.scan_docs.specs.Sound.{IsSoundPair, IsSoundModule}
+use Rattle.scan_docs.specs.inner.Writing.{BeginsNamedFile}
+use Rattle.scan_docs.proofs.Each.{All-grow, All-end}
+use Rattle.scan_docs.proofs.Sending.{entry_sent, array_sent}
 use Rattle.scan_docs.proofs.info_text.send_module.Goals as goal
 use Rattle.scan_docs.proofs.info_text.send_module.Goals.{then-entry, else-entry}
 
-pub send_requirements-requires : goal.send_requirements-requires
-send_requirements-requires g c = rw (ap (λ v. v.required) c.entry.view_is) c.requires.required
+requirement_sent : (pair : List ℕ × List ℕ) (old mid new : Log) → BeginsNamedFile 2 pair.0 pair.1 old mid → Logs mid new map_ends → SendsValue (requirement_tree pair) old new
+unfolding requirement_tree
+requirement_sent pair old mid new begun end =
+    let named = begun.2 in
+    (begun.0, begun.1, (named.1.0, _, named.1.1, named.1.2, (named.2.0, _, named.2.1, named.2.2, end)))
+
+pub begin_named_file-requires-in-loop-pair : goal.begin_named_file-requires-in-loop-pair
+begin_named_file-requires-in-loop-pair g c =
+    let P : List ℕ × List ℕ → Type 0 = λ p. IsText p.1 in
+    let all : All P c.entry.inside.required.now = rw (ap (λ v. v.required) c.entry.view_is) c.requires.required in
+    subst P (sym c.pair-item.is) (all c.loop-pair.pair-index c.pair-item.result c.loop-pair-test.true)
+
+pub loop-pair-preserved : goal.loop-pair-preserved
+loop-pair-preserved g c =
+    let l = c.loop-pair in record {
+      sent = λ end rest. l.invariant.sent end (entry_sent requirement_tree c.entry.inside.required.now l.pair-index c.pair-item.result _ _ end c.loop-pair-test.true c.pair-item.is (requirement_sent c.pair-item.result _ _ _ c.in_ok-begin_named_file-2.ensures.sent c.in_ok-end_map.ensures) rest);
+      sound = All-grow (λ p. IsSoundPair p.0 p.1) c.entry.inside.required.now l.pair-index c.pair-item.result c.loop-pair-test.true c.pair-item.is c.in_ok-begin_named_file-2.ensures.sound l.invariant.sound;
+    }
 
 pub returns-clause-sent : goal.returns-clause-sent
-unfolding module_tree
+unfolding module_tree requirements_tree
 returns-clause-sent g c =
     let begun = c.in_ok-begin_named_file.ensures.sent in
     let pair = begun.2 in
     let last = c.in_ok-send_text.ensures in
+    let l = c.loop-pair in
+    let required = array_sent requirement_tree c.entry.inside.required.now l.pair-index _ _ _ _ c.loop-pair-test.false c.in_ok-begin_seq.ensures l.invariant.sent c.in_ok-end_seq.ensures in
     let same : c.if-entry.visibility.now ≡ visibility_text c.entry.inside.is_private = elim c.if-entry.branch [ then-entry w ↦ grind (arith, common_steps) | else-entry w ↦ grind (arith, common_steps) ] in
     let visibility = subst (λ t. Logs last.0 (g.S.Serializer.written c.send_text.new.out) (text t)) same last.2 in
-    subst (λ v. OnOk c.end_map.result (SendsValue (module_tree v) (g.S.Serializer.written c.args.out.now) (g.S.Serializer.written c.end_map.new.self))) c.entry.view_is
-    (on_ok_weaker c.end_map.result
+    subst (λ v. OnOk c.end_map-2.result (SendsValue (module_tree v) (g.S.Serializer.written c.args.out.now) (g.S.Serializer.written c.end_map-2.new.self))) c.entry.view_is
+    (on_ok_weaker c.end_map-2.result
     (λ end. (
       begun.0,
       begun.1,
@@ -34,20 +57,14 @@ returns-clause-sent g c =
           _,
           pair.2.1,
           pair.2.2,
-          (
-            _,
-            _,
-            c.in_ok-key.ensures,
-            c.in_ok-send_requirements.ensures.sent,
-            (last.0, _, last.1, visibility, end),
-          ),
+          (_, _, c.in_ok-key.ensures, required, (last.0, _, last.1, visibility, end)),
         ),
       ),
-    )) c.end_map.ensures)
+    )) c.end_map-2.ensures)
 
 pub returns-clause-sound : goal.returns-clause-sound
 returns-clause-sound g c =
-    on_ok_weaker c.end_map.result (λ end. subst IsSoundModule c.entry.view_is (record {
+    on_ok_weaker c.end_map-2.result (λ end. subst IsSoundModule c.entry.view_is (record {
       named = c.in_ok-begin_named_file.ensures.sound;
-      required = c.in_ok-send_requirements.ensures.sound;
-    })) c.end_map.ensures
+      required = All-end (λ p. IsSoundPair p.0 p.1) c.entry.inside.required.now c.loop-pair.pair-index c.loop-pair-test.false c.loop-pair.invariant.sound;
+    })) c.end_map-2.ensures

@@ -1,7 +1,7 @@
 use Rattle.std.proofs.Common.{◌≡◌, ◌<◌, ◌-◌, refl, sym, subst, slice_index_or, arith}
 use Rattle.std.specs.Vec.{vec_len}
 use Rattle.build_effect.specs.EdgeValue.{EdgeValue}
-use Rattle.build_effect.specs.contracts.edge.Edge.{the_view}
+use Rattle.build_effect.specs.contracts.graph.Edge.{the_view}
 use Rattle.build_effect.proofs.ListingLaws.{last_set}
 use Rattle.build_effect.proofs.listing.state.set_last_restat.Goals as goal
 

@@ -2,6 +2,8 @@ use Rattle.std.proofs.Common.{◌≡◌, ℕ, inl, inr, sym, subst, Ok, Err}
 use Rattle.std.proofs.lemmas.Result.{err_from_is_err_and}
 use Rattle.dyndep_file.specs.Reader.{HasReadDyndep, EndsDyndepFile}
 use Rattle.ninja_text.specs.Bytes.{Bytes}
+use Rattle.ninja_text.specs.declared.failure.Failure.TheVariants.{Fault}
+use Rattle.dyndep_file.specs.declared.fault.ReadFault.{ReadFault}
 use Rattle.dyndep_file.specs.Steps.{ProgressValue}
 use Rattle.dyndep_file.specs.inner.LineStates.{answer_at_end}
 use Rattle.dyndep_file.specs.declared.progress.Stage.{Stage}
@@ -26,8 +28,9 @@ at_stage bytes progress end stage line same is all =
 pub returns-in-BeforeVersion-clause-all : goal.returns-in-BeforeVersion-clause-all
 returns-in-BeforeVersion-clause-all c = λ bytes before.
     let has : HasReadDyndep bytes c.self.inside.lines = subst (HasReadDyndep bytes) (sym c.self.view_is) before in
-    at_stage bytes (the_view c.progress.inside) c.in_ok-progress.progress BeforeVersion c.in_ok-progress.next_line c.progress.view_is c.in-BeforeVersion.is
-    (ended bytes c.self.inside.lines (Ok (c.in_ok-progress.progress, c.in_ok-progress.next_line)) has (c.in_ok-progress.ensures.all bytes))
+    subst (λ (fault : ReadFault). EndsDyndepFile bytes (Err (Fault fault))) (sym c.at.ensures)
+    (at_stage bytes (the_view c.progress.inside) c.in_ok-progress.progress BeforeVersion c.in_ok-progress.next_line c.progress.view_is c.in-BeforeVersion.is
+    (ended bytes c.self.inside.lines (Ok (c.in_ok-progress.progress, c.in_ok-progress.next_line)) has (c.in_ok-progress.ensures.all bytes)))
 
 pub returns-in-NoneOpen-clause-all : goal.returns-in-NoneOpen-clause-all
 returns-in-NoneOpen-clause-all c = λ bytes before.

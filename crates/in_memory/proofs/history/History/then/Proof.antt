@@ -40,12 +40,12 @@ then_spec 𝓤 𝓛 𝓜 𝓡 wired =
     (λ κs qs bounds a g are.
     let y : (walk_of 𝓛 f.ended stayed c).Ghost = ((κs, qs, bounds, a, (shr_vals a.0, (shr_vals a.1.0, tt))), g) in
     let old = a.0.now in
-    let noted : (History.the_row).Denot = record { files = old.files; calls = old.calls ++ call_of a.1.0.now ∷ [] } in
+    let noted : (History.the_row).Denot = record { calls = old.calls ++ call_of a.1.0.now ∷ [] } in
     qed 𝓛 ((raw (alive 𝓛 f.signature κs qs) ⊛ ‵ (owns (types_at f.signature.params κs) a y.0.4)) ∷ ‵ ftrue ∷ []) ∵
     split ! $ keep ! (0 ∷ []) $
     enter ! _ _ _ _ _ $ alloc_all ! (λ l. pass_all ! refl ((tt, tt), ((tt, tt), tt)) $
     sets ! (agg ! (no_more !)) refl (tt, tt) $
     returns ! (look_at ! 0 refl) $ free_all ! refl $
-    suffices ! _ (ends_at 𝓛 f.ended stayed c y empty noted (tt, (tt, tt)) (tt, (tt, tt))) $ says ! (refl, refl) $
+    suffices ! _ (ends_at 𝓛 f.ended stayed c y empty noted (tt, (tt, tt)) (tt, (tt, tt))) $ says ! refl $
     use0 𝓛 (‵ ((History.the_row).own_val noted (empty ∷ []))) (made 𝓛 noted) $
     nothing ! $ nothing ! $ join ! $ nothing ! $ join ! $ move ! (2 ∷ 0 ∷ 1 ∷ []) $ done !))

@@ -1,0 +1,36 @@
+use Rattle.std.proofs.Common.{◌≡◌, ◌+◌, ◌∙◌, take, refl, ap, sym, subst}
+use Rattle.std.proofs.lemmas.Option.{slice_get_read}
+use Rattle.dyndep_file.specs.StatementValue.{StatementValue}
+use Rattle.build_effect.specs.inner.Makers.{maker_in}
+use Rattle.build_effect.specs.inner.StatementEdges.{AreEdgesOf, IsUnboundOutput}
+use Rattle.build_effect.proofs.StatementChecks.{bound_maker, unbound_maker, no_maker, more_edges, first_unbound}
+use Rattle.build_effect.proofs.effect.edges_of_statements.Goals as goal
+use Rattle.build_effect.proofs.effect.edges_of_statements.Goals.{in_default-via-in-Some+else-names, in_default-via-in_default}
+
+pub returns-in_default-clause-fault : goal.returns-in_default-clause-fault
+returns-in_default-clause-fault c =
+    let g = c.args.edges.now in
+    let maker = maker_in c.args.makers.now.table in
+    let i = c.loop-addition.addition-index in
+    let a : StatementValue = c.addition-item.result in
+    let same : c.addition.inside.output ≡ a.output = ap (λ (x : StatementValue). x.output) c.addition.view_is in
+    let none : IsUnboundOutput g c.args.name.now c.addition.inside.output =
+    elim c.in_default.branch [
+      | in_default-via-in-Some+else-names w ↦ unbound_maker g maker c.addition.inside.output c.requires.makers c.args.name.now w.in-Some.edge w.index-edges-edge.result c.requires.made_once (sym w.in-Some.ensures) w.index-edges-edge.is w.if-names.ensures
+      | in_default-via-in_default w ↦ no_maker g maker c.addition.inside.output c.requires.makers c.args.name.now (sym c.maker_of.ensures ∙ w.in_default.is)
+    ] in
+    first_unbound g c.args.name.now c.args.additions.now c.loop-addition.edge_of.items i a c.in_ok-output-in_default.output
+    (slice_get_read c.args.additions.now _ i a refl c.loop-addition-test.true c.addition-item.is) c.loop-addition.invariant
+    (subst (IsUnboundOutput g c.args.name.now) same none) (c.in_ok-output-in_default.ensures ∙ same)
+
+pub loop-addition-preserved : goal.loop-addition-preserved
+loop-addition-preserved c =
+    let g = c.args.edges.now in
+    let maker = maker_in c.args.makers.now.table in
+    let i = c.loop-addition.addition-index in
+    let a : StatementValue = c.addition-item.result in
+    let same : c.addition.inside.output ≡ a.output = ap (λ (x : StatementValue). x.output) c.addition.view_is in
+    subst (AreEdgesOf g c.args.name.now (take (i + 1) c.args.additions.now)) (sym c.in_ok-push-in-Some.ensures.items)
+    (more_edges g c.args.name.now c.args.additions.now c.loop-addition.edge_of.items i a c.in-Some.edge
+    (slice_get_read c.args.additions.now _ i a refl c.loop-addition-test.true c.addition-item.is) c.loop-addition.invariant
+    (bound_maker g maker a.output c.requires.makers c.args.name.now c.in-Some.edge c.index-edges-edge.result (ap maker (sym same) ∙ sym c.in-Some.ensures) c.index-edges-edge.is c.if-names.ensures))

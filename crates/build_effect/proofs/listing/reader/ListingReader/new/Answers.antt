@@ -1,6 +1,0 @@
-use Rattle.std.proofs.Common.{rules}
-use Rattle.build_effect.specs.ListingGrammar.{listing_end}
-use Rattle.build_effect.proofs.listing.reader.ListingReader.new.Goals as goal
-
-pub returns : goal.returns
-returns c = search (rules, listing_end)

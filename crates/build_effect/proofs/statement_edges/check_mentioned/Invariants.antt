@@ -1,8 +1,0 @@
-use Rattle.std.proofs.Common.{◌≡◌, ℕ, ◌<◌, Some, slice_get}
-use Rattle.build_effect.specs.EdgeValue.{EdgeValue}
-use Rattle.build_effect.specs.Graphs.{Names}
-use Rattle.build_effect.specs.inner.StatementEdges.{statement_on}
-use Rattle.build_effect.proofs.statement_edges.check_mentioned.Given as goal
-
-abbrev pub invariant-loop-edge_index : goal.invariant-loop-edge_index
-invariant-loop-edge_index l = (i : ℕ) (e : EdgeValue) → i < l.edge_index → slice_get l.edges i ≡ Some e → Names l.name e → (k : ℕ) × (statement_on l.statement_of i ≡ Some k)

@@ -1,6 +1,0 @@
-use Rattle.std.proofs.Common.{take}
-use Rattle.build_effect.specs.inner.StatementEdges.{AreEdgesOf}
-use Rattle.build_effect.proofs.statement_edges.edges_of_statements.Given as goal
-
-abbrev pub invariant-loop-addition : goal.invariant-loop-addition
-invariant-loop-addition l = AreEdgesOf l.edges l.name (take l.addition-index l.additions) l.edge_of.items

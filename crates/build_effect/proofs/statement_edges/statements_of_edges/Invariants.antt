@@ -1,7 +1,0 @@
-use Rattle.std.proofs.Common.{take}
-use Rattle.ninja_text.specs.Firsts.{AllDiffer}
-use Rattle.build_effect.specs.inner.StatementEdges.{AreInverse}
-use Rattle.build_effect.proofs.statement_edges.statements_of_edges.Given as goal
-
-abbrev pub invariant-loop-statement_index : goal.invariant-loop-statement_index
-invariant-loop-statement_index l = record { inverse : AreInverse l.count (take l.statement_index l.edge_of) l.statement_of.items; differ : AllDiffer (take l.statement_index l.edge_of) }

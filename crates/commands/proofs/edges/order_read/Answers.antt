@@ -1,0 +1,38 @@
+use Rattle.std.proofs.Common.{rules, ◌≡◌, ◌∙◌, refl, ap, ap₂, subst, length, ℕ}
+use Rattle.std.specs.Prelude.{Vec}
+use Rattle.std.specs.Global.{Global}
+use Rattle.ninja_text.specs.Failure.{ForFault}
+use Rattle.dep_order.specs.Sortings.{IsSortingOf}
+use Rattle.build_effect.specs.Graphs.{EdgeNeeds}
+use Rattle.commands.specs.EdgeFaults.{cycle_text}
+use Rattle.commands.specs.Order.{order_text, PrintsOrder}
+use Rattle.commands.specs.Outcomes.{refusal, printed}
+use Rattle.commands.proofs.Outcomes.{its_line, of_all, next, last, said}
+use Rattle.commands.proofs.edges.order_read.Goals as goal
+
+pub returns-in_err-graph : goal.returns-in_err-graph
+returns-in_err-graph c = last c.graph_of.ensures c.in_err-graph.was (search rules)
+
+pub returns-in_err-order : goal.returns-in_err-order
+returns-in_err-order c = next c.graph_of.ensures c.in_ok-graph.was (search rules)
+
+pub returns-in_err-push_line-in-Order : goal.returns-in_err-push_line-in-Order
+returns-in_err-push_line-in-Order c = next c.graph_of.ensures c.in_ok-graph.was (search rules)
+
+pub returns-in-Order : goal.returns-in-Order
+returns-in-Order c =
+    let graph = c.in_ok-graph.graph in
+    let sorting = subst (IsSortingOf (length graph) (EdgeNeeds graph)) c.in-Order.is c.in_ok-order.ensures in
+    let order = c.deref-edge_index-items.result.now in
+    let text = of_all (order_text c.graph.inside.edges.items) order c.loop-edge_index.edge_index-index c.loop-edge_index.text.items c.loop-edge_index-test.false c.loop-edge_index.invariant
+    ∙ ap₂ order_text c.graph.view_is c.deref-edge_index-items.ensures.value in
+    next c.graph_of.ensures c.in_ok-graph.was (refl, (c.in-Order.order, sorting, c.text.ensures ∙ ap printed text))
+
+pub returns : goal.returns
+returns c =
+    let graph = c.in_ok-graph.graph in
+    let sorting = subst (IsSortingOf (length graph) (EdgeNeeds graph)) c.in-Cycle.is c.in_ok-order.ensures in
+    let stop = its_line 1 _ _ c.stopped.result c.cycle_text.ensures c.stopped.ensures in
+    let same = ap₂ cycle_text c.edges-in-Cycle.ensures.edges c.deref.ensures.value in
+    next c.graph_of.ensures c.in_ok-graph.was (said (PrintsOrder graph) _ (λ (cycle : Vec ℕ Global). cycle_text graph cycle.items) c.in-Cycle.cycle c.stopped.result sorting
+    (subst (λ t. ForFault (λ l. l ≡ refusal t) c.stopped.result) same stop))

@@ -1,0 +1,30 @@
+use Rattle.std.proofs.Common.{rules, ◌≡◌, ℕ, ◌+◌, ◌<◌, List, [], ◌∷◌, ◌++◌, length, take, get_or, map, string_bytes, Option, Some, ap, ap₂, sym, ◌∙◌}
+use Rattle.std.specs.Prelude.{String}
+use Rattle.std.specs.Global.{Global}
+use Rattle.std.proofs.lemmas.List.{map_push}
+use Rattle.commands.specs.ProjectCommand.{ReadTargetValue, last_with, LinksTo}
+use Rattle.commands.specs.inner.ProjectTargets.{writer_of}
+use Rattle.commands.proofs.Outcomes.{mapped_next}
+use Rattle.commands.proofs.project.links_of.Goals as goal
+
+-- the index of one info file more
+links_next : (targets : List ReadTargetValue) (infos : List (String Global)) (i : ℕ) (info : String Global) (linked new : List ℕ) (k : ℕ) →
+    i < length infos → info ≡ get_or infos i info → last_with targets (string_bytes info) ≡ Some k → new ≡ linked ++ k ∷ [] →
+    LinksTo targets (map string_bytes (take i infos)) linked → LinksTo targets (map string_bytes (take (i + 1) infos)) new
+links_next targets infos i info linked new k within is found more before =
+    ap (map (last_with targets)) (mapped_next string_bytes infos i info within is)
+    ∙ map_push (last_with targets) (map string_bytes (take i infos)) (string_bytes info)
+    ∙ ap₂ (λ a b. a ++ b ∷ []) before found
+    ∙ sym (ap (map Some) more ∙ map_push Some linked k)
+
+-- what the table has for an info file is the last target that has it
+by_table : (own targets : List ReadTargetValue) (at : List ℕ → Option ℕ) (text info : List ℕ) (found : Option ℕ) →
+    ((info : List ℕ) → at info ≡ last_with own info) → own ≡ targets → text ≡ info → found ≡ at text → last_with targets info ≡ found
+by_table own targets at text info found table same named is = sym (ap₂ last_with same named) ∙ sym (table text) ∙ sym is
+
+pub loop-info-preserved : goal.loop-info-preserved
+loop-info-preserved c =
+    let found : Some c.in-Some.index.now ≡ writer_of c.targets.inside.writers c.as_str.result.now = search rules in
+    links_next c.args.targets.now c.args.infos.now c.loop-info.info-index c.info-item.result c.loop-info.linked.items _ c.in-Some.index.now c.loop-info-test.true c.info-item.is
+    (by_table c.targets.inside.list.items c.args.targets.now (writer_of c.targets.inside.writers) c.as_str.result.now (string_bytes c.info-item.result) (Some c.in-Some.index.now) c.targets.invariant.1 c.targets.view_is c.as_str.ensures.value found)
+    c.in_ok-linked-2.ensures c.loop-info.invariant

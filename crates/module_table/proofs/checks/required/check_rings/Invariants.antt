@@ -1,0 +1,9 @@
+use Rattle.std.proofs.Common.{◌≡◌, map, take}
+use Rattle.std.specs.List.{filter_map}
+use Rattle.dep_order.specs.Rows.{rows}
+use Rattle.module_table.specs.inner.Numbered.{maker_at}
+use Rattle.module_table.specs.inner.Views.{provision_of}
+use Rattle.module_table.proofs.checks.required.check_rings.Given as goal
+
+abbrev pub invariant-loop-row : goal.invariant-loop-row
+invariant-loop-row l = rows l.needs.items ≡ map (filter_map (maker_at (map provision_of l.provided))) (take l.row-index (rows l.required))

@@ -1,0 +1,10 @@
+use Rattle.std.proofs.Common.{map}
+use Rattle.serde_json.specs.View.{view}
+use Rattle.scan_docs.specs.Scan.{IsRequired}
+use Rattle.scan_docs.specs.ScanChecks.{required_checks}
+use Rattle.scan_docs.specs.declared.fault.Place.TheVariants as place
+use Rattle.scan_docs.proofs.Each.{SoFar}
+use Rattle.scan_docs.proofs.scan_document.read_all_required.Given as goal
+
+abbrev pub invariant-loop-entry : goal.invariant-loop-entry
+invariant-loop-entry l = SoFar (λ entry d. required_checks (place.Requires l.rule entry) d) IsRequired (map view l.entries) l.entry l.found.items
