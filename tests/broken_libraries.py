@@ -1,5 +1,4 @@
 """The tests of libdyncollate catch libraries that are each broken in one way (broken_library.c)."""
-import functools
 import os
 import re
 import subprocess
@@ -12,22 +11,18 @@ from tests.case import each
 from tests.program import TOP
 from tests.side_by_side import SideBySide
 
-# The test that a library without a fault passes, though it accepts no input; and how the library is broken that it catches.
-BROKEN = [
-    ("library.InC.test_each_allocation_fails", "A_LEAK"),
-    ("library.InC.test_each_allocation_fails", "A_LEAK_IF_AN_ALLOCATION_FAILS"),
-    ("library.InC.test_each_allocation_fails", "A_BYTE_BEFORE_THE_ROOM"),
-    ("library.InC.test_threads", "A_BYTE_AFTER_THE_INPUT"),
-    ("library.Rooms", "A_NUMBER_AFTER_THE_RESULT"),
-    ("library.Rooms", "TEXT_IN_TOO_LITTLE_ROOM"),
-    ("library_files.Linked", "A_STATE"),
-    ("library_files.Linked", "A_CALL_OF_THE_SYSTEM"),
-    ("library_files.Linked", "ANOTHER_SYMBOL"),
-    ("fuzzing.Targets.test_show", "A_LEAK"),
-    ("fuzzing.Targets.test_show", "A_BYTE_AFTER_THE_INPUT"),
-]
-# the tests that see that it accepts no input
-OF_RESULTS = ["library.Rows", "library.Misuses", "library_files.Examples"]
+# The tests that a library without a fault passes, though it accepts no input, and how the libraries are broken that they catch. The last
+# three see that it accepts no input.
+BROKEN = {
+    "library.InC.test_each_allocation_fails": ["A_LEAK", "A_LEAK_IF_AN_ALLOCATION_FAILS", "A_BYTE_BEFORE_THE_ROOM"],
+    "library.InC.test_threads": ["A_BYTE_AFTER_THE_INPUT"],
+    "library.Rooms": ["A_NUMBER_AFTER_THE_RESULT", "TEXT_IN_TOO_LITTLE_ROOM"],
+    "library_files.Linked": ["A_STATE", "A_CALL_OF_THE_SYSTEM", "ANOTHER_SYMBOL"],
+    "fuzzing.Targets.test_show": ["A_LEAK", "A_BYTE_AFTER_THE_INPUT"],
+    "library.Rows": [],
+    "library.Misuses": [],
+    "library_files.Examples": [],
+}
 
 
 def built(folder, how):
@@ -39,7 +34,6 @@ def built(folder, how):
         subprocess.run(command, cwd=folder, check=True)
 
 
-@functools.lru_cache(None)
 def tests_with(how, tests):
     """What tests print if the library is broken in this way."""
     with tempfile.TemporaryDirectory(prefix="dyncollate-") as folder:
@@ -50,19 +44,19 @@ def tests_with(how, tests):
 
 
 @embedded.needs_tools("gcc", "ar")
-@each(BROKEN + [(tests, "") for tests in OF_RESULTS], " ".join)
+@each(BROKEN)
 class BrokenLibraries(unittest.TestCase):
-    """The tests of a row fail if the library is broken, and pass if it is not."""
+    """The tests fail if the library is broken, and pass if it is not."""
     seconds = 10
 
-    def check(self, row):
-        tests, how = row
+    def check(self, tests):
         found = tests_with("NOTHING", tests)
         if re.search(r"OK \(skipped=", found):
             self.skipTest("a tool is not there")
-        self.assertEqual(bool(re.search(r"\n\nOK", found)), bool(how), found[-3000:])
-        if how:
-            self.assertRegex(tests_with(how, tests), r"\nFAILED \(failures=")
+        self.assertEqual(bool(re.search(r"\n\nOK", found)), bool(BROKEN[tests]), found[-3000:])
+        for how in BROKEN[tests]:
+            with self.subTest(how):
+                self.assertRegex(tests_with(how, tests), r"\nFAILED \(failures=")
 
 
 def load_tests(_loader, tests, _pattern):

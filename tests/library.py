@@ -8,7 +8,7 @@ import tempfile
 import unittest
 
 from tests import embedded, fuzzing
-from tests.case import each
+from tests.case import Case, each
 from tests.program import TOP
 from tests.rows import V
 from tests.rows.forms import statement
@@ -25,11 +25,13 @@ SANITIZED = "-std=c11 -D_GNU_SOURCE -O1 -fsanitize=address,undefined -fno-saniti
 @embedded.needs_library
 @each(ASKED, lambda row: row.name)
 class Rows(unittest.TestCase):
+    same = Case.same
+
     def check(self, row):
         found = embedded.module().run(row.words[0], *embedded.given(row))
         files = {os.path.normpath(os.fsencode(name)): data for name, data in found.files.items()}
-        self.assertEqual((found.status, found.out, found.err), row.printed())
-        self.assertEqual(files, row.made())
+        self.same((found.status, found.out, found.err), row.printed())
+        self.same(files, row.made(), "its files")
 
 
 @embedded.needs_library
