@@ -24,11 +24,9 @@ use Rattle.module_table.specs.inner.Numbered.{IsNumbered, maker_at}
 use Rattle.module_table.specs.declared.fault.Maker.{Maker}
 use Rattle.module_table.specs.declared.fault.Maker.TheVariants.{Object, Info}
 use Rattle.module_table.specs.declared.fault.TableFault.TheVariants.{ObjectTwice, InfoTwice, ProvidedTwice, BmiTwice, ModuleUnknown, InfoUnknown, InfoDisagrees, ImportCycle, ModulePrivate, PrivateUnknown}
-use Rattle.module_table.proofs.Places.{neither_less, requirement_of, requirement, agreed}
-use Rattle.module_table.proofs.Required.{contained}
+use Rattle.module_table.proofs.Places.{neither_less, requirement_of, requirement, agreed, contained}
 use Rattle.module_table.proofs.IndexRows.{placed, number_known, as_many, to_depends, from_depends, are_nodes}
-use Rattle.module_table.proofs.ReportLemmas.{absent_unknown, provided_numbered}
-use Rattle.module_table.proofs.Found.{nothing_named, object_not_info, info_not_object}
+use Rattle.module_table.proofs.Found.{absent_unknown, provided_numbered, nothing_named, object_not_info, info_not_object}
 use Rattle.module_table.proofs.Passing.{from_info, unknown_by, unprovided_by, provided_by}
 use Rattle.ninja_text.proofs.ForCallers.{to_map, from_map}
 

@@ -1,18 +1,212 @@
--- What is found by a name, and what the checks ask of it.
-use Rattle.std.proofs.Common.{◌≡◌, ℕ, zero, suc, Bool, true, false, not, cond, ◌||◌, List, [], ◌∷◌, Option, Some, None, refl, ap, sym, ◌∙◌, map, slice_get, find, MatchBool, bytes_eq, true≢false}
+-- What the checks report.
+use Rattle.std.proofs.Common.{◌≡◌, ℕ, suc, ◌+◌, ◌<◌, ◌≤◌, true, false, List, [], ◌∷◌, ◌++◌, length, map, take, Some, refl, ap, subst, sym, ◌∙◌, ⊎_elim, arith, slice_get, Box, Global, zero, Bool, not, cond, ◌||◌, Option, None, find, MatchBool, bytes_eq, true≢false}
+use Rattle.std.specs.List.{enumerate_from}
+use Rattle.std.proofs.lemmas.List.{map-append}
+use Rattle.std.proofs.lemmas.Option.{slice_get_within}
+use Rattle.scan_docs.specs.Scan.{RuleValue}
+use Rattle.ninja_text.specs.Failure.{ForFault}
+use Rattle.ninja_text.specs.declared.failure.Failure.{Failure}
+use Rattle.ninja_text.specs.declared.failure.Failure.TheVariants.{Memory, Fault}
+use Rattle.module_table.specs.TableValue.{TableValue}
+use Rattle.module_table.specs.Modules.{IsProvided, IsProvidedBy, Provision, provisions, InfoRequirement}
+use Rattle.ninja_text.specs.Firsts.{IsFirst, AllDiffer, RepeatsFirst}
+use Rattle.module_table.specs.Faults.{Claim, claims, claims_of, own_claims, module_claims, IsUnknown}
+use Rattle.module_table.specs.inner.Views.{names_of, files_of, IsProvidedTwice, IsMadeTwice, IsAbsent}
+use Rattle.module_table.specs.inner.Reported.{Reports}
+use Rattle.module_table.specs.declared.fault.Maker.TheVariants.{Object, Info}
+use Rattle.module_table.specs.declared.fault.TableFault.{TableFault}
+use Rattle.module_table.specs.declared.fault.TableFault.TheVariants.{ProvidedTwice, BmiTwice, ModuleUnknown}
+use Rattle.module_table.proofs.Places.{either, numbered, object_provision, info_provision, from_provisions, neither_less, from_find}
+use Rattle.module_table.proofs.Lists.{repetition_of}
+use Rattle.ninja_text.proofs.ForCallers.{in_take, same_some, to_map, in_first, in_second, from_map, in_append}
 use Rattle.std.specs.Cmp.Lexicographic.{bytes_decides}
 use Rattle.std.proofs.lemmas.Bool.{eq-eqb, eqb-true, not-true, not-false}
-use Rattle.module_table.specs.Modules.{Provision, InfoRequirement}
-use Rattle.ninja_text.specs.Firsts.{AllDiffer}
-use Rattle.module_table.specs.inner.Views.{names_of, IsAbsent}
 use Rattle.module_table.specs.inner.Finds.{found, is_info, is_object, is_info_at, some_and, none_or, is_by_info, agrees, is_allowed, is_public_at, is_by_object, IsNamed, IsByInfo, IsNotByInfo, Agrees, Differs, IsAllowed, IsNotAllowed, IsPublic, IsPrivate, IsByObject, IsNotByObject, RefusesAt, AcceptsAll}
 use Rattle.module_table.specs.inner.Found.{with_module}
 use Rattle.module_table.specs.declared.fault.Maker.{Maker}
-use Rattle.module_table.specs.declared.fault.Maker.TheVariants.{Object, Info}
-use Rattle.module_table.proofs.Places.{neither_less}
-use Rattle.module_table.proofs.Required.{from_find}
-use Rattle.module_table.proofs.ReportLemmas.{in_row}
-use Rattle.ninja_text.proofs.ForCallers.{same_some, to_map, from_map}
+
+pub for_fault : (P Q : Box TableFault Global → Type 0) (failure : Failure (Box TableFault Global)) → ((fault : Box TableFault Global) → P fault → Q fault) → ForFault P failure → ForFault Q failure
+for_fault P Q Memory to h = h
+for_fault P Q (Fault fault) to h = to fault h
+
+-- what is known of a fault is known of the failure that it makes
+pub for_boxed : (P : TableFault → Type 0) (fault : TableFault) (failure : Failure (Box TableFault Global)) → P fault → ForFault (λ boxed. boxed.value ≡ fault) failure → ForFault (λ boxed. P boxed.value) failure
+for_boxed P fault Memory is same = tt
+for_boxed P fault (Fault boxed) is same = subst P (sym same) is
+
+-- a fault that is another one in other words
+pub reports_same : (code : ℕ) (t : TableValue) (kept : List (List ℕ)) (fault other : TableFault) → fault ≡ other → Reports code t kept other → Reports code t kept fault
+reports_same code t kept fault other e h = subst (Reports code t kept) (sym e) h
+
+-- ---- M3
+
+module _ (t : TableValue) (kept : List (List ℕ)) (i j : ℕ) (fault : TableFault) where
+  reported_twice : RepeatsFirst (names_of (provisions t)) i j → IsProvidedTwice (provisions t) i j fault → Reports 3 t kept fault
+  reported_twice repeated is =
+      let found = repetition_of (λ (p : Provision). p.name) (provisions t) i j repeated in
+      let a : found.0 ≡ is.0 = same_some _ _ (sym found.2.x_here ∙ is.2) in
+      let b : found.1 ≡ is.1 = same_some _ _ (sym found.2.y_here ∙ is.3) in
+      reports_same 3 t kept fault (ProvidedTwice is.1.name is.0.maker is.1.maker) is.4
+      (record {
+        present = (i, j, found.0, found.1, found.2, ap (λ (p : Provision). p.name) b, ap (λ (p : Provision). p.maker) a, ap (λ (p : Provision). p.maker) b);
+        coded = refl;
+      })
+
+  pub reports_provided_twice : (list : List Provision) → list ≡ provisions t → RepeatsFirst (names_of list) i j → IsProvidedTwice list i j fault → Reports 3 t kept fault
+  reports_provided_twice list same repeated is = reported_twice (subst (λ ps. RepeatsFirst (names_of ps) i j) same repeated) (subst (λ ps. IsProvidedTwice ps i j fault) same is)
+
+-- ---- M4
+
+module _ (objects : List RuleValue) (provided : List Provision) where
+  own_length : (n : ℕ) (rules : List RuleValue) → length (map (λ (o : ℕ × RuleValue). let c : Claim = record { maker = Object o.0; file = o.1.object; is_module = false } in c) (enumerate_from n rules)) ≡ length rules
+  own_length n [] = refl
+  own_length n (rule ∷ rules) = ap suc (own_length (n + 1) rules)
+
+  length_own : length (own_claims objects) ≡ length objects
+  length_own = own_length 0 objects
+
+  -- the claim of an object's own path
+  pub own_claim_at : (o : ℕ) (rule : RuleValue) → slice_get objects o ≡ Some rule → slice_get (claims_of objects provided) o ≡ Some (record { maker = Object o; file = rule.object; is_module = false })
+  own_claim_at o rule at =
+      let zero_plus : 0 + o ≡ o = omega arith in
+      in_first (own_claims objects) (module_claims provided) o _
+      (to_map (λ (x : ℕ × RuleValue). let c : Claim = record { maker = Object x.0; file = x.1.object; is_module = false } in c) (enumerate_from 0 objects) o (o, rule) (numbered 0 objects o rule at ∙ ap (λ n. Some (n, rule)) zero_plus))
+
+  -- the claim of a module's file
+  pub module_claim_at : (k : ℕ) (p : Provision) → slice_get provided k ≡ Some p → slice_get (claims_of objects provided) (length objects + k) ≡ Some (record { maker = p.maker; file = p.file; is_module = true })
+  module_claim_at k p at =
+      subst (λ n. slice_get (claims_of objects provided) (n + k) ≡ Some (record { maker = p.maker; file = p.file; is_module = true })) length_own
+      (in_second (own_claims objects) (module_claims provided) k _ (to_map (λ (p : Provision). let c : Claim = record { maker = p.maker; file = p.file; is_module = true } in c) provided k p at))
+
+  own_files : (n : ℕ) (rules : List RuleValue) → map (λ (c : Claim). c.file) (map (λ (o : ℕ × RuleValue). let c : Claim = record { maker = Object o.0; file = o.1.object; is_module = false } in c) (enumerate_from n rules)) ≡ map (λ (rule : RuleValue). rule.object) rules
+  own_files n [] = refl
+  own_files n (rule ∷ rules) = ap (λ ys. rule.object ∷ ys) (own_files (n + 1) rules)
+
+  module_files : (ps : List Provision) → map (λ (c : Claim). c.file) (module_claims ps) ≡ files_of ps
+  module_files [] = refl
+  module_files (p ∷ ps) = ap (λ ys. p.file ∷ ys) (module_files ps)
+
+  pub claimed_files : map (λ (c : Claim). c.file) (claims_of objects provided) ≡ map (λ (rule : RuleValue). rule.object) objects ++ files_of provided
+  claimed_files = map-append (λ (c : Claim). c.file) (own_claims objects) (module_claims provided) ∙ ap (λ ys. ys ++ map (λ (c : Claim). c.file) (module_claims provided)) (own_files 0 objects) ∙ ap (λ ys. map (λ (rule : RuleValue). rule.object) objects ++ ys) (module_files provided)
+
+length_paths : (rules : List RuleValue) → length (map (λ (rule : RuleValue). rule.object) rules) ≡ length rules
+length_paths [] = refl
+length_paths (rule ∷ rules) = ap suc (length_paths rules)
+
+-- if texts differ in a first list, what is repeated is repeated after it
+pub behind_first : (xs ys : List (List ℕ)) (i j : ℕ) → AllDiffer xs → RepeatsFirst (xs ++ ys) i j → length xs ≤ j
+behind_first xs ys i j all r =
+    ⊎_elim
+    (λ in_j. ⊎_elim
+    (λ in_i. absurd (all.differ i j r.repeated r.earlier in_i in_j))
+    (λ out_i. let far = out_i.1 in let lt = r.earlier in let within : j < length xs = slice_get_within xs j r.repeated in_j in absurd (omega arith))
+    (in_append xs ys i r.repeated r.here))
+    (λ out_j. let far = out_j.1 in omega arith)
+    (in_append xs ys j r.repeated r.again)
+
+module _ (t : TableValue) (kept : List (List ℕ)) (i j : ℕ) (fault : TableFault) (all : AllDiffer (map (λ (rule : RuleValue). rule.object) t.objects)) where
+  pub reported_made : RepeatsFirst (map (λ (rule : RuleValue). rule.object) t.objects ++ files_of (provisions t)) i j → IsMadeTwice t.objects (provisions t) i j fault → Reports 4 t kept fault
+  reported_made repeated is =
+      let found = repetition_of (λ (c : Claim). c.file) (claims t) i j (subst (λ xs. RepeatsFirst xs i j) (sym (claimed_files t.objects (provisions t))) repeated) in
+      let far = behind_first (map (λ (rule : RuleValue). rule.object) t.objects) (files_of (provisions t)) i j all repeated in
+      let a : found.0 ≡ is.0 = same_some _ _ (sym found.2.x_here ∙ is.2) in
+      let b : found.1 ≡ is.1 = same_some _ _ (sym found.2.y_here ∙ is.3) in
+      let is_module : found.1.is_module ≡ true =
+      ⊎_elim
+      (λ own. let within : j < length (own_claims t.objects) = slice_get_within (own_claims t.objects) j found.1 own in absurd (omega (arith, far, within, length_own t.objects (provisions t), length_paths t.objects)))
+      (λ out. let from = from_map (λ (p : Provision). let c : Claim = record { maker = p.maker; file = p.file; is_module = true } in c) (provisions t) out.0 found.1 out.2 in ap (λ (c : Claim). c.is_module) (sym from.2))
+      (in_append (own_claims t.objects) (module_claims (provisions t)) j found.1 found.2.y_here) in
+      reports_same 4 t kept fault (BmiTwice is.1.file is.0.maker is.1.maker) is.4
+      (record {
+        present = (
+          i,
+          j,
+          found.0,
+          found.1,
+          record {
+            earlier = found.2.earlier;
+            x_here = found.2.x_here;
+            y_here = found.2.y_here;
+            alike = (found.2.alike, either found.0.is_module found.1.is_module is_module);
+            y_first = λ k l v w kl lj at_k at_l h. found.2.y_first k l v w kl lj at_k at_l h.0;
+            x_first = λ k v ki at_k h. found.2.x_first k v ki at_k h.0;
+          },
+          ap (λ (c : Claim). c.file) b,
+          ap (λ (c : Claim). c.maker) a,
+          ap (λ (c : Claim). c.maker) b,
+        );
+        coded = refl;
+      })
+
+-- ---- M5
+
+-- what is provided has a number, and what has a number is provided
+module _ (t : TableValue) where
+  pub numbered_provided : (name file : List ℕ) → IsProvided t name file → (k : ℕ) × (slice_get (names_of (provisions t)) k ≡ Some name)
+  numbered_provided name file (Object o, h) = (_, to_map (λ (p : Provision). p.name) (provisions t) _ _ (object_provision t o h.0 name file h.1))
+  numbered_provided name file (Info i, h) = (_, to_map (λ (p : Provision). p.name) (provisions t) _ _ (info_provision t i h.0 h.1 h.2) ∙ ap (λ n. Some n) h.3)
+
+  pub provided_numbered : (k : ℕ) (name : List ℕ) → slice_get (names_of (provisions t)) k ≡ Some name → (file : List ℕ) × IsProvided t name file
+  provided_numbered k name at =
+      let from = from_map (λ (p : Provision). p.name) (provisions t) k name at in
+      (from.0.file, (from.0.maker, subst (λ n. IsProvidedBy t from.0.maker n from.0.file) from.2 (from_provisions t k from.0 from.1)))
+
+  pub absent_unknown : (name : List ℕ) → IsAbsent (names_of (provisions t)) name → IsUnknown t name
+  absent_unknown name absent file h = let n = numbered_provided name file h in absent n.0 n.1
+
+  pub unknown_absent : (name : List ℕ) → IsUnknown t name → IsAbsent (names_of (provisions t)) name
+  unknown_absent name unknown k at = let p = provided_numbered k name at in unknown p.0 p.1
+
+  -- the names of the objects before are all known
+  abbrev pub KnownBefore : ℕ → Type 0
+  KnownBefore object = (k : ℕ) (rule : RuleValue) (place : ℕ) (name : List ℕ) → k < object → slice_get t.objects k ≡ Some rule → slice_get rule.required place ≡ Some name → IsAbsent (names_of (provisions t)) name → ⊥
+
+  pub reported_unknown : (kept : List (List ℕ)) (object : ℕ) (rule : RuleValue) (place : ℕ) (name : List ℕ) (fault : TableFault) → slice_get t.objects object ≡ Some rule → KnownBefore object → IsFirst (IsAbsent (names_of (provisions t))) rule.required place name → fault ≡ ModuleUnknown name object → Reports 5 t kept fault
+  reported_unknown kept object rule place name fault at known first same =
+      reports_same 5 t kept fault (ModuleUnknown name object) same
+      (record {
+        present = record {
+          rule = rule;
+          index = place;
+          first_object = record {
+            here = at;
+            holds = (place, name, first.here, absent_unknown name first.holds);
+            before = λ k r lt at_k h. known k r h.0 h.1 lt at_k h.2 (unknown_absent h.1 h.3);
+          };
+          first_name = record {
+            here = first.here;
+            holds = absent_unknown name first.holds;
+            before = λ k y lt at_k unknown. first.before k y lt at_k (unknown_absent y unknown);
+          };
+        };
+        coded = refl;
+      })
+
+-- each name has a number, by its row
+pub in_row : (keys : List (List ℕ)) (row : List ℕ) (names : List (List ℕ)) (place : ℕ) (name : List ℕ) → map (slice_get keys) row ≡ map (λ n. Some n) names → slice_get names place ≡ Some name → (number : ℕ) × (slice_get row place ≡ Some number) × (slice_get keys number ≡ Some name)
+in_row keys row names place name same at =
+    let here : slice_get (map (slice_get keys) row) place ≡ Some (Some name) = ap (λ xs. slice_get xs place) same ∙ to_map (λ n. Some n) names place name at in
+    from_map (slice_get keys) row place (Some name) here
+
+rows_known : {R : Type 0} (numbers : R → List ℕ) (t : TableValue) (rows : List R) (object : ℕ) → map (λ row. map (slice_get (names_of (provisions t))) (numbers row)) rows ≡ map (λ (rule : RuleValue). map (λ n. Some n) rule.required) (take object t.objects) → KnownBefore t object
+rows_known numbers t rows object same k rule place name lt at at_name absent =
+    let here : slice_get (map (λ row. map (slice_get (names_of (provisions t))) (numbers row)) rows) k ≡ Some (map (λ n. Some n) rule.required) = ap (λ xs. slice_get xs k) same ∙ to_map (λ (rule : RuleValue). map (λ n. Some n) rule.required) (take object t.objects) k rule (in_take object t.objects k rule lt at) in
+    let row = from_map (λ row. map (slice_get (names_of (provisions t))) (numbers row)) rows k (map (λ n. Some n) rule.required) here in
+    let number = in_row (names_of (provisions t)) (numbers row.0) rule.required place name row.2 at_name in
+    absent number.0 number.2
+
+-- the fault of an object's row
+abbrev pub IsRowFault : List (List ℕ) → RuleValue → ℕ → TableFault → Type 0
+IsRowFault keys rule object fault = (place : ℕ) × (name : List ℕ) × IsFirst (IsAbsent keys) rule.required place name × (fault ≡ ModuleUnknown name object)
+
+pub reports_unknown : {R : Type 0} (numbers : R → List ℕ) (keys : List (List ℕ)) (objects : List RuleValue) (rows : List R) (object : ℕ) (rule : RuleValue) (fault : TableFault) → slice_get objects object ≡ Some rule → map (λ row. map (slice_get keys) (numbers row)) rows ≡ map (λ (rule : RuleValue). map (λ n. Some n) rule.required) (take object objects) → IsRowFault keys rule object fault → (t : TableValue) (kept : List (List ℕ)) → objects ≡ t.objects → keys ≡ names_of (provisions t) → Reports 5 t kept fault
+reports_unknown numbers keys objects rows object rule fault at same is t kept eo ek =
+    let at' = subst (λ os. slice_get os object ≡ Some rule) eo at in
+    let same' = subst (λ ks. map (λ row. map (slice_get ks) (numbers row)) rows ≡ map (λ (rule : RuleValue). map (λ n. Some n) rule.required) (take object t.objects)) ek (subst (λ os. map (λ row. map (slice_get keys) (numbers row)) rows ≡ map (λ (rule : RuleValue). map (λ n. Some n) rule.required) (take object os)) eo same) in
+    let is' = subst (λ ks. IsRowFault ks rule object fault) ek is in
+    reported_unknown t kept object rule is'.0 is'.1 fault at' (rows_known numbers t rows object same') is'.2 is'.3
+
+-- ---- What is found by a name, and what the checks ask of it
 
 find_none : (test : Provision → Bool) (ps : List Provision) (k : ℕ) (p : Provision) → find test ps ≡ None → slice_get ps k ≡ Some p → test p ≡ true → ⊥
 find_none test [] k p e at passes = cc

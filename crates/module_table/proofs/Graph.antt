@@ -12,7 +12,7 @@ use Rattle.module_table.specs.inner.Views.{names_of}
 use Rattle.module_table.specs.inner.Indexed.{IsInfosModule, IsNamedAt, pair_at}
 use Rattle.module_table.specs.declared.fault.Maker.{Maker}
 use Rattle.module_table.specs.declared.fault.Maker.TheVariants.{Object, Info}
-use Rattle.module_table.proofs.Required.{from_numbered, Has, from_append}
+use Rattle.module_table.proofs.Places.{from_numbered, Has, from_append}
 use Rattle.module_table.proofs.Lists.{zip_append, zip_flat_map, zip_numbered, zip_back, zip_length, zip_flip}
 use Rattle.ninja_text.proofs.ForCallers.{same_some, from_map}
 use Rattle.std.proofs.lemmas.List.Elements.{filter_map-append}

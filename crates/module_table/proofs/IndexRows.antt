@@ -1,6 +1,6 @@
 -- Rows of indexes, and which objects need each other by them.
-use Rattle.std.proofs.Common.{◌≡◌, ℕ, zero, suc, ◌+◌, ◌<◌, List, [], ◌∷◌, ◌++◌, length, map, take, get_or, Option, Some, None, false, option_and_then, Contains, append-nil, refl, ap, subst, sym, ◌∙◌, arith, slice_get, Bool, true, cond, ltb, bytes_eq, ◌≤◌, Vec}
-use Rattle.std.specs.List.{filter_map, cons_option, position_or_len}
+use Rattle.std.proofs.Common.{◌≡◌, ℕ, zero, suc, ◌+◌, ◌<◌, List, [], ◌∷◌, ◌++◌, length, map, take, get_or, Option, Some, None, false, option_and_then, Contains, append-nil, refl, ap, subst, sym, ◌∙◌, arith, slice_get, Bool, true, cond, ltb, bytes_eq, ◌≤◌, Vec, ◌≢◌, eqb}
+use Rattle.std.specs.List.{filter_map, cons_option, position_or_len, AllPairs}
 use Rattle.std.proofs.lemmas.Option.{slice_get_within, slice_get-get_or, get_or_from_slice_get}
 use Rattle.dep_order.specs.Needs.{NodeNeeds, NeedsAreNodes}
 use Rattle.dep_order.specs.Sortings.{IsSortingOf}
@@ -13,10 +13,8 @@ use Rattle.module_table.specs.inner.Views.{names_of}
 use Rattle.module_table.specs.inner.Numbered.{IsNumbered, object_of, maker_at, AreIndexes}
 use Rattle.module_table.specs.declared.fault.Maker.{Maker}
 use Rattle.module_table.specs.declared.fault.Maker.TheVariants.{Object, Info}
-use Rattle.module_table.proofs.Places.{object_provision, neither_less}
-use Rattle.module_table.proofs.Required.{Has, contained, from_provisions, from_filter_map}
-use Rattle.module_table.proofs.Found.{one_index}
-use Rattle.module_table.proofs.ReportLemmas.{in_row}
+use Rattle.module_table.proofs.Places.{object_provision, neither_less, Has, contained, from_provisions, from_filter_map}
+use Rattle.module_table.proofs.Found.{one_index, in_row}
 use Rattle.ninja_text.proofs.ForCallers.{take_next, same_some, to_map, from_map}
 use Rattle.std.specs.Cmp.Lexicographic.{bytes_decides}
 use Rattle.std.proofs.lemmas.Bool.{cond-true}
@@ -28,6 +26,11 @@ use Rattle.module_table.proofs.Lists.{finds}
 use Rattle.std.specs.declared.alloc.Global.{Global}
 use Rattle.scan_docs.specs.Info.{InfoValue}
 use Rattle.dep_order.specs.Rows.{rows}
+use Rattle.std.specs.List.Sorted.{IsSorted, IsPermutation, IsStrictlyIncreasing}
+use Rattle.std.specs.Ordering.{nat_cmp}
+use Rattle.std.proofs.lemmas.Cmp.{nat_eq_equiv}
+use Rattle.std.proofs.lemmas.List.Sorted.{IsNonDecreasingBy-from_sort}
+use Rattle.std.proofs.lemmas.Map.Keys.{IsDistinct-from_apart, IsDistinct-IsPermutation, IsStrictlyIncreasing-from_distinct}
 
 -- ---- objects need each other as their rows of numbers say
 
@@ -241,3 +244,46 @@ index_within t vectors is object row at k index here =
     let within = slice_get_within (names_of (provisions t)) index name.0 name.2 in
     let long = length_mapped (λ (p : Provision). p.name) (provisions t) in
     omega (arith, within, long)
+
+-- ---- different numbers
+
+-- no number is at two indexes
+abbrev pub AreDifferent : List ℕ → Type 0
+AreDifferent ns = (i j n : ℕ) → slice_get ns i ≡ Some n → slice_get ns j ≡ Some n → i ≡ j
+
+pub different : (ns : List ℕ) → AllPairs (λ one other. one ≢ other) ns → AreDifferent ns
+different ns once i j n at_i at_j =
+    let same : get_or ns i 0 ≡ get_or ns j 0 = get_or_from_slice_get ns i n 0 at_i ∙ sym (get_or_from_slice_get ns j n 0 at_j) in
+    neither_less i j (λ lt. once i j 0 lt (slice_get_within ns j n at_j) same) (λ gt. once j i 0 gt (slice_get_within ns i n at_i) (sym same))
+
+module _ (h : ℕ → Option ℕ) (one : (k l x : ℕ) → h k ≡ Some x → h l ≡ Some x → k ≡ l) where
+  -- what the first number makes is nothing that a later one makes
+  not_later : (n : ℕ) (ns : List ℕ) (x j : ℕ) → AreDifferent (n ∷ ns) → h n ≡ Some x → slice_get (filter_map h ns) j ≡ Some x → ⊥
+  not_later n ns x j differ made at =
+      let from = from_filter_map h ns j x at in
+      let number : n ≡ from.0 = one n from.0 x made from.2 in
+      let index = differ 0 (suc from.1.0) n refl (from.1.1 ∙ ap (λ m. Some m) (sym number)) in
+      absurd (omega (arith, index))
+
+  made_behind : (n : ℕ) (ns : List ℕ) → AreDifferent (n ∷ ns) → AreDifferent (filter_map h ns) → (o : Option ℕ) → h n ≡ o → AreDifferent (cons_option o (filter_map h ns))
+  made_behind n ns differ rest None made i j x at_i at_j = rest i j x at_i at_j
+  made_behind n ns differ rest (Some z) made zero zero x at_i at_j = refl
+  made_behind n ns differ rest (Some z) made zero (suc j) x at_i at_j = absurd (not_later n ns x j differ (made ∙ at_i) at_j)
+  made_behind n ns differ rest (Some z) made (suc i) zero x at_i at_j = absurd (not_later n ns x i differ (made ∙ at_j) at_i)
+  made_behind n ns differ rest (Some z) made (suc i) (suc j) x at_i at_j = ap suc (rest i j x at_i at_j)
+
+  pub all_made : (ns : List ℕ) → AreDifferent ns → AreDifferent (filter_map h ns)
+  all_made [] differ = λ i j x at_i at_j. cc
+  all_made (n ∷ ns) differ = made_behind n ns differ (all_made ns (λ k l m at_k at_l. let e = differ (suc k) (suc l) m at_k at_l in omega (arith, e))) (h n) refl
+
+not_equal : (x y : ℕ) → x ≢ y → eqb x y ≡ false
+not_equal x y h = grind (arith, nat_tests)
+
+-- different numbers, sorted
+pub strictly : (ns sorted : List ℕ) → AreDifferent ns → IsPermutation ns sorted → IsSorted nat_cmp sorted → IsStrictlyIncreasing sorted
+strictly ns sorted differ permuted in_order =
+    IsStrictlyIncreasing-from_distinct sorted (IsNonDecreasingBy-from_sort (λ x. x) sorted in_order)
+    (IsDistinct-IsPermutation eqb nat_eq_equiv.symm ns sorted permuted
+    (IsDistinct-from_apart eqb ns
+    (λ i j d lt in_j. not_equal (get_or ns i d) (get_or ns j d)
+    (λ same. let e = differ i j (get_or ns j d) (slice_get-get_or ns i d (omega (arith, lt, in_j)) ∙ ap (λ n. Some n) same) (slice_get-get_or ns j d in_j) in omega (arith, lt, e)))))

@@ -1,11 +1,8 @@
-pub mod Required
-pub mod ReportLemmas
 pub mod Found
 pub mod Passing
 pub mod Places
 pub mod Lists
 pub mod IndexRows
-pub mod Reaching
 pub mod Graph
 pub mod NeededPairs
 pub mod Faultless
@@ -13,6 +10,5 @@ pub mod Pairs
 pub mod Mentions
 pub mod OneReported
 pub mod PartLemmas
-pub mod RowLemmas
 pub mod PoolLemmas
 pub mod ForCallers

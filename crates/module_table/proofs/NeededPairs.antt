@@ -1,77 +1,271 @@
--- The pairs of the modules that the graph leads to are what the object needs.
-use Rattle.std.proofs.Common.{◌≡◌, ◌≢◌, ℕ, eqb, zero, suc, ◌+◌, ◌<◌, List, [], ◌∷◌, length, map, get_or, false, Option, Some, None, refl, ap, ap₂, subst, sym, ◌∙◌, arith, slice_get, Contains}
-use Rattle.std.specs.Borrow.{Bor}
-use Rattle.std.specs.List.{All, AllPairs, filter_map, cons_option}
-use Rattle.std.specs.List.Sorted.{IsSorted, IsPermutation, IsStrictlyIncreasing}
-use Rattle.std.specs.Ordering.{nat_cmp}
-use Rattle.std.proofs.lemmas.Bool.Decides.{nat_tests}
-use Rattle.std.proofs.lemmas.Cmp.{nat_eq_equiv}
-use Rattle.std.proofs.lemmas.Option.{slice_get_within, slice_get-get_or, get_or_from_slice_get}
-use Rattle.std.proofs.lemmas.List.Kept.{AllPairs-from_increasing}
-use Rattle.std.proofs.lemmas.List.Sorted.{IsNonDecreasingBy-from_sort, Contains-permutation, IsPermutation-sym}
-use Rattle.std.proofs.lemmas.Map.Keys.{IsDistinct-from_apart, IsDistinct-IsPermutation, IsStrictlyIncreasing-from_distinct}
-use Rattle.dep_order.specs.Needs.{NodeNeeds, Reaches, AreReached}
+-- Chains of needs in the graph lead to a node if names lead from one to the next.
+use Rattle.std.proofs.Common.{◌≡◌, ℕ, ◌+◌, ◌<◌, ◌⊎◌, List, [], ◌∷◌, length, map, Some, refl, ap, subst, sym, ◌∙◌, inl, inr, ⊎_elim, arith, slice_get, Contains, get_or, Option, ap₂}
+use Rattle.std.proofs.lemmas.Option.{slice_get_within, get_or_from_slice_get, slice_get-get_or}
+use Rattle.scan_docs.specs.Scan.{RuleValue}
+use Rattle.scan_docs.specs.Info.{ModuleValue}
+use Rattle.dep_order.specs.Needs.{NodeNeeds, IsChain, Reaches, AreReached}
 use Rattle.module_table.specs.TableValue.{TableValue}
-use Rattle.module_table.specs.Modules.{IsProvided, Provision, provisions}
-use Rattle.module_table.specs.Needed.{ArePairs, IsNeeded, lent}
-use Rattle.ninja_text.specs.Bytes.{Precedes}
+use Rattle.module_table.specs.Modules.{Provides, Requires, InfoProvides, IsProvided, Provision, provisions}
+use Rattle.module_table.specs.Needed.{LeadsTo, Leads, IsNeeded, ArePairs, lent}
 use Rattle.module_table.specs.Sound.{IsSound}
+use Rattle.ninja_text.specs.Firsts.{AllDiffer}
 use Rattle.module_table.specs.inner.Views.{names_of}
-use Rattle.module_table.specs.inner.Graph.{IsModuleGraph}
-use Rattle.module_table.specs.inner.Ranks.{AreRanked}
+use Rattle.module_table.specs.inner.Origins.{origins_of}
+use Rattle.module_table.specs.inner.Graph.{IsModuleGraph, IsModuleRow, indexes_in}
+use Rattle.module_table.specs.declared.fault.Maker.{Maker}
 use Rattle.module_table.specs.declared.fault.Maker.TheVariants.{Object, Info}
-use Rattle.module_table.proofs.Places.{neither_less, object_provision, info_provision}
-use Rattle.module_table.proofs.Required.{contained, from_filter_map}
-use Rattle.module_table.proofs.IndexRows.{in_filter_map, length_mapped, placed}
-use Rattle.module_table.proofs.Graph.{all_from}
-use Rattle.module_table.proofs.Reaching.{number_at, needed_if_reached, reached_if_needed}
-use Rattle.ninja_text.proofs.ForCallers.{same_some, to_map, from_map, element_at}
+use Rattle.module_table.proofs.Places.{object_provision, info_provision, Has, contained, from_provisions, from_filter_map}
+use Rattle.module_table.proofs.Found.{in_row, numbered_provided}
+use Rattle.module_table.proofs.Lists.{zip_there, zip_length}
+use Rattle.module_table.proofs.Graph.{IsPlaceOf, module_places, one_at, one_entry, all_from}
+use Rattle.module_table.proofs.IndexRows.{different, all_made, strictly, placed, only_one, one_number, to_numbers, from_numbers, length_mapped, in_filter_map}
+use Rattle.ninja_text.proofs.ForCallers.{same_some, to_map, in_first, in_second, from_map, element_at}
+use Rattle.std.specs.Borrow.{Bor}
+use Rattle.std.specs.List.{All, AllPairs, filter_map}
+use Rattle.std.specs.List.Sorted.{IsSorted, IsPermutation}
+use Rattle.std.specs.Ordering.{nat_cmp}
+use Rattle.std.proofs.lemmas.List.Kept.{AllPairs-from_increasing}
+use Rattle.std.proofs.lemmas.List.Sorted.{Contains-permutation, IsPermutation-sym}
+use Rattle.ninja_text.specs.Bytes.{Precedes}
+use Rattle.module_table.specs.inner.Ranks.{AreRanked}
+
+-- one step, and then the rest
+reaches_next : (Needs : ℕ → ℕ → Type 0) (from next to : ℕ) → Needs from next → Reaches Needs next to → Reaches Needs from to
+reaches_next Needs from next to need (inl same) = inr ([], subst (Needs from) same need)
+reaches_next Needs from next to need (inr chain) = inr (next ∷ chain.0, (need, chain.1))
+
+module _ (t : TableValue) (sound : IsSound t) where
+  abbrev names : List (List ℕ)
+  names = names_of (provisions t)
+
+  abbrev IsNumberOf : ℕ → List ℕ → Type 0
+  IsNumberOf k name = slice_get names k ≡ Some name
+
+  named : (k : ℕ) (name : List ℕ) → IsNumberOf k name → (p : Provision) × (slice_get (provisions t) k ≡ Some p) × (p.name ≡ name)
+  named k name at = from_map (λ (p : Provision). p.name) (provisions t) k name at
+
+  pub number_at : (k : ℕ) (p : Provision) → slice_get (provisions t) k ≡ Some p → IsNumberOf k p.name
+  number_at k p at = to_map (λ (p : Provision). p.name) (provisions t) k p at
+
+  all_differ : AllDiffer names
+  all_differ = record {
+    differ = λ i j name lt at_i at_j.
+        let a = named i name at_i in
+        let b = named j name at_j in
+        let same = sound.names_differ i j a.0 b.0 a.1 b.1 (a.2 ∙ sym b.2) in
+        omega (arith, lt, same);
+  }
+
+  one_number_of : (name : List ℕ) (k l : ℕ) → IsNumberOf k name → IsNumberOf l name → k ≡ l
+  one_number_of name k l at_k at_l = one_number names all_differ name k l at_k at_l
+
+  -- the modules of one name are one
+  one_provision : (k l : ℕ) (p q : Provision) → slice_get (provisions t) k ≡ Some p → slice_get (provisions t) l ≡ Some q → p.name ≡ q.name → (k ≡ l) × (p ≡ q)
+  one_provision k l p q at_k at_l same =
+      let place = sound.names_differ k l p q at_k at_l same in
+      (place, one_at (provisions t) l p q (ap (slice_get (provisions t)) (sym place) ∙ at_k) at_l)
+
+  module _ (graph : List (List ℕ)) (g : IsModuleGraph t graph) where
+    abbrev count : ℕ
+    count = length names
+
+    abbrev Needs : ℕ → ℕ → Type 0
+    Needs = NodeNeeds graph
+
+    -- ---- the rows
+
+    many_modules : length g.modules ≡ count
+    many_modules =
+        sym (zip_length (IsModuleRow names t.infos) (origins_of t) g.modules g.of_modules)
+        ∙ sym (zip_length (IsPlaceOf t) (provisions t) (origins_of t) (module_places t)) ∙ sym (length_mapped (λ (p : Provision). p.name) (provisions t))
+
+    -- a module of an object, by its number
+    abbrev IsOwnNode : ℕ → List ℕ → Type 0
+    IsOwnNode k name = (o : ℕ) × (j : ℕ) × (file : List ℕ) × Provides t o j name file × (slice_get graph k ≡ Some ((count + o) ∷ []))
+
+    -- a module of an info
+    abbrev IsInfoNode : ℕ → List ℕ → Type 0
+    IsInfoNode k name = (i : ℕ) × (j : ℕ) × (entry : ModuleValue) × InfoProvides t i j entry × (entry.name ≡ name) × (slice_get graph k ≡ Some (indexes_in names entry.required))
+
+    node_by : (k : ℕ) (p : Provision) (place : Maker × ℕ) (row : List ℕ) → IsPlaceOf t p place → slice_get graph k ≡ Some row → IsModuleRow names t.infos place row → IsOwnNode k p.name ⊎ IsInfoNode k p.name
+    node_by k p (Object o, j) row is at row_is = inl (o, j, p.file, is.1, at ∙ ap (λ r. Some r) row_is)
+    node_by k p (Info i, j) row is at row_is =
+        let same = one_entry t.infos i j row_is.0 is.1.0 row_is.1 is.1.1 in
+        inr (i, j, row_is.0, row_is.1, ap (λ (m : ModuleValue). m.name) same ∙ is.1.2, at ∙ ap (λ r. Some r) row_is.2)
+
+    node_of : (k : ℕ) (name : List ℕ) → IsNumberOf k name → IsOwnNode k name ⊎ IsInfoNode k name
+    node_of k name at =
+        let p = named k name at in
+        let place = zip_there (IsPlaceOf t) (provisions t) (origins_of t) k p.0 (module_places t) p.1 in
+        let row = zip_there (IsModuleRow names t.infos) (origins_of t) g.modules k place.0 g.of_modules place.1 in
+        let here : slice_get graph k ≡ Some row.0 = ap (λ rows. slice_get rows k) g.all ∙ in_first g.modules g.objects k row.0 row.1 in
+        subst (λ n. IsOwnNode k n ⊎ IsInfoNode k n) p.2 (node_by k p.0 place.0 row.0 place.2 here row.2)
+
+    object_row : (o : ℕ) (rule : RuleValue) → slice_get t.objects o ≡ Some rule → (row : List ℕ) × (slice_get graph (count + o) ≡ Some row) × (map (slice_get names) row ≡ map (λ n. Some n) rule.required)
+    object_row o rule at =
+        let row = from_map (λ row. map (slice_get names) row) g.objects o (map (λ n. Some n) rule.required) (ap (λ rows. slice_get rows o) g.of_objects ∙ to_map (λ (rule : RuleValue). map (λ n. Some n) rule.required) t.objects o rule at) in
+        let here = ap (λ rows. slice_get rows (length g.modules + o)) g.all ∙ in_second g.modules g.objects o row.0 row.1 in
+        (row.0, ap (λ n. slice_get graph (n + o)) (sym many_modules) ∙ here, row.2)
+
+    -- ---- the steps
+
+    from_need : (node n : ℕ) (row : List ℕ) → slice_get graph node ≡ Some row → Needs node n → Has row n
+    from_need node n row at need = placed row n (subst (λ r. Contains r n) (get_or_from_slice_get graph node row [] at) need)
+
+    to_need : (node n : ℕ) (row : List ℕ) → slice_get graph node ≡ Some row → Has row n → Needs node n
+    to_need node n row at has = subst (λ r. Contains r n) (sym (get_or_from_slice_get graph node row [] at)) (contained row n has)
+
+    from_object : (o : ℕ) (rule : RuleValue) (k : ℕ) → slice_get t.objects o ≡ Some rule → Needs (count + o) k → (name : List ℕ) × IsNumberOf k name × Requires t o name
+    from_object o rule k at need =
+        let row = object_row o rule at in
+        let has = from_need (count + o) k row.0 row.1 need in
+        let name = from_map (λ (n : List ℕ). Some n) rule.required has.0 (slice_get names k) (ap (λ xs. slice_get xs has.0) (sym row.2) ∙ to_map (slice_get names) row.0 has.0 k has.1) in
+        (name.0, sym name.2, (rule, at, contained rule.required name.0 (has.0, name.1)))
+
+    to_object : (o : ℕ) (name : List ℕ) → Requires t o name → (k : ℕ) × IsNumberOf k name × Needs (count + o) k
+    to_object o name needs =
+        let row = object_row o needs.0 needs.1 in
+        let there = placed needs.0.required name needs.2 in
+        let number = in_row names row.0 needs.0.required there.0 name row.2 there.1 in
+        (number.0, number.2, to_need (count + o) number.0 row.0 row.1 (there.0, number.1))
+
+    below : (k : ℕ) (name : List ℕ) → IsNumberOf k name → k < count
+    below k name at = slice_get_within names k name at
+
+    -- ---- from chains of needs to names
+
+    -- an object, or a module by its number
+    abbrev IsNode : ℕ → Type 0
+    IsNode node = ((o : ℕ) × (rule : RuleValue) × (slice_get t.objects o ≡ Some rule) × (node ≡ count + o)) ⊎ ((name : List ℕ) × IsNumberOf node name)
+
+    -- the object requires the name, or the module's name leads to it
+    abbrev Asks : ℕ → List ℕ → Type 0
+    Asks node second = ((o : ℕ) × (node ≡ count + o) × Requires t o second) ⊎ ((name : List ℕ) × IsNumberOf node name × LeadsTo t name second)
+
+    asked_by_object : (o : ℕ) (second : List ℕ) → Asks (count + o) second → Requires t o second
+    asked_by_object o second (inl h) = let same : h.0 ≡ o = (let e = h.1 in omega (arith, e)) in subst (λ n. Requires t n second) same h.2
+    asked_by_object o second (inr h) = let lt = below (count + o) h.0 h.1 in absurd (omega (arith, lt))
+
+    asked_by_module : (k : ℕ) (name second : List ℕ) → IsNumberOf k name → Asks k second → LeadsTo t name second
+    asked_by_module k name second at (inl h) = let lt = below k name at in let e = h.1 in absurd (omega (arith, lt, e))
+    asked_by_module k name second at (inr h) = subst (λ n. LeadsTo t n second) (same_some _ _ (sym h.1 ∙ at)) h.2
+
+    -- names lead from what the node asks for to the last
+    abbrev AsksFor : ℕ → List ℕ → Type 0
+    AsksFor node last = (first : List ℕ) × (rest : List (List ℕ)) × Asks node first × Leads t first rest last
+
+    -- a step to a module is a step to its name
+    step_to : (node k : ℕ) (name : List ℕ) → IsNode node → Needs node k → IsNumberOf k name → Asks node name
+    step_to node k name (inl h) need at =
+        let is = from_object h.0 h.1 k h.2 (subst (λ n. Needs n k) h.3 need) in
+        inl (h.0, h.3, subst (Requires t h.0) (same_some _ _ (sym is.1 ∙ at)) is.2)
+    step_to node k name (inr h) need at =
+        ⊎_elim
+        (λ own.
+        let e = only_one (count + own.0) k (from_need node k _ own.4 need) in
+        let lt = below k name at in
+        absurd (omega (arith, e, lt)))
+        (λ info.
+        let is = from_numbers names info.2.required k (from_need node k _ info.5 need) in
+        let same : is.0 ≡ name = same_some _ _ (sym is.3 ∙ at) in
+        inr (h.0, h.1, subst (LeadsTo t h.0) same (inr (info.0, info.1, info.2, is.1, info.4, (info.3, is.2)))))
+        (node_of node h.0 h.1)
+
+    -- the node next to one, and what that asks for, the first one does
+    step_on : (node next : ℕ) (last : List ℕ) → IsNode node → Needs node next → (IsNode next → AsksFor next last) → AsksFor node last
+    step_on node next last (inl h) need rest =
+        let is = from_object h.0 h.1 next h.2 (subst (λ n. Needs n next) h.3 need) in
+        let r = rest (inr (is.0, is.1)) in
+        (is.0, r.0 ∷ r.1, inl (h.0, h.3, is.2), (asked_by_module next is.0 r.0 is.1 r.2, r.3))
+    step_on node next last (inr h) need rest =
+        ⊎_elim
+        (λ own.
+        let e = only_one (count + own.0) next (from_need node next _ own.4 need) in
+        let r = rest (inl (own.0, own.3.0, own.3.1, e)) in
+        let needs = asked_by_object own.0 r.0 (subst (λ n. Asks n r.0) e r.2) in
+        (r.0, r.1, inr (h.0, h.1, inl (own.0, own.1, own.2, own.3, needs)), r.3))
+        (λ info.
+        let is = from_numbers names info.2.required next (from_need node next _ info.5 need) in
+        let r = rest (inr (is.0, is.3)) in
+        (is.0, r.0 ∷ r.1, inr (h.0, h.1, inr (info.0, info.1, info.2, is.1, info.4, (info.3, is.2))), (asked_by_module next is.0 r.0 is.3 r.2, r.3)))
+        (node_of node h.0 h.1)
+
+    from_chain : (things : List ℕ) (node to : ℕ) (last : List ℕ) → IsNode node → IsChain Needs (node ∷ things) to → IsNumberOf to last → AsksFor node last
+    from_chain [] node to last is need at = (last, [], step_to node to last is need at, refl)
+    from_chain (next ∷ things) node to last is chain at = step_on node next last is chain.0 (λ is_next. from_chain things next to last is_next chain.1 at)
+
+    -- what the graph leads to is needed
+    pub needed_if_reached : (object : ℕ) (rule : RuleValue) (k : ℕ) (p : Provision) → slice_get t.objects object ≡ Some rule → slice_get (provisions t) k ≡ Some p → Reaches Needs (count + object) k → IsNeeded t object p.name p.file
+    needed_if_reached object rule k p at at_k (inl same) =
+        let lt = below k p.name (number_at k p at_k) in
+        absurd (omega (arith, same, lt))
+    needed_if_reached object rule k p at at_k (inr chain) =
+        let asks = from_chain chain.0 (count + object) k p.name (inl (object, rule, at, refl)) chain.1 (number_at k p at_k) in
+        (asks.0, asks.1, asked_by_object object asks.0 asks.2, asks.3, (p.maker, from_provisions t k p at_k))
+
+    -- ---- from names to chains of needs
+
+    own_is : (k o j : ℕ) (name file : List ℕ) → IsNumberOf k name → Provides t o j name file → slice_get graph k ≡ Some ((count + o) ∷ [])
+    own_is k o j name file at provides =
+        ⊎_elim
+        (λ own.
+        let same = one_provision _ _ _ _ (object_provision t own.0 own.1 name own.2 own.3) (object_provision t o j name file provides) refl in
+        let maker : Object own.0 ≡ Object o = ap (λ (p : Provision). p.maker) same.1 in
+        let object : own.0 ≡ o = cc in
+        own.4 ∙ ap (λ n. Some ((count + n) ∷ [])) object)
+        (λ info.
+        let same = one_provision _ _ _ _ (info_provision t info.0 info.1 info.2 info.3) (object_provision t o j name file provides) info.4 in
+        let maker : Info info.0 ≡ Object o = ap (λ (p : Provision). p.maker) same.1 in
+        absurd (cc))
+        (node_of k name at)
+
+    info_is : (k i j : ℕ) (entry : ModuleValue) → IsNumberOf k entry.name → InfoProvides t i j entry → slice_get graph k ≡ Some (indexes_in names entry.required)
+    info_is k i j entry at provides =
+        ⊎_elim
+        (λ own.
+        let same = one_provision _ _ _ _ (object_provision t own.0 own.1 entry.name own.2 own.3) (info_provision t i j entry provides) refl in
+        let maker : Object own.0 ≡ Info i = ap (λ (p : Provision). p.maker) same.1 in
+        absurd (cc))
+        (λ info.
+        let same = one_provision _ _ _ _ (info_provision t info.0 info.1 info.2 info.3) (info_provision t i j entry provides) info.4 in
+        let maker : Info info.0 ≡ Info i = ap (λ (p : Provision). p.maker) same.1 in
+        let number : info.0 ≡ i = cc in
+        let moved = subst (λ n. InfoProvides t n info.1 info.2) number info.3 in
+        let again = one_provision _ _ _ _ (info_provision t i info.1 info.2 moved) (info_provision t i j entry provides) info.4 in
+        let position : info.1 ≡ j = omega (arith, again.0) in
+        let one = one_entry t.infos i j info.2 entry (subst (λ n. InfoProvides t i n info.2) position moved) provides in
+        info.5 ∙ ap (λ (m : ModuleValue). Some (indexes_in names m.required)) one)
+        (node_of k entry.name at)
+
+    -- what somebody provides has a number
+    number_of : (name file : List ℕ) → IsProvided t name file → (k : ℕ) × IsNumberOf k name
+    number_of name file provided = numbered_provided t name file provided
+
+    lead_on : (k : ℕ) (first second : List ℕ) (to : ℕ) → IsNumberOf k first → LeadsTo t first second → ((n : ℕ) → IsNumberOf n second → Reaches Needs n to) → Reaches Needs k to
+    lead_on k first second to at (inl h) rest =
+        let row = own_is k h.0 h.1 first h.2 at h.3 in
+        let needs = to_object h.0 second h.4 in
+        reaches_next Needs k (count + h.0) to (to_need k (count + h.0) _ row (0, refl)) (reaches_next Needs (count + h.0) needs.0 to needs.2 (rest needs.0 needs.1))
+    lead_on k first second to at (inr h) rest =
+        let row = info_is k h.0 h.1 h.2 (at ∙ ap (λ n. Some n) (sym h.4)) h.5.0 in
+        let known = sound.infos_known h.0 h.1 h.2 second h.3 h.5 in
+        let number = number_of second h.3 (Info known.0, known.1) in
+        reaches_next Needs k number.0 to (to_need k number.0 _ row (to_numbers names all_differ h.2.required second h.3 number.0 h.5.1 number.1)) (rest number.0 number.1)
+
+    to_chain : (rest : List (List ℕ)) (first last : List ℕ) (k to : ℕ) → IsNumberOf k first → Leads t first rest last → IsNumberOf to last → Reaches Needs k to
+    to_chain [] first last k to at same at_last = inl (one_number_of last k to (at ∙ ap (λ n. Some n) same) at_last)
+    to_chain (second ∷ rest) first last k to at leads at_last = lead_on k first second to at leads.0 (λ n at_n. to_chain rest second last n to at_n leads.1 at_last)
+
+    -- what is needed is what the graph leads to
+    pub reached_if_needed : (object : ℕ) (name file : List ℕ) → IsNeeded t object name file → (k : ℕ) → IsNumberOf k name → Reaches Needs (count + object) k
+    reached_if_needed object name file (first, rest, needs, leads, provided) k at =
+        let number = to_object object first needs in
+        reaches_next Needs (count + object) number.0 k number.2 (to_chain rest first name number.0 k number.1 leads at)
+
+-- ---- The pairs of the modules that the graph leads to are what the object needs
 
 abbrev Pair : Type 0
 Pair = List ℕ × List ℕ
-
--- ---- different numbers
-
--- no number is at two indexes
-abbrev AreDifferent : List ℕ → Type 0
-AreDifferent ns = (i j n : ℕ) → slice_get ns i ≡ Some n → slice_get ns j ≡ Some n → i ≡ j
-
-different : (ns : List ℕ) → AllPairs (λ one other. one ≢ other) ns → AreDifferent ns
-different ns once i j n at_i at_j =
-    let same : get_or ns i 0 ≡ get_or ns j 0 = get_or_from_slice_get ns i n 0 at_i ∙ sym (get_or_from_slice_get ns j n 0 at_j) in
-    neither_less i j (λ lt. once i j 0 lt (slice_get_within ns j n at_j) same) (λ gt. once j i 0 gt (slice_get_within ns i n at_i) (sym same))
-
-module _ (h : ℕ → Option ℕ) (one : (k l x : ℕ) → h k ≡ Some x → h l ≡ Some x → k ≡ l) where
-  -- what the first number makes is nothing that a later one makes
-  not_later : (n : ℕ) (ns : List ℕ) (x j : ℕ) → AreDifferent (n ∷ ns) → h n ≡ Some x → slice_get (filter_map h ns) j ≡ Some x → ⊥
-  not_later n ns x j differ made at =
-      let from = from_filter_map h ns j x at in
-      let number : n ≡ from.0 = one n from.0 x made from.2 in
-      let index = differ 0 (suc from.1.0) n refl (from.1.1 ∙ ap (λ m. Some m) (sym number)) in
-      absurd (omega (arith, index))
-
-  made_behind : (n : ℕ) (ns : List ℕ) → AreDifferent (n ∷ ns) → AreDifferent (filter_map h ns) → (o : Option ℕ) → h n ≡ o → AreDifferent (cons_option o (filter_map h ns))
-  made_behind n ns differ rest None made i j x at_i at_j = rest i j x at_i at_j
-  made_behind n ns differ rest (Some z) made zero zero x at_i at_j = refl
-  made_behind n ns differ rest (Some z) made zero (suc j) x at_i at_j = absurd (not_later n ns x j differ (made ∙ at_i) at_j)
-  made_behind n ns differ rest (Some z) made (suc i) zero x at_i at_j = absurd (not_later n ns x i differ (made ∙ at_j) at_i)
-  made_behind n ns differ rest (Some z) made (suc i) (suc j) x at_i at_j = ap suc (rest i j x at_i at_j)
-
-  all_made : (ns : List ℕ) → AreDifferent ns → AreDifferent (filter_map h ns)
-  all_made [] differ = λ i j x at_i at_j. cc
-  all_made (n ∷ ns) differ = made_behind n ns differ (all_made ns (λ k l m at_k at_l. let e = differ (suc k) (suc l) m at_k at_l in omega (arith, e))) (h n) refl
-
-not_equal : (x y : ℕ) → x ≢ y → eqb x y ≡ false
-not_equal x y h = grind (arith, nat_tests)
-
--- different numbers, sorted
-strictly : (ns sorted : List ℕ) → AreDifferent ns → IsPermutation ns sorted → IsSorted nat_cmp sorted → IsStrictlyIncreasing sorted
-strictly ns sorted differ permuted in_order =
-    IsStrictlyIncreasing-from_distinct sorted (IsNonDecreasingBy-from_sort (λ x. x) sorted in_order)
-    (IsDistinct-IsPermutation eqb nat_eq_equiv.symm ns sorted permuted
-    (IsDistinct-from_apart eqb ns
-    (λ i j d lt in_j. not_equal (get_or ns i d) (get_or ns j d)
-    (λ same. let e = differ i j (get_or ns j d) (slice_get-get_or ns i d (omega (arith, lt, in_j)) ∙ ap (λ n. Some n) same) (slice_get-get_or ns j d in_j) in omega (arith, lt, e)))))
 
 -- ---- what an object needs
 

@@ -8,8 +8,7 @@ use Rattle.module_table.specs.Modules.{InfoRequires, InfoRequirement, module_req
 use Rattle.module_table.specs.Outcomes.{SoundHasNoFault, IsSameFault, same, same_ring, OneTableFault}
 use Rattle.module_table.specs.declared.fault.Maker.TheVariants.{Object, Info}
 use Rattle.module_table.specs.declared.fault.TableFault.TheVariants.{ObjectTwice, InfoTwice, ProvidedTwice, BmiTwice, ModuleUnknown, InfoUnknown, InfoDisagrees, ImportCycle, ModulePrivate, PrivateUnknown}
-use Rattle.module_table.proofs.Places.{one_file, neither_less}
-use Rattle.module_table.proofs.Required.{from_flat_map, from_numbered, contained}
+use Rattle.module_table.proofs.Places.{one_file, neither_less, from_flat_map, from_numbered, contained}
 use Rattle.ninja_text.proofs.ForCallers.{from_map, same_some}
 use Rattle.dep_order.proofs.ForCallers.{one_cycle}
 use Rattle.ninja_text.specs.Firsts.{IsFirst, IsFirstRepetition, AllDiffer}

@@ -15,8 +15,7 @@ use Rattle.module_table.specs.inner.Views.{names_of}
 use Rattle.module_table.specs.declared.fault.Maker.{Maker}
 use Rattle.module_table.specs.declared.fault.Maker.TheVariants.{Object, Info}
 use Rattle.ninja_text.specs.Firsts.{AllDiffer}
-use Rattle.module_table.proofs.Places.{one_file, offset, provision_by}
-use Rattle.module_table.proofs.Required.{contained, from_numbered, from_mentions}
+use Rattle.module_table.proofs.Places.{one_file, offset, provision_by, contained, from_numbered, from_mentions}
 use Rattle.module_table.proofs.Graph.{one_entry}
 use Rattle.module_table.proofs.Found.{named_found}
 use Rattle.ninja_text.proofs.ForCallers.{to_map, from_map, in_first, in_second, in_append}

@@ -1,16 +1,158 @@
--- What is looked at of linked info files and of objects, and what is copied of the info files.
-use Rattle.module_table.proofs.IndexRows.{placed as index_of}
-use Rattle.std.proofs.Common.{◌≡◌, ℕ, zero, suc, ◌+◌, ◌⊎◌, true, List, [], ◌∷◌, ◌++◌, map, take, Option, Some, None, get_or, refl, ap, subst, sym, ◌∙◌, inl, inr, slice_get, slice_set, bytes_eq, arith, length, length-append, ⊎_elim}
+-- What lists have, and rows of entries by keys: an entry that is added is listed.
+use Rattle.std.proofs.Common.{◌≡◌, ℕ, zero, suc, ◌+◌, ◌<◌, ◌≤◌, ◌⊎◌, Bool, true, false, cond, List, [], ◌∷◌, ◌++◌, length, Option, Some, None, option_copied, refl, ap, subst, sym, ◌∙◌, inl, inr, ⊎_elim, arith, slice_get, slice_set, bytes_eq, true≢false, is_some, IfSome, MatchBool, Bor, get_or, map, take, length-append}
+use Rattle.std.specs.List.{AllWithin, AllZip}
 use Rattle.std.specs.Cmp.Lexicographic.{bytes_decides}
-use Rattle.std.specs.List.{AllZip}
-use Rattle.std.proofs.lemmas.Option.{get_or_from_slice_get}
+use Rattle.std.proofs.lemmas.Option.{slice_get_within, get_or_from_slice_get}
+use Rattle.indexmap.specs.IndexMap.{IndexMap, get}
+use Rattle.smallvec.specs.SmallVec.{SmallVec}
+use Rattle.scan_docs.specs.Info.{ModuleValue, InfoValue}
+use Rattle.module_table.specs.declared.pool.related.Listed.{Listed}
+use Rattle.module_table.specs.inner.Pools.{Has, By, by_name, by_file, key_of, InRow, IsPut, Lists, Keeps, StillListed, AreListed, Below, IsLinked, IsUnlinked, IsKnownModule, IsSource, IsRelated, HasSource, HasClash, IsPool, ArePlaces, AreFit, IsFitAt, IsApart, IsPicked, IsPickedOf}
+use Rattle.ninja_text.proofs.ForCallers.{same_some, in_first, in_second, from_push, three_ways, same_cons, to_map, from_map, from_take, in_take}
+use Rattle.module_table.proofs.IndexRows.{placed as index_of}
 use Rattle.scan_docs.specs.Scan.{RuleValue}
-use Rattle.scan_docs.specs.Info.{InfoValue, ModuleValue}
 use Rattle.module_table.specs.Parts.{HasModule, IsAlike, IsPartOf, KeepsRequired, InfosApart, OwnApart, AreClosed, IsEnough, AreLinked}
-use Rattle.module_table.specs.inner.Pools.{Has, Rows, Lists, StillLists, IsKnownModule, IsSource, SharesWith, IsRelated, HasSource, HasClash, IsPool, ArePlaces, AreFit, IsFitAt, IsApart, IsPicked, IsPickedOf}
 use Rattle.module_table.specs.declared.pool.related.Related.{Related}
-use Rattle.module_table.proofs.RowLemmas.{set_there, set_other, last_at}
-use Rattle.ninja_text.proofs.ForCallers.{same_some, same_cons, to_map, from_map, from_push, in_first, from_take, in_take, three_ways}
+
+-- ---- a list with another element
+
+pub set_there : {X : Type 0} (xs : List X) (n : ℕ) (x y : X) → slice_get xs n ≡ Some x → slice_get (slice_set xs n y) n ≡ Some y
+set_there [] n x y e = cc
+set_there (z ∷ xs) zero x y e = refl
+set_there (z ∷ xs) (suc n) x y e = set_there xs n x y e
+
+pub set_other : {X : Type 0} (xs : List X) (n m : ℕ) (y : X) → (m ≡ n → ⊥) → slice_get (slice_set xs n y) m ≡ slice_get xs m
+set_other [] n m y apart = refl
+set_other (z ∷ xs) zero zero y apart = absurd (apart refl)
+set_other (z ∷ xs) zero (suc m) y apart = refl
+set_other (z ∷ xs) (suc n) zero y apart = refl
+set_other (z ∷ xs) (suc n) (suc m) y apart = set_other xs n m y (λ e. apart (ap suc e))
+
+pub has_pushed : {X : Type 0} (xs : List X) (y x : X) → Has xs x → Has (xs ++ y ∷ []) x
+has_pushed xs y x h = (h.0, in_first xs (y ∷ []) h.0 x h.1)
+
+pub has_last : {X : Type 0} (xs : List X) (y : X) → Has (xs ++ y ∷ []) y
+has_last xs y = (length xs + 0, in_second xs (y ∷ []) 0 y refl)
+
+-- ---- the first few elements of a list
+
+pub each_next : {X : Type 0} (P : ℕ → X → Type 0) (xs : List X) (i : ℕ) (x : X) → slice_get xs i ≡ Some x → ((k : ℕ) (y : X) → k < i → slice_get xs k ≡ Some y → P k y) → P i x → (k : ℕ) (y : X) → k < i + 1 → slice_get xs k ≡ Some y → P k y
+each_next P xs i x at before here k y lt at_k =
+    elim (three_ways k i) [
+      | inl less ↦ before k y less at_k
+      | inr rest ↦ elim rest [
+        | inl same ↦ subst (λ n. P n y) (sym same) (subst (P i) (same_some _ _ (sym at ∙ ap (slice_get xs) (sym same) ∙ at_k)) here)
+        | inr more ↦ absurd (omega (arith, lt, more))
+      ]
+    ]
+
+pub each_all : {X : Type 0} (P : ℕ → X → Type 0) (xs : List X) (i : ℕ) → length xs ≤ i → ((k : ℕ) (y : X) → k < i → slice_get xs k ≡ Some y → P k y) → (k : ℕ) (y : X) → slice_get xs k ≡ Some y → P k y
+each_all P xs i past before k y at = let within = slice_get_within xs k y at in before k y (omega (arith, within, past)) at
+
+pub below_next : {X : Type 0} (P : X → Type 0) (xs : List X) (i : ℕ) (x : X) → slice_get xs i ≡ Some x → Below P xs i → P x → Below P xs (i + 1)
+below_next P xs i x at before here = each_next (λ k. P) xs i x at before here
+
+pub below_map : {X : Type 0} (P Q : X → Type 0) (xs : List X) (i : ℕ) → ((x : X) → P x → Q x) → Below P xs i → Below Q xs i
+below_map P Q xs i weaker before k x lt at = weaker x (before k x lt at)
+
+pub below_all : {X : Type 0} (P : X → Type 0) (xs : List X) (i : ℕ) → length xs ≤ i → Below P xs i → (x : X) → Has xs x → P x
+below_all P xs i past before x h = each_all (λ k. P) xs i past before h.0 x h.1
+
+-- what `all` or `any` finds out of each element
+each_within : {X : Type 0} (P : X → Type 0) (xs : List X) → AllWithin P xs 0 (length xs) → (x : X) → Has xs x → P x
+each_within P xs all x h = let within = slice_get_within xs h.0 x h.1 in subst P (get_or_from_slice_get xs h.0 x x h.1) (all h.0 x (omega arith) within)
+
+pub all_true : {X : Type 0} (P : X → Type 0) (Q : Type 0) (xs : List X) (r : Bool) → MatchBool r (AllWithin P xs 0 (length xs)) Q → r ≡ true → (x : X) → Has xs x → P x
+all_true P Q xs true h e = each_within P xs h
+all_true P Q xs false h e = absurd (true≢false (sym e))
+
+pub any_false : {X : Type 0} (P : X → Type 0) (Q : Type 0) (xs : List X) (r : Bool) → MatchBool r Q (AllWithin P xs 0 (length xs)) → r ≡ false → (x : X) → Has xs x → P x
+any_false P Q xs true h e = absurd (true≢false e)
+any_false P Q xs false h e = each_within P xs h
+
+pub all_pushed : {X : Type 0} (P : X → Type 0) (xs new : List X) (y : X) → new ≡ xs ++ y ∷ [] → ((x : X) → Has xs x → P x) → P y → (x : X) → Has new x → P x
+all_pushed P xs new y pushed before here x h =
+    elim (from_push xs y h.0 x (ap (λ ys. slice_get ys h.0) (sym pushed) ∙ h.1)) [ inl old ↦ before x (h.0, old) | inr last ↦ subst P last.1 here ]
+
+-- ---- truth values
+
+pub none_if : {X : Type 0} (o : Option X) → is_some o ≡ false → o ≡ None
+none_if None e = refl
+none_if (Some x) e = absurd (true≢false e)
+
+pub there_is : {X : Type 0} (P : X → Type 0) (o : Option X) → is_some o ≡ true → IfSome o P → (x : X) × (o ≡ Some x) × P x
+there_is P None e h = absurd (true≢false (sym e))
+there_is P (Some x) e h = (x, refl, h)
+
+pub some_weaker : {X : Type 0} (P Q : X → Type 0) → ((x : X) → P x → Q x) → (o : Option X) → IfSome o P → IfSome o Q
+some_weaker P Q weaker None h = tt
+some_weaker P Q weaker (Some x) h = weaker x h
+
+-- ---- what is read and what is pushed
+
+pub has_grown : {X : Type 0} (xs new : List X) (y x : X) → new ≡ xs ++ y ∷ [] → Has xs x → Has new x
+has_grown xs new y x pushed h = subst (λ ys. Has ys x) (sym pushed) (has_pushed xs y x h)
+
+pub has_new : {X : Type 0} (xs new : List X) (y : X) → new ≡ xs ++ y ∷ [] → Has new y
+has_new xs new y pushed = subst (λ ys. Has ys y) (sym pushed) (has_last xs y)
+
+pub last_at : {X : Type 0} (xs : List X) (y : X) (n : ℕ) → n ≡ length xs → slice_get (xs ++ y ∷ []) n ≡ Some y
+last_at xs y n same = let at : n ≡ length xs + 0 = omega (arith, same) in ap (slice_get (xs ++ y ∷ [])) at ∙ in_second xs (y ∷ []) 0 y refl
+
+-- ---- rows of entries
+
+pub still_listed : (old new : Listed) → Keeps (InRow old.names) (InRow new.names) → Keeps (InRow old.files) (InRow new.files) → StillListed old new
+still_listed old new named filed by_name = named
+still_listed old new named filed by_file = filed
+
+pub all_listed : (number : ℕ) (modules : List ModuleValue) (listed : Listed) (clashes : List ℕ) → AreListed (λ m. m.name) number modules (InRow listed.names) clashes → AreListed (λ m. m.file) number modules (InRow listed.files) clashes → (by : By) → AreListed (key_of by) number modules (Lists listed by) clashes
+all_listed number modules listed clashes named filed by_name = named
+all_listed number modules listed clashes named filed by_file = filed
+
+module _ {S : Type 0} (old new : IndexMap (List ℕ) (SmallVec (ℕ × ℕ)) S) (key : List ℕ) (number i : ℕ) (more : List ℕ) (is_added : Bool) (put : IsPut bytes_eq old new key (number, i) more is_added) where
+  there : (q : List ℕ) → q ≡ key → get bytes_eq new q ≡ Some put.row
+  there q same = put.updates q ∙ ap (λ b. cond b (Some put.row) (get bytes_eq old q)) ((bytes_decides key q).1 (sym same))
+
+  cases : (q : List ℕ) → (q ≡ key) ⊎ (get bytes_eq new q ≡ get bytes_eq old q)
+  cases q = by (bytes_eq key q) refl
+    where
+      by : (b : Bool) → bytes_eq key q ≡ b → (q ≡ key) ⊎ (get bytes_eq new q ≡ get bytes_eq old q)
+      by true e = inl (sym ((bytes_decides key q).0 e))
+      by false e = inr (put.updates q ∙ ap (λ b. cond b (Some put.row) (get bytes_eq old q)) e)
+
+  in_row : (q : List ℕ) (e : ℕ × ℕ) → q ≡ key → InRow new q e → Has put.row.items e
+  in_row q e same h = subst (λ (r : SmallVec (ℕ × ℕ)). Has r.items e) (same_some _ _ (sym h.1 ∙ there q same)) h.2
+
+  pub row_kept : Keeps (InRow old) (InRow new)
+  row_kept q e h = elim (cases q) [ inl same ↦ (put.row, there q same, put.kept h.0 e (ap (get bytes_eq old) (sym same) ∙ h.1) h.2) | inr other ↦ (h.0, other ∙ h.1, h.2) ]
+
+  -- one more module of the info is listed
+  module _ (by : ModuleValue → List ℕ) (modules : List ModuleValue) (m : ModuleValue) (own : by m ≡ key) (next : length modules ≡ i) (added : is_added ≡ true)
+      (clashes all : List ℕ) (earlier : (k : ℕ) → Has clashes k → Has all k) (later : (k : ℕ) → Has more k → Has all k) (before : AreListed by number modules (InRow old) clashes) where
+    pub module_listed : AreListed by number (modules ++ m ∷ []) (InRow new) all
+    module_listed = record {
+      listed = λ j x at. elim (from_push modules m j x at) [
+        | inl old_j ↦ row_kept (by x) (number, j) (before.listed j x old_j)
+        | inr last ↦ (put.row, there (by x) (ap by (sym last.1) ∙ own), subst (λ k. Has put.row.items (number, k)) (sym (last.0 ∙ next)) (put.added added))
+      ];
+      others = λ j x e at h. elim (from_push modules m j x at) [
+        | inl old_j ↦ elim (cases (by x)) [
+          | inl same ↦
+              let own_j = before.listed j x old_j in
+              inr (later e.0 (elim (put.only added e (in_row (by x) e same h)) [ inl last ↦ subst (λ (o : ℕ × ℕ). Has more o.0) (sym last) (put.clash added own_j.0 (number, j) (ap (get bytes_eq old) (sym same) ∙ own_j.1) own_j.2) | inr clash ↦ clash ]))
+          | inr other ↦ ⊎_elim (λ one. inl one) (λ clash. inr (earlier e.0 clash)) (before.others j x e old_j (h.0, sym other ∙ h.1, h.2))
+        ]
+        | inr last ↦ ⊎_elim (λ one. inl (one ∙ ap (λ k. (number, k)) (sym (last.0 ∙ next)))) (λ clash. inr (later e.0 clash)) (put.only added e (in_row (by x) e (ap by (sym last.1) ∙ own) h))
+      ];
+    }
+
+-- no entry of what `get` returns is linked
+pub unlinked : {S : Type 0} (places : List (Option ℕ)) (rows : IndexMap (List ℕ) (SmallVec (ℕ × ℕ)) S) (key : List ℕ) (r : Option (Bor (SmallVec (ℕ × ℕ)))) → option_copied r ≡ get bytes_eq rows key
+    → IfSome r (λ row. (entry : ℕ × ℕ) → Has row.now.items entry → IsLinked places entry.0 → ⊥) → IsUnlinked places (InRow rows) key
+unlinked places rows key None same all entry h = let none : None ≡ Some h.0 = same ∙ h.1 in cc
+unlinked places rows key (Some row) same all entry h = all entry (subst (λ (v : SmallVec (ℕ × ℕ)). Has v.items entry) (sym (same_some _ _ (same ∙ h.1))) h.2)
+
+-- ---- What is looked at of linked info files and of objects, and what is copied of the info files
 
 -- ---- the places of the linked info files
 
@@ -56,10 +198,10 @@ module _ (linked : List ℕ) (p n : ℕ) (places : List (Option ℕ)) (at : slic
 
 -- ---- what is looked at
 
-pub all_fit : (linked : List ℕ) (places : List (Option ℕ)) (related : List Related) → ((n : ℕ) → Has linked n → IsFitAt places related n) → AreFit linked places related
+pub all_fit : (linked : List ℕ) (places : List (Option ℕ)) (related : List (Option Related)) → ((n : ℕ) → Has linked n → IsFitAt places related n) → AreFit linked places related
 all_fit linked places related fit = record {
-  closed = λ n s h source. let f = fit n h in f.2 s (subst (λ (r : Related). Has r.sources.items s) (same_some _ _ (sym source.1 ∙ f.1)) source.2);
-  apart = λ n c h clash. let f = fit n h in f.3 c (subst (λ (r : Related). Has r.clashes.items c) (same_some _ _ (sym clash.1 ∙ f.1)) clash.2);
+  closed = λ n s h source. let f = fit n h in f.2 s (subst (λ (r : Related). Has r.sources.items s) (same_some _ _ (same_some _ _ (sym source.1 ∙ f.1))) source.2);
+  apart = λ n c h clash. let f = fit n h in f.3 c (subst (λ (r : Related). Has r.clashes.items c) (same_some _ _ (same_some _ _ (sym clash.1 ∙ f.1))) clash.2);
 }
 
 pub known_there : (known : List (Option InfoValue)) (n : ℕ) (value : InfoValue) → get_or known n None ≡ Some value → slice_get known n ≡ Some (Some value)
@@ -83,23 +225,25 @@ module _ (known : List (Option InfoValue)) (linked : List ℕ) (infos : List Inf
       let info = from_map (λ (info : InfoValue). Some info) infos i (Some has.0) at in
       (info.0, info.1, ap (λ (v : InfoValue). slice_get v.modules j) (same_some _ _ info.2) ∙ has.2)
 
-  module _ (names : List (List ℕ)) (providers : Rows) (files : List (List ℕ)) (makers : Rows) (related : List Related) (pool : IsPool known names providers files makers related)
-      (places : List (Option ℕ)) (at : ArePlaces linked places) (fit : AreFit linked places related) where
+  module _ (listed : Listed) (related : List (Option Related)) (pool : IsPool known listed related) (places : List (Option ℕ)) (at : ArePlaces linked places) (fit : AreFit linked places related) where
     -- no info is linked twice
     once : (i k n : ℕ) → slice_get linked i ≡ Some n → slice_get linked k ≡ Some n → i ≡ k
     once i k n a b = same_some _ _ (same_some _ _ (sym (at.to_place i n a) ∙ at.to_place k n b))
 
-    infos_apart : InfosApart infos
-    infos_apart i j k l a b has_a has_b alike =
+    apart_by : (by : By) (i j k l : ℕ) (a b : ModuleValue) → HasModule infos i j a → HasModule infos k l b → key_of by a ≡ key_of by b → (i ≡ k) × (j ≡ l)
+    apart_by by i j k l a b has_a has_b alike =
         let x = known_at i j a has_a in
         let y = known_at k l b has_b in
-        elim (pool.clashes x.0 j y.0 l a b x.2 y.2 alike) [
+        elim (pool.clashes by x.0 j y.0 l a b x.2 y.2 alike) [
           | inl same ↦ (once i k y.0 (x.1 ∙ ap Some same.0) y.1, same.1)
           | inr clash ↦ elim clash [
             | inl h ↦ absurd (fit.apart y.0 x.0 (k, y.1) h (i, at.to_place i x.0 x.1))
             | inr h ↦ absurd (fit.apart x.0 y.0 (i, x.1) h (k, at.to_place k y.0 y.1))
           ]
         ]
+
+    infos_apart : InfosApart infos
+    infos_apart i j k l a b has_a has_b = ⊎_elim (apart_by by_name i j k l a b has_a has_b) (apart_by by_file i j k l a b has_a has_b)
 
     are_closed : AreClosed infos
     are_closed i j m name file has needs =
@@ -109,18 +253,18 @@ module _ (known : List (Option InfoValue)) (linked : List ℕ) (infos : List Inf
         let here = at.from_place s.0 there.0 there.1 in
         (there.0, s.2.0, s.2.1, linked_at there.0 s.0 s.2.0 s.2.1 here s.2.2, s.2.3, s.2.4, λ private. once there.0 i x.0 (here ∙ ap Some (s.2.5 private)) x.1)
 
-    module _ (objects : List RuleValue) (rules : (o : ℕ) (rule : RuleValue) → slice_get objects o ≡ Some rule → IsApart places names providers files makers rule) where
+    module _ (objects : List RuleValue) (rules : (o : ℕ) (rule : RuleValue) → slice_get objects o ≡ Some rule → IsApart places listed rule) where
       own_apart : OwnApart objects infos
       own_apart = record {
         names = λ o j i k rule name file m here provides has same.
             let x = known_at i k m has in
-            ((rules o rule here).provided (name, file) (j, provides)).0 (x.0, k) (rw same (pool.named x.0 k m x.2)) (i, at.to_place i x.0 x.1);
+            ((rules o rule here).provided (name, file) (j, provides)).0 (x.0, k) (rw same (pool.are_listed by_name x.0 k m x.2)) (i, at.to_place i x.0 x.1);
         files = λ o j i k rule name file m here provides has same.
             let x = known_at i k m has in
-            ((rules o rule here).provided (name, file) (j, provides)).1 (x.0, k) (rw same (pool.filed x.0 k m x.2)) (i, at.to_place i x.0 x.1);
+            ((rules o rule here).provided (name, file) (j, provides)).1 (x.0, k) (rw same (pool.are_listed by_file x.0 k m x.2)) (i, at.to_place i x.0 x.1);
         paths = λ o i k rule m here has same.
             let x = known_at i k m has in
-            (rules o rule here).path (x.0, k) (rw same (pool.filed x.0 k m x.2)) (i, at.to_place i x.0 x.1);
+            (rules o rule here).path (x.0, k) (rw same (pool.are_listed by_file x.0 k m x.2)) (i, at.to_place i x.0 x.1);
       }
 
       -- the part that was copied is enough
@@ -173,73 +317,58 @@ is_source known i k l m pair has name file private = (l, m, has, (bytes_decides 
 from_grown : (known : List (Option InfoValue)) (x : Option InfoValue) (i j : ℕ) (m : ModuleValue) → IsKnownModule (known ++ x ∷ []) i j m → IsKnownModule known i j m ⊎ ((i ≡ length known) × ((value : InfoValue) × (x ≡ Some value) × (slice_get value.modules j ≡ Some m)))
 from_grown known x i j m has = elim (from_push known x i (Some has.0) has.1) [ inl old ↦ inl (has.0, old, has.2) | inr last ↦ inr (last.0, (has.0, last.1, has.2)) ]
 
-module _ (known : List (Option InfoValue)) (names : List (List ℕ)) (providers : Rows) (files : List (List ℕ)) (makers : Rows) (related : List Related) (pool : IsPool known names providers files makers related)
-    (new_names : List (List ℕ)) (new_providers : Rows) (new_files : List (List ℕ)) (new_makers : Rows) (still_named : StillLists names providers new_names new_providers) (still_filed : StillLists files makers new_files new_makers) (r : Related) where
-  abbrev all_related : List Related
+module _ (known : List (Option InfoValue)) (listed new : Listed) (related : List (Option Related)) (pool : IsPool known listed related) (still : StillListed listed new)
+    (x : Option InfoValue) (r : Option Related) (is : (info : InfoValue) → x ≡ Some info → (s : Related) × (r ≡ Some s) × IsRelated known info new s) where
+  abbrev all_known : List (Option InfoValue)
+  all_known = known ++ x ∷ []
+
+  abbrev all_related : List (Option Related)
   all_related = related ++ r ∷ []
 
-  source_kept : (x : Option InfoValue) (i k : ℕ) (pair : List ℕ × List ℕ) → HasSource related i k × IsSource known i pair k → HasSource all_related i k × IsSource (known ++ x ∷ []) i pair k
-  source_kept x i k pair h = ((h.0.0, in_first related (r ∷ []) i h.0.0 h.0.1, h.0.2), (h.1.0, h.1.1, (h.1.2.0, in_first known (x ∷ []) k (Some h.1.2.0) h.1.2.1, h.1.2.2), h.1.3, h.1.4, h.1.5))
+  as_many : length all_related ≡ length all_known
+  as_many = let many = pool.many in simp length-append (omega (arith, many))
 
   clash_kept : (i k : ℕ) → HasClash related i k → HasClash all_related i k
-  clash_kept i k h = (h.0, in_first related (r ∷ []) i h.0 h.1, h.2)
+  clash_kept i k h = (h.0, in_first related (r ∷ []) i (Some h.0) h.1, h.2)
 
-  as_many : (x : Option InfoValue) → length all_related ≡ length (known ++ x ∷ [])
-  as_many x = let many = pool.many in simp length-append (omega (arith, many))
+  relation_at : (i : ℕ) (s : Related) → i ≡ length known → r ≡ Some s → slice_get all_related i ≡ Some (Some s)
+  relation_at i s same e = let many = pool.many in last_at related r i (omega (arith, same, many)) ∙ ap Some e
 
-  -- an info that is not known
-  pub pool_skipped : IsPool (known ++ None ∷ []) new_names new_providers new_files new_makers all_related
-  pool_skipped =
-      let old : (i j : ℕ) (m : ModuleValue) → IsKnownModule (known ++ None ∷ []) i j m → IsKnownModule known i j m = λ i j m has. elim (from_grown known None i j m has) [ inl h ↦ h | inr last ↦ let none : None ≡ Some last.1.0 = last.1.1 in absurd cc ] in
-      record {
-        named = λ i j m has. still_named m.name (i, j) (pool.named i j m (old i j m has));
-        filed = λ i j m has. still_filed m.file (i, j) (pool.filed i j m (old i j m has));
-        sources = λ i j m pair has needs. let s = pool.sources i j m pair (old i j m has) needs in let kept = source_kept None i s.0 pair (s.1, s.2) in (s.0, kept.0, kept.1);
-        clashes = λ i j k l a b has_a has_b alike. ⊎_elim (λ same. inl same) (λ clash. inr (⊎_elim (λ h. inl (clash_kept k i h)) (λ h. inr (clash_kept i k h)) clash)) (pool.clashes i j k l a b (old i j a has_a) (old k l b has_b) alike);
-        many = as_many None;
-      }
+  now_listed : (by : By) (i j : ℕ) (m : ModuleValue) → IsKnownModule all_known i j m → Lists new by (key_of by m) (i, j)
+  now_listed by i j m has = elim (from_grown known x i j m has) [
+    | inl old ↦ still by (key_of by m) (i, j) (pool.are_listed by i j m old)
+    | inr own ↦ subst (λ n. Lists new by (key_of by m) (n, j)) (sym own.0) (((is own.1.0 own.1.1).2.are_listed by).listed j m own.1.2)
+  ]
 
-  module _ (info : InfoValue) (is : IsRelated known info new_names new_providers new_files new_makers r) where
-    abbrev all_known : List (Option InfoValue)
-    all_known = known ++ Some info ∷ []
+  sources : (i j : ℕ) (m : ModuleValue) (pair : List ℕ × List ℕ) → IsKnownModule all_known i j m → Has m.required pair → (k : ℕ) × HasSource all_related i k × IsSource all_known i pair k
+  sources i j m pair has needs =
+      elim (from_grown known x i j m has) [
+        | inl old ↦
+            let s = pool.sources i j m pair old needs in
+            let w = s.2.2 in
+            (s.0, (s.1.0, in_first related (r ∷ []) i (Some s.1.0) s.1.1, s.1.2), (s.2.0, s.2.1, (w.0, in_first known (x ∷ []) s.0 (Some w.0) w.1, w.2), s.2.3, s.2.4, s.2.5))
+        | inr own ↦
+            let s = is own.1.0 own.1.1 in
+            let found = s.2.sources j m pair own.1.2 needs in
+            (found.0, (s.0, relation_at i s.0 own.0 s.1, found.1), subst (λ (o : Option InfoValue). IsSource (known ++ o ∷ []) i pair found.0) (sym own.1.1) (subst (λ n. IsSource (known ++ Some own.1.0 ∷ []) n pair found.0) (sym own.0) found.2))
+      ]
 
-    -- a module of the info that was added
-    abbrev IsNew : ℕ → ℕ → ModuleValue → Type 0
-    IsNew i j m = (i ≡ length known) × (slice_get info.modules j ≡ Some m)
-
-    cases_of : (i j : ℕ) (m : ModuleValue) → IsKnownModule all_known i j m → IsKnownModule known i j m ⊎ IsNew i j m
-    cases_of i j m has = ⊎_elim (λ old. inl old) (λ last. inr (last.0, ap (λ (v : InfoValue). slice_get v.modules j) (same_some _ _ last.1.1) ∙ last.1.2)) (from_grown known (Some info) i j m has)
-
-    named : (i j : ℕ) (m : ModuleValue) → IsKnownModule all_known i j m → Lists new_names new_providers m.name (i, j)
-    named i j m has = elim (cases_of i j m has) [ inl old ↦ still_named m.name (i, j) (pool.named i j m old) | inr new ↦ subst (λ n. Lists new_names new_providers m.name (n, j)) (sym new.0) (is.named j m new.1) ]
-
-    filed : (i j : ℕ) (m : ModuleValue) → IsKnownModule all_known i j m → Lists new_files new_makers m.file (i, j)
-    filed i j m has = elim (cases_of i j m has) [ inl old ↦ still_filed m.file (i, j) (pool.filed i j m old) | inr new ↦ subst (λ n. Lists new_files new_makers m.file (n, j)) (sym new.0) (is.filed j m new.1) ]
-
-    relation_at : (i : ℕ) → i ≡ length known → slice_get all_related i ≡ Some r
-    relation_at i same = let many = pool.many in last_at related r i (omega (arith, same, many))
-
-    sources : (i j : ℕ) (m : ModuleValue) (pair : List ℕ × List ℕ) → IsKnownModule all_known i j m → Has m.required pair → (k : ℕ) × HasSource all_related i k × IsSource all_known i pair k
-    sources i j m pair has needs =
-        elim (cases_of i j m has) [
-          | inl old ↦ let s = pool.sources i j m pair old needs in let kept = source_kept (Some info) i s.0 pair (s.1, s.2) in (s.0, kept.0, kept.1)
-          | inr new ↦ let s = is.sources j m pair new.1 needs in (s.0, (r, relation_at i new.0, s.1), subst (λ n. IsSource all_known n pair s.0) (sym new.0) s.2)
+  -- what the modules share is listed at the one, so that its info is among the clashes of the new one
+  clashes : (by : By) (i j k l : ℕ) (a b : ModuleValue) → IsKnownModule all_known i j a → IsKnownModule all_known k l b → key_of by a ≡ key_of by b → ((i ≡ k) × (j ≡ l)) ⊎ (HasClash all_related k i ⊎ HasClash all_related i k)
+  clashes by i j k l a b has_a has_b alike =
+      elim (from_grown known x k l b has_b) [
+        | inr own ↦
+            let s = is own.1.0 own.1.1 in
+            ⊎_elim (λ same. inl (ap (λ e. e.0) same ∙ sym own.0, ap (λ e. e.1) same)) (λ h. inr (inl (s.0, relation_at k s.0 own.0 s.1, h)))
+            ((s.2.are_listed by).others l b (i, j) own.1.2 (subst (λ n. Lists new by n (i, j)) alike (now_listed by i j a has_a)))
+        | inl old_b ↦ elim (from_grown known x i j a has_a) [
+          | inr own ↦
+              let s = is own.1.0 own.1.1 in
+              ⊎_elim (λ same. inl (own.0 ∙ sym (ap (λ e. e.0) same), sym (ap (λ e. e.1) same))) (λ h. inr (inr (s.0, relation_at i s.0 own.0 s.1, h)))
+              ((s.2.are_listed by).others j a (k, l) own.1.2 (subst (λ n. Lists new by n (k, l)) (sym alike) (now_listed by k l b has_b)))
+          | inl old_a ↦ ⊎_elim (λ same. inl same) (λ clash. inr (⊎_elim (λ h. inl (clash_kept k i h)) (λ h. inr (clash_kept i k h)) clash)) (pool.clashes by i j k l a b old_a old_b alike)
         ]
+      ]
 
-    -- what the modules share is listed at the one, so that its info is among the clashes of the new one
-    shares : (i j : ℕ) (a b : ModuleValue) → IsKnownModule all_known i j a → (a.name ≡ b.name) ⊎ (a.file ≡ b.file) → SharesWith new_names new_providers new_files new_makers b (i, j)
-    shares i j a b has alike = elim alike [ inl name ↦ inl (subst (λ n. Lists new_names new_providers n (i, j)) name (named i j a has)) | inr file ↦ inr (subst (λ n. Lists new_files new_makers n (i, j)) file (filed i j a has)) ]
-
-    clashes : (i j k l : ℕ) (a b : ModuleValue) → IsKnownModule all_known i j a → IsKnownModule all_known k l b → (a.name ≡ b.name) ⊎ (a.file ≡ b.file) → ((i ≡ k) × (j ≡ l)) ⊎ (HasClash all_related k i ⊎ HasClash all_related i k)
-    clashes i j k l a b has_a has_b alike =
-        elim (cases_of k l b has_b) [
-          | inr new ↦ ⊎_elim (λ own. inl (own.0 ∙ sym new.0, own.1)) (λ h. inr (inl (r, relation_at k new.0, h))) (is.clashes l b i j new.1 (shares i j a b has_a alike))
-          | inl old_b ↦ elim (cases_of i j a has_a) [
-            | inr new ↦ ⊎_elim (λ own. inl (new.0 ∙ sym own.0, sym own.1)) (λ h. inr (inr (r, relation_at i new.0, h))) (is.clashes j a k l new.1 (shares k l b a has_b (⊎_elim (λ e. inl (sym e)) (λ e. inr (sym e)) alike)))
-            | inl old_a ↦ ⊎_elim (λ same. inl same) (λ clash. inr (⊎_elim (λ h. inl (clash_kept k i h)) (λ h. inr (clash_kept i k h)) clash)) (pool.clashes i j k l a b old_a old_b alike)
-          ]
-        ]
-
-    -- an info whose relations are known
-    pub pool_grown : IsPool all_known new_names new_providers new_files new_makers all_related
-    pool_grown = record { named = named; filed = filed; sources = sources; clashes = clashes; many = as_many (Some info) }
+  pub pool_grown : IsPool all_known new all_related
+  pool_grown = record { are_listed = now_listed; sources = sources; clashes = clashes; many = as_many }

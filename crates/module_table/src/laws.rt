@@ -13,6 +13,7 @@ pub fn sound_tables()
 
 /// At most one fault can be reported for a table: the same data, and for a cycle the same objects
 /// in the same order.
+#[tactic(auto, using(crate::proofs::OneReported::one_told))]
 pub fn one_fault()
     ensures { OneTableFault }
 {}

@@ -190,6 +190,7 @@ pub(crate) fn module_at<'p, 't>(provided: &'p [Module<'t>], index: usize) -> &'p
 }
 
 /// Returns the index of the name, if it is there.
+#[tactic(auto, using(crate::proofs::Lists::finds, crate::proofs::Lists::misses))]
 pub(crate) fn index_of(names: &IndexSet<Name, TableKey>, name: &Name) -> Option<usize>
     ensures index { result ≡ index_in names.now.keys name.now }
     ensures found { IfSome result (λ index. slice_get names.now.keys index ≡ Some name.now) }

@@ -5,8 +5,8 @@ ghost use Rattle.module_table.specs.Parts.{AreLinked, IsAdded, IsEnough, KeepsRe
 
 use copies::part_of;
 use fit::{are_apart, are_fit, places_of};
-use related::Related;
-use rows::{FileRows, NameRows};
+use indexmap::IndexMap;
+use related::{Listed, Related};
 use scan_docs::{Info, Rule};
 use std::alloc::{AllocError, Global};
 use std::marker::Model;
@@ -16,7 +16,6 @@ mod copies;
 mod fit;
 mod picking;
 mod related;
-mod rows;
 
 /// The info files of a project's targets, by index. A contract sees them as a list, with `None` in
 /// place of each info file that is not known.
@@ -27,12 +26,9 @@ mod rows;
 #[derive(Drop)]
 pub struct Pool {
     infos: Vec<Option<Info>>,
-    /// The modules of each name.
-    names: NameRows,
-    /// The modules of each file.
-    files: FileRows,
-    /// The relations of each info file to others.
-    related: Vec<Related>,
+    listed: Listed,
+    /// The relations of each known info file to those before it.
+    related: Vec<Option<Related>>,
     key: TableKey,
 }
 
@@ -45,8 +41,7 @@ impl Model for Pool {
 
     ghost view = { λ p. p.infos.items };
 
-    ghost invariant = { λ p. IsPool p.infos.items p.names.names.keys p.names.rows.items
-        p.files.files.keys p.files.rows.items p.related.items };
+    ghost invariant = { λ p. IsPool p.infos.items p.listed p.related.items };
 }
 
 impl Pool {
@@ -56,8 +51,10 @@ impl Pool {
     {
         Pool {
             infos: Vec::new(alloc),
-            names: NameRows::new(alloc, key),
-            files: FileRows::new(alloc, key),
+            listed: Listed {
+                names: IndexMap::with_hasher(alloc, key),
+                files: IndexMap::with_hasher(alloc, key),
+            },
             related: Vec::new(alloc),
             key,
         }
@@ -71,33 +68,19 @@ impl Pool {
     {
         let Pool {
             mut infos,
-            mut names,
-            mut files,
+            mut listed,
             mut related,
             key,
         } = self;
-        let found = match &info {
-            Some(info) => Related::of(alloc, &infos, info, &mut names, &mut files)?,
+        let relations = match &info {
+            Some(info) => Related::of(alloc, &infos, info, &mut listed)?,
             None => None,
         };
-        match found {
-            Some(relations) => {
-                infos.push(info)?;
-                related.push(relations)?;
-            }
-            None => {
-                infos.push(None)?;
-                related.push(Related {
-                    required: Vec::new(alloc),
-                    sources: Vec::new(alloc),
-                    clashes: Vec::new(alloc),
-                })?;
-            }
-        }
+        infos.push(if relations.is_some() { info } else { None })?;
+        related.push(relations)?;
         Ok(Pool {
             infos,
-            names,
-            files,
+            listed,
             related,
             key,
         })
@@ -141,9 +124,7 @@ impl Pool {
         let Some(places) = places_of(alloc, linked, self.infos.len())? else {
             return Ok(None);
         };
-        if !are_fit(linked, &places, &self.related)
-            || !are_apart(&places, &self.names, &self.files, objects)
-        {
+        if !are_fit(linked, &places, &self.related) || !are_apart(&places, &self.listed, objects) {
             return Ok(None);
         }
         let picked = self.pick(alloc, objects, &places, linked.len(), keeps)?;

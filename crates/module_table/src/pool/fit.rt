@@ -3,8 +3,7 @@ ghost use Rattle.std.specs.Prelude.{◌≡◌, ℕ, IfOk, IfSome, IsTrue, slice_
 ghost use Rattle.scan_docs.specs.Scan.{RuleValue};
 ghost use Rattle.module_table.specs.inner.Pools.{Has, ArePlaces, IsLinked, AreFit, IsApart};
 
-use crate::pool::related::Related;
-use crate::pool::rows::{FileRows, NameRows};
+use crate::pool::related::{Listed, Related, Row};
 use scan_docs::Rule;
 use std::alloc::{AllocError, Global};
 
@@ -36,11 +35,15 @@ pub(crate) fn is_linked(places: &[Option<usize>], number: usize) -> bool
 }
 
 /// Returns whether the linked modules require only linked modules and share no name or file.
-pub(crate) fn are_fit(linked: &[usize], places: &[Option<usize>], related: &[Related]) -> bool
+pub(crate) fn are_fit(
+    linked: &[usize],
+    places: &[Option<usize>],
+    related: &[Option<Related>],
+) -> bool
     ensures { IsTrue result → AreFit linked.now places.now related.now }
 {
     for number in linked {
-        let Some(relations) = related.get(*number) else {
+        let Some(Some(relations)) = related.get(*number) else {
             return false;
         };
         if !relations
@@ -59,22 +62,18 @@ pub(crate) fn are_fit(linked: &[usize], places: &[Option<usize>], related: &[Rel
 }
 
 /// Returns whether no linked module has the path, a name or a file of an object.
-pub(crate) fn are_apart(
-    places: &[Option<usize>],
-    names: &NameRows,
-    files: &FileRows,
-    objects: &[Rule],
-) -> bool
+pub(crate) fn are_apart(places: &[Option<usize>], listed: &Listed, objects: &[Rule]) -> bool
     ensures { IsTrue result → (o : ℕ) (rule : RuleValue) → slice_get objects.now o ≡ Some rule
-        → IsApart places.now names.now.names.keys names.now.rows.items files.now.files.keys
-        files.now.rows.items rule }
+        → IsApart places.now listed.now rule }
 {
     for rule in objects {
-        if !none_linked(places, files.of(&rule.object)) {
+        if !none_linked(places, listed.files.get(&rule.object)) {
             return false;
         }
         for pair in &rule.provided {
-            if !none_linked(places, names.of(&pair.0)) || !none_linked(places, files.of(&pair.1)) {
+            if !none_linked(places, listed.names.get(&pair.0))
+                || !none_linked(places, listed.files.get(&pair.1))
+            {
                 return false;
             }
         }
@@ -82,10 +81,16 @@ pub(crate) fn are_apart(
     true
 }
 
-/// Returns whether no entry is of a linked info file.
-fn none_linked(places: &[Option<usize>], entries: &[(usize, usize)]) -> bool
-    ensures { IsTrue result
-        → (entry : ℕ × ℕ) → Has entries.now entry → IsLinked places.now entry.0 → ⊥ }
+/// Returns whether no entry of a row is of a linked info file.
+fn none_linked(places: &[Option<usize>], row: Option<&Row>) -> bool
+    ensures { IsTrue result → IfSome row.entry (λ row. (entry : ℕ × ℕ) → Has row.now.items entry
+        → IsLinked places.now entry.0 → ⊥) }
 {
-    !entries.iter().any(|entry| is_linked(places, entry.0))
+    match row {
+        Some(row) => !row
+            .as_slice()
+            .iter()
+            .any(|entry| is_linked(places, entry.0)),
+        None => true,
+    }
 }

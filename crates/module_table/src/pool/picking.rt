@@ -23,8 +23,11 @@ impl Pool {
         let mut picked = IndexSet::with_hasher(alloc, self.key);
         for rule in objects {
             for name in &rule.required {
-                let mut row = self.names.of(name).iter();
-                if let Some(entry) = row.find(|entry| is_linked(places, entry.0)) {
+                let Some(row) = self.listed.names.get(name) else {
+                    continue;
+                };
+                let mut entries = row.as_slice().iter();
+                if let Some(entry) = entries.find(|entry| is_linked(places, entry.0)) {
                     picked.insert(*entry)?;
                 }
             }
@@ -35,12 +38,10 @@ impl Pool {
                 let Some(entry) = picked.get_index(next) else {
                     break;
                 };
-                let rows = self.related.get(entry.0).map(|related| &related.required);
-                let Some(required) = rows.and_then(|rows| rows.get(entry.1)) else {
-                    continue;
-                };
-                for module in required {
-                    picked.insert(*module)?;
+                if let Some(Some(related)) = self.related.get(entry.0) {
+                    if let Some(required) = related.required.get(entry.1) {
+                        picked.extend(required.iter().copied())?;
+                    }
                 }
             }
         }

@@ -1,14 +1,32 @@
-//! How an info file is related to those before it: which info files have the modules that it
-//! requires, and which have modules of the same name or file.
-ghost use Rattle.std.specs.Prelude.{◌≡◌, ◌⊎◌, ◌++◌, ◌∷◌, [], ℕ, IfOk, OnOk, IfSome, IsTrue, length, slice_get, Some};
+//! The modules of all info files by name and by file, and how an info file is related to those before
+//! it: which info files have the modules that it requires, and which have modules of the same name or
+//! file.
+ghost use Rattle.std.specs.Prelude.{◌≡◌, ◌++◌, ◌∷◌, [], ℕ, IfOk, OnOk, IfSome, length, slice_get, Some};
 ghost use Rattle.ninja_text.specs.Bytes.{PathText, Name};
 ghost use Rattle.scan_docs.specs.Info.{ModuleValue};
-ghost use Rattle.module_table.specs.inner.Pools.{Has, Lists, StillLists, IsKnownModule, IsSource, SharesWith, IsRelated};
+ghost use Rattle.module_table.specs.inner.Pools.{Has, By, key_of, Lists, IsPut, AreListed, StillListed, IsSource, IsRelated};
 
-use crate::pool::rows::{FileRows, NameRows};
+use indexmap::IndexMap;
 use ninja_text::Path;
-use scan_docs::{Info, InfoModule, Name};
+use scan_docs::{Info, Name};
+use smallvec::SmallVec;
 use std::alloc::{AllocError, Global};
+use std::hash::Hash;
+use table_keys::TableKey;
+
+/// The most entries of a row, so that a name of very many modules does not slow down its look-ups.
+const FULL_ROW: usize = 64;
+
+/// The modules of one name or of one file. An entry is the index of the info file and the index of
+/// the module in it.
+pub(crate) type Row = SmallVec<(usize, usize), 1>;
+
+/// The modules of the info files.
+#[derive(Drop)]
+pub(crate) struct Listed {
+    pub names: IndexMap<Name, Row, TableKey>,
+    pub files: IndexMap<Path, Row, TableKey>,
+}
 
 /// How an info file is related to the others. The info files are listed by index, each once.
 #[derive(Drop)]
@@ -29,23 +47,18 @@ impl Related {
         alloc: Global,
         infos: &[Option<Info>],
         info: &Info,
-        names: &mut NameRows,
-        files: &mut FileRows,
+        listed: &mut Listed,
     ) -> Result<Option<Related>, AllocError>
-        ensures names { OnOk result (StillLists names.old.names.keys names.old.rows.items
-            names.new.names.keys names.new.rows.items) }
-        ensures files { OnOk result (StillLists files.old.files.keys files.old.rows.items
-            files.new.files.keys files.new.rows.items) }
-        ensures related { IfOk result (λ found. IfSome found (IsRelated infos.now info.now
-            names.new.names.keys names.new.rows.items files.new.files.keys files.new.rows.items)) }
+        ensures still { OnOk result (StillListed listed.old listed.new) }
+        ensures related { IfOk result (λ found. IfSome found
+            (IsRelated infos.now info.now listed.new)) }
     {
-        if !add_modules(alloc, infos.len(), info, names, files)? {
-            return Ok(None);
-        }
-        let Some((required, sources)) = sources_of(alloc, infos, info, names)? else {
+        let Some(clashes) = list_modules(alloc, infos.len(), info, listed)? else {
             return Ok(None);
         };
-        let clashes = clashes_of(alloc, infos.len(), info, names, files)?;
+        let Some((required, sources)) = sources_of(alloc, infos, info, listed)? else {
+            return Ok(None);
+        };
         Ok(Some(Related {
             required,
             sources,
@@ -54,33 +67,54 @@ impl Related {
     }
 }
 
-/// Lists the modules of an info file. Returns false if a row is full.
-fn add_modules(
+/// Lists the modules of an info file. Returns the info files that have a module of the same name or
+/// file, each once, or `None` if a row is full.
+fn list_modules(
     alloc: Global,
     number: usize,
     info: &Info,
-    names: &mut NameRows,
-    files: &mut FileRows,
-) -> Result<bool, AllocError>
-    ensures names { OnOk result (StillLists names.old.names.keys names.old.rows.items
-        names.new.names.keys names.new.rows.items) }
-    ensures files { OnOk result (StillLists files.old.files.keys files.old.rows.items
-        files.new.files.keys files.new.rows.items) }
-    ensures named { IfOk result (λ all. IsTrue all → (j : ℕ) (m : ModuleValue)
-        → slice_get info.now.modules j ≡ Some m
-        → Lists names.new.names.keys names.new.rows.items m.name (number, j)) }
-    ensures filed { IfOk result (λ all. IsTrue all → (j : ℕ) (m : ModuleValue)
-        → slice_get info.now.modules j ≡ Some m
-        → Lists files.new.files.keys files.new.rows.items m.file (number, j)) }
+    listed: &mut Listed,
+) -> Result<Option<Vec<usize>>, AllocError>
+    ensures still { OnOk result (StillListed listed.old listed.new) }
+    ensures listed { IfOk result (λ found. IfSome found (λ clashes. (by : By) → AreListed (key_of by)
+        number info.now.modules (Lists listed.new by) clashes.items)) }
 {
+    let mut clashes = Vec::new(alloc);
     for (index, module) in info.modules.iter().enumerate() {
         let entry = (number, index);
-        let is_named = names.add(alloc, module.name.copy(alloc)?, entry)?;
-        let is_filed = files.add(alloc, module.file.copy(alloc)?, entry)?;
+        let name = module.name.copy(alloc)?;
+        let is_named = add(alloc, &mut listed.names, name, entry, &mut clashes)?;
+        let file = module.file.copy(alloc)?;
+        let is_filed = add(alloc, &mut listed.files, file, entry, &mut clashes)?;
         if !is_named || !is_filed {
-            return Ok(false);
+            return Ok(None);
         }
     }
+    each_once(&mut clashes);
+    Ok(Some(clashes))
+}
+
+/// Adds an entry to the row of a key, and the info files of those before it to the clashes. Returns
+/// false if the row is full.
+fn add<K: Eq + Hash + Drop>(
+    alloc: Global,
+    rows: &mut IndexMap<K, Row, TableKey>,
+    key: K,
+    entry: (usize, usize),
+    clashes: &mut Vec<usize>,
+) -> Result<bool, AllocError>
+    ensures put { IfOk result (λ is_added.
+        IsPut K.eq rows.old rows.new key entry clashes.new.items is_added) }
+    ensures still { OnOk result ((k : ℕ) → Has clashes.old.items k → Has clashes.new.items k) }
+{
+    let row = rows.entry(key)?.or_insert(SmallVec::new(alloc));
+    if row.len() >= FULL_ROW {
+        return Ok(false);
+    }
+    for other in row.as_slice() {
+        clashes.push(other.0)?;
+    }
+    row.push(entry)?;
     Ok(true)
 }
 
@@ -90,7 +124,7 @@ fn sources_of(
     alloc: Global,
     infos: &[Option<Info>],
     info: &Info,
-    names: &NameRows,
+    listed: &Listed,
 ) -> Result<Option<(Vec<Vec<(usize, usize)>>, Vec<usize>)>, AllocError>
     ensures { IfOk result (λ found. IfSome found (λ (required, sources). (j : ℕ) (m : ModuleValue)
         (pair : Name × PathText) → slice_get info.now.modules j ≡ Some m → Has m.required pair
@@ -102,7 +136,7 @@ fn sources_of(
     for module in &info.modules {
         let mut row = Vec::with_capacity(alloc, module.required.len())?;
         for pair in &module.required {
-            match source_of(infos, info, names, pair) {
+            match source_of(infos, info, listed, pair) {
                 Some(entry) => {
                     sources.push(entry.0)?;
                     row.push(entry)?;
@@ -121,82 +155,27 @@ fn sources_of(
 fn source_of(
     infos: &[Option<Info>],
     info: &Info,
-    names: &NameRows,
+    listed: &Listed,
     pair: &(Name, Path),
 ) -> Option<(usize, usize)>
     ensures { IfSome result (λ entry.
         IsSource (infos.now ++ Some info.now ∷ []) (length infos.now) pair.now entry.0) }
 {
-    for entry in names.of(&pair.0) {
-        if let Some(module) = module_of(infos, info, *entry) {
-            if module.name == pair.0
-                && module.file == pair.1
-                && (!module.is_private || entry.0 == infos.len())
-            {
+    for entry in listed.names.get(&pair.0)?.as_slice() {
+        // the info file comes after the known ones
+        let is_own = entry.0 == infos.len();
+        let other = match infos.get(entry.0) {
+            Some(Some(other)) => other,
+            None if is_own => info,
+            _ => continue,
+        };
+        if let Some(module) = other.modules.get(entry.1) {
+            if module.name == pair.0 && module.file == pair.1 && (is_own || !module.is_private) {
                 return Some(*entry);
             }
         }
     }
     None
-}
-
-/// Returns the module of an entry. The info file comes after the known ones.
-fn module_of<'m>(
-    infos: &'m [Option<Info>],
-    info: &'m Info,
-    entry: (usize, usize),
-) -> Option<&'m InfoModule>
-    ensures { IfSome result (λ m.
-        IsKnownModule (infos.now ++ Some info.now ∷ []) entry.0 entry.1 m.now) }
-{
-    if entry.0 == infos.len() {
-        return info.modules.get(entry.1);
-    }
-    match infos.get(entry.0) {
-        Some(Some(other)) => other.modules.get(entry.1),
-        _ => None,
-    }
-}
-
-/// Returns the info files with a module that has a name or a file of an info file, each once.
-fn clashes_of(
-    alloc: Global,
-    number: usize,
-    info: &Info,
-    names: &NameRows,
-    files: &FileRows,
-) -> Result<Vec<usize>, AllocError>
-    ensures { IfOk result (λ clashes. (j : ℕ) (m : ModuleValue) (i l : ℕ)
-        → slice_get info.now.modules j ≡ Some m
-        → SharesWith names.now.names.keys names.now.rows.items files.now.files.keys
-        files.now.rows.items m (i, l)
-        → ((i ≡ number) × (l ≡ j)) ⊎ Has clashes.items i) }
-{
-    let mut clashes = Vec::new(alloc);
-    for (index, module) in info.modules.iter().enumerate() {
-        add_others(names.of(&module.name), (number, index), &mut clashes)?;
-        add_others(files.of(&module.file), (number, index), &mut clashes)?;
-    }
-    each_once(&mut clashes);
-    Ok(clashes)
-}
-
-/// Adds the info files of all other entries.
-fn add_others(
-    entries: &[(usize, usize)],
-    own: (usize, usize),
-    clashes: &mut Vec<usize>,
-) -> Result<(), AllocError>
-    ensures still { OnOk result ((k : ℕ) → Has clashes.old.items k → Has clashes.new.items k) }
-    ensures others { OnOk result ((i l : ℕ) → Has entries.now (i, l)
-        → ((i ≡ own.0) × (l ≡ own.1)) ⊎ Has clashes.new.items i) }
-{
-    for entry in entries {
-        if entry.0 != own.0 || entry.1 != own.1 {
-            clashes.push(entry.0)?;
-        }
-    }
-    Ok(())
 }
 
 /// Leaves each number once.

@@ -7,7 +7,7 @@ use Rattle.module_table.specs.Faults.{IsReported}
 use Rattle.module_table.specs.inner.Passed.{Passed}
 use Rattle.ninja_text.specs.Firsts.{AllDiffer}
 use Rattle.module_table.specs.inner.Views.{names_of}
-use Rattle.module_table.proofs.ReportLemmas.{for_fault}
+use Rattle.module_table.proofs.Found.{for_fault}
 use Rattle.module_table.proofs.Passing.{reported, fails, none_passed, after_objects, after_infos, after_names, after_files}
 use Rattle.module_table.proofs.checks.check_all.Goals as goal
 

@@ -6,7 +6,7 @@ use Rattle.module_table.specs.Modules.{provisions}
 use Rattle.module_table.specs.inner.Views.{names_of}
 use Rattle.module_table.specs.inner.Graph.{info_rows}
 use Rattle.module_table.proofs.Graph.{module_rows}
-use Rattle.module_table.proofs.ReportLemmas.{for_fault}
+use Rattle.module_table.proofs.Found.{for_fault}
 use Rattle.module_table.proofs.Passing.{reported, fails, after_known, after_infos_known, after_agreement, after_rings, after_allowed, after_kept}
 use Rattle.module_table.proofs.checks.check_requirements.Goals as goal
 

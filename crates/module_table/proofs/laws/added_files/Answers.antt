@@ -1,5 +1,4 @@
 use Rattle.module_table.proofs.Places as lemmas
-use Rattle.module_table.proofs.Required as required
 use Rattle.module_table.proofs.Pairs as pairs
 use Rattle.module_table.proofs.laws.added_files.Goals as goal
 
@@ -13,7 +12,7 @@ pub returns-clause-apart : goal.returns-clause-apart
 returns-clause-apart c = lemmas.added_apart
 
 pub returns-clause-required : goal.returns-clause-required
-returns-clause-required c = required.required_files
+returns-clause-required c = lemmas.required_files
 
 pub returns-clause-all_required : goal.returns-clause-all_required
 returns-clause-all_required c = pairs.all_required

@@ -6,10 +6,9 @@ use Rattle.module_table.specs.inner.Finds.{is_allowed, IsAllowed, IsNotAllowed}
 use Rattle.module_table.specs.inner.Found.{looked_up}
 use Rattle.module_table.specs.inner.Reported.{Reports}
 use Rattle.module_table.proofs.Lists.{accepts_next, refuses_here}
-use Rattle.module_table.proofs.Found.{allowed}
+use Rattle.module_table.proofs.Found.{allowed, for_fault}
 use Rattle.module_table.proofs.Places.{required_there, decided}
 use Rattle.module_table.proofs.Passing.{reports_private_info}
-use Rattle.module_table.proofs.ReportLemmas.{for_fault}
 use Rattle.module_table.proofs.checks.privacy.check_infos_allowed.Goals as goal
 use Rattle.module_table.proofs.checks.privacy.check_infos_allowed.Goals.{in-Some+in-Info+then-not-module, in-Some+in-Info+else-not-module, in-Some+in-Object, in-None}
 

@@ -5,9 +5,8 @@ use Rattle.module_table.specs.inner.Finds.{is_object, some_and, is_by_object, Is
 use Rattle.module_table.specs.inner.Reported.{Reports}
 use Rattle.module_table.specs.declared.fault.TableFault.TheVariants.{PrivateUnknown}
 use Rattle.module_table.proofs.Lists.{accepts_next, refuses_here}
-use Rattle.module_table.proofs.Found.{by_object}
+use Rattle.module_table.proofs.Found.{by_object, for_boxed}
 use Rattle.module_table.proofs.Passing.{reports_private_unknown}
-use Rattle.module_table.proofs.ReportLemmas.{for_boxed}
 use Rattle.module_table.proofs.checks.privacy.check_kept.Goals as goal
 use Rattle.module_table.proofs.checks.privacy.check_kept.Goals.{in-Some+in-Object, in-Some+in-Info, in-None}
 

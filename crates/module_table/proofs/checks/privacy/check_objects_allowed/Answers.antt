@@ -7,10 +7,9 @@ use Rattle.module_table.specs.inner.Views.{names_of, provision_of}
 use Rattle.module_table.specs.inner.Finds.{none_or, RequiresPublic, AcceptsAll}
 use Rattle.module_table.specs.inner.Reported.{Reports}
 use Rattle.module_table.proofs.IndexRows.{take_all, rule_of, name_of_index, index_within, length_mapped}
-use Rattle.module_table.proofs.Found.{IsPublicAt, IsPrivateAt, row_public, row_private}
+use Rattle.module_table.proofs.Found.{IsPublicAt, IsPrivateAt, row_public, row_private, for_fault}
 use Rattle.module_table.proofs.Lists.{accepts_next, refuses_here}
 use Rattle.module_table.proofs.Passing.{reports_private_object}
-use Rattle.module_table.proofs.ReportLemmas.{for_fault}
 use Rattle.module_table.proofs.checks.privacy.check_objects_allowed.Goals as goal
 use Rattle.ninja_text.proofs.ForCallers.{same_some, to_map}
 

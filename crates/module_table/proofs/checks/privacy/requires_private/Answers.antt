@@ -4,9 +4,8 @@ use Rattle.module_table.specs.inner.Views.{provision_of}
 use Rattle.module_table.specs.declared.fault.Maker.TheVariants.{Object, Info}
 use Rattle.module_table.specs.declared.fault.TableFault.TheVariants.{ModulePrivate}
 use Rattle.module_table.specs.inner.Finds.{IsPrivateTo}
-use Rattle.module_table.proofs.ReportLemmas.{for_boxed}
+use Rattle.module_table.proofs.Found.{for_boxed, found_named, none_named}
 use Rattle.module_table.proofs.Passing.{info_of_private, private_by_infos}
-use Rattle.module_table.proofs.Found.{found_named, none_named}
 use Rattle.module_table.proofs.checks.privacy.requires_private.Goals as goal
 
 pub unreachable-requires : goal.unreachable-requires

@@ -10,7 +10,7 @@ use Rattle.module_table.specs.declared.modules.Module.{Module}
 use Rattle.module_table.specs.declared.fault.TableFault.TheVariants.{BmiTwice}
 use Rattle.module_table.proofs.IndexRows.{length_mapped, take_all}
 use Rattle.module_table.proofs.Lists.{repeats_if_found, keys_if_new, differ_if_new, take_behind, map_same}
-use Rattle.module_table.proofs.ReportLemmas.{reported_made, for_boxed, own_claim_at, module_claim_at}
+use Rattle.module_table.proofs.Found.{reported_made, for_boxed, own_claim_at, module_claim_at}
 use Rattle.module_table.proofs.checks.repeated.check_files.Goals as goal
 use Rattle.module_table.proofs.checks.repeated.check_files.Goals.{then-first-objects, else-first-objects}
 use Rattle.ninja_text.proofs.ForCallers.{to_map, in_second, element_at}

@@ -4,7 +4,7 @@ use Rattle.scan_docs.specs.Info.{InfoValue}
 use Rattle.ninja_text.specs.Firsts.{IsFirstRepetition}
 use Rattle.module_table.specs.declared.fault.TableFault.TheVariants.{InfoTwice}
 use Rattle.module_table.proofs.Lists.{repeats_if_found, keys_if_new, differ_if_new, text_repetition}
-use Rattle.module_table.proofs.ReportLemmas.{reports_same, for_boxed}
+use Rattle.module_table.proofs.Found.{reports_same, for_boxed}
 use Rattle.module_table.specs.inner.Reported.{Reports}
 use Rattle.module_table.specs.TableValue.{TableValue}
 use Rattle.module_table.proofs.checks.repeated.check_infos.Goals as goal

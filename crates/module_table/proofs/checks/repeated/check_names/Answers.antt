@@ -6,7 +6,7 @@ use Rattle.module_table.specs.TableValue.{TableValue}
 use Rattle.module_table.specs.declared.modules.Module.{Module}
 use Rattle.module_table.specs.declared.fault.TableFault.TheVariants.{ProvidedTwice}
 use Rattle.module_table.proofs.Lists.{repeats_if_found, keys_if_new, differ_if_new, map_same}
-use Rattle.module_table.proofs.ReportLemmas.{reports_provided_twice, for_boxed}
+use Rattle.module_table.proofs.Found.{reports_provided_twice, for_boxed}
 use Rattle.module_table.specs.inner.Reported.{Reports}
 use Rattle.module_table.proofs.checks.repeated.check_names.Goals as goal
 use Rattle.ninja_text.proofs.ForCallers.{to_map}

@@ -7,10 +7,9 @@ use Rattle.module_table.specs.inner.Found.{looked_up}
 use Rattle.module_table.specs.inner.Reported.{Reports}
 use Rattle.module_table.specs.declared.fault.TableFault.TheVariants.{InfoDisagrees}
 use Rattle.module_table.proofs.Lists.{accepts_next, refuses_here}
-use Rattle.module_table.proofs.Found.{agreeing}
+use Rattle.module_table.proofs.Found.{agreeing, for_boxed}
 use Rattle.module_table.proofs.Places.{required_there, decided}
 use Rattle.module_table.proofs.Passing.{reports_info_disagrees}
-use Rattle.module_table.proofs.ReportLemmas.{for_boxed}
 use Rattle.module_table.proofs.checks.required.check_infos_agree.Goals as goal
 use Rattle.module_table.proofs.checks.required.check_infos_agree.Goals.{in-Some, in-None}
 

@@ -7,9 +7,8 @@ use Rattle.module_table.specs.inner.Views.{names_of}
 use Rattle.module_table.specs.inner.Reported.{Reports}
 use Rattle.module_table.specs.declared.fault.TableFault.TheVariants.{ModuleUnknown}
 use Rattle.module_table.proofs.IndexRows.{are_indexes, take_all}
-use Rattle.module_table.proofs.Found.{none_named}
+use Rattle.module_table.proofs.Found.{none_named, for_boxed, in_row, reports_unknown}
 use Rattle.module_table.proofs.Lists.{finds, pushes_next}
-use Rattle.module_table.proofs.ReportLemmas.{for_boxed, in_row, reports_unknown}
 use Rattle.module_table.proofs.checks.required.check_objects_known.Goals as goal
 use Rattle.ninja_text.proofs.ForCallers.{in_take, take_next, from_map}
 

@@ -16,7 +16,7 @@ use Rattle.module_table.specs.inner.Views.{provision_of}
 use Rattle.module_table.specs.inner.Reported.{Reports}
 use Rattle.module_table.proofs.IndexRows.{numbered, map_take_all, sorting_of, are_nodes}
 use Rattle.module_table.proofs.Lists.{maps_next}
-use Rattle.module_table.proofs.ReportLemmas.{for_boxed}
+use Rattle.module_table.proofs.Found.{for_boxed}
 use Rattle.module_table.proofs.checks.required.check_rings.Goals as goal
 use Rattle.ninja_text.proofs.ForCallers.{to_map}
 

@@ -1,34 +1,26 @@
-use Rattle.std.proofs.Common.{◌≡◌, ◌∙◌, ◌++◌, ◌∷◌, [], ap, subst, sym, Some, None}
-use Rattle.module_table.specs.inner.Pools.{IsRelated}
+use Rattle.std.proofs.Common.{◌≡◌, ◌∙◌, sym, true, Some, None, is_some}
+use Rattle.scan_docs.specs.Info.{InfoValue}
+use Rattle.module_table.specs.inner.Pools.{StillListed, IsRelated}
 use Rattle.module_table.specs.declared.pool.related.Related.{Related}
-use Rattle.module_table.proofs.PoolLemmas.{pool_grown, pool_skipped}
+use Rattle.module_table.proofs.PoolLemmas.{pool_grown, there_is}
+use Rattle.ninja_text.proofs.ForCallers.{same_some}
 use Rattle.module_table.proofs.pool.Pool.push.Goals as goal
-use Rattle.module_table.proofs.pool.Pool.push.Goals.{in-Some+in_ok-found-in-Some, in-None, in-Some-found+in_ok-push-in-Some-found+in_ok-push-in-Some-found-2, in-None-found+in_ok-push-in-None-found+in_ok-push-in-None-found-2}
+use Rattle.module_table.proofs.pool.Pool.push.Goals.{in-Some+in_ok-relations-in-Some, in-None, then-is_some, else-is_some}
 
 pub invariant_of-result : goal.invariant_of-result
 invariant_of-result c =
     let pool = c.self.inside in
-    elim c.match-found.branch [
-      | in-Some-found+in_ok-push-in-Some-found+in_ok-push-in-Some-found-2 w ↦
-          elim c.match-info.branch [
-            | in-Some+in_ok-found-in-Some v ↦
-                let info = v.in-Some.info in
-                let r = w.in-Some-found.relations in
-                let is : IsRelated pool.infos.items info v.of.new.names.names.keys v.of.new.names.rows.items v.of.new.files.files.keys v.of.new.files.rows.items r = subst (λ known. IsRelated known info v.of.new.names.names.keys v.of.new.names.rows.items v.of.new.files.files.keys v.of.new.files.rows.items r) v.deref.ensures.value (rw (sym v.found-is ∙ w.in-Some-found.is) at v.in_ok-found-in-Some.ensures.related) in
-                let known : c.match-found.infos.items ≡ pool.infos.items ++ Some info ∷ [] = ap (λ vec. vec.items) w.infos-is ∙ w.in_ok-push-in-Some-found.ensures.items ∙ ap (λ x. pool.infos.items ++ x ∷ []) v.in-Some.is in
-                let related : c.match-found.related.items ≡ pool.related.items ++ r ∷ [] = ap (λ vec. vec.items) w.related-is ∙ w.in_ok-push-in-Some-found-2.ensures.items in
-                rw (known, related, v.names-is, v.files-is) (pool_grown pool.infos.items pool.names.names.keys pool.names.rows.items pool.files.files.keys pool.files.rows.items pool.related.items c.self.invariant v.of.new.names.names.keys v.of.new.names.rows.items v.of.new.files.files.keys v.of.new.files.rows.items v.in_ok-found-in-Some.ensures.names v.in_ok-found-in-Some.ensures.files r info is)
-            | in-None v ↦ let found : None ≡ Some w.in-Some-found.relations = sym v.found-is ∙ w.in-Some-found.is in absurd cc
-          ]
-      | in-None-found+in_ok-push-in-None-found+in_ok-push-in-None-found-2 w ↦
-          elim c.match-info.branch [
-            | in-Some+in_ok-found-in-Some v ↦
-                let known : c.match-found.infos.items ≡ pool.infos.items ++ None ∷ [] = ap (λ vec. vec.items) w.infos-is ∙ w.in_ok-push-in-None-found.ensures.items in
-                let related : c.match-found.related.items ≡ pool.related.items ++ (let none : Related = record { required = w.new.result; sources = w.new-in-None-found.result; clashes = w.new-in-None-found-2.result } in none) ∷ [] = ap (λ vec. vec.items) w.related-is ∙ w.in_ok-push-in-None-found-2.ensures.items in
-                rw (known, related, v.names-is, v.files-is) (pool_skipped pool.infos.items pool.names.names.keys pool.names.rows.items pool.files.files.keys pool.files.rows.items pool.related.items c.self.invariant v.of.new.names.names.keys v.of.new.names.rows.items v.of.new.files.files.keys v.of.new.files.rows.items v.in_ok-found-in-Some.ensures.names v.in_ok-found-in-Some.ensures.files (let none : Related = record { required = w.new.result; sources = w.new-in-None-found.result; clashes = w.new-in-None-found-2.result } in none))
-            | in-None v ↦
-                let known : c.match-found.infos.items ≡ pool.infos.items ++ None ∷ [] = ap (λ vec. vec.items) w.infos-is ∙ w.in_ok-push-in-None-found.ensures.items in
-                let related : c.match-found.related.items ≡ pool.related.items ++ (let none : Related = record { required = w.new.result; sources = w.new-in-None-found.result; clashes = w.new-in-None-found-2.result } in none) ∷ [] = ap (λ vec. vec.items) w.related-is ∙ w.in_ok-push-in-None-found-2.ensures.items in
-                rw (known, related, v.names-is, v.files-is) (pool_skipped pool.infos.items pool.names.names.keys pool.names.rows.items pool.files.files.keys pool.files.rows.items pool.related.items c.self.invariant pool.names.names.keys pool.names.rows.items pool.files.files.keys pool.files.rows.items (λ key entry h. h) (λ key entry h. h) (let none : Related = record { required = w.new.result; sources = w.new-in-None-found.result; clashes = w.new-in-None-found-2.result } in none))
-          ]
-    ]
+    let listed = c.match-info.listed in
+    let found = c.match-info.relations in
+    let still : StillListed pool.listed listed = elim c.match-info.branch [ in-Some+in_ok-relations-in-Some v ↦ rw v.listed-is v.in_ok-relations-in-Some.ensures.still | in-None v ↦ rw v.listed-is (λ by k e h. h) ] in
+    let is : (info : InfoValue) → c.if-is_some.push ≡ Some info → (r : Related) × (found ≡ Some r) × IsRelated pool.infos.items info listed r = λ info e.
+    elim c.if-is_some.branch [
+      | then-is_some w ↦ elim c.match-info.branch [
+        | in-Some+in_ok-relations-in-Some v ↦
+            let same : info ≡ v.in-Some.info = same_some _ _ (sym e ∙ w.push-is ∙ v.in-Some.is) in
+            there_is (IsRelated pool.infos.items info listed) found (sym c.is_some.ensures ∙ w.if-is_some.true) (rw (v.relations-is, v.listed-is, same, sym v.deref.ensures.value) v.in_ok-relations-in-Some.ensures.related)
+        | in-None v ↦ let some : is_some found ≡ true = sym c.is_some.ensures ∙ w.if-is_some.true in absurd cc
+      ]
+      | else-is_some w ↦ let none : None ≡ Some info = sym w.push-is ∙ e in absurd cc
+    ] in
+    rw (c.in_ok-push.ensures.items, c.in_ok-push-2.ensures.items) (pool_grown pool.infos.items pool.listed listed pool.related.items c.self.invariant still c.if-is_some.push found is)

@@ -1,11 +1,10 @@
-use Rattle.std.proofs.Common.{◌≡◌, ◌∙◌, get_or, refl, ap, sym, slice_get, subst, List, None, IsTrue}
+use Rattle.std.proofs.Common.{◌∙◌, get_or, refl, ap, sym, slice_get, subst, List, None, IsTrue}
 use Rattle.std.specs.List.{AllZip}
 use Rattle.std.proofs.lemmas.List.{take_all}
 use Rattle.std.proofs.lemmas.Option.{slice_get_read, slice_get-get_or, get_or_from_slice_get}
 use Rattle.scan_docs.specs.Info.{InfoValue, ModuleValue}
 use Rattle.module_table.specs.inner.Pools.{Has, IsCopied, IsPickedOf}
-use Rattle.module_table.proofs.RowLemmas.{all_pushed}
-use Rattle.module_table.proofs.PoolLemmas.{part_of, zip_pushed}
+use Rattle.module_table.proofs.PoolLemmas.{all_pushed, part_of, zip_pushed}
 use Rattle.ninja_text.proofs.ForCallers.{take_next}
 use Rattle.module_table.proofs.pool.copies.part_of.Goals as goal
 use Rattle.module_table.proofs.pool.copies.part_of.Goals.{in-Some-get+in_ok-copy_module-in-Some-get+in_ok-push-in-Some-get, in-None-get}

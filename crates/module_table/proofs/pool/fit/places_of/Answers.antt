@@ -1,8 +1,7 @@
 use Rattle.std.proofs.Common.{◌≡◌, ◌∙◌, get_or, ap, sym, slice_get, Some, None}
 use Rattle.std.proofs.Math.ListN.{length-set}
-use Rattle.module_table.proofs.RowLemmas.{none_if}
+use Rattle.module_table.proofs.PoolLemmas.{none_if, placed}
 use Rattle.std.proofs.lemmas.Option.{slice_get-get_or, slice_get_read}
-use Rattle.module_table.proofs.PoolLemmas.{placed}
 use Rattle.module_table.proofs.pool.fit.places_of.Goals as goal
 
 pub loop-place-preserved : goal.loop-place-preserved

@@ -1,4 +1,4 @@
-use Rattle.module_table.proofs.Required.{contained}
+use Rattle.module_table.proofs.Places.{contained}
 use Rattle.module_table.proofs.IndexRows.{placed}
 use Rattle.std.proofs.Common.{eqb}
 use Rattle.std.proofs.lemmas.List.Filters.{dedup_is}

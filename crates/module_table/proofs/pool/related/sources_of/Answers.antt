@@ -2,7 +2,7 @@ use Rattle.std.proofs.Common.{◌≡◌, ◌∙◌, ◌≤◌, ◌++◌, ◌∷�
 use Rattle.std.proofs.lemmas.Option.{slice_get_read}
 use Rattle.scan_docs.specs.Info.{InfoValue, ModuleValue}
 use Rattle.module_table.specs.inner.Pools.{Has, IsSource}
-use Rattle.module_table.proofs.RowLemmas.{below_next, below_all, below_map, has_grown, has_new}
+use Rattle.module_table.proofs.PoolLemmas.{below_next, below_all, below_map, has_grown, has_new}
 use Rattle.module_table.proofs.pool.related.sources_of.Goals as goal
 
 pub loop-pair-preserved : goal.loop-pair-preserved

@@ -4,7 +4,7 @@ use Rattle.module_table.specs.TableValue.{TableValue}
 use Rattle.module_table.specs.Modules.{IsProvidedBy}
 use Rattle.module_table.specs.Faults.{IsUnknown}
 use Rattle.module_table.specs.inner.Views.{IsAbsent}
-use Rattle.module_table.proofs.ReportLemmas.{absent_unknown}
+use Rattle.module_table.proofs.Found.{absent_unknown}
 use Rattle.module_table.proofs.Graph.{within_places, found_there, provided_there, same_place}
 use Rattle.module_table.proofs.table.Table.lookup.Goals as goal
 
