@@ -16,6 +16,10 @@
 //! hashed the digest before it hashes an entry.
 #![tactic(auto)]
 
+ghost use Rattle.std.specs.Prelude.{◌++◌, []};
+ghost use Rattle.table_keys.specs.Hashed.{Hashed};
+ghost use Rattle.table_keys.specs.Keys.{HasAdded, IsKeyOf};
+
 use sha2::{Digest, Sha512};
 use std::hash::{BuildHasher, DefaultHasher, Hasher};
 
@@ -44,19 +48,26 @@ pub struct KeyDigest {
 
 impl KeyDigest {
     /// Returns the digest of no entries.
-    pub fn new() -> KeyDigest {
+    pub fn new() -> KeyDigest
+        ensures { HasAdded result [] }
+    {
         KeyDigest {
             digest: Sha512::new(),
         }
     }
 
     /// Adds an entry, or a part of one, to the digest.
-    pub fn update(&mut self, entry: &[u8]) {
+    pub fn update(&mut self, entry: &[u8])
+        ensures { (entries : Hashed) → HasAdded self.old entries
+            → HasAdded self.new (entries ++ entry.now) }
+    {
         self.digest.update(entry);
     }
 
     /// Returns the key for the table of the entries so far.
-    pub fn key(self) -> TableKey {
+    pub fn key(self) -> TableKey
+        ensures { (entries : Hashed) → HasAdded self entries → IsKeyOf result entries }
+    {
         let mut start = DefaultHasher::new();
         start.write(&self.digest.finalize());
         TableKey { start }
