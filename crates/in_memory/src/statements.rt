@@ -61,10 +61,9 @@ fn push_statement(
     numbers: &mut Vec<usize>,
     text: &mut Vec<u8>,
 ) -> Result<(), AllocError>
-    ensures numbers { OnOk result (numbers.new.items
-        ≡ numbers.old.items ++ statement_numbers statement.now) }
-    ensures text { OnOk result (text.new.items
-        ≡ text.old.items ++ flat_map (λ path. path) (statement_paths statement.now)) }
+    ensures { OnOk result (
+        (numbers.new.items ≡ numbers.old.items ++ statement_numbers statement.now)
+        × (text.new.items ≡ text.old.items ++ flat_map (λ path. path) (statement_paths statement.now))) }
 {
     numbers.push(usize::from(statement.restat))?;
     numbers.push(statement.implicit_outputs.len())?;
