@@ -1,18 +1,15 @@
 //! Target documents, and project documents, which list them.
 
 ghost use Rattle.std.specs.Prelude.{◌≡◌, Some, IfOk, IfErr, map, string_bytes, option_map};
-ghost use Rattle.std.specs.List.{list_all};
 ghost use Rattle.ninja_text.specs.Failure.{ForFault};
 ghost use Rattle.serde_json.specs.View.{view};
-ghost use Rattle.scan_docs.specs.Check.{◌otherwise◌};
-ghost use Rattle.scan_docs.specs.inner.Reading.{Answers, Tests};
+ghost use Rattle.scan_docs.specs.inner.Reading.{Answers};
 ghost use Rattle.scan_docs.specs.Document.{IsAccepted, IsRefused, HasOneAnswer};
-ghost use Rattle.scan_docs.specs.Shape.{text};
-ghost use Rattle.scan_docs.specs.Name.{is_name};
+ghost use Rattle.scan_docs.specs.Shape.{text, texts_of};
 ghost use Rattle.scan_docs.specs.Project.{IsProject};
 ghost use Rattle.scan_docs.specs.ProjectChecks.{project_checks};
 ghost use Rattle.scan_docs.specs.Target.{IsTarget, build_dir, map_form, restat};
-ghost use Rattle.scan_docs.specs.TargetChecks.{name_checks, directory_checks, file_checks, target_checks};
+ghost use Rattle.scan_docs.specs.TargetChecks.{name_checks, directory_checks, kept_checks, file_checks, target_checks};
 ghost use Rattle.scan_docs.specs.Values.{spec_of, project_of};
 ghost use Rattle.scan_docs.specs.declared.member.Member.TheVariants as m;
 
@@ -119,7 +116,7 @@ pub fn spec_read(alloc: Global, bytes: &[u8]) -> Result<TargetSpec, Failure<DocF
     read_spec(alloc, &tree)
 }
 
-#[tactic(auto, unfolding(crate::specs::TargetChecks::target_checks, crate::specs::TargetChecks::list_checks, crate::specs::TargetChecks::kept_checks, crate::specs::TargetChecks::dyndep_checks), using(crate::proofs::Each::failure_of_both, crate::proofs::Exact::target_head))]
+#[tactic(auto, unfolding(crate::specs::TargetChecks::target_checks, crate::specs::TargetChecks::list_checks, crate::specs::TargetChecks::dyndep_checks), using(crate::proofs::Each::failure_of_both, crate::proofs::Exact::target_head))]
 fn read_spec(alloc: Global, tree: &Value) -> Result<TargetSpec, Failure<DocFault>>
     ensures { Answers (target_checks (view tree.now))
         (λ spec. IsTarget (view tree.now) spec) result }
@@ -129,8 +126,7 @@ fn read_spec(alloc: Global, tree: &Value) -> Result<TargetSpec, Failure<DocFault
     let setting = read_setting(alloc, tree)?;
     let scans = shape::texts(alloc, tree, Member::Scans, Place::Document)?;
     let linked = shape::texts(alloc, tree, Member::Linked, Place::Document)?;
-    let private = shape::texts(alloc, tree, Member::Private, Place::Document)?;
-    let kept = read_names(alloc, &private)?;
+    let kept = read_kept(alloc, tree)?;
     let text = shape::required_text(tree, Member::Dyndep, Place::Document)?;
     let placed = place(alloc, None, setting.build_dir.as_ref(), text.as_bytes());
     let dyndep_path = path_at(Place::Document, placed)?;
@@ -187,15 +183,16 @@ fn read_setting(alloc: Global, tree: &Value) -> Result<Setting, Failure<DocFault
     })
 }
 
-/// Returns the names of the strings, all of which have to be accepted.
-fn read_names(alloc: Global, texts: &[String]) -> Result<Vec<Name>, Failure<DocFault>>
-    ensures { Tests
-        (list_all is_name (map string_bytes texts.now) otherwise DocFault.BadName Place.Document)
-        (λ found. map string_bytes texts.now ≡ found.items) result }
+/// Returns the names of the modules that the target keeps to itself.
+#[tactic(auto, unfolding(crate::specs::TargetChecks::kept_checks))]
+fn read_kept(alloc: Global, tree: &Value) -> Result<Vec<Name>, Failure<DocFault>>
+    ensures { Answers (kept_checks (view tree.now))
+        (λ kept. texts_of m.Private (view tree.now) ≡ kept.items) result }
 {
     let place = Place::Document;
+    let texts = shape::texts(alloc, tree, Member::Private, place)?;
     let mut names = Vec::with_capacity(alloc, texts.len())?;
-    for text in texts {
+    for text in &texts {
         let Some(name) = Name::of(alloc, text.as_str())? else {
             return Err(Failure::Fault(DocFault::BadName { place }));
         };

@@ -1,5 +1,5 @@
-use Rattle.std.proofs.Common.{◌≡◌, ℕ, List, Option, Some, None, map, option_copied, string_bytes, refl, sym, ap, ap₂, ◌∙◌}
-use Rattle.scan_docs.specs.TargetChecks.{list_checks, kept_checks, dyndep_checks, target_checks}
+use Rattle.std.proofs.Common.{◌≡◌, ℕ, List, Option, Some, None, option_copied, refl, sym, ap, ap₂, ◌∙◌}
+use Rattle.scan_docs.specs.TargetChecks.{list_checks, dyndep_checks, target_checks}
 use Rattle.scan_docs.specs.Check.{path_checks}
 use Rattle.scan_docs.specs.Shape.{text}
 use Rattle.scan_docs.specs.Scan.{SettingValue}
@@ -20,7 +20,7 @@ unfolding dyndep_checks
 dyndep_is d path build has at = rw (has, at) refl
 
 pub returns : goal.returns
-unfolding target_checks list_checks kept_checks
+unfolding target_checks list_checks
 returns c =
     let setting = c.in_ok-setting.ensures.1 in
     let has = c.in_ok-text.ensures.1 ∙ ap Some (sym c.as_bytes.ensures.value) in
@@ -28,7 +28,7 @@ returns c =
     let checks = dyndep_is (view c.args.tree.now) c.as_bytes.result.now (option_copied c.as_ref.result) has (c.in_ok-setting.ensures.1.2 ∙ dir) in
     let path = c.in_ok-dyndep_path.ensures _ c.place-placed.ensures.meaning in
     let files = c.in_ok-info.ensures in (
-      rw (failure_of_both, target_head, c.in_ok-read_version.ensures.0, failure_of_both, c.in_ok-target.ensures.0, failure_of_both, c.in_ok-setting.ensures.0, c.in_ok-scans.ensures.0, c.in_ok-linked.ensures.0, c.in_ok-private.ensures.0, ← c.in_ok-private.ensures.1, ← c.deref.ensures.value, c.in_ok-kept.ensures.0, failure_of_both, checks, path.0) files.0,
+      rw (failure_of_both, target_head, c.in_ok-read_version.ensures.0, failure_of_both, c.in_ok-target.ensures.0, failure_of_both, c.in_ok-setting.ensures.0, c.in_ok-scans.ensures.0, c.in_ok-linked.ensures.0, failure_of_both, c.in_ok-kept.ensures.0, failure_of_both, checks, path.0) files.0,
       record {
         target = c.in_ok-target.ensures.1;
         module_dir = setting.0;
@@ -36,7 +36,7 @@ returns c =
         directory = setting.2;
         scans = sym c.in_ok-scans.ensures.1;
         linked = sym c.in_ok-linked.ensures.1;
-        kept = sym c.in_ok-private.ensures.1 ∙ ap (map string_bytes) (sym c.deref.ensures.value) ∙ c.in_ok-kept.ensures.1;
+        kept = c.in_ok-kept.ensures.1;
         dyndep = c.in_ok-text.ensures.1 ∙ ap Some (sym c.in_ok-dyndep.ensures.ok);
         dyndep_path = ap₂ (λ build text. placed None build text) dir (c.in_ok-dyndep.ensures.ok ∙ sym c.as_bytes.ensures.value) ∙ path.1.0;
         info = files.1.0;
