@@ -1,4 +1,4 @@
-use Rattle.std.proofs.Common.{rules, Bor, ◌≡◌, ℕ, ◌+◌, ◌≤◌, not, List, [], ◌∷◌, ◌++◌, length, map, take, drop, Some, Ok, refl, ap, subst, sym, ◌∙◌, All, slice_get}
+use Rattle.std.proofs.Common.{Bor, ◌≡◌, ◌==◌, ℕ, ◌+◌, ◌≤◌, not, List, [], ◌∷◌, ◌++◌, length, map, take, drop, Some, Ok, refl, ap, subst, sym, ◌∙◌, All, slice_get}
 use Rattle.std.proofs.lemmas.Option.{slice_get_read}
 use Rattle.std.proofs.lemmas.List.Elements.{All-push}
 use Rattle.std.proofs.lemmas.Result.{err_from_is_err_and}
@@ -12,13 +12,6 @@ use Rattle.collate_core.specs.inner.Parts.{lent_files, HasSpelled, IsSpelled}
 use Rattle.collate_core.proofs.Documents.{built_statement, with_rest, one_more, all_statements}
 use Rattle.collate_core.proofs.Parts.{all_spelled, line_refused}
 use Rattle.collate_core.proofs.statements.dyndep_text.Goals as goal
-
-pub add-requires : goal.add-requires
-add-requires c =
-    let lent = λ (fs : List (Bor (List ℕ))). All IsSpelled (lent_files fs) in
-    all_spelled c.bytes.result.now (lent_files c.deref-in-loop-index.result.now) (lent_files c.deref-in-loop-index-2.result.now)
-    (record { canonical = c.bytes.ensures.canonical ∙ ap Ok (sym c.bytes.ensures.text); writable = c.bytes.ensures.writable })
-    (subst lent (sym c.deref-in-loop-index.ensures.value) c.in_ok-lend_files.ensures.spelled) (subst lent (sym c.deref-in-loop-index-2.ensures.value) c.in_ok-lend_files-2.ensures.spelled)
 
 pub loop-index-preserved : goal.loop-index-preserved
 loop-index-preserved c =
@@ -37,7 +30,7 @@ loop-index-preserved c =
     let same : s ≡ statement_of (rule, c.required.result.now) =
     built_statement rule c.required.result.now s (c.bytes.ensures.text ∙ ap (λ (r : RuleValue). r.object) c.rule.view_is)
     (ap lent_files c.deref-in-loop-index.ensures.value ∙ c.in_ok-lend_files.ensures.files ∙ ap module_files (c.deref.ensures.value ∙ ap (λ (r : RuleValue). r.provided) c.rule.view_is))
-    (ap lent_files c.deref-in-loop-index-2.ensures.value ∙ c.in_ok-lend_files-2.ensures.files) (search rules) in
+    (ap lent_files c.deref-in-loop-index-2.ensures.value ∙ c.in_ok-lend_files-2.ensures.files) (ap not (c.is_empty.ensures ∙ ap (λ n. n == 0) c.rule.inside.provided.ok.0 ∙ ap (λ (r : RuleValue). length r.provided == 0) c.rule.view_is)) in
     let next : so_far ++ s ∷ [] ≡ map statement_of (take (index + 1) (tasks_of t)) = one_more t index rule c.required.result.now s so_far here (c.required.ensures rule here) same refl in
     record {
       text = subst (λ xs. IsTextOf xs c.add.new.text) next (c.in_ok-add.ensures.added so_far c.loop-index.invariant.text);
@@ -62,9 +55,16 @@ returns-in_err-add-clause-refused c =
     let same : s ≡ statement_of (rule, c.required.result.now) =
     built_statement rule c.required.result.now s (c.bytes.ensures.text ∙ ap (λ (r : RuleValue). r.object) c.rule.view_is)
     (ap lent_files c.deref-in-loop-index.ensures.value ∙ c.in_ok-lend_files.ensures.files ∙ ap module_files (c.deref.ensures.value ∙ ap (λ (r : RuleValue). r.provided) c.rule.view_is))
-    (ap lent_files c.deref-in-loop-index-2.ensures.value ∙ c.in_ok-lend_files-2.ensures.files) (search rules) in
+    (ap lent_files c.deref-in-loop-index-2.ensures.value ∙ c.in_ok-lend_files-2.ensures.files) (ap not (c.is_empty.ensures ∙ ap (λ n. n == 0) c.rule.inside.provided.ok.0 ∙ ap (λ (r : RuleValue). length r.provided == 0) c.rule.view_is)) in
     rw (p.1, p.2, ← with_rest t index rule c.required.result.now s here (c.required.ensures rule here) same)
     (line_refused c.first_fault.ensures (map statement_of (take index (tasks_of t))) s (map statement_of (drop (index + 1) (tasks_of t))) c.loop-index.text.count _ c.loop-index.invariant.text.unfaulted c.loop-index.invariant.text.count c.in_err-add.ensures.refused)
+
+pub add-requires : goal.add-requires
+add-requires c =
+    let lent = λ (fs : List (Bor (List ℕ))). All IsSpelled (lent_files fs) in
+    all_spelled c.bytes.result.now (lent_files c.deref-in-loop-index.result.now) (lent_files c.deref-in-loop-index-2.result.now)
+    (record { canonical = c.bytes.ensures.canonical ∙ ap Ok (sym c.bytes.ensures.text); writable = c.bytes.ensures.writable })
+    (subst lent (sym c.deref-in-loop-index.ensures.value) c.in_ok-lend_files.ensures.spelled) (subst lent (sym c.deref-in-loop-index-2.ensures.value) c.in_ok-lend_files-2.ensures.spelled)
 
 -- at the loop's end the statements so far are those of all objects
 at_end : (c : goal.After-drop-outputs-2) → map statement_of (take c.loop-index.index (tasks_of c.args.table.now)) ≡ statements_of c.args.table.now
