@@ -69,6 +69,10 @@ error_turned R P Q step (Ok x) new same h = subst (λ r. IfErr r Q) (sym same) t
 error_turned R P Q step (Err e) (Ok x) same h = absurd same
 error_turned R P Q step (Err e) (Err d) same h = step e d same h
 
+-- what holds of the value of a call holds of the value that `unless_faulty` finds in its result
+pub without_fault : {T E : Type 0} (P : T → Type 0) (result : Result T E) (found : Option T) (value : T) → found ≡ Some value → IfSome found (λ x. result ≡ Ok x) → IfOk result P → P value
+without_fault P result found value is same h = subst (λ r. IfOk r P) (subst (λ o. IfSome o (λ x. result ≡ Ok x)) is same) h
+
 -- ---- what a reader of dyndep files reports of the bytes so far is what it reports of the whole text
 
 pub reported : FaultStays → (bytes more text : List ℕ) (failure : Failure ReadFault) → text ≡ bytes ++ more → IsReadFailureIn bytes failure → ForFault (IsReadFaultOf text) failure

@@ -1,5 +1,5 @@
 //! Why a target does not collate, and why a dyndep text has no effect on a graph.
-ghost use Rattle.std.specs.Prelude.{◌≡◌};
+ghost use Rattle.std.specs.Prelude.{◌≡◌, Ok, IfOk, IfSome};
 ghost use Rattle.ninja_text.specs.Failure.{Turns};
 
 use build_effect::EffectFault;
@@ -8,7 +8,7 @@ use module_maps::MapFault;
 use module_table::TableFault;
 use ninja_text::Failure;
 use scan_docs::{DocFault, Info, Rule};
-use std::alloc::Global;
+use std::alloc::{AllocError, Global};
 use thiserror::Error;
 
 /// Why a target does not collate. If several apply, the first in this order is reported, and the one
@@ -70,6 +70,20 @@ pub(crate) fn refusal_alone(failure: Failure<RefusedTarget>) -> Failure<Refusal>
     ensures { Turns (λ refused refusal. refusal ≡ refused.refusal) failure result }
 {
     failure.map(|refused| refused.refusal)
+}
+
+/// Returns the value, or `None` if there is a fault.
+pub(crate) fn unless_faulty<T: Drop, F: Drop>(
+    outcome: Result<T, Failure<F>>,
+) -> Result<Option<T>, AllocError>
+    ensures { IfOk result
+        (λ found. IfSome found (λ value. outcome ≡ Ok value)) }
+{
+    match outcome {
+        Ok(value) => Ok(Some(value)),
+        Err(Failure::Memory) => Err(AllocError),
+        Err(Failure::Fault(_)) => Ok(None),
+    }
 }
 
 /// Why a dyndep text has no effect on a graph.

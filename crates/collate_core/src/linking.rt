@@ -12,7 +12,7 @@ ghost use Rattle.collate_core.specs.inner.ReadInfos.{IsReadAs, AreKnown, AreLink
 
 use crate::collated::Collated;
 use crate::collating::{Target, collate_or_refused, written_of};
-use crate::fault::{Refusal, RefusedTarget, without_table};
+use crate::fault::{Refusal, RefusedTarget, unless_faulty, without_table};
 use crate::info::info_again;
 use crate::projects::ProjectTarget;
 use crate::table::rules_of_all;
@@ -58,11 +58,8 @@ pub(crate) fn collate_linked<M: MapStyle>(
         return Ok(found);
     }
     let out = collate_or_refused(alloc, &with_infos, style)?;
-    match info_read(alloc, out.info()) {
-        Ok(info) => Ok((out, Some(info))),
-        Err(Failure::Memory) => Err(Failure::Memory),
-        Err(Failure::Fault(_)) => Ok((out, None)),
-    }
+    let info = unless_faulty(info_read(alloc, out.info()))?;
+    Ok((out, info))
 }
 
 /// Returns the info files that the targets of these indexes wrote.
@@ -95,19 +92,17 @@ fn collate_by_part<M: MapStyle>(
     ensures { IfOk result (λ found. IfSome found
         (CollatesAndReads target.now (option_map M.written (option_copied style.entry)))) }
 {
-    let objects = match rules_of_all(alloc, target.setting, target.scans) {
-        Ok(objects) => objects,
-        Err(Failure::Memory) => return Err(AllocError),
-        Err(Failure::Fault(_)) => return Ok(None),
+    let Some(objects) = unless_faulty(rules_of_all(alloc, target.setting, target.scans))? else {
+        return Ok(None);
     };
     let Some(part) = pool.part(alloc, &objects, linked, style.is_some())? else {
         return Ok(None);
     };
-    match Table::build_or_refused(alloc, objects, part, target.kept, Some(pool.key())) {
-        Ok(table) => part_collated(alloc, target, &table, style),
-        Err(Failure::Memory) => Err(AllocError),
-        Err(Failure::Fault(_)) => Ok(None),
-    }
+    let built = Table::build_or_refused(alloc, objects, part, target.kept, Some(pool.key()));
+    let Some(table) = unless_faulty(built)? else {
+        return Ok(None);
+    };
+    part_collated(alloc, target, &table, style)
 }
 
 /// Collates a target by the table of a part that is enough.
@@ -126,12 +121,9 @@ fn part_collated<M: MapStyle>(
 {
     sound_tables();
     parts();
-    match written_of(alloc, target, table, style) {
-        Ok(out) => {
-            let info = info_again(alloc, target.name, target.kept, table, out.info())?;
-            Ok(Some((out, info)))
-        }
-        Err(Failure::Memory) => Err(AllocError),
-        Err(Failure::Fault(_)) => Ok(None),
-    }
+    let Some(out) = unless_faulty(written_of(alloc, target, table, style))? else {
+        return Ok(None);
+    };
+    let info = info_again(alloc, target.name, target.kept, table, out.info())?;
+    Ok(Some((out, info)))
 }
