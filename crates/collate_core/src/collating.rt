@@ -99,15 +99,14 @@ pub fn collate_or_refused<M: MapStyle>(
     let table = table_of(alloc, target)?;
     match written_of(alloc, target, &table, style) {
         Ok(collated) => Ok(collated),
-        Err(Failure::Memory) => Err(Failure::Memory),
-        Err(Failure::Fault(refusal)) => {
+        Err(failure) => Err(failure.map(|refusal| {
             let (objects, infos) = table.into_resolved().into_parts();
-            Err(Failure::Fault(RefusedTarget {
+            RefusedTarget {
                 refusal,
                 objects,
                 infos,
-            }))
-        }
+            }
+        })),
     }
 }
 

@@ -1,7 +1,10 @@
-use Rattle.std.proofs.Common.{subst, sym, option_copied, option_map}
+use Rattle.std.proofs.Common.{rules, ◌≡◌, Option, subst, sym, option_copied, option_map}
 use Rattle.std.proofs.lemmas.Result.{err_from_is_err_and}
 use Rattle.module_table.specs.Sound.{IsSound}
-use Rattle.collate_core.proofs.Parts.{any_style, collates}
+use Rattle.module_maps.specs.Maps.{Written}
+use Rattle.collate_core.specs.Refusals.{IsRefusal}
+use Rattle.collate_core.specs.declared.fault.RefusedTarget.{RefusedTarget}
+use Rattle.collate_core.proofs.Parts.{any_style, collates, turned, turns_weaker, texts_refused}
 use Rattle.collate_core.proofs.collating.collate_or_refused.Goals as goal
 
 pub returns-in_err-table-clause-refused : goal.returns-in_err-table-clause-refused
@@ -16,3 +19,12 @@ pub returns-in-Ok-clause-headline : goal.returns-in-Ok-clause-headline
 returns-in-Ok-clause-headline g c =
     c.headline.ensures c.args.target.now (option_map g.M.MapStyle.written (option_copied c.args.style)) c.in-Ok.collated
     (collates c.args.target.now (option_map g.M.MapStyle.written (option_copied c.args.style)) c.in_ok-table.table c.in-Ok.collated c.in_ok-table.ensures.table c.in_ok-table.ensures.resolved c.in-Ok.ensures.written)
+
+pub returns-in-Err-clause-refused : goal.returns-in-Err-clause-refused
+returns-in-Err-clause-refused g c =
+    let style : Option Written = option_map g.M.MapStyle.written (option_copied c.args.style) in
+    let table = c.in_ok-table.ensures in
+    turned (λ refusal (refused : RefusedTarget). refused.refusal ≡ refusal) (IsRefusal c.args.target.now style) (λ (refused : RefusedTarget). IsRefusal c.args.target.now style refused.refusal)
+    (λ refusal refused same h. subst (IsRefusal c.args.target.now style) (sym same) h) c.in-Err.failure c.map.result
+    (turns_weaker _ (λ refusal (refused : RefusedTarget). refused.refusal ≡ refusal) (λ refusal refused post. search rules) c.in-Err.failure c.map.result c.map.ensures)
+    (texts_refused c.args.target.now style c.in_ok-table.table table.table table.resolved c.in-Err.failure c.in-Err.ensures.refused)
