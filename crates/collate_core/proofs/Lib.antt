@@ -6,7 +6,6 @@ pub mod ProjectOrderLemmas
 pub mod Outcomes
 pub mod Rows
 pub mod BuildLemmas
-pub mod EdgeCycles
 pub mod Gains
 pub mod Parts
 pub mod Linked

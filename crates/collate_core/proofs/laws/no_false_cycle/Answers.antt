@@ -1,6 +1,5 @@
 use Rattle.std.proofs.Common.{[], ◌∷◌}
-use Rattle.collate_core.proofs.BuildLemmas.{no_false_wait}
-use Rattle.collate_core.proofs.EdgeCycles.{no_false_cycle}
+use Rattle.collate_core.proofs.BuildLemmas.{no_false_wait, no_false_cycle}
 use Rattle.collate_core.proofs.Gains.{gained_after_target, gained_after_project}
 use Rattle.collate_core.specs.Documents.{table_of}
 use Rattle.collate_core.specs.BuildLaws.{tables_of}
