@@ -32,7 +32,7 @@ use Rattle.module_maps.specs.Maps.{Written}
 use Rattle.collate_core.specs.Values.{TargetValue, CollatedValue}
 use Rattle.collate_core.specs.Documents.{table_of, AreAccepted, IsResolved}
 use Rattle.collate_core.specs.Statements.{statements_of, statement_of}
-use Rattle.collate_core.specs.Refusals.{IsRefusal, IsMapRefusal}
+use Rattle.collate_core.specs.Refusals.{IsRefusal, IsMapRefusal, WasRead}
 use Rattle.collate_core.specs.declared.fault.RefusedTarget.{RefusedTarget}
 use Rattle.scan_docs.specs.Info.{InfoValue}
 use Rattle.scan_docs.specs.InfoText.{info_text, ReadsBack}
@@ -185,6 +185,15 @@ pub texts_refused : (target : TargetValue) (style : Option Written) (t : TableVa
     (failure : Failure Refusal) → ForFault (IsTextsRefusal t style) failure → ForFault (IsRefusal target style) failure
 texts_refused target style t table resolved Memory h = tt
 texts_refused target style t table resolved (Fault refusal) h = h target table resolved
+
+-- the table of the target's documents is what was read of it, whatever the rejection
+pub was_read : (target : TargetValue) (refusal : Refusal) (read : TableValue) → read ≡ table_of target → WasRead target refusal read
+was_read target (Table fault) read same = same
+was_read target (Map o fault) read same = same
+was_read target (Scan i fault) read same = tt
+was_read target (Info i fault) read same = tt
+was_read target (StatementTooLong k) read same = tt
+was_read target LinkedLater read same = tt
 
 -- each text is that of its object's map
 abbrev pub EachMap : TableValue → Written → List (List ℕ) → Type 0

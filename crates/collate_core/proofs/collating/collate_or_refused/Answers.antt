@@ -1,10 +1,12 @@
-use Rattle.std.proofs.Common.{rules, ◌≡◌, Option, subst, sym, option_copied, option_map}
+use Rattle.std.proofs.Common.{rules, ◌≡◌, Option, ◌∙◌, subst, sym, option_copied, option_map}
 use Rattle.std.proofs.lemmas.Result.{err_from_is_err_and}
+use Rattle.module_table.specs.TableValue.{TableValue, table_with}
 use Rattle.module_table.specs.Sound.{IsSound}
 use Rattle.module_maps.specs.Maps.{Written}
-use Rattle.collate_core.specs.Refusals.{IsRefusal}
+use Rattle.collate_core.specs.Refusals.{IsRefusal, WasRead}
+use Rattle.collate_core.specs.inner.Parts.{IsTextsRefusal}
 use Rattle.collate_core.specs.declared.fault.RefusedTarget.{RefusedTarget}
-use Rattle.collate_core.proofs.Parts.{any_style, collates, turned, turns_weaker, texts_refused}
+use Rattle.collate_core.proofs.Parts.{any_style, collates, was_read, turned, turns_weaker, texts_refused}
 use Rattle.collate_core.proofs.collating.collate_or_refused.Goals as goal
 
 pub returns-in_err-table-clause-refused : goal.returns-in_err-table-clause-refused
@@ -28,3 +30,12 @@ returns-in-Err-clause-refused g c =
     (λ refusal refused same h. subst (IsRefusal c.args.target.now style) (sym same) h) c.in-Err.failure c.map.result
     (turns_weaker _ (λ refusal (refused : RefusedTarget). refused.refusal ≡ refusal) (λ refusal refused post. search rules) c.in-Err.failure c.map.result c.map.ensures)
     (texts_refused c.args.target.now style c.in_ok-table.table table.table table.resolved c.in-Err.failure c.in-Err.ensures.refused)
+
+-- said here, so that a body which does something else is rejected soon
+pub returns-in-Err-clause-read : goal.returns-in-Err-clause-read
+returns-in-Err-clause-read g c =
+    let style : Option Written = option_map g.M.MapStyle.written (option_copied c.args.style) in
+    let read : RefusedTarget → TableValue = λ refused. table_with refused.objects.items refused.infos.items in
+    turned (λ refusal (refused : RefusedTarget). read refused ≡ c.in_ok-table.table) (IsTextsRefusal c.in_ok-table.table style) (λ (refused : RefusedTarget). WasRead c.args.target.now refused.refusal (read refused))
+    (λ refusal refused same h. was_read c.args.target.now refused.refusal (read refused) (same ∙ c.in_ok-table.ensures.table)) c.in-Err.failure c.map.result
+    (turns_weaker _ (λ refusal (refused : RefusedTarget). read refused ≡ c.in_ok-table.table) (λ refusal refused post. search rules) c.in-Err.failure c.map.result c.map.ensures) c.in-Err.ensures.refused
