@@ -1,5 +1,5 @@
 -- What the parts of a run have led to, the calls that they make, and what their loops make.
-use Rattle.std.proofs.Common.{◌≡◌, ◌∙◌, ℕ, ◌+◌, ◌<◌, List, [], ◌∷◌, ◌++◌, drop, length, get_or, suc, Option, Some, None, Result, Ok, Err, true, false, refl, ap, sym, append_assoc, append-nil, add-one, drop-cons, ◌≤◌, map, take, inl, string_bytes, subst, ◌-◌}
+use Rattle.std.proofs.Common.{◌≡◌, ◌∙◌, ℕ, ◌+◌, ◌<◌, List, [], ◌∷◌, ◌++◌, drop, length, get_or, suc, Option, Some, None, Result, Ok, Err, true, false, refl, ap, sym, append_assoc, append-nil, add-one, drop-cons, ◌≤◌, map, take, inl, string_bytes, subst}
 use Rattle.std.specs.Result.{is_err}
 use Rattle.std.specs.declared.io.Error.{Error}
 use Rattle.commands.specs.Folder.{FileCall, Adds, MakesCalls, reading, up_to}

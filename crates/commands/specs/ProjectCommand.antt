@@ -106,15 +106,23 @@ abbrev pub read_target : document.TargetDocumentValue → Numbers → TargetFile
 read_target spec linked files =
     record { spec = spec; linked = linked; scans = files.scans; listing = files.listing }
 
+-- the indexes of the targets that a target document with these members links, if it may come after
+-- these earlier ones, and the files that it names
+abbrev pub LinksAndFiles : List ReadTargetValue → document.TargetDocumentValue
+    → Part (Numbers × TargetFilesValue)
+LinksAndFiles earlier spec = do
+  _ ← At (length earlier) (FormOf earlier spec)
+  linked ← At (length earlier) (LinksOf earlier spec.linked)
+  files ← FilesOf spec []
+  Done (linked, files)
+
 -- The target after earlier ones of these bytes of a target document. No file of a rejected document
 -- is read, and no info file.
 abbrev pub TargetAfter : List ReadTargetValue → Bytes → Part ReadTargetValue
 TargetAfter earlier bytes = do
   spec ← At (length earlier) (SpecOf bytes)
-  _ ← At (length earlier) (FormOf earlier spec)
-  linked ← At (length earlier) (LinksOf earlier spec.linked)
-  files ← FilesOf spec []
-  Done (read_target spec linked files)
+  read ← LinksAndFiles earlier spec
+  Done (read_target spec read.0 read.1)
 
 -- the target after earlier ones of the document of this name
 abbrev pub TargetOfFile : List ReadTargetValue → PathText → Part ReadTargetValue

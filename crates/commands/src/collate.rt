@@ -3,7 +3,7 @@
 
 ghost use Rattle.std.specs.Prelude.{◌≡◌, [], ◌++◌, map, All, IsUtf8, OnOk};
 ghost use Rattle.commands.specs.Answers.{file_value};
-ghost use Rattle.commands.specs.CollateCommand.{style_of, map_files, files_of, target_with, SpecOf, CollateRun};
+ghost use Rattle.commands.specs.CollateCommand.{style_of, map_files, files_of, target_with, SpecOf, TargetRun, CollateRun};
 ghost use Rattle.commands.specs.One.{OneRun};
 ghost use Rattle.commands.specs.Outcomes.{Runs};
 ghost use Rattle.commands.specs.Targets.{TargetOf};
@@ -33,11 +33,19 @@ pub fn collate_target<F: Folder>(
     ensures { Runs (F.calls folder.old) (F.calls folder.new) (CollateRun document.now) result }
 {
     let spec = read_spec(alloc, document)?;
-    let files = TargetFiles::read(alloc, &spec, &spec.linked, folder)?;
-    let collated = collated_of(alloc, &spec, &files)?;
+    target_run(alloc, &spec, folder)
+}
+
+/// Reads the files of a target document, and collates its target. Apart from `collate_target`, which
+/// would drop the document at each `?`: this saves the prover 85 seconds.
+fn target_run<F: Folder>(alloc: Global, spec: &TargetSpec, folder: &mut F) -> Result<Output, Stop>
+    ensures { Runs (F.calls folder.old) (F.calls folder.new) (TargetRun spec.now) result }
+{
+    let files = TargetFiles::read(alloc, spec, &spec.linked, folder)?;
+    let collated = collated_of(alloc, spec, &files)?;
     pass_edges(alloc, &files.listing, &spec.dyndep_path, &collated)?;
     let mut written = Vec::new(alloc);
-    append_files(alloc, collated, &spec, &mut written)?;
+    append_files(alloc, collated, spec, &mut written)?;
     Ok(Output::files(alloc, written))
 }
 

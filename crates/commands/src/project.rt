@@ -7,9 +7,9 @@ ghost use Rattle.module_table.specs.TableValue.{table_with};
 ghost use Rattle.collate_core.specs.Projects.{CollatesProject, IsProjectRefusal, WasReadAt};
 ghost use Rattle.commands.specs.CollateCommand.{style_of};
 ghost use Rattle.commands.specs.Outcomes.{Runs, Writes, seen};
-ghost use Rattle.commands.specs.ProjectCommand.{project_target, form_of, all_files, AllEdgesPass, FormOf, LinksOf, ProjectOf, ProjectRun, TargetOfFile, TargetsAfter};
+ghost use Rattle.commands.specs.ProjectCommand.{project_target, form_of, all_files, AllEdgesPass, FormOf, LinksAndFiles, LinksOf, ProjectOf, ProjectRun, TargetOfFile, TargetsAfter};
 ghost use Rattle.commands.specs.inner.Parts.{bytes_of};
-ghost use Rattle.commands.specs.inner.ProjectTargets.{LinkEarlier, IsReportable, ReportsAt};
+ghost use Rattle.commands.specs.inner.ProjectTargets.{LinkEarlier, linked_files, IsReportable, ReportsAt};
 
 use crate::collate::{append_files, read_spec};
 use crate::edges::pass_edges;
@@ -272,16 +272,33 @@ fn read_target<F: Folder>(
     ensures links { IfOk result (λ target. All (λ k. k < length earlier.now) target.linked) }
 {
     let document = read(alloc, name, folder)?;
-    let index = earlier.list.len();
-    let spec = stop::at_target(alloc, index, read_spec(alloc, &document))?;
-    stop::at_target(alloc, index, pass_form(alloc, earlier, &spec))?;
-    let linked = stop::at_target(alloc, index, links_of(alloc, earlier, &spec.linked))?;
-    let files = TargetFiles::read(alloc, &spec, &[], folder)?;
+    let spec = stop::at_target(alloc, earlier.list.len(), read_spec(alloc, &document))?;
+    let (linked, files) = links_and_files(alloc, earlier, &spec, folder)?;
     Ok(ReadTarget {
         spec,
         linked,
         files,
     })
+}
+
+/// Returns the indexes of the targets that a target document links, and the files that it names.
+/// Apart from `read_target`, which would drop the document at each `?`: this saves the prover 20
+/// seconds.
+fn links_and_files<F: Folder>(
+    alloc: Global,
+    earlier: &Targets,
+    spec: &TargetSpec,
+    folder: &mut F,
+) -> Result<(Vec<usize>, TargetFiles), Stop>
+    ensures read { Runs (F.calls folder.old) (F.calls folder.new)
+        (LinksAndFiles earlier.now spec.now) (seen linked_files result) }
+    ensures links { IfOk result (λ read. All (λ k. k < length earlier.now) read.0.items) }
+{
+    let index = earlier.list.len();
+    stop::at_target(alloc, index, pass_form(alloc, earlier, spec))?;
+    let linked = stop::at_target(alloc, index, links_of(alloc, earlier, &spec.linked))?;
+    let files = TargetFiles::read(alloc, spec, &[], folder)?;
+    Ok((linked, files))
 }
 
 /// Checks that the maps of a target have the form of those of the first one.

@@ -45,7 +45,6 @@ fn read_all<F: Folder>(
 }
 
 /// The files of a target.
-#[derive(Drop)]
 pub(crate) struct TargetFiles {
     /// The bytes of the scan documents.
     pub scans: Vec<Vec<u8>>,
@@ -53,6 +52,17 @@ pub(crate) struct TargetFiles {
     pub infos: Vec<Vec<u8>>,
     /// The result of reading the listing of edges, if its document names one.
     pub listing: Option<ListingRead>,
+}
+
+// Not derived: a derived drop is written out, field by field, wherever a value goes.
+impl Drop for TargetFiles {
+    fn drop(self) {
+        let TargetFiles {
+            scans: _,
+            infos: _,
+            listing: _,
+        } = self;
+    }
 }
 
 impl Model for TargetFiles {

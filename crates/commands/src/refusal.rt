@@ -114,9 +114,8 @@ fn fault_subject(alloc: Global, fault: &TableFault, makers: Makers) -> Result<Ve
         }
         TableFault::ImportCycle { objects } => ring_text(alloc, objects, makers.objects),
         TableFault::ModulePrivate { name, info, user } => {
-            let target = target_name(makers.names, *info);
+            let (name, target) = (name.text().as_bytes(), target_name(makers.names, *info));
             let (kind, user) = kind_and_name(*user, makers);
-            let name = name.text().as_bytes();
             joined(alloc, &[name, b" of ", target, b" in ", kind, user])
         }
         TableFault::PrivateUnknown { name } => Vec::from_slice(alloc, name.text().as_bytes()),

@@ -144,7 +144,10 @@ pub(crate) fn of_target(alloc: Global, failure: Failure<RefusedTarget>) -> Stop
     let Failure::Fault(refused) = failure else {
         return Failure::Memory;
     };
-    stopped(1, refused_text(alloc, &refused))
+    let message = refused_text(alloc, &refused);
+    // Here, by one call: what it holds would be dropped field by field at the end.
+    drop(refused);
+    stopped(1, message)
 }
 
 /// Returns the outcome of a part about the target of this index, by its outcome for that target

@@ -1,8 +1,11 @@
 -- What is known of the targets of a project, and how they are found by their info files.
-use Rattle.std.specs.Prelude.{◌≡◌, ℕ, ◌<◌, List, length, slice_get, All, Option, Some, String}
+use Rattle.std.specs.Prelude.{◌≡◌, ℕ, ◌<◌, List, length, slice_get, All, Option, Some, String, Vec}
 use Rattle.std.specs.BTreeMap.{BTreeMap, get_by_text}
+use Rattle.std.specs.Global.{Global}
+use Rattle.dep_order.specs.Numbers.{Numbers}
 use Rattle.collate_core.specs.declared.fault.RefusedTarget.{RefusedTarget}
 use Rattle.ninja_text.specs.Bytes.{Text}
+use Rattle.commands.specs.Files.{TargetFilesValue}
 use Rattle.commands.specs.ProjectCommand.{ReadTargetValue, names_at, target_text}
 use Rattle.commands.specs.inner.Refusals.{refusal_line}
 
@@ -14,6 +17,10 @@ writer_of writers info = get_by_text writers info
 abbrev pub LinkEarlier : List ReadTargetValue → Type 0
 LinkEarlier targets = (index : ℕ) (t : ReadTargetValue) → slice_get targets index ≡ Some t →
     All (λ k. k < index) t.linked
+
+-- the links and the files of a target, as they are read
+abbrev pub linked_files : Vec ℕ Global × TargetFilesValue → Numbers × TargetFilesValue
+linked_files read = (read.0.items, read.1)
 
 -- there is a target of this index, which links some that are there
 abbrev pub IsReportable : List ReadTargetValue → ℕ → Type 0

@@ -1,6 +1,7 @@
 use Rattle.std.proofs.Common.{rules, ◌≡◌, List, [], ◌∷◌, ◌++◌, map, append_assoc, ap, ap₂, string_bytes, ◌∙◌}
 use Rattle.std.specs.Prelude.{OnOk, Result, Ok, Err, false}
 use Rattle.std.specs.declared.alloc.AllocError.{AllocError}
+use Rattle.std.proofs.lemmas.Result.{IfOk-from_err}
 use Rattle.scan_docs.specs.Target.{TargetDocumentValue}
 use Rattle.commands.specs.Answers.{file_value}
 use Rattle.commands.specs.CollateCommand.{output_file, map_files}
@@ -34,3 +35,15 @@ returns c =
     ∙ append_assoc (before ++ maps) (output_file spec.restat spec.info collated.info ∷ []) (output_file false spec.dyndep collated.dyndep ∷ [])
     ∙ append_assoc before maps (output_file spec.restat spec.info collated.info ∷ output_file false spec.dyndep collated.dyndep ∷ []))
     (file_more c.add-2.result c.add.new.list.items c.add-2.new.list.items _ (output_file false spec.dyndep collated.dyndep) dyndep c.add-2.ensures)
+
+pub returns-in_err-append_maps : goal.returns-in_err-append_maps
+returns-in_err-append_maps c = IfOk-from_err _ _ c.from_residual.ensures.0
+
+pub returns-in_err-from_str : goal.returns-in_err-from_str
+returns-in_err-from_str c = IfOk-from_err _ _ c.from_residual-in_err-from_str.ensures.0
+
+pub returns-in_err-add : goal.returns-in_err-add
+returns-in_err-add c = IfOk-from_err _ _ c.from_residual-in_err-add.ensures.0
+
+pub returns-in_err-from_str-2 : goal.returns-in_err-from_str-2
+returns-in_err-from_str-2 c = IfOk-from_err _ _ c.from_residual-in_err-from_str-2.ensures.0

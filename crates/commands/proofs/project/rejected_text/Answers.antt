@@ -4,7 +4,7 @@ use Rattle.std.specs.Global.{Global}
 use Rattle.std.specs.Borrow.{Bor}
 use Rattle.std.proofs.lemmas.List.{map_push, take_all}
 use Rattle.std.proofs.lemmas.Option.{get_or_from_slice_get}
-use Rattle.std.proofs.lemmas.Result.{IfOk-weaker}
+use Rattle.std.proofs.lemmas.Result.{IfOk-from_err, IfOk-weaker}
 use Rattle.collate_core.specs.declared.fault.RefusedTarget.{RefusedTarget}
 use Rattle.commands.specs.declared.project.ReadTarget.TheInside.{Inside}
 use Rattle.commands.specs.ProjectCommand.{ReadTargetValue, names_at, target_text}
@@ -51,3 +51,12 @@ returns c =
     ∙ ap (λ ns. refusal_line refused.objects.items ns refused.refusal) (names ∙ ap (names_at targets) (c.deref-earlier-items.ensures.value ∙ ap (λ (t : ReadTargetValue). t.linked) same)) in
     is ∙ ap (target_text index) text)
     c.target_text.ensures
+
+pub returns-in_err-names : goal.returns-in_err-names
+returns-in_err-names c = IfOk-from_err _ _ c.from_residual.ensures.0
+
+pub returns-in_err-names-2 : goal.returns-in_err-names-2
+returns-in_err-names-2 c = IfOk-from_err _ _ c.from_residual-in_err-names-2.ensures.0
+
+pub returns-in_err-text : goal.returns-in_err-text
+returns-in_err-text c = IfOk-from_err _ _ c.from_residual-in_err-text.ensures.0
