@@ -1,13 +1,10 @@
-use Rattle.std.proofs.Common.{rules, ◌≡◌, ℕ, ◌+◌, ◌<◌, List, [], ◌∷◌, ◌++◌, length, take, get_or, map, string_bytes, Option, Some, ap, ap₂, refl, subst, sym, ◌∙◌}
-use Rattle.std.specs.Prelude.{Err, String, Vec}
+use Rattle.std.proofs.Common.{rules, ◌≡◌, ℕ, ◌+◌, ◌<◌, List, [], ◌∷◌, ◌++◌, length, take, get_or, map, string_bytes, Option, Some, ap, ap₂, sym, ◌∙◌}
+use Rattle.std.specs.Prelude.{String}
 use Rattle.std.specs.Global.{Global}
 use Rattle.std.proofs.lemmas.List.{map_push}
-use Rattle.ninja_text.specs.declared.failure.Failure.TheVariants.{Memory}
-use Rattle.commands.specs.Outcomes.{Outcome, seen}
-use Rattle.commands.specs.ProjectCommand.{ReadTargetValue, last_with, LinksOf, LinksTo}
-use Rattle.commands.specs.inner.Parts.{bytes_of}
+use Rattle.commands.specs.ProjectCommand.{ReadTargetValue, last_with, LinksTo}
 use Rattle.commands.specs.inner.ProjectTargets.{writer_of}
-use Rattle.commands.proofs.Outcomes.{mapped_next, passed}
+use Rattle.commands.proofs.Outcomes.{mapped_next}
 use Rattle.commands.proofs.project.links_of.Goals as goal
 
 -- the index of one info file more
@@ -25,19 +22,9 @@ by_table : (own targets : List ReadTargetValue) (at : List ℕ → Option ℕ) (
     ((info : List ℕ) → at info ≡ last_with own info) → own ≡ targets → text ≡ info → found ≡ at text → last_with targets info ≡ found
 by_table own targets at text info found table same named is = sym (ap₂ last_with same named) ∙ sym (table text) ∙ sym is
 
--- memory ran out
-no_links : (targets : List ReadTargetValue) (infos : List (List ℕ)) {r : Outcome (Vec ℕ Global)} → r ≡ Err Memory → LinksOf targets infos [] (seen bytes_of r)
-no_links targets infos is = subst (λ s. LinksOf targets infos [] (seen bytes_of s)) (sym is) refl
-
 pub loop-info-preserved : goal.loop-info-preserved
 loop-info-preserved c =
     let found : Some c.in-Some.index.now ≡ writer_of c.targets.inside.writers c.as_str.result.now = search rules in
     links_next c.args.targets.now c.args.infos.now c.loop-info.info-index c.info-item.result c.loop-info.linked.items _ c.in-Some.index.now c.loop-info-test.true c.info-item.is
     (by_table c.targets.inside.list.items c.args.targets.now (writer_of c.targets.inside.writers) c.as_str.result.now (string_bytes c.info-item.result) (Some c.in-Some.index.now) c.targets.invariant.1 c.targets.view_is c.as_str.ensures.value found)
     c.in_ok-linked-2.ensures c.loop-info.invariant
-
-pub returns-in_err-linked : goal.returns-in_err-linked
-returns-in_err-linked c = no_links c.args.targets.now (map string_bytes c.args.infos.now) (passed c.from_residual.ensures)
-
-pub returns-in_err-linked-2 : goal.returns-in_err-linked-2
-returns-in_err-linked-2 c = no_links c.args.targets.now (map string_bytes c.args.infos.now) (passed c.from_residual-in_err-linked-2.ensures)
