@@ -4,7 +4,6 @@ pub mod NeededLemmas
 pub mod Effects
 pub mod ProjectOrderLemmas
 pub mod Outcomes
-pub mod Rows
 pub mod BuildLemmas
 pub mod Gains
 pub mod Parts
