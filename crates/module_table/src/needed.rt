@@ -26,7 +26,6 @@ use std::marker::Model;
 /// Finds the modules that the objects of a table need, for one object after another. It keeps its
 /// workspace between objects, so the work for an object grows with what the object needs, and not
 /// with the table. A contract sees it as the table.
-#[derive(Drop)]
 pub struct Needs<'t> {
     objects: &'t [Rule],
     infos: &'t [Info],
@@ -35,6 +34,19 @@ pub struct Needs<'t> {
     modules: Vec<((&'t Name, &'t Path), usize)>,
     /// The index of each module among them, by its own index.
     ranks: Vec<usize>,
+}
+
+// Not derived: a derived drop is written out, field by field, wherever a value goes.
+impl Drop for Needs<'_> {
+    fn drop(self) {
+        let Needs {
+            objects: _,
+            infos: _,
+            reaching: _,
+            modules: _,
+            ranks: _,
+        } = self;
+    }
 }
 
 impl<'t> Model for Needs<'t> {

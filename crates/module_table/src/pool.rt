@@ -23,13 +23,24 @@ mod related;
 /// A target that links many targets needs few of their modules. [`Pool::part`] returns these
 /// modules, so the work for a target grows with its own rules and with the number of its links. It
 /// does not grow with the modules of the linked targets.
-#[derive(Drop)]
 pub struct Pool {
     infos: Vec<Option<Info>>,
     listed: Listed,
     /// The relations of each known info file to those before it.
     related: Vec<Option<Related>>,
     key: TableKey,
+}
+
+// Not derived: a derived drop is written out, field by field, wherever a value goes.
+impl Drop for Pool {
+    fn drop(self) {
+        let Pool {
+            infos: _,
+            listed: _,
+            related: _,
+            key: _,
+        } = self;
+    }
 }
 
 impl Model for Pool {

@@ -23,7 +23,6 @@ use std::marker::Model;
 use table_keys::{KeyDigest, TableKey};
 
 /// The modules of one target and of the targets that it links. It has none of the faults M1 to M10.
-#[derive(Drop)]
 pub struct Table {
     resolved: Resolved,
     /// The names that the table mentions, in order of first mention: first those of the provided
@@ -36,6 +35,19 @@ pub struct Table {
     origins: Vec<(Maker, usize)>,
     /// The modules and objects that each module and each object needs, by index.
     graph: Digraph,
+}
+
+// Not derived: a derived drop is written out, field by field, wherever a value goes.
+impl Drop for Table {
+    fn drop(self) {
+        let Table {
+            resolved: _,
+            names: _,
+            paths: _,
+            origins: _,
+            graph: _,
+        } = self;
+    }
 }
 
 impl Model for Table {
@@ -232,12 +244,22 @@ impl Table {
 }
 
 /// The objects of a [`Table`], and the modules that each requires. It has no look-ups.
-#[derive(Drop)]
 pub struct Resolved {
     objects: Vec<Rule>,
     infos: Vec<Info>,
     /// The modules that each object requires, with their files.
     required: Vec<Vec<(Name, Path)>>,
+}
+
+// Not derived: a derived drop is written out, field by field, wherever a value goes.
+impl Drop for Resolved {
+    fn drop(self) {
+        let Resolved {
+            objects: _,
+            infos: _,
+            required: _,
+        } = self;
+    }
 }
 
 impl Model for Resolved {

@@ -22,14 +22,19 @@ const FULL_ROW: usize = 64;
 pub(crate) type Row = SmallVec<(usize, usize), 1>;
 
 /// The modules of the info files.
-#[derive(Drop)]
 pub(crate) struct Listed {
     pub names: IndexMap<Name, Row, TableKey>,
     pub files: IndexMap<Path, Row, TableKey>,
 }
 
+// Not derived: a derived drop is written out, field by field, wherever a value goes.
+impl Drop for Listed {
+    fn drop(self) {
+        let Listed { names: _, files: _ } = self;
+    }
+}
+
 /// How an info file is related to the others. The info files are listed by index, each once.
-#[derive(Drop)]
 pub(crate) struct Related {
     /// The modules that each of its modules requires, by the index of the info file and the index of
     /// the module in it.
@@ -38,6 +43,17 @@ pub(crate) struct Related {
     pub sources: Vec<usize>,
     /// The info files with a module of the same name or file.
     pub clashes: Vec<usize>,
+}
+
+// Not derived: a derived drop is written out, field by field, wherever a value goes.
+impl Drop for Related {
+    fn drop(self) {
+        let Related {
+            required: _,
+            sources: _,
+            clashes: _,
+        } = self;
+    }
 }
 
 impl Related {
