@@ -26,7 +26,6 @@ use std::alloc::Global;
 use std::marker::Model;
 
 /// The files that a target's modules are compiled to.
-#[derive(Drop)]
 pub struct Setting {
     /// The directory of the BMIs, or an empty string.
     pub module_dir: String,
@@ -34,6 +33,17 @@ pub struct Setting {
     pub module_ext: String,
     /// The directory that Ninja runs in, which is absolute.
     pub build_dir: Option<Path>,
+}
+
+// Not derived: the prover writes a derived drop out, field by field, wherever a value goes.
+impl Drop for Setting {
+    fn drop(self) {
+        let Setting {
+            module_dir: _,
+            module_ext: _,
+            build_dir: _,
+        } = self;
+    }
 }
 
 impl Model for Setting {
