@@ -1,7 +1,8 @@
 //! Target documents, and project documents, which list them.
 
-ghost use Rattle.std.specs.Prelude.{◌≡◌, Some, IfOk, IfErr, map, string_bytes, option_map};
+ghost use Rattle.std.specs.Prelude.{◌≡◌, Some, None, Ok, IfOk, IfErr, map, string_bytes, option_map};
 ghost use Rattle.ninja_text.specs.Failure.{ForFault};
+ghost use Rattle.ninja_text.specs.Paths.{placed};
 ghost use Rattle.serde_json.specs.View.{view};
 ghost use Rattle.scan_docs.specs.inner.Reading.{Answers};
 ghost use Rattle.scan_docs.specs.Document.{IsAccepted, IsRefused, HasOneAnswer};
@@ -9,7 +10,7 @@ ghost use Rattle.scan_docs.specs.Shape.{text, texts_of};
 ghost use Rattle.scan_docs.specs.Project.{IsProject};
 ghost use Rattle.scan_docs.specs.ProjectChecks.{project_checks};
 ghost use Rattle.scan_docs.specs.Target.{IsTarget, build_dir, map_form, restat};
-ghost use Rattle.scan_docs.specs.TargetChecks.{name_checks, directory_checks, kept_checks, file_checks, target_checks};
+ghost use Rattle.scan_docs.specs.TargetChecks.{name_checks, directory_checks, kept_checks, dyndep_checks, file_checks, target_checks};
 ghost use Rattle.scan_docs.specs.Values.{spec_of, project_of};
 ghost use Rattle.scan_docs.specs.declared.member.Member.TheVariants as m;
 
@@ -126,7 +127,7 @@ pub fn spec_read(alloc: Global, bytes: &[u8]) -> Result<TargetSpec, Failure<DocF
     read_spec(alloc, &tree)
 }
 
-#[tactic(auto, unfolding(crate::specs::TargetChecks::target_checks, crate::specs::TargetChecks::list_checks, crate::specs::TargetChecks::dyndep_checks), using(crate::proofs::Each::failure_of_both, crate::proofs::Exact::target_head))]
+#[tactic(auto, unfolding(crate::specs::TargetChecks::target_checks, crate::specs::TargetChecks::list_checks), using(crate::proofs::Each::failure_of_both, crate::proofs::Exact::target_head))]
 fn read_spec(alloc: Global, tree: &Value) -> Result<TargetSpec, Failure<DocFault>>
     ensures { Answers (target_checks (view tree.now))
         (λ spec. IsTarget (view tree.now) spec) result }
@@ -137,10 +138,7 @@ fn read_spec(alloc: Global, tree: &Value) -> Result<TargetSpec, Failure<DocFault
     let scans = shape::texts(alloc, tree, Member::Scans, Place::Document)?;
     let linked = shape::texts(alloc, tree, Member::Linked, Place::Document)?;
     let kept = read_kept(alloc, tree)?;
-    let text = shape::required_text(tree, Member::Dyndep, Place::Document)?;
-    let placed = place(alloc, None, setting.build_dir.as_ref(), text.as_bytes());
-    let dyndep_path = path_at(Place::Document, placed)?;
-    let dyndep = String::from_str(alloc, text)?;
+    let (dyndep, dyndep_path) = read_dyndep(alloc, &setting, tree)?;
     let (info, map, edges, restat) = read_outputs(alloc, tree)?;
     Ok(TargetSpec {
         target,
@@ -209,6 +207,25 @@ fn read_kept(alloc: Global, tree: &Value) -> Result<Vec<Name>, Failure<DocFault>
         names.push(name)?;
     }
     Ok(names)
+}
+
+/// Returns the dyndep file, and its path as Ninja sees it.
+#[tactic(auto, unfolding(crate::specs::TargetChecks::dyndep_checks))]
+fn read_dyndep(
+    alloc: Global,
+    setting: &Setting,
+    tree: &Value,
+) -> Result<(String, Path), Failure<DocFault>>
+    requires { build_dir (view tree.now) ≡ setting.now.build_dir }
+    ensures { Answers (dyndep_checks (view tree.now))
+        (λ found. (text m.Dyndep (view tree.now) ≡ Some (string_bytes found.0))
+        × (placed None setting.now.build_dir (string_bytes found.0) ≡ Ok found.1)) result }
+{
+    let text = shape::required_text(tree, Member::Dyndep, Place::Document)?;
+    let placed = place(alloc, None, setting.build_dir.as_ref(), text.as_bytes());
+    let path = path_at(Place::Document, placed)?;
+    let dyndep = String::from_str(alloc, text)?;
+    Ok((dyndep, path))
 }
 
 /// Returns the members `info`, `map`, `edges` and `restat`.
