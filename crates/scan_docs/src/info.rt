@@ -1,13 +1,15 @@
 //! Info documents: what a target tells the targets that link it.
 
-ghost use Rattle.std.specs.Prelude.{◌≡◌, Some, IfOk, IfErr};
+ghost use Rattle.std.specs.Prelude.{◌≡◌, Some, Ok, IfOk, IfErr};
 ghost use Rattle.ninja_text.specs.Failure.{ForFault};
+ghost use Rattle.ninja_text.specs.Paths.{path_of};
 ghost use Rattle.serde_json.specs.View.{view};
 ghost use Rattle.scan_docs.specs.inner.Reading.{Answers};
 ghost use Rattle.scan_docs.specs.Document.{IsAccepted, IsRefused, HasOneAnswer};
 ghost use Rattle.scan_docs.specs.Shape.{text};
+ghost use Rattle.scan_docs.specs.Scan.{IsText};
 ghost use Rattle.scan_docs.specs.Info.{privacy, IsRequirement, IsModule, IsInfo};
-ghost use Rattle.scan_docs.specs.InfoChecks.{entry_shape_checks, visibility_check, requirement_checks, module_checks, info_checks};
+ghost use Rattle.scan_docs.specs.InfoChecks.{entry_shape_checks, visibility_check, named_file_checks, requirement_checks, module_checks, info_checks};
 ghost use Rattle.scan_docs.specs.InfoText.{IsInfoText};
 ghost use Rattle.scan_docs.specs.Values.{info_of};
 ghost use Rattle.scan_docs.specs.declared.member.Member.TheVariants as m;
@@ -107,7 +109,7 @@ fn names_of_modules(alloc: Global, modules: &[Value]) -> Result<Vec<u8>, AllocEr
     Ok(names)
 }
 
-#[tactic(auto, unfolding(crate::specs::InfoChecks::module_checks, crate::specs::InfoChecks::requires_check, crate::specs::InfoChecks::named_file_checks), using(crate::proofs::Each::failure_of_both))]
+#[tactic(auto, unfolding(crate::specs::InfoChecks::module_checks, crate::specs::InfoChecks::requires_check), using(crate::proofs::Each::failure_of_both))]
 fn read_module(
     alloc: Global,
     names: &mut SharedNames,
@@ -119,11 +121,10 @@ fn read_module(
         (λ found. IsModule with_visibility (view value.now) found) result }
 {
     let place = Place::Module { number: index };
-    let (name, path) = read_entry_texts(place, value)?;
+    let texts = read_entry_texts(place, value)?;
     let requirements = shape::required_entries(value, Member::Requires, place)?;
     let is_private = read_visibility(with_visibility, place, value)?;
-    let name = names.read(alloc, name, place)?;
-    let file = path_at(place, Path::of(alloc, path.as_bytes()))?;
+    let (name, file) = read_named_file(alloc, names, place, texts)?;
     let mut required = Vec::with_capacity(alloc, requirements.len())?;
     for (entry, requirement) in requirements.iter().enumerate() {
         let place = Place::ModuleRequires {
@@ -176,7 +177,7 @@ fn read_visibility(
     }
 }
 
-#[tactic(auto, unfolding(crate::specs::InfoChecks::requirement_checks, crate::specs::InfoChecks::named_file_checks), using(crate::proofs::Each::failure_of_both))]
+#[tactic(auto, unfolding(crate::specs::InfoChecks::requirement_checks), using(crate::proofs::Each::failure_of_both))]
 fn read_requirement(
     alloc: Global,
     names: &mut SharedNames,
@@ -186,7 +187,23 @@ fn read_requirement(
     ensures { Answers (requirement_checks place (view value.now))
         (IsRequirement (view value.now)) result }
 {
-    let (name, path) = read_entry_texts(place, value)?;
+    let texts = read_entry_texts(place, value)?;
+    read_named_file(alloc, names, place, texts)
+}
+
+/// Returns the name and the file of a module, of their texts.
+#[tactic(auto, unfolding(crate::specs::InfoChecks::named_file_checks))]
+fn read_named_file(
+    alloc: Global,
+    names: &mut SharedNames,
+    place: Place,
+    texts: (&str, &str),
+) -> Result<(Name, Path), Failure<DocFault>>
+    ensures { Answers (named_file_checks place texts.entry.0.now texts.entry.1.now)
+        (λ pair. (pair.0 ≡ texts.entry.0.now) × (path_of texts.entry.1.now ≡ Ok pair.1)
+        × IsText pair.1) result }
+{
+    let (name, path) = texts;
     let name = names.read(alloc, name, place)?;
     let file = path_at(place, Path::of(alloc, path.as_bytes()))?;
     Ok((name, file))
