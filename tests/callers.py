@@ -12,7 +12,7 @@ from collections import defaultdict
 
 from tests.reading import CRATES, TOP, functions
 
-SHARES = {"ninja_text": 21, "dep_order": 34, "dyndep_file": 29, "table_keys": 0, "scan_docs": 28, "module_maps": 25, "module_table": 44,
+SHARES = {"ninja_text": 21, "dep_order": 34, "dyndep_file": 29, "table_keys": 0, "scan_docs": 29, "module_maps": 25, "module_table": 44,
           "build_effect": 36, "collate_core": 30, "command_line": 75, "commands": 33, "dyncollate": 50, "in_memory": 20, "c_library": 0}
 
 
