@@ -14,7 +14,7 @@ ghost use Rattle.build_effect.specs.inner.StatementEdges.{statement_on};
 
 use crate::fault::EffectFault;
 use crate::graph::Edge;
-use crate::makers::{Makers, table_key};
+use crate::makers::{Makers, SeenFiles, table_key};
 use dyndep_file::Statement;
 use indexmap::IndexSet;
 use ninja_text::{Failure, Path};
@@ -119,10 +119,12 @@ pub(crate) fn check_added(
         .iter()
         .flat_map(|addition| addition.implicit_outputs.iter());
     let files: Vec<&Path> = added.collect(alloc)?;
-    let mut seen = IndexSet::with_hasher(alloc, table_key(files.as_slice()));
+    let mut seen = SeenFiles {
+        set: IndexSet::with_hasher(alloc, table_key(files.as_slice())),
+    };
     for file in &files {
         let is_made = makers.maker_of(*file).is_some();
-        let is_new = seen.insert(*file)?;
+        let is_new = seen.set.insert(*file)?;
         if is_made || !is_new {
             let path = file.copy(alloc)?;
             return Err(Failure::Fault(EffectFault::AddedTwice { path }));

@@ -7,7 +7,7 @@ ghost use Rattle.build_effect.specs.Faults.{IsGraphFault, NamesUnread};
 ghost use Rattle.build_effect.specs.inner.Inputs.{NamesInput};
 
 use crate::fault::GraphFault;
-use crate::makers::{made_files, table_key};
+use crate::makers::{SeenFiles, made_files, table_key};
 use indexmap::IndexSet;
 use ninja_text::{Failure, Path};
 use std::alloc::{AllocError, Global};
@@ -103,9 +103,11 @@ fn check_made(alloc: Global, edges: &[Edge]) -> Result<(), Failure<GraphFault>>
     ensures fault { IfErr result (ForFault (IsGraphFault edges.now)) }
 {
     let files = made_files(alloc, edges)?;
-    let mut seen = IndexSet::with_hasher(alloc, table_key(files.as_slice()));
+    let mut seen = SeenFiles {
+        set: IndexSet::with_hasher(alloc, table_key(files.as_slice())),
+    };
     for file in &files {
-        let is_new = seen.insert(*file)?;
+        let is_new = seen.set.insert(*file)?;
         if !is_new {
             let path = file.copy(alloc)?;
             return Err(Failure::Fault(GraphFault::ProducedTwice { path }));

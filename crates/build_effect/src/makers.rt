@@ -8,7 +8,7 @@ ghost use Rattle.build_effect.specs.inner.Makers.{maker_in, AreMakers};
 
 use crate::graph::{Edge, Graph};
 use dep_order::{Digraph, Sorting, order};
-use indexmap::IndexMap;
+use indexmap::{IndexMap, IndexSet};
 use ninja_text::Path;
 use std::alloc::{AllocError, Global};
 use table_keys::{KeyDigest, TableKey};
@@ -39,9 +39,15 @@ pub fn edge_order(alloc: Global, graph: &Graph) -> Result<Sorting, AllocError>
 }
 
 /// A table of the edge that makes each file, by the edge's index.
-#[derive(Drop)]
 pub(crate) struct Makers<'t> {
     table: IndexMap<&'t Path, usize, TableKey>,
+}
+
+// Not derived: a derived drop is written out, field by field, wherever a value goes.
+impl Drop for Makers<'_> {
+    fn drop(self) {
+        let Makers { table: _ } = self;
+    }
 }
 
 impl<'t> Makers<'t> {
@@ -50,13 +56,14 @@ impl<'t> Makers<'t> {
         ensures { IfOk result (λ makers. AreMakers edges.now (maker_in makers.table)) }
     {
         let files = made_files(alloc, edges)?;
-        let mut table = IndexMap::with_hasher(alloc, table_key(files.as_slice()));
+        let table = IndexMap::with_hasher(alloc, table_key(files.as_slice()));
+        let mut makers = Makers { table };
         for (edge_index, edge) in edges.iter().enumerate() {
             for file in edge.outputs.iter().chain(edge.implicit_outputs.iter()) {
-                table.insert(file, edge_index)?;
+                makers.table.insert(file, edge_index)?;
             }
         }
-        Ok(Makers { table })
+        Ok(makers)
     }
 
     /// Returns the index of the edge that makes the file.
@@ -64,6 +71,18 @@ impl<'t> Makers<'t> {
         ensures { result ≡ maker_in self.now.table file.now }
     {
         self.table.get(&file).copied()
+    }
+}
+
+/// The files so far, in a search for a file that comes again.
+pub(crate) struct SeenFiles<'t> {
+    pub(crate) set: IndexSet<&'t Path, TableKey>,
+}
+
+// Not derived, as for `Makers`.
+impl Drop for SeenFiles<'_> {
+    fn drop(self) {
+        let SeenFiles { set: _ } = self;
     }
 }
 

@@ -23,7 +23,7 @@ loop-file-init c =
     (YieldsList-from_flat_map _ _ _ (λ b. b.now) (λ (a : StatementValue). a.implicit_outputs) _ (λ x u q k. (search (rules, tests), λ j b. YieldsList-at b (YieldsList-from_slice _ (search (rules, tests)))))
     (YieldsList-at c.flat_map-added.ensures.source (YieldsList-from_slice c.args.additions.now c.iter.ensures.rest)) c.flat_map-added.ensures.closure c.flat_map-added.ensures.front c.flat_map-added.ensures.back c.flat_map-added.ensures.done) in
     record {
-      same = c.with_hasher-seen.ensures.empty;
+      same = c.with_hasher.ensures.empty;
       differ = record { differ = λ i j x lt at again. cc };
       unmade = λ k file lt at. absurd (omega (arith, lt));
       added = ap (map text_of) c.deref-file-items.ensures.value ∙ subst (λ r. IfOk r (λ files. map text_of files.items ≡ added_outputs c.args.additions.now)) c.in_ok-files.was made;
@@ -45,7 +45,7 @@ returns-then-is_made-clause-fault c = λ g are.
           let some = is_there c.maker_of.result true (sym c.is_some-is_made.ensures ∙ w.if-is_made.true) in
           made_here g maker are (map text_of files) i s.unmade differ c.file-item.result.now some.0 here (sym c.maker_of.ensures ∙ some.1)
       | then-is_made-via-else-is_made+then-not-is_new w ↦
-          let repeated = repeats_if_there text_of files i c.file-item.result c.loop-file.seen.keys c.insert.new.self.keys at s.same s.differ h.keys (sym w.if-not-is_new.true ∙ h.added) in
+          let repeated = repeats_if_there text_of files i c.file-item.result c.loop-file.seen.set.keys c.insert.new.self.keys at s.same s.differ h.keys (sym w.if-not-is_new.true ∙ h.added) in
           repeated_here g maker are (map text_of files) i s.unmade differ repeated.0 repeated.1
     ] in
     let made = subst (λ (fs : List (List ℕ)). (file : List ℕ) × IsFirstAt (IsMadeBefore g fs) fs i file) s.added first in
@@ -62,8 +62,8 @@ loop-file-preserved c =
     let at = slice_get_read files _ i c.file-item.result refl c.loop-file-test.true c.file-item.is in
     let fresh = sym c.if-not-is_new.false ∙ h.added in
     record {
-      same = keys_if_new text_of files i c.file-item.result c.loop-file.seen.keys c.insert.new.self.keys at s.same s.differ h.keys fresh;
-      differ = differ_if_new text_of files i c.file-item.result c.loop-file.seen.keys c.insert.new.self.keys at s.same s.differ h.keys fresh;
+      same = keys_if_new text_of files i c.file-item.result c.loop-file.seen.set.keys c.insert.new.self.keys at s.same s.differ h.keys fresh;
+      differ = differ_if_new text_of files i c.file-item.result c.loop-file.seen.set.keys c.insert.new.self.keys at s.same s.differ h.keys fresh;
       unmade = more_unmade (maker_in c.args.makers.now.table) (map text_of files) i c.file-item.result.now (to_map text_of files i c.file-item.result at) s.unmade
           (sym c.maker_of.ensures ∙ is_there c.maker_of.result false (sym c.is_some-is_made.ensures ∙ c.if-is_made.false));
       added = s.added;

@@ -17,8 +17,8 @@ loop-file-preserved c =
     let h = c.in_ok-is_new.ensures in
     let at = slice_get_read files _ i c.file-item.result refl c.loop-file-test.true c.file-item.is in
     record {
-      same = keys_if_new text_of files i c.file-item.result c.loop-file.seen.keys c.insert.new.self.keys at c.loop-file.invariant.same c.loop-file.invariant.differ h.keys (sym c.if-not-is_new.false ∙ h.added);
-      differ = differ_if_new text_of files i c.file-item.result c.loop-file.seen.keys c.insert.new.self.keys at c.loop-file.invariant.same c.loop-file.invariant.differ h.keys (sym c.if-not-is_new.false ∙ h.added);
+      same = keys_if_new text_of files i c.file-item.result c.loop-file.seen.set.keys c.insert.new.self.keys at c.loop-file.invariant.same c.loop-file.invariant.differ h.keys (sym c.if-not-is_new.false ∙ h.added);
+      differ = differ_if_new text_of files i c.file-item.result c.loop-file.seen.set.keys c.insert.new.self.keys at c.loop-file.invariant.same c.loop-file.invariant.differ h.keys (sym c.if-not-is_new.false ∙ h.added);
     }
 
 pub returns-then-not-is_new-clause-fault : goal.returns-then-not-is_new-clause-fault
@@ -29,7 +29,7 @@ returns-then-not-is_new-clause-fault c =
     let i : ℕ = c.loop-file.file-index in
     let h = c.in_ok-is_new.ensures in
     let at = slice_get_read files _ i c.file-item.result refl c.loop-file-test.true c.file-item.is in
-    let found = repeats_if_there text_of files i c.file-item.result c.loop-file.seen.keys c.insert.new.self.keys at c.loop-file.invariant.same c.loop-file.invariant.differ h.keys (sym c.if-not-is_new.true ∙ h.added) in
+    let found = repeats_if_there text_of files i c.file-item.result c.loop-file.seen.set.keys c.insert.new.self.keys at c.loop-file.invariant.same c.loop-file.invariant.differ h.keys (sym c.if-not-is_new.true ∙ h.added) in
     let repeated : RepeatsFirst (made_files g) found.0 i = subst (λ xs. RepeatsFirst xs found.0 i) are found.1 in
     let here : slice_get (made_files g) i ≡ Some c.in_ok-path.path = ap (λ xs. slice_get xs i) (sym are) ∙ to_map text_of files i c.file-item.result at ∙ ap (λ x. Some x) (sym c.in_ok-path.ensures) in
     (i, first_of_repetition (made_files g) found.0 i c.in_ok-path.path repeated here)

@@ -9,15 +9,15 @@ use Rattle.build_effect.proofs.makers.Makers.of.Goals as goal
 
 pub loop-file-preserved : goal.loop-file-preserved
 loop-file-preserved c =
-    added_next c.loop-file.yielded c.in-Some.file c.loop-edge_index.edge_index (maker_in c.loop-edge_index.table) c.loop-file.table c.insert.new.self c.loop-file.invariant c.in_ok-insert.ensures.updates
+    added_next c.loop-file.yielded c.in-Some.file c.loop-edge_index.edge_index (maker_in c.loop-edge_index.makers.table) c.loop-file.makers.table c.insert.new.self c.loop-file.invariant c.in_ok-insert.ensures.updates
 
 pub loop-edge_index-preserved : goal.loop-edge_index-preserved
 loop-edge_index-preserved c =
     let edges = c.args.edges.now in
     let i = c.loop-edge_index.edge_index in
     let edge : EdgeValue = c.index-edges-edge_index.result in
-    let before = maker_in c.loop-edge_index.table in
-    let after = maker_in c.loop-file.table in
+    let before = maker_in c.loop-edge_index.makers.table in
+    let after = maker_in c.loop-file.makers.table in
     let outputs = c.iter.ensures.rest ∙ c.deref.ensures.value ∙ ap (λ (e : EdgeValue). e.outputs) c.edge.view_is in
     let implicit_outputs = c.iter-in-loop-edge_index.ensures.rest ∙ c.deref-in-loop-edge_index.ensures.value ∙ ap (λ (e : EdgeValue). e.implicit_outputs) c.edge.view_is in
     let all = YieldsList-end (YieldsList-at c.into_iter-file-iterator.ensures.into_iter_gives (YieldsList-from_chain
