@@ -30,6 +30,10 @@ same_edge a b c d e f g h = rw (a, b, c, d, e, f, g, h) refl
 abbrev changed : EdgeValue → List (List ℕ) → List (List ℕ) → Bool → EdgeValue
 changed e outputs inputs restat = record e { implicit_outputs = outputs; implicit_inputs = inputs; restat = restat }
 
+-- given, since a search for it takes long
+pub bounds-additions-statement_index : goal.bounds-additions-statement_index
+bounds-additions-statement_index c = c.requires.within c.loop-edge_index.edge_index c.in-Some.statement_index c.in-Some.is
+
 pub loop-edge_index-preserved : goal.loop-edge_index-preserved
 loop-edge_index-preserved c =
     let g = c.args.edges.now in

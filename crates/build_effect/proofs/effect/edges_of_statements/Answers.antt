@@ -3,9 +3,13 @@ use Rattle.std.proofs.lemmas.Option.{slice_get_read}
 use Rattle.dyndep_file.specs.StatementValue.{StatementValue}
 use Rattle.build_effect.specs.inner.Makers.{maker_in}
 use Rattle.build_effect.specs.inner.StatementEdges.{AreEdgesOf, IsUnboundOutput}
-use Rattle.build_effect.proofs.StatementChecks.{bound_maker, unbound_maker, no_maker, more_edges, first_unbound}
+use Rattle.build_effect.proofs.StatementChecks.{maker_within, bound_maker, unbound_maker, no_maker, more_edges, first_unbound}
 use Rattle.build_effect.proofs.effect.edges_of_statements.Goals as goal
 use Rattle.build_effect.proofs.effect.edges_of_statements.Goals.{in_default-via-in-Some+else-names, in_default-via-in_default}
+
+-- given, since a search for it takes long
+pub bounds-edges-edge : goal.bounds-edges-edge
+bounds-edges-edge c = maker_within c.args.edges.now (maker_in c.args.makers.now.table) c.addition.inside.output c.requires.makers c.in-Some.edge (sym c.in-Some.ensures)
 
 pub returns-in_default-clause-fault : goal.returns-in_default-clause-fault
 returns-in_default-clause-fault c =
