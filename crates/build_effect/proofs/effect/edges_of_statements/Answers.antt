@@ -1,4 +1,5 @@
 use Rattle.std.proofs.Common.{◌≡◌, ◌+◌, ◌∙◌, take, refl, ap, sym, subst}
+use Rattle.std.proofs.lemmas.List.{take_all}
 use Rattle.std.proofs.lemmas.Option.{slice_get_read}
 use Rattle.dyndep_file.specs.StatementValue.{StatementValue}
 use Rattle.build_effect.specs.inner.Makers.{maker_in}
@@ -6,6 +7,9 @@ use Rattle.build_effect.specs.inner.StatementEdges.{AreEdgesOf, IsUnboundOutput}
 use Rattle.build_effect.proofs.StatementChecks.{maker_within, bound_maker, unbound_maker, no_maker, more_edges, first_unbound}
 use Rattle.build_effect.proofs.effect.edges_of_statements.Goals as goal
 use Rattle.build_effect.proofs.effect.edges_of_statements.Goals.{in_default-via-in-Some+else-names, in_default-via-in_default}
+
+pub loop-addition-init : goal.loop-addition-init
+loop-addition-init c = rw c.in_ok-edge_of.ensures.items (record { count = refl; each = λ k a i at here. cc })
 
 -- given, since a search for it takes long
 pub bounds-edges-edge : goal.bounds-edges-edge
@@ -38,3 +42,6 @@ loop-addition-preserved c =
     (more_edges g c.args.name.now c.args.additions.now c.loop-addition.edge_of.items i a c.in-Some.edge
     (slice_get_read c.args.additions.now _ i a refl c.loop-addition-test.true c.addition-item.is) c.loop-addition.invariant
     (bound_maker g maker a.output c.requires.makers c.args.name.now c.in-Some.edge c.index-edges-edge.result (ap maker (sym same) ∙ sym c.in-Some.ensures) c.index-edges-edge.is c.if-names.ensures))
+
+pub returns-clause-edges : goal.returns-clause-edges
+returns-clause-edges c = subst (λ xs. AreEdgesOf c.args.edges.now c.args.name.now xs c.loop-addition.edge_of.items) (take_all c.loop-addition.addition-index c.args.additions.now c.loop-addition-test.false) c.loop-addition.invariant
