@@ -5,3 +5,7 @@ use Rattle.scan_docs.proofs.target_document.read_outputs.Goals as goal
 pub returns-in_default : goal.returns-in_default
 unfolding file_checks
 returns-in_default c = search rules
+
+pub returns : goal.returns
+unfolding file_checks
+returns c = search rules
