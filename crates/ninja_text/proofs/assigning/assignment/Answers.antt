@@ -1,4 +1,5 @@
 use Rattle.std.proofs.Common.{◌-◌, length, take, drop, subst, sym, arith}
+use Rattle.std.proofs.lemmas.Grind.{common_steps}
 use Rattle.std.specs.Prelude.{slice_range}
 use Rattle.ninja_text.specs.Assignments.{LiesIn}
 use Rattle.ninja_text.proofs.Spans.{lies_in}
@@ -15,3 +16,6 @@ returns-clause-slices c =
     subst (λ whole. LiesIn whole (record { name_start = start; name = slice_range text start end; raw_value = take (length text - value) (drop value text) }))
     c.text-text.ensures
     (subst (λ bytes. LiesIn text (record { name_start = start; name = slice_range text start end; raw_value = bytes })) (sym (to_the_end value text)) parts)
+
+pub returns-clause-found : goal.returns-clause-found
+returns-clause-found c = grind (arith, common_steps)
