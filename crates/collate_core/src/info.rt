@@ -15,13 +15,14 @@ use std::alloc::{AllocError, Global};
 use table_keys::{KeyDigest, TableKey};
 
 /// Returns the info file that this text is read as. It is made from the table, so the text is not
-/// parsed. Returns `None` if the text is longer than a document may be.
+/// parsed. Returns `None` if it is not to be read, or if the text is longer than a document may be.
 pub(crate) fn info_again(
     alloc: Global,
     name: &TargetName,
     kept: &[Name],
     table: &Table,
     text: &[u8],
+    is_read: bool,
 ) -> Result<Option<Info>, AllocError>
     requires table { IsTableText table.now }
     requires text { ReadsBack (info_of_table name.now kept.now table.now) text.now }
@@ -29,6 +30,9 @@ pub(crate) fn info_again(
 {
     added_files();
     value_of_bytes();
+    if !is_read {
+        return Ok(None);
+    }
     if text.len() > DOCUMENT_LIMIT {
         return Ok(None);
     }
@@ -77,14 +81,19 @@ fn set_of(alloc: Global, names: &[Name]) -> Result<IndexSet<Name, TableKey>, All
 {
     let mut digest = KeyDigest::new();
     for entry in names {
-        digest.update(entry.bytes());
-        digest.update(b"\n".as_slice());
+        add_line(&mut digest, entry.bytes());
     }
     let mut set = IndexSet::with_hasher(alloc, digest.key());
     for name in names {
         set.insert(name.copy(alloc)?)?;
     }
     Ok(set)
+}
+
+/// Adds an entry of a table and a line end, which no entry has.
+pub(crate) fn add_line(digest: &mut KeyDigest, entry: &[u8]) {
+    digest.update(entry);
+    digest.update(b"\n".as_slice());
 }
 
 /// Appends the modules that an object provides. The object requires these modules.

@@ -23,10 +23,11 @@ use scan_docs::{Info, info_read};
 use std::alloc::{AllocError, Global};
 
 /// Collates a target with the info files of the targets that it links, all of which have to be
-/// earlier. Also returns its own info file as it is read, if that is known.
+/// earlier. Also returns its own info file as it is read, if it `is_read` later and it is known.
 pub(crate) fn collate_linked<M: MapStyle>(
     alloc: Global,
     target: &ProjectTarget<'_>,
+    is_read: bool,
     outs: &[Collated],
     pool: &Pool,
     style: Option<&M>,
@@ -54,7 +55,7 @@ pub(crate) fn collate_linked<M: MapStyle>(
         infos: &infos,
         kept: target.kept,
     };
-    if let Some(found) = collate_by_part(alloc, &with_infos, target.linked, pool, style)? {
+    if let Some(found) = collate_by_part(alloc, &with_infos, target.linked, is_read, pool, style)? {
         return Ok(found);
     }
     let out = collate_or_refused(alloc, &with_infos, style)?;
@@ -85,6 +86,7 @@ fn collate_by_part<M: MapStyle>(
     alloc: Global,
     target: &Target<'_>,
     linked: &[usize],
+    is_read: bool,
     pool: &Pool,
     style: Option<&M>,
 ) -> Result<Option<(Collated, Option<Info>)>, AllocError>
@@ -102,13 +104,14 @@ fn collate_by_part<M: MapStyle>(
     let Some(table) = unless_faulty(built)? else {
         return Ok(None);
     };
-    part_collated(alloc, target, &table, style)
+    part_collated(alloc, target, is_read, &table, style)
 }
 
 /// Collates a target by the table of a part that is enough.
 fn part_collated<M: MapStyle>(
     alloc: Global,
     target: &Target<'_>,
+    is_read: bool,
     table: &Table,
     style: Option<&M>,
 ) -> Result<Option<(Collated, Option<Info>)>, AllocError>
@@ -124,6 +127,6 @@ fn part_collated<M: MapStyle>(
     let Some(out) = unless_faulty(written_of(alloc, target, table, style))? else {
         return Ok(None);
     };
-    let info = info_again(alloc, target.name, target.kept, table, out.info())?;
+    let info = info_again(alloc, target.name, target.kept, table, out.info(), is_read)?;
     Ok(Some((out, info)))
 }

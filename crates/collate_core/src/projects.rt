@@ -9,13 +9,14 @@ ghost use Rattle.collate_core.specs.ProjectNeeds.{MapsReadBack};
 
 use crate::collated::Collated;
 use crate::fault::{Refusal, RefusedTarget};
+use crate::info::add_line;
 use crate::laws::{project_maps, project_orders};
 use crate::linking::collate_linked;
 use module_maps::MapStyle;
 use module_table::Pool;
 use ninja_text::Failure;
 use scan_docs::{Name, Setting, TargetName};
-use std::alloc::Global;
+use std::alloc::{AllocError, Global};
 use std::marker::Model;
 use table_keys::{KeyDigest, TableKey};
 
@@ -120,10 +121,12 @@ pub fn project_or_refused<M: MapStyle>(
 {
     project_orders();
     project_maps();
+    let linked = linked_targets(alloc, targets)?;
     let mut outs = Vec::new(alloc);
     let mut pool = Pool::new(alloc, project_key(targets));
     for (index, target) in targets.iter().enumerate() {
-        match collate_linked(alloc, target, outs.as_slice(), &pool, style) {
+        let is_read = linked.get(index) == Some(&true);
+        match collate_linked(alloc, target, is_read, outs.as_slice(), &pool, style) {
             Ok((out, info)) => {
                 pool = pool.push(alloc, info)?;
                 outs.push(out)?;
@@ -134,16 +137,27 @@ pub fn project_or_refused<M: MapStyle>(
     Ok(ProjectOut { targets: outs })
 }
 
+/// Returns for each target whether another one links it.
+fn linked_targets(alloc: Global, targets: &[ProjectTarget<'_>]) -> Result<Vec<bool>, AllocError> {
+    let mut is_linked = vec![in alloc; false; targets.len()]?;
+    for target in targets {
+        for index in target.linked {
+            if *index < is_linked.len() {
+                is_linked[*index] = true;
+            }
+        }
+    }
+    Ok(is_linked)
+}
+
 /// Returns the key of a table of the modules of these targets. It is made of all that their names and
 /// paths come from, so whoever chooses these cannot choose the key as well.
 fn project_key(targets: &[ProjectTarget<'_>]) -> TableKey {
     let mut digest = KeyDigest::new();
     for target in targets {
         let setting = target.setting;
-        for part in [&setting.module_dir, &setting.module_ext] {
-            digest.update(part.as_bytes());
-            digest.update(b"\n".as_slice());
-        }
+        add_line(&mut digest, setting.module_dir.as_bytes());
+        add_line(&mut digest, setting.module_ext.as_bytes());
         for scan in target.scans {
             digest.update(scan);
         }
