@@ -132,7 +132,9 @@ impl Pool {
             × AreLinked self.now linked.now infos × IsEnough objects.now part.items infos
             × (IsTrue keeps → KeepsRequired part.items infos))) }
     {
-        let Some(places) = places_of(alloc, linked, self.infos.len())? else {
+        // up to the last linked one, since a project may have many more
+        let count = linked.iter().max().map_or(0, |last| last.saturating_add(1));
+        let Some(places) = places_of(alloc, linked, count.min(self.infos.len()))? else {
             return Ok(None);
         };
         if !are_fit(linked, &places, &self.related) || !are_apart(&places, &self.listed, objects) {
