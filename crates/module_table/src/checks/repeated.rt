@@ -7,11 +7,11 @@ ghost use Rattle.ninja_text.specs.Failure.{ForFault};
 ghost use Rattle.module_table.specs.TableValue.{TableValue, table_with};
 ghost use Rattle.module_table.specs.Modules.{provisions};
 ghost use Rattle.ninja_text.specs.Firsts.{AllDiffer};
-ghost use Rattle.module_table.specs.inner.Views.{names_of, paths_of};
+ghost use Rattle.module_table.specs.inner.Views.{names_of, paths_of, provision_of};
 ghost use Rattle.module_table.specs.inner.Reported.{Reports};
 
 use crate::fault::{Maker, TableFault, failure_of};
-use crate::modules::{Modules, module_at, provided_modules};
+use crate::modules::{Module, Modules, module_at, provided_modules};
 use indexmap::IndexSet;
 use ninja_text::{Failure, Path};
 use scan_docs::{Info, Name, Rule};
@@ -84,8 +84,25 @@ pub(crate) fn check_names<'t>(
 {
     let provided = provided_modules(alloc, objects, infos)?;
     let mut names = IndexSet::with_hasher(alloc, key);
+    put_names(alloc, &provided, &mut names)?;
+    Ok(Modules::new(objects, infos, provided, names))
+}
+
+/// Puts the names of the modules into the empty set, by module. Apart from `check_names`, which
+/// would drop the set at each `?`: this saves the prover 14 seconds.
+fn put_names(
+    alloc: Global,
+    provided: &[Module],
+    names: &mut IndexSet<Name, TableKey>,
+) -> Result<(), Failure<Box<TableFault>>>
+    requires { IsEmpty names.old }
+    ensures names { OnOk result (names.new.keys ≡ names_of (map provision_of provided.now)) }
+    ensures differ { OnOk result (AllDiffer (names_of (map provision_of provided.now))) }
+    ensures fault { IfErr result (ForFault (λ fault. (t : TableValue) (kept : List Name) →
+        map provision_of provided.now ≡ provisions t → Reports 3 t kept fault.value)) }
+{
     names.reserve(provided.len())?;
-    for module in &provided {
+    for module in provided {
         let (first, is_new) = names.insert_full(module.name.copy(alloc)?)?;
         if !is_new {
             let name = module.name.copy(alloc)?;
@@ -97,7 +114,7 @@ pub(crate) fn check_names<'t>(
             return Err(failure_of(alloc, fault));
         }
     }
-    Ok(Modules::new(objects, infos, provided, names))
+    Ok(())
 }
 
 /// M4: no two provided modules have the same file, and no module's file is an object. No two

@@ -1,54 +1,15 @@
-use Rattle.std.proofs.Common.{◌≡◌, ◌∙◌, ◌<◌, ap, arith, length, sym, refl, map, List, ℕ, Some, slice_get}
-use Rattle.std.proofs.lemmas.Option.{slice_get_read}
-use Rattle.module_table.specs.inner.Views.{provision_of, names_of}
-use Rattle.module_table.specs.Modules.{Provision}
+use Rattle.std.proofs.Common.{◌≡◌, ◌∙◌, ap, map, List, ℕ}
+use Rattle.std.proofs.lemmas.Result.{err_from_is_err_and}
+use Rattle.module_table.specs.Modules.{provisions}
 use Rattle.module_table.specs.TableValue.{TableValue}
-use Rattle.module_table.specs.declared.modules.Module.{Module}
-use Rattle.module_table.specs.declared.fault.TableFault.TheVariants.{ProvidedTwice}
-use Rattle.module_table.proofs.Lists.{repeats_if_found, keys_if_new, differ_if_new, map_same}
-use Rattle.module_table.proofs.Found.{reports_provided_twice, for_boxed}
 use Rattle.module_table.specs.inner.Reported.{Reports}
+use Rattle.module_table.specs.inner.Views.{provision_of}
+use Rattle.module_table.proofs.Found.{for_fault}
 use Rattle.module_table.proofs.checks.repeated.check_names.Goals as goal
-use Rattle.ninja_text.proofs.ForCallers.{to_map}
 
-abbrev name_of : Provision → List ℕ
-name_of p = p.name
-
--- the name at the place, in the list of names
-name_at : (provided : List Module) (place : ℕ) (p : Module) → slice_get provided place ≡ Some p → (name : List ℕ) → name ≡ p.name.now → slice_get (names_of (map provision_of provided)) place ≡ Some name
-name_at provided place p at name same = to_map name_of (map provision_of provided) place (provision_of p) (to_map provision_of provided place p at) ∙ ap (λ n. Some n) (sym same)
-
-pub returns-then-not-is_new-clause-fault : goal.returns-then-not-is_new-clause-fault
-returns-then-not-is_new-clause-fault c =
+pub returns-in_err-put_names-clause-fault : goal.returns-in_err-put_names-clause-fault
+returns-in_err-put_names-clause-fault c =
     let t : TableValue = record { objects = c.args.objects.now; infos = c.args.infos.now } in
-    let provided = c.deref-module-items.result.now in
-    let list = map provision_of provided in
-    let i = c.loop-module.module-index in
-    let m = c.module-item.result in
-    let first = c.in_ok-first.first in
-    let there = slice_get_read provided _ i m refl c.loop-module-test.true c.module-item.is in
-    let at = name_at provided i m there c.in_ok-copy.field-0 c.in_ok-copy.ensures in
-    let before = map_same c.loop-module.names.keys ∙ c.loop-module.invariant.same in
-    let h = c.in_ok-first.ensures in
-    let stored = h.stored in
-    let repeated = repeats_if_found (λ n. n) (names_of list) i c.in_ok-copy.field-0 c.loop-module.names.keys c.insert_full.new.self.keys at before c.loop-module.invariant.differ h.keys first (sym c.if-not-is_new.true ∙ h.added) stored.0 stored.1 stored.2 in
-    let before_it = repeated.earlier in
-    let within : first < length c.in_ok-provided.provided.items = omega (arith, before_it, c.loop-module-test.true, ap length c.deref-module-items.ensures.value) in
-    let earlier = ap (λ xs. slice_get xs first) c.deref-module-items.ensures.value ∙ slice_get_read c.in_ok-provided.provided.items _ first c.index.result.now refl within c.index.ensures in
-    for_boxed (λ fault. (kept : List (List ℕ)) → Reports 3 t kept fault) _ _
-    (λ kept. reports_provided_twice t kept first i _ list (ap (map provision_of) c.deref-module-items.ensures.value ∙ c.in_ok-provided.ensures.provisions) repeated
-    (provision_of c.index.result.now, provision_of m, to_map provision_of provided first _ earlier, to_map provision_of provided i m there, ap (λ name. ProvidedTwice name c.index.result.now.maker m.maker) c.in_ok-name.ensures))
-    c.failure_of.ensures
-
-pub loop-module-preserved : goal.loop-module-preserved
-loop-module-preserved c =
-    let provided = c.deref-module-items.result.now in
-    let list = map provision_of provided in
-    let i = c.loop-module.module-index in
-    let at = name_at provided i c.module-item.result (slice_get_read provided _ i c.module-item.result refl c.loop-module-test.true c.module-item.is) c.in_ok-copy.field-0 c.in_ok-copy.ensures in
-    let before = map_same c.loop-module.names.keys ∙ c.loop-module.invariant.same in
-    let h = c.in_ok-first.ensures in
-    record {
-      same = sym (map_same c.insert_full.new.self.keys) ∙ keys_if_new (λ n. n) (names_of list) i c.in_ok-copy.field-0 c.loop-module.names.keys c.insert_full.new.self.keys at before c.loop-module.invariant.differ h.keys (sym c.if-not-is_new.false ∙ h.added);
-      differ = differ_if_new (λ n. n) (names_of list) i c.in_ok-copy.field-0 c.loop-module.names.keys c.insert_full.new.self.keys at before c.loop-module.invariant.differ h.keys (sym c.if-not-is_new.false ∙ h.added);
-    }
+    let p = err_from_is_err_and c.from_residual-in_err-put_names.result c.from_residual-in_err-put_names.ensures.1 in
+    rw (p.1, p.2) (for_fault (λ fault. (t : TableValue) (kept : List (List ℕ)) → map provision_of c.deref.result.now ≡ provisions t → Reports 3 t kept fault.value) (λ fault. (kept : List (List ℕ)) → Reports 3 t kept fault.value) _
+    (λ fault is kept. is t kept (ap (map provision_of) c.deref.ensures.value ∙ c.in_ok-provided.ensures.provisions)) c.in_err-put_names.ensures.fault)

@@ -1,7 +1,0 @@
-use Rattle.std.proofs.Common.{◌≡◌, map, take}
-use Rattle.ninja_text.specs.Firsts.{AllDiffer}
-use Rattle.module_table.specs.inner.Views.{provision_of, names_of}
-use Rattle.module_table.proofs.checks.repeated.check_names.Given as goal
-
-abbrev pub invariant-loop-module : goal.invariant-loop-module
-invariant-loop-module l = record { same : l.names.keys ≡ take l.module-index (names_of (map provision_of l.module-items)); differ : AllDiffer (take l.module-index (names_of (map provision_of l.module-items))) }
