@@ -6,8 +6,9 @@ use Rattle.commands.specs.Folder.{FileCall, Adds, MakesCalls, reading, up_to}
 use Rattle.std.specs.Prelude.{slice_get, String, Vec, IfOk, IfErr, IsErr, IsErrAnd, MatchResult}
 use Rattle.std.specs.Global.{Global}
 use Rattle.std.specs.declared.alloc.AllocError.{AllocError}
-use Rattle.std.proofs.lemmas.List.{map_push, take_all, take_more}
+use Rattle.std.proofs.lemmas.List.{map_push, take_all}
 use Rattle.std.proofs.lemmas.Option.{slice_get_within, get_or_from_slice_get, slice_get-get_or}
+use Rattle.ninja_text.proofs.ForCallers.{take_next}
 use Rattle.ninja_text.specs.Bytes.{Bytes, Text}
 use Rattle.ninja_text.specs.Failure.{ForFault, Gives}
 use Rattle.ninja_text.specs.declared.failure.Failure.{Failure}
@@ -64,9 +65,6 @@ of_all f xs i now past so_far = so_far ∙ ap f (take_all i xs past)
 
 pub at_index : {X : Type 0} (xs : List X) (i : ℕ) (x : X) → i < length xs → x ≡ get_or xs i x → slice_get xs i ≡ Some x
 at_index xs i x within is = slice_get-get_or xs i x within ∙ ap Some (sym is)
-
-pub take_next : {X : Type 0} (xs : List X) (k : ℕ) (x : X) → slice_get xs k ≡ Some x → take (k + 1) xs ≡ take k xs ++ x ∷ []
-take_next xs k x here = take_more xs k x (slice_get_within xs k x here) ∙ ap (λ z. take k xs ++ z ∷ []) (get_or_from_slice_get xs k x x here)
 
 pub drop_next : {X : Type 0} (xs : List X) (k : ℕ) (x : X) → slice_get xs k ≡ Some x → drop k xs ≡ x ∷ drop (k + 1) xs
 drop_next xs k x here =

@@ -1,5 +1,5 @@
 -- What the targets of a run collate to, and how a rejected one is reported.
-use Rattle.std.proofs.Common.{◌≡◌, ◌∙◌, ℕ, suc, List, [], ◌∷◌, ◌++◌, map, zip, Bool, Option, Result, Ok, Err, refl, ap, sym, subst, arith, zero, ◌<◌, ◌⊎◌, inl, inr, true, false, cond, length, Some, None, ap₂, bytes_eq, ◌+◌, ◌≤◌, take, get_or, append-nil}
+use Rattle.std.proofs.Common.{◌≡◌, ◌∙◌, ℕ, suc, List, [], ◌∷◌, ◌++◌, map, zip, Bool, Option, Result, Ok, Err, refl, ap, sym, subst, arith, zero, ◌<◌, inl, inr, true, false, cond, length, Some, None, ap₂, bytes_eq, ◌+◌, ◌≤◌, take, get_or, append-nil}
 use Rattle.std.specs.Prelude.{All, IsUtf8, Vec, OnOk, IfOk, IfErr, IsErrAnd, MatchResult, slice_get, option_map}
 use Rattle.std.specs.Global.{Global}
 use Rattle.std.specs.List.{AllZip}
@@ -28,7 +28,8 @@ use Rattle.commands.specs.RefusalTexts.{map_text, refusal_by_names, refusal_text
 use Rattle.commands.specs.TableFaults.{fault_text}
 use Rattle.commands.specs.Targets.{TargetOf}
 use Rattle.commands.specs.inner.Refusals.{refusal_line, refused_line}
-use Rattle.commands.proofs.Outcomes.{fault_reported, in_words, take_next}
+use Rattle.ninja_text.proofs.ForCallers.{element_at, from_map, from_push, take_next}
+use Rattle.commands.proofs.Outcomes.{fault_reported, in_words}
 use Rattle.std.proofs.lemmas.Option.{slice_get_within, slice_get-get_or, slice_get-map}
 use Rattle.commands.specs.ProjectCommand.{ReadTargetValue, index_or_head, last_with, LinksTo, At, IsTargetOutcome, IsTargetStop, project_target, names_at, all_files}
 use Rattle.commands.specs.inner.ProjectTargets.{LinkEarlier, IsReportable}
@@ -191,16 +192,10 @@ links_within ts (i ∷ is) (k ∷ ks) e =
     let tail : map (last_with ts) is ≡ map Some ks = cc in
     All-cons (λ k. k < length ts) k ks (last_with_within ts i k head) (links_within ts is ks tail)
 
-in_push : {X : Type 0} (xs : List X) (x : X) (k : ℕ) (y : X) → slice_get (xs ++ x ∷ []) k ≡ Some y → (slice_get xs k ≡ Some y) ⊎ ((k ≡ length xs) × (x ≡ y))
-in_push [] x zero y e = inr (refl, some_same e)
-in_push [] x (suc k) y e = cc
-in_push (z ∷ zs) x zero y e = inl e
-in_push (z ∷ zs) x (suc k) y e = elim (in_push zs x k y e) [ inl h ↦ inl h | inr h ↦ inr (ap suc h.0, h.1) ]
-
 -- one target more, which links earlier ones
 pub links_push : (targets : List ReadTargetValue) (target : ReadTargetValue) → LinkEarlier targets →
     All (λ k. k < length targets) target.linked → LinkEarlier (targets ++ target ∷ [])
-links_push targets target before own = λ index t e. elim (in_push targets target index t e) [
+links_push targets target before own = λ index t e. elim (from_push targets target index t e) [
   | inl h ↦ before index t h
   | inr h ↦
       subst (λ (t : ReadTargetValue). All (λ k. k < index) t.linked) h.1 (subst (λ n. All (λ k. k < n) target.linked) (sym h.0) own)
@@ -224,15 +219,10 @@ at_target_seen view index Holds (Err stop) (Err other) n e h is = (Err stop, h, 
 
 -- ---- the rejected target of a project
 
-in_map : {A B : Type 0} (f : A → B) (xs : List A) (n : ℕ) (y : B) → slice_get (map f xs) n ≡ Some y → (x : A) × (slice_get xs n ≡ Some x) × (f x ≡ y)
-in_map f [] n y e = cc
-in_map f (x ∷ xs) zero y e = (x, refl, some_same e)
-in_map f (x ∷ xs) (suc n) y e = in_map f xs n y e
-
 -- what is needed to report a rejection
 pub reported : (style : Option Written) (targets : List ReadTargetValue) (n : ℕ) (refusal : Refusal) → LinkEarlier targets → IsProjectRefusal style (map project_target targets) n refusal → IsReportable targets n
 reported style targets n refusal links h =
-    let found = in_map project_target targets n h.1 h.3 in
+    let found = from_map project_target targets n h.1 h.3 in
     let t = found.0 in
     let within : n < length targets = slice_get_within targets n t found.1 in
     (t, found.1, λ k d lt. let below : get_or t.linked k d < n = links n t found.1 k d lt in omega (arith, below, within))
@@ -241,7 +231,7 @@ reported style targets n refusal links h =
 pub line_is : (style : Option Written) (targets : List ReadTargetValue) (n : ℕ) (refusal : Refusal) (read : TableValue) (t : ReadTargetValue) (names : List (List ℕ)) → slice_get targets n ≡ Some t →
     WasReadAt style (map project_target targets) n refusal read → refusal_line read.objects names refusal ≡ refusal_by_names t.spec.setting t.scans names refusal
 line_is style targets n refusal read t names at h =
-    let found = in_map project_target targets n h.1 h.3 in
+    let found = from_map project_target targets n h.1 h.3 in
     let is_t : found.0 ≡ t = some_same (sym found.1 ∙ at) in
     let is_p : h.1 ≡ project_target t = sym found.2 ∙ ap project_target is_t in
     names_line (target_of h.0 (project_target t)) refusal read names (subst (λ (p : ProjectTargetValue). WasRead (target_of h.0 p) refusal read) is_p h.4)
@@ -256,11 +246,6 @@ names_next targets linked i t so_far name within here are is =
     ∙ ap (map name_of) (sym (take_more linked i 0 within))
 
 -- ---- the collated targets of a project
-
-element_at : {X : Type 0} (xs : List X) (k : ℕ) → k < length xs → (x : X) × (slice_get xs k ≡ Some x)
-element_at [] k within = absurd (omega (arith, within))
-element_at (x ∷ xs) zero within = (x, refl)
-element_at (x ∷ xs) (suc k) within = element_at xs k (omega (arith, within))
 
 pub objects_are_text : (style : Option Written) (targets : List ReadTargetValue) (outs : List CollatedValue) → CollatesProject style (map project_target targets) outs → All (λ (c : CollatedValue). All IsUtf8 c.objects) outs
 objects_are_text style targets outs project = λ k d within.

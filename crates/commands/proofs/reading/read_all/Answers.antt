@@ -9,7 +9,8 @@ use Rattle.std.proofs.lemmas.Option.{slice_get-map}
 use Rattle.commands.specs.Folder.{FileCall, Adds}
 use Rattle.commands.specs.Outcomes.{LineValue, Runs, ReadsDocument, ReadsAll, stops, seen}
 use Rattle.commands.specs.inner.Parts.{bytes_of, contents}
-use Rattle.commands.proofs.Outcomes.{WereRead, both_made, none_made, at_index, take_next, drop_next, document_call, reads_of, reads_next, all_read, read_until, read_no_more, passed}
+use Rattle.ninja_text.proofs.ForCallers.{take_next}
+use Rattle.commands.proofs.Outcomes.{WereRead, both_made, none_made, at_index, drop_next, document_call, reads_of, reads_next, all_read, read_until, read_no_more, passed}
 use Rattle.commands.proofs.reading.read_all.Goals as goal
 
 abbrev paths : List (String Global) → List Text

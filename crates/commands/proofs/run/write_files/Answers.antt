@@ -9,7 +9,8 @@ use Rattle.commands.specs.Files.{StopsAt, WritesFile, WritesAll, compared, all_w
 use Rattle.commands.specs.Folder.{FileCall, Adds, MakesCalls, comparing, writing}
 use Rattle.commands.specs.Outcomes.{FileValue, OutputValue}
 use Rattle.commands.specs.declared.stop.OutputFile.{OutputFile}
-use Rattle.commands.proofs.Outcomes.{both_made, none_made, continued, done_of, error_of, calls_weaker, at_index, take_next, drop_next}
+use Rattle.ninja_text.proofs.ForCallers.{take_next}
+use Rattle.commands.proofs.Outcomes.{both_made, none_made, continued, done_of, error_of, calls_weaker, at_index, drop_next}
 use Rattle.commands.proofs.run.write_files.Goals.{else-file-via-then-file+else-has, else-file-via-else-file}
 use Rattle.commands.proofs.run.write_files.Goals as goal
 
