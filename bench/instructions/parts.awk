@@ -7,7 +7,7 @@ function part(name, library) {
     if (name ~ /memset/) return "set"
     if (name ~ /mem(cpy|move|cmp)|^bcmp/) return "copies"
     if (library ~ /libc|libpthread/) return "files"
-    if (name ~ /system_files|::fs::|std_io|io::|rattle_(open|read|write|close|rename|file|fs)/) return "files"
+    if (name ~ /system_files|SystemFiles|::fs::|std_io|io::|rattle_(open|read|write|close|rename|file|fs)/) return "files"
     if (name ~ /^(serde_json|serde|json|simdutf8|itoa|ryu|fast_float|arrayvec)::|serde_json\+\+/) return "JSON"
     if (name ~ /^clap|^command_line|^strsim/) return "arguments"
     if (name ~ /^ninja_text::(paths|reduction)|Path\+|scan_docs::(name|target_name)/) return "paths, names"

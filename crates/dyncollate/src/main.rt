@@ -7,16 +7,17 @@
 //!
 //! What it does between the system calls is, with its promises, in the library `commands`. `main`
 //! gets the arguments, passes the files of the system as a `Folder` and its two outputs as writers
-//! whose calls are counted, and ends with the status.
+//! whose calls are counted, and ends with the status. How a file is read and written is in the
+//! library `system_files`.
 #![tactic(auto)]
 
-mod system_files;
-
-use crate::system_files::SystemFiles;
-use commands::program_run;
+use commands::{Folder, PieceReader, program_run};
 use ninja_text::Counted;
+use std::fs::File;
+use std::io::{ErrorKind, Read};
 use std::process::ExitCode;
-use std::rt::Env;
+use std::random::RandomSource;
+use std::rt::{Env, Files};
 use std::{env, io};
 
 fn main(rt: HostRuntime) -> ExitCode {
@@ -32,4 +33,47 @@ fn main(rt: HostRuntime) -> ExitCode {
 fn arguments_of<R: Env + AllocGlobal>(rt: &R) -> io::Result<Vec<String>> {
     let arguments = env::args(rt)?.collect(rt.alloc())?;
     Ok(arguments)
+}
+
+/// The files of the system.
+#[derive(Drop)]
+struct SystemFiles<'a, R> {
+    rt: &'a R,
+}
+
+impl<R: Files + RandomSource + AllocGlobal> Folder for SystemFiles<'_, R> {
+    ghost use Rattle.std.specs.Prelude.{None};
+
+    ghost calls = { λ _. None };
+
+    fn read(&mut self, name: &str, most: usize) -> io::Result<Vec<u8>> {
+        system_files::read(self.rt, name, most)
+    }
+
+    /// Stops at the first piece that the reader rejects.
+    fn feed<P: PieceReader>(&mut self, name: &str, reader: &mut P) -> io::Result<()> {
+        let mut file = File::open(self.rt, name)?;
+        let mut piece = [0; 65536];
+        for _ in 0..u64::MAX {
+            match file.read(&mut piece) {
+                Ok(0) => return Ok(()),
+                Ok(count) => {
+                    if !reader.read_piece(&piece[..count]) {
+                        return Ok(());
+                    }
+                }
+                Err(error) if error.kind() == ErrorKind::Interrupted => {}
+                Err(error) => return Err(error),
+            }
+        }
+        Err(ErrorKind::FileTooLarge.into())
+    }
+
+    fn has(&mut self, name: &str, bytes: &[u8]) -> bool {
+        system_files::has_bytes(self.rt, name, bytes).unwrap_or(false)
+    }
+
+    fn write(&mut self, name: &str, bytes: &[u8]) -> io::Result<()> {
+        system_files::write(self.rt, name, bytes)
+    }
 }

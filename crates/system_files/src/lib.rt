@@ -1,75 +1,36 @@
-//! The system's files, as a `Folder`.
+//! The system's files, by name: how one is read, compared with bytes, and written.
 //!
-//! A file is read no further than it has to be: a document up to the bytes that were asked for, and
-//! a file of lines up to the first piece that its reader rejects.
+//! A file is read no further than it has to be: up to the bytes that were asked for, or up to the
+//! first that differ.
 //!
 //! A file is replaced whole: its bytes go to a new file next to it, which is then renamed. Whoever
 //! opens the name meanwhile, or after a run that was killed, finds the bytes from before or the new
 //! ones. If no new file can take its place, as for a device, a pipe, or a file in a directory that
 //! may not be written, it is written in place.
+//!
+//! No contract says what is on a disk: every function is safe and returns, and tests show what it
+//! does.
+#![tactic(auto)]
 
-use commands::{Folder, PieceReader};
 use std::fs::{File, OpenFile, Permissions};
 use std::io::{ErrorKind, Read, Write};
 use std::random::RandomSource;
 use std::rt::Files;
 use std::{fs, io};
 
-/// The files of the system.
-#[derive(Drop)]
-pub(crate) struct SystemFiles<'a, R> {
-    pub(crate) rt: &'a R,
+/// Returns the bytes of the file of this name, or the first `most` of them if there are more. An
+/// error is that of the system, or that memory ran out.
+pub fn read<R: Files + AllocGlobal>(rt: &R, name: &str, most: usize) -> io::Result<Vec<u8>> {
+    let mut bytes = Vec::new(rt.alloc());
+    let mut file = File::open(rt, name)?.take(most as u64);
+    file.read_to_end(&mut bytes)?;
+    Ok(bytes)
 }
 
-impl<R: Files + RandomSource + AllocGlobal> Folder for SystemFiles<'_, R> {
-    ghost use Rattle.std.specs.Prelude.{None};
-
-    ghost calls = { λ _. None };
-
-    fn read(&mut self, name: &str, most: usize) -> io::Result<Vec<u8>> {
-        let mut bytes = Vec::new(self.rt.alloc());
-        let mut file = File::open(self.rt, name)?.take(most as u64);
-        file.read_to_end(&mut bytes)?;
-        Ok(bytes)
-    }
-
-    fn feed<P: PieceReader>(&mut self, name: &str, reader: &mut P) -> io::Result<()> {
-        let mut file = File::open(self.rt, name)?;
-        let mut piece = [0; 65536];
-        for _ in 0..u64::MAX {
-            match file.read(&mut piece) {
-                Ok(0) => return Ok(()),
-                Ok(count) => {
-                    if !reader.read_piece(&piece[..count]) {
-                        return Ok(());
-                    }
-                }
-                Err(error) if error.kind() == ErrorKind::Interrupted => {}
-                Err(error) => return Err(error),
-            }
-        }
-        Err(ErrorKind::FileTooLarge.into())
-    }
-
-    fn has(&mut self, name: &str, bytes: &[u8]) -> bool {
-        has_bytes(self.rt, name, bytes).unwrap_or(false)
-    }
-
-    fn write(&mut self, name: &str, bytes: &[u8]) -> io::Result<()> {
-        match fs::symlink_metadata(self.rt, name) {
-            Ok(old) if old.is_symlink() => write_behind_link(self.rt, name, bytes),
-            Ok(old) if old.is_file() => write_whole(self.rt, name, Some(old.permissions()), bytes),
-            Err(error) if error.kind() == ErrorKind::NotFound => {
-                write_whole(self.rt, name, None, bytes)
-            }
-            _ => fs::write(self.rt, name, bytes),
-        }
-    }
-}
-
-/// Returns whether a file has exactly these bytes. It is read in pieces, up to the first that
-/// differs. A pipe or a device is not opened: its reader would wait for a writer.
-fn has_bytes<R: Files>(rt: &R, name: &str, bytes: &[u8]) -> io::Result<bool> {
+/// Returns whether the file of this name has exactly these bytes. It is read in pieces, up to the
+/// first that differs. A pipe or a device is not opened: its reader would wait for a writer. A file
+/// that can't be read is an error, and so is one that ends before it differs.
+pub fn has_bytes<R: Files>(rt: &R, name: &str, bytes: &[u8]) -> io::Result<bool> {
     if !fs::metadata(rt, name)?.is_file() {
         return Ok(false);
     }
@@ -85,6 +46,22 @@ fn has_bytes<R: Files>(rt: &R, name: &str, bytes: &[u8]) -> io::Result<bool> {
         rest = after;
     }
     Ok(file.read(&mut found[..1])? == 0)
+}
+
+/// Makes these the bytes of the file of this name. A file that is replaced keeps its permissions. If
+/// the name is a link, the file that it leads to is written. After an error the file has its old
+/// bytes, or, if it was written in place, maybe only the first of the new ones.
+pub fn write<R: Files + RandomSource + AllocGlobal>(
+    rt: &R,
+    name: &str,
+    bytes: &[u8],
+) -> io::Result<()> {
+    match fs::symlink_metadata(rt, name) {
+        Ok(old) if old.is_symlink() => write_behind_link(rt, name, bytes),
+        Ok(old) if old.is_file() => write_whole(rt, name, Some(old.permissions()), bytes),
+        Err(error) if error.kind() == ErrorKind::NotFound => write_whole(rt, name, None, bytes),
+        _ => fs::write(rt, name, bytes),
+    }
 }
 
 /// Writes the file that a link leads to. The link stays.

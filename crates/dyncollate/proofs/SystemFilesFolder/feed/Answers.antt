@@ -1,5 +1,5 @@
 use Rattle.std.proofs.Common.{None, true, false, refl, inl, inr}
-use Rattle.dyncollate.proofs.system_files.SystemFilesFolder.feed.Goals as goal
+use Rattle.dyncollate.proofs.SystemFilesFolder.feed.Goals as goal
 
 -- the file has ended
 pub returns-in-Ok-eq0 : goal.returns-in-Ok-eq0

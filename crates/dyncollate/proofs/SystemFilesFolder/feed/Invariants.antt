@@ -1,5 +1,5 @@
 use Rattle.std.proofs.Common.{ℕ, List, []}
-use Rattle.dyncollate.proofs.system_files.SystemFilesFolder.feed.Given as goal
+use Rattle.dyncollate.proofs.SystemFilesFolder.feed.Given as goal
 
 -- if the reader was new, it was given the bytes read so far, and has not failed
 abbrev pub invariant-loop : goal.invariant-loop
