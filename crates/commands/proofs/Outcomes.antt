@@ -6,7 +6,8 @@ use Rattle.commands.specs.Folder.{FileCall, Adds, MakesCalls, reading, up_to}
 use Rattle.std.specs.Prelude.{slice_get, String, Vec, IfOk, IfErr, IsErr, IsErrAnd, MatchResult}
 use Rattle.std.specs.Global.{Global}
 use Rattle.std.specs.declared.alloc.AllocError.{AllocError}
-use Rattle.std.proofs.lemmas.List.{map_push, take_all}
+use Rattle.std.specs.List.{flat_map}
+use Rattle.std.proofs.lemmas.List.{flat_map_more, map_push, take_all, take_more}
 use Rattle.std.proofs.lemmas.Option.{slice_get_within, get_or_from_slice_get, slice_get-get_or}
 use Rattle.ninja_text.proofs.ForCallers.{take_next}
 use Rattle.ninja_text.specs.Bytes.{Bytes, Text}
@@ -60,6 +61,13 @@ done_of (Err error) e = absurd (let no : false ≡ true = e in cc)
 -- what is made of the elements so far is that of all
 pub of_all : {X Y : Type 0} (f : List X → Y) (xs : List X) (i : ℕ) (now : Y) → length xs ≤ i → now ≡ f (take i xs) → now ≡ f xs
 of_all f xs i now past so_far = so_far ∙ ap f (take_all i xs past)
+
+-- one element more of a text that is put together
+pub text_next : {X Y : Type 0} (f : X → List Y) (start : List Y) (xs : List X) (i : ℕ) (x : X) (now new : List Y) → i < length xs →
+    now ≡ start ++ flat_map f (take i xs) → new ≡ now ++ f (get_or xs i x) → new ≡ start ++ flat_map f (take (i + 1) xs)
+text_next f start xs i x now new within so_far more =
+    more ∙ ap (λ text. text ++ f (get_or xs i x)) so_far ∙ flat_map_more f start (take i xs) (get_or xs i x)
+    ∙ ap (λ ys. start ++ flat_map f ys) (sym (take_more xs i x within))
 
 -- ---- elements by index
 

@@ -1,5 +1,5 @@
-use Rattle.std.proofs.Common.{rules, ◌≡◌, List, [], ◌∷◌, ◌++◌, map, append_assoc, ap, ap₂, string_bytes, ◌∙◌}
-use Rattle.std.specs.Prelude.{OnOk, Result, Ok, Err, false}
+use Rattle.std.proofs.Common.{rules, ◌≡◌, List, [], ◌∷◌, ◌++◌, map, append_assoc, ap, ap₂, string_bytes, subst, sym, ◌∙◌}
+use Rattle.std.specs.Prelude.{All, IsUtf8, OnOk, Result, Ok, Err, false}
 use Rattle.std.specs.declared.alloc.AllocError.{AllocError}
 use Rattle.std.proofs.lemmas.Result.{IfOk-from_err}
 use Rattle.scan_docs.specs.Target.{TargetDocumentValue}
@@ -47,3 +47,7 @@ returns-in_err-add c = IfOk-from_err _ _ c.from_residual-in_err-add.ensures.0
 
 pub returns-in_err-from_str-2 : goal.returns-in_err-from_str-2
 returns-in_err-from_str-2 c = IfOk-from_err _ _ c.from_residual-in_err-from_str-2.ensures.0
+
+-- the objects are text
+pub append_maps-requires : goal.append_maps-requires
+append_maps-requires c = subst (All IsUtf8) (sym (c.deref.ensures.value ∙ c.into_parts-dyndep_text.ensures.objects)) c.requires

@@ -1,13 +1,15 @@
-use Rattle.std.proofs.Common.{rules, ◌≡◌, ◌∙◌, refl, ap, ap₂, subst, length, ℕ}
+use Rattle.std.proofs.Common.{rules, ◌≡◌, ◌∙◌, ◌++◌, ◌∷◌, [], List, append_assoc, get_or, map, refl, ap, ap₂, subst, sym, length, ℕ}
 use Rattle.std.specs.Prelude.{Vec}
 use Rattle.std.specs.Global.{Global}
 use Rattle.ninja_text.specs.Failure.{ForFault}
 use Rattle.dep_order.specs.Sortings.{IsSortingOf}
 use Rattle.build_effect.specs.Graphs.{EdgeNeeds}
-use Rattle.commands.specs.EdgeFaults.{cycle_text}
+use Rattle.ninja_text.specs.Bytes.{line_feed}
+use Rattle.commands.specs.Answers.{visible}
+use Rattle.commands.specs.EdgeFaults.{cycle_text, first_output}
 use Rattle.commands.specs.Order.{order_text, PrintsOrder}
 use Rattle.commands.specs.Outcomes.{refusal, printed}
-use Rattle.commands.proofs.Outcomes.{its_line, of_all, next, last, said}
+use Rattle.commands.proofs.Outcomes.{its_line, of_all, next, last, said, text_next}
 use Rattle.commands.proofs.edges.order_read.Goals as goal
 
 pub returns-in_err-graph : goal.returns-in_err-graph
@@ -36,3 +38,13 @@ returns c =
     let same = ap₂ cycle_text c.edges-in-Cycle.ensures.edges c.deref.ensures.value in
     next c.graph_of.ensures c.in_ok-graph.was (said (PrintsOrder graph) _ (λ (cycle : Vec ℕ Global). cycle_text graph cycle.items) c.in-Cycle.cycle c.stopped.result sorting
     (subst (λ t. ForFault (λ l. l ≡ refusal t) c.stopped.result) same stop))
+
+-- one edge more
+pub loop-edge_index-preserved : goal.loop-edge_index-preserved
+loop-edge_index-preserved c =
+    let text = c.loop-edge_index.text.items in
+    let name_of : ℕ → List ℕ = first_output c.graph.inside.edges.items in
+    let index : ℕ = get_or c.deref-edge_index-items.result.now c.loop-edge_index.edge_index-index 0 in
+    let name = c.first_output.ensures ∙ ap (λ edges. first_output edges index) (c.edges.ensures.edges ∙ sym c.graph.view_is) in
+    text_next (λ k. map visible (name_of k) ++ line_feed ∷ []) [] _ c.loop-edge_index.edge_index-index 0 text _ c.loop-edge_index-test.true c.loop-edge_index.invariant
+    (c.in_ok-push_line-in-Order.ensures ∙ ap (λ n. text ++ map visible n ++ line_feed ∷ []) name ∙ append_assoc text (map visible (name_of index)) (line_feed ∷ []))

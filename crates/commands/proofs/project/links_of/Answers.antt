@@ -1,10 +1,11 @@
-use Rattle.std.proofs.Common.{rules, ◌≡◌, ℕ, ◌+◌, ◌<◌, List, [], ◌∷◌, ◌++◌, length, take, get_or, map, string_bytes, Option, Some, ap, ap₂, sym, ◌∙◌}
+use Rattle.std.proofs.Common.{rules, ◌≡◌, ℕ, ◌+◌, ◌<◌, List, [], ◌∷◌, ◌++◌, length, take, get_or, map, string_bytes, Option, Some, None, codes, refl, ap, ap₂, subst, sym, ◌∙◌}
 use Rattle.std.specs.Prelude.{String}
 use Rattle.std.specs.Global.{Global}
-use Rattle.std.proofs.lemmas.List.{map_push}
-use Rattle.commands.specs.ProjectCommand.{ReadTargetValue, last_with, LinksTo}
+use Rattle.std.proofs.lemmas.List.{map_push, take_all}
+use Rattle.ninja_text.proofs.ForCallers.{to_map}
+use Rattle.commands.specs.ProjectCommand.{ReadTargetValue, last_with, LinksLater, LinksTo}
 use Rattle.commands.specs.inner.ProjectTargets.{writer_of}
-use Rattle.commands.proofs.Outcomes.{mapped_next}
+use Rattle.commands.proofs.Outcomes.{at_index, its_line, mapped_next, said}
 use Rattle.commands.proofs.project.links_of.Goals as goal
 
 -- the index of one info file more
@@ -28,3 +29,21 @@ loop-info-preserved c =
     links_next c.args.targets.now c.args.infos.now c.loop-info.info-index c.info-item.result c.loop-info.linked.items _ c.in-Some.index.now c.loop-info-test.true c.info-item.is
     (by_table c.targets.inside.list.items c.args.targets.now (writer_of c.targets.inside.writers) c.as_str.result.now (string_bytes c.info-item.result) (Some c.in-Some.index.now) c.targets.invariant.1 c.targets.view_is c.as_str.ensures.value found)
     c.in_ok-linked-2.ensures c.loop-info.invariant
+
+-- all info files
+pub returns : goal.returns
+returns c =
+    let all = take_all c.loop-info.info-index c.args.infos.now c.loop-info-test.false in
+    (refl, subst (λ infos. LinksTo c.args.targets.now (map string_bytes infos) c.loop-info.linked.items) all c.loop-info.invariant)
+
+-- one that no target has
+pub returns-in_default : goal.returns-in_default
+returns-in_default c =
+    let targets = c.args.targets.now in
+    let infos = map string_bytes c.args.infos.now in
+    let info = c.info-item.result in
+    let none : None ≡ writer_of c.targets.inside.writers c.as_str.result.now = search rules in
+    let found = by_table c.targets.inside.list.items targets (writer_of c.targets.inside.writers) c.as_str.result.now (string_bytes info) None c.targets.invariant.1 c.targets.view_is c.as_str.ensures.value none in
+    let here = to_map string_bytes c.args.infos.now c.loop-info.info-index info (at_index c.args.infos.now c.loop-info.info-index info c.loop-info-test.true c.info-item.is) in
+    said (LinksTo targets infos) (λ (fault : Unit {0}). LinksLater targets infos) (λ fault. codes "K3 LinkedLater") tt c.stopped.result
+    (c.loop-info.info-index, string_bytes info, here, found) (its_line 1 _ _ c.stopped.result c.from_slice.ensures.items c.stopped.ensures)

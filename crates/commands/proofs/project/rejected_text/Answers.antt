@@ -60,3 +60,9 @@ returns-in_err-names-2 c = IfOk-from_err _ _ c.from_residual-in_err-names-2.ensu
 
 pub returns-in_err-text : goal.returns-in_err-text
 returns-in_err-text c = IfOk-from_err _ _ c.from_residual-in_err-text.ensures.0
+
+-- a target that is linked is there
+pub bounds-targets-earlier : goal.bounds-targets-earlier
+bounds-targets-earlier c =
+    links_there c.args.targets.now c.args.index c.index-targets-index.result c.deref-earlier-items.result.now c.requires c.index-targets-index.is
+    (c.deref-earlier-items.ensures.value ∙ ap (λ (t : ReadTargetValue). t.linked) c.target.view_is) c.loop-earlier.earlier-index 0 c.loop-earlier-test.true
