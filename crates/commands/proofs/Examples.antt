@@ -1,6 +1,5 @@
 -- The definitions on examples whose results are known.
-use Rattle.std.proofs.Common.{◌≡◌, ℕ, List, [], ◌∷◌, Some, None, true, false, length, codes, refl}
-use Rattle.std.specs.Prelude.{Ok, Err}
+use Rattle.std.proofs.Common.{◌≡◌, ℕ, List, [], ◌∷◌, Some, None, true, false, length, codes, refl, Ok, Err}
 use Rattle.std.specs.declared.io.Error.{Error}
 use Rattle.scan_docs.specs.Target as document
 use Rattle.std.specs.IoError.{error_kind}

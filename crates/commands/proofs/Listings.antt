@@ -1,6 +1,5 @@
 -- What reading an edge list or a dyndep file leads to.
-use Rattle.std.proofs.Common.{◌≡◌, true, Some, Result, Ok, Err, ap, subst, sym, inl, inr}
-use Rattle.std.specs.Prelude.{IfOk, IsErr, IsErrAnd, Bool}
+use Rattle.std.proofs.Common.{◌≡◌, true, Some, Result, Ok, Err, ap, subst, sym, inl, inr, IfOk, IsErr, IsErrAnd, Bool}
 use Rattle.std.specs.Result.{is_ok}
 use Rattle.ninja_text.specs.Bytes.{Bytes}
 use Rattle.ninja_text.specs.Failure.{ForFault}

@@ -1,7 +1,5 @@
 -- What the targets of a run collate to, and how a rejected one is reported.
-use Rattle.std.proofs.Common.{◌≡◌, ◌∙◌, ℕ, suc, List, [], ◌∷◌, ◌++◌, map, zip, Bool, Option, Result, Ok, Err, refl, ap, sym, subst, arith, zero, ◌<◌, inl, inr, true, false, cond, length, Some, None, ap₂, bytes_eq, ◌+◌, ◌≤◌, take, get_or, append-nil}
-use Rattle.std.specs.Prelude.{All, IsUtf8, Vec, OnOk, IfOk, IfErr, IsErrAnd, MatchResult, slice_get, option_map}
-use Rattle.std.specs.Global.{Global}
+use Rattle.std.proofs.Common.{◌≡◌, ◌∙◌, ℕ, suc, List, [], ◌∷◌, ◌++◌, map, zip, Bool, Option, Result, Ok, Err, refl, ap, sym, subst, arith, zero, ◌<◌, inl, inr, true, false, cond, length, Some, None, ap₂, bytes_eq, ◌+◌, ◌≤◌, take, get_or, append-nil, All, IsUtf8, Vec, OnOk, IfOk, IfErr, IsErrAnd, MatchResult, slice_get, option_map, Global}
 use Rattle.std.specs.List.{AllZip}
 use Rattle.std.proofs.lemmas.List.{map-append, take_more, length-map, map_push}
 use Rattle.std.proofs.lemmas.List.Elements.{All-nil, All-cons, All-head, All-tail, All-append, All-map}

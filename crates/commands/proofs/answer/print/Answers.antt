@@ -1,6 +1,4 @@
-use Rattle.std.proofs.Common.{rules, ◌≡◌, ℕ, List, Option, Result, Ok, Err, inl, inr, subst, codes, refl}
-use Rattle.std.specs.Prelude.{MatchResult}
-use Rattle.std.specs.Borrow.{Bor}
+use Rattle.std.proofs.Common.{rules, ◌≡◌, ℕ, List, Option, Result, Ok, Err, inl, inr, subst, codes, refl, MatchResult, Bor}
 use Rattle.std.specs.declared.alloc.AllocError.{AllocError}
 use Rattle.ninja_text.specs.Counting.{IsWritten, IsCutShort}
 use Rattle.ninja_text.specs.declared.counting.Counted.{Counted}

@@ -1,5 +1,4 @@
-use Rattle.std.proofs.Common.{rules, ◌≡◌, List, [], ◌∷◌, ◌++◌, map, append_assoc, ap, ap₂, string_bytes, subst, sym, ◌∙◌}
-use Rattle.std.specs.Prelude.{All, IsUtf8, OnOk, Result, Ok, Err, false}
+use Rattle.std.proofs.Common.{rules, ◌≡◌, List, [], ◌∷◌, ◌++◌, map, append_assoc, ap, ap₂, string_bytes, subst, sym, ◌∙◌, All, IsUtf8, OnOk, Result, Ok, Err, false}
 use Rattle.std.specs.declared.alloc.AllocError.{AllocError}
 use Rattle.std.proofs.lemmas.Result.{IfOk-from_err}
 use Rattle.scan_docs.specs.Target.{TargetDocumentValue}

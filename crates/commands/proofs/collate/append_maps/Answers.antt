@@ -1,6 +1,4 @@
-use Rattle.std.proofs.Common.{rules, ◌≡◌, ℕ, List, ◌∷◌, [], ◌++◌, append_assoc, length, map, zip, ap, string_bytes, sym, subst, ◌∙◌, arith}
-use Rattle.std.specs.Prelude.{IsUtf8, Ok, Vec}
-use Rattle.std.specs.Global.{Global}
+use Rattle.std.proofs.Common.{rules, ◌≡◌, ℕ, List, ◌∷◌, [], ◌++◌, append_assoc, length, map, zip, ap, string_bytes, sym, subst, ◌∙◌, arith, IsUtf8, Ok, Vec, Global}
 use Rattle.std.specs.Vec.Iter.{into_iter_items, into_iter_len}
 use Rattle.std.specs.declared.alloc.AllocError.{AllocError}
 use Rattle.std.proofs.lemmas.Iterator.{YieldsList-from_slice, YieldsList-from_zip}

@@ -1,5 +1,4 @@
-use Rattle.std.proofs.Common.{rules, ◌≡◌, ◌∙◌, ℕ, List, [], ◌∷◌, IsTrue, codes, Option, Some, None, refl, ap, ap₂, subst, sym}
-use Rattle.std.specs.Prelude.{Ok, Err}
+use Rattle.std.proofs.Common.{rules, ◌≡◌, ◌∙◌, ℕ, List, [], ◌∷◌, IsTrue, codes, Option, Some, None, refl, ap, ap₂, subst, sym, Ok, Err}
 use Rattle.ninja_text.specs.declared.failure.Failure.TheVariants.{Memory}
 use Rattle.std.specs.Option.{SomeIff}
 use Rattle.scan_docs.specs.Name.{is_target_name}

@@ -1,7 +1,4 @@
-use Rattle.std.proofs.Common.{rules, ◌≡◌, ◌∙◌, ℕ, List, [], Option, Some, None, Result, Ok, map, ap, subst, sym}
-use Rattle.std.specs.Prelude.{IfOk, IfErr, IsErrAnd, MatchResult, Vec}
-use Rattle.std.specs.Borrow.{Bor}
-use Rattle.std.specs.Global.{Global}
+use Rattle.std.proofs.Common.{rules, ◌≡◌, ◌∙◌, ℕ, List, [], Option, Some, None, Result, Ok, map, ap, subst, sym, IfOk, IfErr, IsErrAnd, MatchResult, Vec, Global, Bor}
 use Rattle.ninja_text.specs.Failure.{ForFault}
 use Rattle.ninja_text.specs.declared.failure.Failure.{Failure}
 use Rattle.scan_docs.specs.Scan.{SettingValue}

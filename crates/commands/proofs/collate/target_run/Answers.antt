@@ -1,5 +1,4 @@
-use Rattle.std.proofs.Common.{rules, ◌≡◌, ◌∙◌, ℕ, List, [], ◌++◌, Option, map, string_bytes, refl, ap, subst, sym}
-use Rattle.std.specs.Prelude.{Ok, Err}
+use Rattle.std.proofs.Common.{rules, ◌≡◌, ◌∙◌, ℕ, List, [], ◌++◌, Option, map, string_bytes, refl, ap, subst, sym, Ok, Err}
 use Rattle.ninja_text.specs.Bytes.{Text}
 use Rattle.scan_docs.specs.Target as document
 use Rattle.collate_core.specs.Values.{CollatedValue}

@@ -1,5 +1,4 @@
-use Rattle.std.proofs.Common.{[], ◌∷◌, refl}
-use Rattle.std.specs.Prelude.{Ok, Err}
+use Rattle.std.proofs.Common.{[], ◌∷◌, refl, Ok, Err}
 use Rattle.commands.specs.Folder.{reading}
 use Rattle.commands.proofs.Listings.{dyndep_read}
 use Rattle.commands.proofs.dyndeps.read_dyndep.Goals as goal

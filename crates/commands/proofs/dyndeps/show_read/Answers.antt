@@ -1,6 +1,4 @@
-use Rattle.std.proofs.Common.{rules, [], refl, ℕ}
-use Rattle.std.specs.Prelude.{Vec}
-use Rattle.std.specs.Global.{Global}
+use Rattle.std.proofs.Common.{rules, [], refl, ℕ, Vec, Global}
 use Rattle.dyndep_file.specs.FaultTexts.{write_fault_text}
 use Rattle.commands.specs.Outcomes.{goes_on, stops}
 use Rattle.commands.proofs.Outcomes.{by_print, next, last, unwritten}

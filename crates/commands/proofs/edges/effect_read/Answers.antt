@@ -1,5 +1,4 @@
-use Rattle.std.proofs.Common.{rules, ◌≡◌, ℕ, List, [], Some, codes, refl, subst}
-use Rattle.std.specs.Prelude.{Result, Ok, Err, IfOk, IfErr, IsErrAnd, MatchResult}
+use Rattle.std.proofs.Common.{rules, ◌≡◌, ℕ, List, [], Some, codes, refl, subst, Result, Ok, Err, IfOk, IfErr, IsErrAnd, MatchResult}
 use Rattle.ninja_text.specs.Failure.{ForFault, Gives}
 use Rattle.ninja_text.specs.FaultTexts.{path_fault_text}
 use Rattle.ninja_text.specs.Paths.{path_of}

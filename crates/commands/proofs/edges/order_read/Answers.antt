@@ -1,6 +1,4 @@
-use Rattle.std.proofs.Common.{rules, ◌≡◌, ◌∙◌, ◌++◌, ◌∷◌, [], List, append_assoc, get_or, map, refl, ap, ap₂, subst, sym, length, ℕ}
-use Rattle.std.specs.Prelude.{Vec}
-use Rattle.std.specs.Global.{Global}
+use Rattle.std.proofs.Common.{rules, ◌≡◌, ◌∙◌, ◌++◌, ◌∷◌, [], List, append_assoc, get_or, map, refl, ap, ap₂, subst, sym, length, ℕ, Vec, Global}
 use Rattle.ninja_text.specs.Failure.{ForFault}
 use Rattle.dep_order.specs.Sortings.{IsSortingOf}
 use Rattle.build_effect.specs.Graphs.{EdgeNeeds}

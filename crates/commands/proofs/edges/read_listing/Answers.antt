@@ -1,5 +1,4 @@
-use Rattle.std.proofs.Common.{rules, [], ◌∷◌, refl}
-use Rattle.std.specs.Prelude.{Ok, Err}
+use Rattle.std.proofs.Common.{rules, [], ◌∷◌, refl, Ok, Err}
 use Rattle.commands.specs.Folder.{reading}
 use Rattle.commands.proofs.Listings.{listing_read}
 use Rattle.commands.proofs.edges.read_listing.Goals as goal

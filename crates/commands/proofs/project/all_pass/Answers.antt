@@ -1,5 +1,4 @@
-use Rattle.std.proofs.Common.{◌≡◌, ℕ, ◌<◌, ◌≤◌, List, [], Option, length, zip, Some, refl, ap, sym, subst, arith}
-use Rattle.std.specs.Prelude.{Ok, Err, slice_get}
+use Rattle.std.proofs.Common.{◌≡◌, ℕ, ◌<◌, ◌≤◌, List, [], Option, length, zip, Some, refl, ap, sym, subst, arith, Ok, Err, slice_get}
 use Rattle.std.proofs.lemmas.List.{drop_all}
 use Rattle.commands.specs.declared.project.ReadTarget.TheInside.{Inside}
 use Rattle.collate_core.specs.Values.{CollatedValue}

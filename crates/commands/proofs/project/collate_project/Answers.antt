@@ -1,5 +1,4 @@
-use Rattle.std.proofs.Common.{◌≡◌, ◌∙◌, List, [], Option, length, map, string_bytes, zip, codes, refl, ap, subst, sym}
-use Rattle.std.specs.Prelude.{Ok, Err}
+use Rattle.std.proofs.Common.{◌≡◌, ◌∙◌, List, [], Option, length, map, string_bytes, zip, codes, refl, ap, subst, sym, Ok, Err}
 use Rattle.std.proofs.lemmas.List.{length-map}
 use Rattle.ninja_text.specs.Bytes.{Bytes, PathText}
 use Rattle.scan_docs.specs.FaultTexts.{doc_fault_text}

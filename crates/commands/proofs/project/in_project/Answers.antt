@@ -1,7 +1,4 @@
-use Rattle.std.proofs.Common.{rules, ◌≡◌, ◌∙◌, ◌+◌, ◌<◌, ℕ, List, ◌∷◌, [], ◌++◌, length, take, map, ap, ap₂, subst, sym, arith}
-use Rattle.std.specs.Prelude.{Vec}
-use Rattle.std.specs.Borrow.{Bor}
-use Rattle.std.specs.Global.{Global}
+use Rattle.std.proofs.Common.{rules, ◌≡◌, ◌∙◌, ◌+◌, ◌<◌, ℕ, List, ◌∷◌, [], ◌++◌, length, take, map, ap, ap₂, subst, sym, arith, Vec, Global, Bor}
 use Rattle.collate_core.specs.Values.{ProjectTargetValue}
 use Rattle.commands.specs.ProjectCommand.{ReadTargetValue, project_target}
 use Rattle.commands.proofs.Targets.{same_at, same_length}

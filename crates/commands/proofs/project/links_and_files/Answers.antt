@@ -1,5 +1,4 @@
-use Rattle.std.proofs.Common.{rules, ◌≡◌, ◌∙◌, ℕ, List, [], Option, length, map, string_bytes, refl, ap, subst}
-use Rattle.std.specs.Prelude.{Ok, Err}
+use Rattle.std.proofs.Common.{rules, ◌≡◌, ◌∙◌, ℕ, List, [], Option, length, map, string_bytes, refl, ap, subst, Ok, Err}
 use Rattle.ninja_text.specs.Bytes.{Text}
 use Rattle.dep_order.specs.Numbers.{Numbers}
 use Rattle.scan_docs.specs.Target as document

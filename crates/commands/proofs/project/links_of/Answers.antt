@@ -1,6 +1,4 @@
-use Rattle.std.proofs.Common.{rules, ◌≡◌, ℕ, ◌+◌, ◌<◌, List, [], ◌∷◌, ◌++◌, length, take, get_or, map, string_bytes, Option, Some, None, codes, refl, ap, ap₂, subst, sym, ◌∙◌}
-use Rattle.std.specs.Prelude.{String}
-use Rattle.std.specs.Global.{Global}
+use Rattle.std.proofs.Common.{rules, ◌≡◌, ℕ, ◌+◌, ◌<◌, List, [], ◌∷◌, ◌++◌, length, take, get_or, map, string_bytes, Option, Some, None, codes, refl, ap, ap₂, subst, sym, ◌∙◌, String, Global}
 use Rattle.std.proofs.lemmas.List.{map_push, take_all}
 use Rattle.ninja_text.proofs.ForCallers.{to_map}
 use Rattle.commands.specs.ProjectCommand.{ReadTargetValue, last_with, LinksLater, LinksTo}

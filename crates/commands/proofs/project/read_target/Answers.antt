@@ -1,5 +1,4 @@
-use Rattle.std.proofs.Common.{rules, ◌≡◌, ◌∙◌, List, Option, length, refl, ap}
-use Rattle.std.specs.Prelude.{Ok, Err}
+use Rattle.std.proofs.Common.{rules, ◌≡◌, ◌∙◌, List, Option, length, refl, ap, Ok, Err}
 use Rattle.ninja_text.specs.Bytes.{Bytes, PathText}
 use Rattle.dep_order.specs.Numbers.{Numbers}
 use Rattle.scan_docs.specs.Target as document

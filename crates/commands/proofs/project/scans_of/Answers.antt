@@ -1,7 +1,4 @@
-use Rattle.std.proofs.Common.{◌≡◌, ◌∙◌, ◌+◌, ℕ, List, ◌∷◌, [], ◌++◌, take, map, ap, ap₂, subst, sym}
-use Rattle.std.specs.Prelude.{Vec}
-use Rattle.std.specs.Borrow.{Bor}
-use Rattle.std.specs.Global.{Global}
+use Rattle.std.proofs.Common.{◌≡◌, ◌∙◌, ◌+◌, ℕ, List, ◌∷◌, [], ◌++◌, take, map, ap, ap₂, subst, sym, Vec, Global, Bor}
 use Rattle.std.proofs.lemmas.List.{map_push}
 use Rattle.commands.specs.ProjectCommand.{ReadTargetValue}
 use Rattle.commands.specs.declared.project.ReadTarget.TheInside.{Inside}

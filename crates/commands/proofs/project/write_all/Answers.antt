@@ -1,5 +1,4 @@
-use Rattle.std.proofs.Common.{ℕ, length, zip, refl, ap, sym, subst, ◌∙◌, arith}
-use Rattle.std.specs.Prelude.{All, IsUtf8}
+use Rattle.std.proofs.Common.{ℕ, length, zip, refl, ap, sym, subst, ◌∙◌, arith, All, IsUtf8}
 use Rattle.std.proofs.lemmas.Iterator.{YieldsList-from_slice, YieldsList-from_zip}
 use Rattle.std.proofs.lemmas.Iterator.Adapters.{YieldsList-from_vec}
 use Rattle.std.proofs.lemmas.Iterator.Consumers.{YieldsList-turn, YieldsList-end}

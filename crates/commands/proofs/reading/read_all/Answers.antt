@@ -1,6 +1,4 @@
-use Rattle.std.proofs.Common.{◌≡◌, ◌∙◌, ℕ, ◌+◌, ◌<◌, ◌≤◌, get_or, [], ◌∷◌, ◌++◌, List, Option, Some, drop, length, map, string_bytes, take, refl, sym, subst, ap, arith}
-use Rattle.std.specs.Prelude.{Ok, Err, String, Vec, slice_get, option_map}
-use Rattle.std.specs.Global.{Global}
+use Rattle.std.proofs.Common.{◌≡◌, ◌∙◌, ℕ, ◌+◌, ◌<◌, ◌≤◌, get_or, [], ◌∷◌, ◌++◌, List, Option, Some, drop, length, map, string_bytes, take, refl, sym, subst, ap, arith, Ok, Err, String, Vec, slice_get, option_map, Global}
 use Rattle.ninja_text.specs.Bytes.{Bytes, Text}
 use Rattle.ninja_text.specs.declared.failure.Failure.{Failure}
 use Rattle.ninja_text.specs.declared.failure.Failure.TheVariants.{Memory}

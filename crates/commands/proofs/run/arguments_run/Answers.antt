@@ -1,6 +1,4 @@
-use Rattle.std.proofs.Common.{rules, ◌≡◌, ℕ, List, [], codes, Option, None, Result, map, string_bytes, refl, ap, sym, subst}
-use Rattle.std.specs.Prelude.{Ok, Err, IfOk, String, Vec, option_map}
-use Rattle.std.specs.Global.{Global}
+use Rattle.std.proofs.Common.{rules, ◌≡◌, ℕ, List, [], codes, Option, None, Result, map, string_bytes, refl, ap, sym, subst, Ok, Err, IfOk, String, Vec, option_map, Global}
 use Rattle.std.specs.IoError.{error_kind}
 use Rattle.std.specs.declared.alloc.AllocError.{AllocError}
 use Rattle.std.specs.declared.io.Error.{Error}

@@ -1,5 +1,4 @@
-use Rattle.std.proofs.Common.{◌≡◌, List, Option, refl, ap, subst, sym}
-use Rattle.std.specs.Prelude.{Ok, Err}
+use Rattle.std.proofs.Common.{◌≡◌, List, Option, refl, ap, subst, sym, Ok, Err}
 use Rattle.ninja_text.specs.Bytes.{Text}
 use Rattle.ninja_text.specs.declared.failure.Failure.{Failure}
 use Rattle.command_line.specs.Tasks.{TaskValue, task_value}

@@ -1,5 +1,4 @@
-use Rattle.std.proofs.Common.{rules, ◌≡◌, ℕ, ◌+◌, ◌<◌, ◌≤◌, [], ◌∷◌, ◌++◌, List, Option, Some, Bool, true, false, if◌then◌else◌, drop, get_or, length, map, take, refl, ap, ap₂, sym, subst, append_assoc, append-nil, inl, inr, ◌∙◌, arith}
-use Rattle.std.specs.Prelude.{Result, Ok, Err, slice_get, option_map}
+use Rattle.std.proofs.Common.{rules, ◌≡◌, ℕ, ◌+◌, ◌<◌, ◌≤◌, [], ◌∷◌, ◌++◌, List, Option, Some, Bool, true, false, if◌then◌else◌, drop, get_or, length, map, take, refl, ap, ap₂, sym, subst, append_assoc, append-nil, inl, inr, ◌∙◌, arith, Result, Ok, Err, slice_get, option_map}
 use Rattle.std.specs.declared.io.Error.{Error}
 use Rattle.ninja_text.specs.Bytes.{Bytes, PathText}
 use Rattle.std.proofs.lemmas.List.{length-map, take-append-drop, take_all}

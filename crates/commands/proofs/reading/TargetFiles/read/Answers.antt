@@ -1,6 +1,4 @@
-use Rattle.std.proofs.Common.{◌≡◌, ◌∙◌, List, Option, Some, None, map, string_bytes, refl, ap, sym, subst}
-use Rattle.std.specs.Prelude.{Ok, Err, String, option_map}
-use Rattle.std.specs.Global.{Global}
+use Rattle.std.proofs.Common.{◌≡◌, ◌∙◌, List, Option, Some, None, map, string_bytes, refl, ap, sym, subst, Ok, Err, String, option_map, Global}
 use Rattle.ninja_text.specs.Bytes.{Text}
 use Rattle.scan_docs.specs.Target as document
 use Rattle.commands.specs.Files.{TargetFilesValue, FilesOf}
