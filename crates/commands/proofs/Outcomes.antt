@@ -1,5 +1,5 @@
 -- What the parts of a run have led to, the calls that they make, and what their loops make.
-use Rattle.std.proofs.Common.{◌≡◌, ◌∙◌, ℕ, ◌+◌, ◌<◌, List, [], ◌∷◌, ◌++◌, drop, length, get_or, suc, Option, Some, None, Result, Ok, Err, true, false, refl, ap, sym, append_assoc, append-nil, add-one, drop-cons, ◌≤◌, map, take, inl, string_bytes, subst, slice_get, String, Vec, IfOk, IfErr, IsErr, IsErrAnd, MatchResult, Global}
+use Rattle.std.proofs.Common.{◌-◌, arith, codes, length-drop, ◌≡◌, ◌∙◌, ℕ, ◌+◌, ◌<◌, List, [], ◌∷◌, ◌++◌, drop, length, get_or, suc, Option, Some, None, Result, Ok, Err, true, false, refl, ap, ap₂, sym, append_assoc, append-nil, add-one, drop-cons, ◌≤◌, map, take, inl, string_bytes, subst, slice_get, String, Vec, IfOk, IfErr, IsErr, IsErrAnd, MatchResult, Global}
 use Rattle.std.specs.Result.{is_err}
 use Rattle.std.specs.declared.io.Error.{Error}
 use Rattle.commands.specs.Folder.{FileCall, Adds, MakesCalls, reading, up_to}
@@ -66,6 +66,19 @@ pub text_next : {X Y : Type 0} (f : X → List Y) (start : List Y) (xs : List X)
 text_next f start xs i x now new within so_far more =
     more ∙ ap (λ text. text ++ f (get_or xs i x)) so_far ∙ flat_map_more f start (take i xs) (get_or xs i x)
     ∙ ap (λ ys. start ++ flat_map f ys) (sym (take_more xs i x within))
+
+-- the text of a name after an arrow
+abbrev pub chained : (ℕ → Text) → ℕ → Text
+chained name next = codes " -> " ++ name next
+
+-- all names of a chain, the first without an arrow
+pub chain_whole : (name : ℕ → Text) (before start now : Text) (xs : List ℕ) (i : ℕ) → 1 ≤ length xs → length (take (length xs - 1) (drop 1 xs)) ≤ i →
+    start ≡ before ++ name (get_or xs 0 0) → now ≡ start ++ flat_map (chained name) (take i (take (length xs - 1) (drop 1 xs))) →
+    now ≡ before ++ (name (get_or xs 0 0) ++ flat_map (chained name) (drop 1 xs))
+chain_whole name before start now xs i some past begins so_far =
+    let long : length (drop 1 xs) ≤ length xs - 1 = omega (arith, length-drop 1 xs) in
+    so_far ∙ ap₂ (λ text rest. text ++ flat_map (chained name) rest) begins (take_all i _ past ∙ take_all (length xs - 1) (drop 1 xs) long)
+    ∙ append_assoc before (name (get_or xs 0 0)) (flat_map (chained name) (drop 1 xs))
 
 -- ---- elements by index
 

@@ -1,4 +1,4 @@
-use Rattle.std.proofs.Common.{rules, ◌≡◌, ◌∙◌, ◌+◌, ◌<◌, ℕ, List, ◌∷◌, [], ◌++◌, length, take, map, ap, ap₂, subst, sym, arith, Vec, Global, Bor}
+use Rattle.std.proofs.Common.{rules, ◌≡◌, ◌∙◌, ◌+◌, ◌<◌, ℕ, List, ◌∷◌, [], ◌++◌, length, take, map, ap, ap₂, subst, sym, arith, take_all, Vec, Global, Bor}
 use Rattle.collate_core.specs.Values.{ProjectTargetValue}
 use Rattle.commands.specs.ProjectCommand.{ReadTargetValue, project_target}
 use Rattle.commands.proofs.Targets.{same_at, same_length}
@@ -29,3 +29,14 @@ loop-index-preserved c =
     subst (λ (parts : List ProjectTargetValue). parts ≡ map project_target (take (i + 1) targets)) (sym c.in_ok-parts-2.ensures)
     (ap₂ (λ a b. a ++ b ∷ []) c.loop-index.invariant (its_part _ c.index-targets-index.result (search rules) (search rules) own (search rules) (search rules))
     ∙ sym {A = List ProjectTargetValue} (mapped_next project_target targets i c.index-targets-index.result within c.index-targets-index.is))
+
+-- each target has its scan documents
+pub bounds-scans-index : goal.bounds-scans-index
+bounds-scans-index c =
+    let targets = c.args.targets.now in
+    let within : c.loop-index.index < length targets = c.loop-index-test.true in
+    let same : length c.args.scans.now ≡ length targets = same_length texts (λ (t : ReadTargetValue). t.scans) c.args.scans.now targets c.requires in
+    omega (arith, within, same)
+
+pub returns : goal.returns
+returns c = c.loop-index.invariant ∙ ap (map project_target) (take_all c.loop-index.index c.args.targets.now c.loop-index-test.false)
