@@ -1,6 +1,8 @@
 -- The reply of a command, by its answer.
-use Rattle.std.proofs.Common.{◌≡◌, List, ℕ, Ok, Err, subst}
+use Rattle.std.proofs.Common.{◌≡◌, ◌∙◌, ◌<◌, ◌+◌, List, ℕ, [], ◌∷◌, ◌++◌, Ok, Err, ap, ap₂, get_or, length, map, subst, sym, take}
+use Rattle.std.specs.List.{flat_map}
 use Rattle.std.specs.Prelude.{IfOk, Result, ⊤}
+use Rattle.std.proofs.lemmas.List.{flat_map_more, map-append, take_more}
 use Rattle.std.specs.declared.alloc.AllocError.{AllocError}
 use Rattle.ninja_text.specs.Bytes.{Bytes}
 use Rattle.commands.specs.Outcomes as commands
@@ -32,3 +34,10 @@ has_answer answer it (Err none) is e = tt
 pub replies_of : (IsOutcome : commands.Outcome OutputValue → Type 0) (answer : Result Answer AllocError) → Answers IsOutcome answer →
     (reply : ReplyValue) → HasAnswer answer reply → Replies IsOutcome reply
 replies_of IsOutcome answer answers reply (it, is, e) = (it, subst (Answers IsOutcome) is answers, e)
+
+-- the numbers or bytes of a list's items so far, and of one more
+pub told_more : {X Y : Type 0} (tell : Y → List ℕ) (value : X → Y) (xs : List X) (i : ℕ) (x : X) (front old new more : List ℕ) → i < length xs → x ≡ get_or xs i x →
+    old ≡ front ++ flat_map tell (map value (take i xs)) → new ≡ old ++ more → more ≡ tell (value x) → new ≡ front ++ flat_map tell (map value (take (i + 1) xs))
+told_more tell value xs i x front old new more within is so_far appended told =
+    appended ∙ ap₂ (λ a b. a ++ b) so_far told ∙ flat_map_more tell front (map value (take i xs)) (value x)
+    ∙ ap (λ ys. front ++ flat_map tell ys) (sym (ap (map value) (take_more xs i x within ∙ ap (λ y. take i xs ++ y ∷ []) (sym is)) ∙ map-append value (take i xs) (x ∷ [])))

@@ -1,6 +1,7 @@
 -- Statements one after another, as numbers and a text.
 use Rattle.std.proofs.Common.{◌≡◌, ◌∙◌, ℕ, List, Bor, [], ◌∷◌, ◌++◌, length, map, Ok, Err, ap, ap₂, refl, append_assoc}
-use Rattle.std.specs.Prelude.{IfOk, Result, Vec}
+use mir.Val.{bool_byte}
+use Rattle.std.specs.Prelude.{Bool, true, false, IfOk, Result, Vec}
 use Rattle.std.specs.Global.{Global}
 use Rattle.std.specs.List.{flat_map}
 use Rattle.std.specs.declared.alloc.AllocError.{AllocError}
@@ -18,23 +19,17 @@ pub texts_of : (paths : List (Bor (Vec ℕ Global))) → map text_of paths ≡ m
 texts_of [] = refl
 texts_of (path ∷ paths) = ap (λ ps. text_of path ∷ ps) (texts_of paths)
 
-numbers_after : (old : List ℕ) (r n m k : ℕ) (ns : List ℕ) →
-    ((((old ++ r ∷ []) ++ n ∷ []) ++ m ∷ []) ++ k ∷ []) ++ ns ≡ old ++ (r ∷ n ∷ m ∷ k ∷ ns)
-numbers_after old r n m k ns =
-    append_assoc (((old ++ r ∷ []) ++ n ∷ []) ++ m ∷ []) (k ∷ []) ns
-    ∙ append_assoc ((old ++ r ∷ []) ++ n ∷ []) (m ∷ []) (k ∷ ns)
-    ∙ append_assoc (old ++ r ∷ []) (n ∷ []) (m ∷ k ∷ ns)
-    ∙ append_assoc old (r ∷ []) (n ∷ m ∷ k ∷ ns)
+pub flag_told : (b : Bool) → bool_byte b ≡ as_number b
+flag_told true = refl
+flag_told false = refl
 
 -- the numbers of a statement, appended one after another
-pub numbers_told : (old : List ℕ) (s : StatementValue) (one two three four numbers : List ℕ) (r n m k : ℕ) (paths : List PathText) →
-    one ≡ old ++ r ∷ [] → two ≡ one ++ n ∷ [] → three ≡ two ++ m ∷ [] → four ≡ three ++ k ∷ [] → numbers ≡ four ++ map length paths →
-    r ≡ as_number s.restat → n ≡ length s.implicit_outputs → m ≡ length s.implicit_inputs → k ≡ length s.output →
-    paths ≡ s.implicit_outputs ++ s.implicit_inputs → numbers ≡ old ++ statement_numbers s
-numbers_told old s one two three four numbers r n m k paths is_one is_two is_three is_four is is_r is_n is_m is_k are =
-    is ∙ ap₂ (λ ns ps. ns ++ map length ps) (is_four ∙ ap₂ (λ ns x. ns ++ x ∷ []) (is_three ∙ ap₂ (λ ns x. ns ++ x ∷ [])
-    (is_two ∙ ap₂ (λ ns x. ns ++ x ∷ []) (is_one ∙ ap (λ x. old ++ x ∷ []) is_r) is_n) is_m) is_k) are
-    ∙ numbers_after old (as_number s.restat) (length s.implicit_outputs) (length s.implicit_inputs) (length s.output) (map length (s.implicit_outputs ++ s.implicit_inputs))
+pub numbers_told : (old : List ℕ) (s : StatementValue) (one four numbers : List ℕ) (paths : List PathText) → one ≡ old ++ four → numbers ≡ one ++ map length paths →
+    four ≡ as_number s.restat ∷ length s.implicit_outputs ∷ length s.implicit_inputs ∷ length s.output ∷ [] → paths ≡ s.implicit_outputs ++ s.implicit_inputs →
+    numbers ≡ old ++ statement_numbers s
+numbers_told old s one four numbers paths is_one is is_four are =
+    is ∙ ap₂ (λ ns ps. ns ++ map length ps) (is_one ∙ ap (λ ns. old ++ ns) is_four) are
+    ∙ append_assoc old (as_number s.restat ∷ length s.implicit_outputs ∷ length s.implicit_inputs ∷ length s.output ∷ []) (map length (s.implicit_outputs ++ s.implicit_inputs))
 
 -- and its paths
 pub text_told : (old : Text) (s : StatementValue) (one text output : Text) (paths : List PathText) →

@@ -57,8 +57,9 @@ fn first_file<'a, 'l>(
     ensures none { IfNone result ((file : GivenFile) (more : Numbers) (after : Bytes) →
         BeginsWithFile lengths.now text.now file more after → ⊥) }
 {
-    let (name_len, others) = lengths.split_first()?;
-    let (bytes_len, more) = others.split_first()?;
+    let [name_len, bytes_len, more @ ..] = lengths else {
+        return None;
+    };
     let (name, others) = text.split_at_checked(*name_len)?;
     let (bytes, after) = others.split_at_checked(*bytes_len)?;
     match str::from_utf8(name) {

@@ -58,15 +58,12 @@ impl Reply {
     pub(crate) fn of(alloc: Global, answer: &Answer) -> Result<Reply, AllocError>
         ensures { IfOk result (λ reply. reply ≡ answer_reply answer.now) }
     {
-        let mut numbers = Vec::new(alloc);
-        numbers.push(answer.out.len())?;
-        numbers.push(answer.err.len())?;
+        let mut numbers = Vec::from_slice(alloc, &[answer.out.len(), answer.err.len()])?;
         let mut text = Vec::from_slice(alloc, &answer.out)?;
         text.extend_from_slice(&answer.err)?;
         for file in &answer.files {
-            numbers.push(file.name.len())?;
-            numbers.push(file.bytes.len())?;
-            numbers.push(usize::from(file.keeps))?;
+            let keeps = usize::from(file.keeps);
+            numbers.extend_from_slice(&[file.name.len(), file.bytes.len(), keeps])?;
             text.extend_from_slice(file.name.as_bytes())?;
             text.extend_from_slice(&file.bytes)?;
         }

@@ -65,10 +65,12 @@ fn push_statement(
         (numbers.new.items ≡ numbers.old.items ++ statement_numbers statement.now)
         × (text.new.items ≡ text.old.items ++ flat_map (λ path. path) (statement_paths statement.now))) }
 {
-    numbers.push(usize::from(statement.restat))?;
-    numbers.push(statement.implicit_outputs.len())?;
-    numbers.push(statement.implicit_inputs.len())?;
-    numbers.push(statement.output.len())?;
+    numbers.extend_from_slice(&[
+        usize::from(statement.restat),
+        statement.implicit_outputs.len(),
+        statement.implicit_inputs.len(),
+        statement.output.len(),
+    ])?;
     text.extend_from_slice(&statement.output)?;
     let outputs = statement.implicit_outputs.iter();
     for path in outputs.chain(statement.implicit_inputs.iter()) {

@@ -1,12 +1,13 @@
-use Rattle.std.proofs.Common.{rules, subst}
+use Rattle.std.proofs.Common.{ap, subst}
 use Rattle.ninja_text.specs.Failure.{ForFault}
 use Rattle.scan_docs.specs.Document.{IsRefused}
+use Rattle.scan_docs.specs.Project.{ProjectValue}
 use Rattle.scan_docs.specs.ProjectChecks.{project_checks}
 use Rattle.in_memory.specs.Runs.{accepted, rejected}
 use Rattle.in_memory.proofs.runs.project_names.Goals as goal
 
 pub returns-in-Ok : goal.returns-in-Ok
-returns-in-Ok c = accepted c.in-Ok.project c.in-Ok.ensures.accepted (search rules)
+returns-in-Ok c = accepted c.in-Ok.project c.in-Ok.ensures.accepted (ap (λ (p : ProjectValue). p.targets) c.project.view_is)
 
 pub returns-in-Err-Fault : goal.returns-in-Err-Fault
 returns-in-Err-Fault c =
