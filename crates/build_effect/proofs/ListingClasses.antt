@@ -12,7 +12,7 @@ use Rattle.ninja_text.specs.declared.fault.PathFault.{PathFault}
 use Rattle.ninja_text.proofs.ForCallers.{assignment_not_empty}
 use Rattle.dyndep_file.specs.Classes.{Symbol, WordSymbol, SignSymbol, symbols, begins_at_start, begins_with_space}
 use Rattle.dyndep_file.specs.Faults.{same_bytes, after_build}
-use Rattle.dyndep_file.proofs.ForCallers.{same_bytes-true, no_indent_at_token}
+use Rattle.dyndep_file.proofs.ForCallers.{after_keyword, keyword_first, same_bytes-true, no_indent_at_token}
 use Rattle.build_effect.specs.Effect.{ArePaths}
 use Rattle.build_effect.specs.ListingLines.{EdgeTexts, IsEdgeLine, Row, CommentRow, BlankRow, BuildRow, DyndepRow, RestatRow, TextIsOfRow, AreEdgePaths, ListingClass, Comment, Blank, Build, Dyndep, Restat, RowIsOfClass, IsListingLine}
 use Rattle.build_effect.specs.inner.ListingWalk.{edge_texts, edge_paths, then_paths, build_class, binding_row, build_row, unindented_row, sound_row, row_of, paths_of, dyndep_class, class_of_row, FindsClass}
@@ -36,22 +36,6 @@ no_row h = absurd (cc)
 start_token : (ts : List TokenAt) → begins_at_start ts ≡ true → is_empty ts ≡ false
 start_token [] h = absurd (let x : false ≡ true = h in cc)
 start_token (t ∷ ts) h = refl
-
--- the tokens after the keyword are those that follow it at the first byte
-keyword_at : (at : Bool) (ss more : List Symbol) → after_build at ss ≡ Some more → (at ≡ true) × (ss ≡ WordSymbol (codes "build") ∷ more)
-keyword_at at [] more h = absurd (let x : ◌≡◌ {A = Option (List Symbol)} None (Some more) = h in cc)
-keyword_at at (SignSymbol sign ∷ others) more h = absurd (let x : ◌≡◌ {A = Option (List Symbol)} None (Some more) = h in cc)
-keyword_at at (WordSymbol word ∷ others) more h = elim (cases_Bool (at && same_bytes word (codes "build"))) [
-  | inl t ↦
-      let p = and_parts at (same_bytes word (codes "build")) t in
-      let w : word ≡ codes "build" = same_bytes-true word (codes "build") p.1 in
-      let m : others ≡ more = (let x : ◌≡◌ {A = Option (List Symbol)} (Some others) (Some more) = rw t at h in cc) in
-      (p.0, rw (w, m) refl)
-  | inr f ↦ absurd (let x : ◌≡◌ {A = Option (List Symbol)} None (Some more) = rw f at h in cc)
-]
-
-keyword_found : (at : Bool) (more : List Symbol) → at ≡ true → after_build at (WordSymbol (codes "build") ∷ more) ≡ Some more
-keyword_found at more h = rw h refl
 
 -- the row of an assignment to a name
 dyndep_named : (a : SeenAssignment) → a.name ≡ codes "dyndep" → binding_row (Some a) ≡ Ok (DyndepRow (value_of a.raw_value))
@@ -78,7 +62,7 @@ module _ (text : List ℕ) (comment : Bool) where
   row_found (BuildRow texts) is =
       let e = edge_found (symbols text) is.3 is.4 in
       sound_found is.0 is.1 (Ok (BuildRow texts)) (rw (start_token (tokens text) is.2, no_indent_at_token text is.2)
-      (ap (λ ss. unindented_row (after_build (begins_at_start (tokens text)) ss)) e.1 ∙ ap unindented_row (keyword_found (begins_at_start (tokens text)) e.0 is.2)
+      (ap (λ ss. unindented_row (after_build (begins_at_start (tokens text)) ss)) e.1 ∙ ap unindented_row (after_keyword (begins_at_start (tokens text)) e.0 is.2)
       ∙ ap build_row e.2 ∙ ap (λ t. Ok (BuildRow t)) (sym is.5)))
   row_found (DyndepRow value) is =
       let a = is.4 in
@@ -97,7 +81,7 @@ module _ (text : List ℕ) (comment : Bool) where
     said : (o : Option EdgeTexts) → edge_texts more ≡ o → RowCases text comment
     said None t = form_is c l (sound_found c l (Err Form) (rw (e, s) (ap unindented_row b ∙ ap build_row t)))
     said (Some texts) t =
-        let p = keyword_at (begins_at_start (tokens text)) (symbols text) more b in
+        let p = keyword_first (begins_at_start (tokens text)) (symbols text) more b in
         let x = edge_holds more texts t in
         row_is (BuildRow texts) (c, l, p.0, x.0, subst (λ ss. IsEdgeLine ss x.0) (sym p.1) x.1, x.2)
 

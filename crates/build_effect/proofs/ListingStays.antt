@@ -5,7 +5,8 @@ use Rattle.std.proofs.Math.Seq.{take-append_seam}
 use Rattle.std.proofs.lemmas.List.{take-append-drop, take-append-le}
 use Rattle.std.proofs.lemmas.Bool.{cases_lt}
 use Rattle.ninja_text.specs.Lines.{line_limit, LineEnd, line_end, IsLine, Divides}
-use Rattle.ninja_text.proofs.ForCallers.{line_end-append, divides_some, AllByRecursion-append, one_more_line}
+use Rattle.ninja_text.proofs.ForCallers.{divides_some, AllByRecursion-append, one_more_line}
+use Rattle.dyndep_file.proofs.ForCallers.{longer}
 use Rattle.build_effect.specs.ListingReading.{HasFaultyLine, HasFaultyEnd, HasListingFault}
 use Rattle.build_effect.specs.ListingReaders.{IsListingFaultIn}
 use Rattle.build_effect.specs.declared.fault.LineCause.TheVariants.{LineTooLong}
@@ -26,19 +27,6 @@ line_stays bytes more fault f = record {
   number = f.number;
   reason = f.reason;
 }
-
--- a line that begins with bytes without an end is longer than they are
-longer : (rest more line : List ℕ) (lines : List (List ℕ)) (end : List ℕ) → Divides (rest ++ more) (line ∷ lines) end → line_end rest ≡ None → length rest < length line
-longer rest more line lines end d none = elim (cases_lt (length rest) (length line)) [
-  | inl lt ↦ lt
-  | inr within ↦
-      let after : List ℕ = flat_map (λ x. x) lines ++ end in
-      let same : rest ++ more ≡ line ++ after = d.whole ∙ append_assoc line (flat_map (λ x. x) lines) end in
-      let front : take (length line) rest ≡ line = sym (take-append-le (length line) rest more within) ∙ ap (take (length line)) same ∙ take-append_seam line after in
-      let parts : rest ≡ line ++ drop (length line) rest = sym (take-append-drop (length line) rest) ∙ ap (λ x. x ++ drop (length line) rest) front in
-      let clash : ◌≡◌ {A = Option LineEnd} None (Some _) = sym none ∙ ap line_end parts ∙ line_end-append line (drop (length line) rest) _ d.each.0.1 in
-      absurd (cc)
-]
 
 -- bytes at the end that reach the limit of a line stay so, or become a line that is too long
 end_stays : (bytes more : List ℕ) (line : ℕ) (e : HasFaultyEnd bytes (record { line = line; cause = LineTooLong })) (lines : List (List ℕ)) (rest : List ℕ)
@@ -61,7 +49,7 @@ end_stays bytes more line e [] rest d =
 end_stays bytes more line e (l ∷ ls) rest d =
     let after : List ℕ = flat_map (λ x. x) ls ++ rest in
     let same : e.rest ++ more ≡ l ++ after = d.whole ∙ append_assoc l (flat_map (λ x. x) ls) rest in
-    let past : line_limit < length l = omega (arith, e.reason, longer e.rest more l ls rest d e.divided.partial) in
+    let past : line_limit < length l = omega (arith, e.reason, longer e.rest more l after same e.divided.partial d.each.0) in
     inl (record {
       before = e.lines;
       line = l;

@@ -8,15 +8,14 @@ use Rattle.std.proofs.lemmas.Map.Text.{hash_map_updates_str}
 use Rattle.build_effect.specs.EdgeValue.{EdgeValue}
 use Rattle.build_effect.specs.Graphs.{made_by, MakesAt, inputs_of, MadeOnce, EdgeNeeds}
 use Rattle.build_effect.specs.inner.Makers.{maker_in, AreMakers, AreAdded}
-use Rattle.ninja_text.proofs.ForCallers.{same_some, in_append, in_first, in_second, from_push, from_take, in_take, take_next, from_map, to_map}
-use Rattle.std.specs.List.{filter_map, cons_option}
+use Rattle.ninja_text.proofs.ForCallers.{same_some, in_append, in_first, in_second, from_push, from_take, in_take, take_next, from_map, to_map, from_filter_map, in_filter_map}
+use Rattle.std.specs.List.{filter_map}
 use Rattle.std.proofs.lemmas.Option.{slice_get_within, slice_get-get_or, get_or_from_slice_get}
 use Rattle.std.proofs.lemmas.Bool.{cases_lt}
 use Rattle.dep_order.specs.Needs.{NodeNeeds, NeedsAreNodes}
 use Rattle.dep_order.specs.Sortings.{IsSortingOf}
 use Rattle.dep_order.specs.declared.Sorting.{Sorting}
 use Rattle.dep_order.proofs.ForCallers.{sorting_same}
-use Rattle.build_effect.specs.inner.Inputs.{Has}
 
 -- ---- tables of producers
 
@@ -114,31 +113,6 @@ mapped_next g f xs i x now new a at before more same =
     ap (map g) more ∙ map-append g now (a ∷ []) ∙ ap (λ ys. ys ++ g a ∷ []) before
     ∙ ap (λ y. map f (take i xs) ++ y ∷ []) same ∙ sym (ap (map f) (take_next xs i x at) ∙ map-append f (take i xs) (x ∷ []))
 
-put_in : {Y : Type 0} (o : Option Y) (ys : List Y) (y : Y) → Has ys y → Has (cons_option o ys) y
-put_in None ys y h = h
-put_in (Some z) ys y h = (suc h.0, h.1)
-
-in_filter_map : {X Y : Type 0} (h : X → Option Y) (xs : List X) (k : ℕ) (x : X) (y : Y) → slice_get xs k ≡ Some x → h x ≡ Some y → Has (filter_map h xs) y
-in_filter_map h [] k x y at is = cc
-in_filter_map h (z ∷ xs) zero x y at is = let made : h z ≡ Some y = ap h (same_some _ _ at) ∙ is in subst (λ o. Has (cons_option o (filter_map h xs)) y) (sym made) (0, refl)
-in_filter_map h (z ∷ xs) (suc k) x y at is = put_in (h z) (filter_map h xs) y (in_filter_map h xs k x y at is)
-
--- an element of the list comes from one that something is made of
-abbrev Comes : {X Y : Type 0} → (X → Option Y) → List X → Y → Type 0
-Comes {X} h xs y = (j : ℕ) × (x : X) × (slice_get xs j ≡ Some x) × (h x ≡ Some y)
-
-later : {X Y : Type 0} (h : X → Option Y) (z : X) (xs : List X) (y : Y) → Comes h xs y → Comes h (z ∷ xs) y
-later h z xs y c = (suc c.0, c.1, c.2, c.3)
-
-from_cons : {X Y : Type 0} (h : X → Option Y) (z : X) (xs : List X) (o : Option Y) (k : ℕ) (y : Y) → h z ≡ o → slice_get (cons_option o (filter_map h xs)) k ≡ Some y → ((l : ℕ) → slice_get (filter_map h xs) l ≡ Some y → Comes h xs y) → Comes h (z ∷ xs) y
-from_cons h z xs None k y is at rest = later h z xs y (rest k at)
-from_cons h z xs (Some w) zero y is at rest = (0, z, refl, is ∙ at)
-from_cons h z xs (Some w) (suc k) y is at rest = later h z xs y (rest k at)
-
-from_filter_map : {X Y : Type 0} (h : X → Option Y) (xs : List X) (k : ℕ) (y : Y) → slice_get (filter_map h xs) k ≡ Some y → Comes h xs y
-from_filter_map h [] k y at = cc
-from_filter_map h (z ∷ xs) k y at = from_cons h z xs (h z) k y refl at (λ l. from_filter_map h xs l y)
-
 module _ (g : List EdgeValue) (maker : List ℕ → Option ℕ) (once : MadeOnce g) (are : AreMakers g maker) where
   abbrev row : EdgeValue → List ℕ
   row e = filter_map maker (inputs_of e)
@@ -156,8 +130,8 @@ module _ (g : List EdgeValue) (maker : List ℕ → Option ℕ) (once : MadeOnce
       let e = from_map row g a (get_or graph a []) there in
       let at_b : slice_get (row e.0) need.0 ≡ Some b = ap (λ xs. slice_get xs need.0) e.2 ∙ slice_get-get_or (get_or graph a []) need.0 b need.1 ∙ ap (λ x. Some x) need.2 in
       let file = from_filter_map maker (inputs_of e.0) need.0 b at_b in
-      let made = are.found file.1 b file.3 in
-      (e.0, file.1, made.0, e.1, (file.0, file.2), made.1)
+      let made = are.found file.0 b file.2 in
+      (e.0, file.0, made.0, e.1, file.1, made.1)
 
   pub from_needs : (a b : ℕ) → EdgeNeeds g a b → NodeNeeds graph a b
   from_needs a b (e, file, j, at, reads, makes) =

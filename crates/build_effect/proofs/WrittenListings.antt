@@ -24,6 +24,7 @@ use Rattle.build_effect.specs.ListingLaws.{IsListable, WrittenListing}
 use Rattle.build_effect.proofs.Lists.{all_at}
 use Rattle.build_effect.proofs.WrittenSymbols.{texts_of}
 use Rattle.build_effect.proofs.WrittenLines.{IsFit, edge_is_line, edge_classed, dyndep_is_line, dyndep_classed, restat_is_line, restat_classed}
+use Rattle.dyndep_file.proofs.ForCallers.{both_parts}
 
 -- ---- the text, one part after another
 
@@ -180,10 +181,6 @@ none_too_long index (e ∷ es) h = elim (cases_Bool (is_too_long e)) [
   | inl t ↦ absurd (let x : ◌≡◌ {A = Option ℕ} (Some index) None = rw t at h in cc)
   | inr f ↦ (f, none_too_long (index + 1) es (rw f at h))
 ]
-
-both_parts : {X : Type 0} (P : X → Type 0) (xs ys : List X) → AllByRecursion P (xs ++ ys) → AllByRecursion P xs × AllByRecursion P ys
-both_parts P [] ys each = (tt, each)
-both_parts P (x ∷ xs) ys each = let later = both_parts P xs ys each.1 in ((each.0, later.0), later.1)
 
 -- what holds of the element at each index
 each_of : {X : Type 0} (P : X → Type 0) (xs : List X) → ((i : ℕ) (x : X) → slice_get xs i ≡ Some x → P x) → AllByRecursion P xs

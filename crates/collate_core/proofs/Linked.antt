@@ -10,6 +10,7 @@ use Rattle.scan_docs.specs.Document.{IsAccepted}
 use Rattle.module_maps.specs.Maps.{Written}
 use Rattle.module_table.specs.TableValue.{TableValue, table_with}
 use Rattle.module_table.specs.Sound.{IsSound}
+use Rattle.module_table.proofs.ForCallers.{known_there}
 use Rattle.scan_docs.specs.Values.{info_of}
 use Rattle.collate_core.specs.Values.{CollatedValue, ProjectTargetValue, TargetValue}
 use Rattle.collate_core.specs.Documents.{table_of, IsInfoAccepted, AreScansAccepted, all_rules}
@@ -105,11 +106,6 @@ module _ (style : Option Written) (targets : List ProjectTargetValue) (outs : Li
 
 all_from : {X : Type 0} (P : X → Type 0) (xs : List X) → ((k : ℕ) (x : X) → slice_get xs k ≡ Some x → P x) → All P xs
 all_from P xs h k d lt = let e = element_at xs k lt in subst P (sym (get_or_from_slice_get xs k e.0 d e.1)) (h k e.0 e.1)
-
-known_there : (known : List (Option InfoValue)) (n : ℕ) (value : InfoValue) → get_or known n None ≡ Some value → slice_get known n ≡ Some (Some value)
-known_there [] n value e = cc
-known_there (x ∷ xs) zero value e = ap Some e
-known_there (x ∷ xs) (suc n) value e = known_there xs n value e
 
 module _ (outs : List CollatedValue) (known : List (Option InfoValue)) (are : AreKnown outs known) where
   linked_one : (k : ℕ) (info : InfoValue) → k < length outs → get_or known k None ≡ Some info → IsReadAs (option_map_or (λ (c : CollatedValue). c.info) (slice_get outs k) []) info

@@ -14,5 +14,3 @@ pub use Rattle.dep_order.proofs.Orders.{AreWithin, orderable}
 pub use Rattle.dep_order.proofs.Answered.{within}
 -- At most one list is the order by smallest numbers, and at most one is the least cycle.
 pub use Rattle.dep_order.proofs.Orders.{one_order, one_cycle}
--- What `Digraph::new` requires, from the same of each vector.
-pub use Rattle.dep_order.proofs.Releases.{rows_are_nodes}

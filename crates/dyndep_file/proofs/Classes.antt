@@ -154,7 +154,7 @@ index_of text comment =
     else 4
 
 -- a text with tokens after the keyword begins with the keyword
-keyword_first : (at : Bool) (all more : List Symbol) → after_build at all ≡ Some more → (at ≡ true) × (all ≡ WordSymbol (codes "build") ∷ more)
+pub keyword_first : (at : Bool) (all more : List Symbol) → after_build at all ≡ Some more → (at ≡ true) × (all ≡ WordSymbol (codes "build") ∷ more)
 keyword_first at [] more h = absurd (let x : ◌≡◌ {A = Option (List Symbol)} None (Some more) = h in cc)
 keyword_first at (SignSymbol k ∷ all) more h = absurd (let x : ◌≡◌ {A = Option (List Symbol)} None (Some more) = h in cc)
 keyword_first at (WordSymbol word ∷ all) more h = elim (cases_Bool (at && same_bytes word (codes "build"))) [

@@ -267,7 +267,7 @@ line_stays bytes more line fault f = record {
 }
 
 -- a line that begins with bytes without an end is longer than they are
-longer : (rest more line after : List ℕ) → rest ++ more ≡ line ++ after → line_end rest ≡ None → IsLine line → length rest < length line
+pub longer : (rest more line after : List ℕ) → rest ++ more ≡ line ++ after → line_end rest ≡ None → IsLine line → length rest < length line
 longer rest more line after same none is_line = elim (cases_lt (length rest) (length line)) [
   | inl lt ↦ lt
   | inr within ↦

@@ -206,14 +206,3 @@ takes_bar old between new (Ok outputs) e t = record {
   is = t.is;
 }
 takes_bar old between new (Err failure) e t = subst (λ f. IsFailureOf f failure) (sym (ap after_output_fault e)) t
-
--- `|` and the words after it are a part of implicit inputs
-pub takes_rest : (old between : List Symbol) (result : Result (Vec (Vec ℕ Global) Global) (Failure LineFault)) → old ≡ SignSymbol Bar ∷ between
-    → TakesOr (implicit_inputs_fault between) (λ inputs. TakesWords between (texts inputs.items) []) result
-    → TakesOr (after_rule_fault old) (λ inputs. TakesInputs old (texts inputs.items)) result
-takes_rest old between (Ok inputs) e t = record {
-  words = t.words;
-  is_part = inr (e ∙ ap (λ s. SignSymbol Bar ∷ s) (t.are ∙ append-nil (map WordSymbol t.words)));
-  is = t.is;
-}
-takes_rest old between (Err failure) e t = subst (λ f. IsFailureOf f failure) (sym (ap after_rule_fault e)) t

@@ -82,7 +82,7 @@ values_of : (paths : List (List ℕ)) → AllByRecursion IsWritable paths → pa
 values_of [] writable = refl
 values_of (path ∷ paths) writable = rw (value_of_escaped path writable.0) (ap (λ ps. path ∷ ps) (values_of paths writable.1))
 
-both_parts : {X : Type 0} (P : X → Type 0) (xs ys : List X) → AllByRecursion P (xs ++ ys) → AllByRecursion P xs × AllByRecursion P ys
+pub both_parts : {X : Type 0} (P : X → Type 0) (xs ys : List X) → AllByRecursion P (xs ++ ys) → AllByRecursion P xs × AllByRecursion P ys
 both_parts P [] ys each = (tt, each)
 both_parts P (x ∷ xs) ys each = let later = both_parts P xs ys each.1 in ((each.0, later.0), later.1)
 

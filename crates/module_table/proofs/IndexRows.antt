@@ -13,9 +13,9 @@ use Rattle.module_table.specs.inner.Views.{names_of}
 use Rattle.module_table.specs.inner.Numbered.{IsNumbered, object_of, maker_at, AreIndexes}
 use Rattle.module_table.specs.declared.fault.Maker.{Maker}
 use Rattle.module_table.specs.declared.fault.Maker.TheVariants.{Object, Info}
-use Rattle.module_table.proofs.Places.{object_provision, neither_less, Has, contained, from_provisions, from_filter_map}
+use Rattle.module_table.proofs.Places.{object_provision, neither_less, Has, contained, from_provisions}
 use Rattle.module_table.proofs.Found.{one_index, in_row}
-use Rattle.ninja_text.proofs.ForCallers.{take_next, same_some, to_map, from_map}
+use Rattle.ninja_text.proofs.ForCallers.{take_next, same_some, to_map, from_map, from_filter_map, in_filter_map}
 use Rattle.std.specs.Cmp.Lexicographic.{bytes_decides}
 use Rattle.std.proofs.lemmas.Bool.{cond-true}
 use Rattle.std.proofs.lemmas.Bool.Decides.{nat_tests}
@@ -51,15 +51,6 @@ takes_some h xs i x y now new at before is more =
 pub takes_none : {X Y : Type 0} (h : X → Option Y) (xs : List X) (i : ℕ) (x : X) (now : List Y) → slice_get xs i ≡ Some x → now ≡ filter_map h (take i xs) → h x ≡ None → now ≡ filter_map h (take (i + 1) xs)
 takes_none h xs i x now at before is =
     before ∙ sym (append-nil (filter_map h (take i xs))) ∙ ap (λ o. filter_map h (take i xs) ++ cons_option o []) (sym is) ∙ sym (ap (filter_map h) (take_next xs i x at) ∙ filter_map_push h (take i xs) x)
-
-put_in : {Y : Type 0} (o : Option Y) (ys : List Y) (y : Y) → Has ys y → Has (cons_option o ys) y
-put_in None ys y h = h
-put_in (Some z) ys y h = (suc h.0, h.1)
-
-pub in_filter_map : {X Y : Type 0} (h : X → Option Y) (xs : List X) (k : ℕ) (x : X) (y : Y) → slice_get xs k ≡ Some x → h x ≡ Some y → Has (filter_map h xs) y
-in_filter_map h [] k x y at is = cc
-in_filter_map h (z ∷ xs) zero x y at is = let made : h z ≡ Some y = ap h (same_some _ _ at) ∙ is in subst (λ o. Has (cons_option o (filter_map h xs)) y) (sym made) (0, refl)
-in_filter_map h (z ∷ xs) (suc k) x y at is = put_in (h z) (filter_map h xs) y (in_filter_map h xs k x y at is)
 
 row_there : {X : Type 0} (graph : List (List X)) (o k : ℕ) → k < length (get_or graph o []) → slice_get graph o ≡ Some (get_or graph o [])
 row_there [] o k lt = absurd (omega (arith, lt))

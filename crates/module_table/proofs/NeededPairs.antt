@@ -14,12 +14,12 @@ use Rattle.module_table.specs.inner.Origins.{origins_of}
 use Rattle.module_table.specs.inner.Graph.{IsModuleGraph, IsModuleRow, indexes_in}
 use Rattle.module_table.specs.declared.fault.Maker.{Maker}
 use Rattle.module_table.specs.declared.fault.Maker.TheVariants.{Object, Info}
-use Rattle.module_table.proofs.Places.{object_provision, info_provision, Has, contained, from_provisions, from_filter_map}
+use Rattle.module_table.proofs.Places.{object_provision, info_provision, Has, contained, from_provisions}
 use Rattle.module_table.proofs.Found.{in_row, numbered_provided}
 use Rattle.module_table.proofs.Lists.{zip_there, zip_length}
 use Rattle.module_table.proofs.Graph.{IsPlaceOf, module_places, one_at, one_entry, all_from}
-use Rattle.module_table.proofs.IndexRows.{different, all_made, strictly, placed, only_one, one_number, to_numbers, from_numbers, length_mapped, in_filter_map}
-use Rattle.ninja_text.proofs.ForCallers.{same_some, to_map, in_first, in_second, from_map, element_at}
+use Rattle.module_table.proofs.IndexRows.{different, all_made, strictly, placed, only_one, one_number, to_numbers, from_numbers, length_mapped}
+use Rattle.ninja_text.proofs.ForCallers.{same_some, to_map, in_first, in_second, from_map, element_at, from_filter_map, in_filter_map}
 use Rattle.std.specs.Borrow.{Bor}
 use Rattle.std.specs.List.{All, AllPairs, filter_map}
 use Rattle.std.specs.List.Sorted.{IsSorted, IsPermutation}

@@ -8,8 +8,8 @@ use Rattle.std.proofs.lemmas.Option.{slice_get_within, get_or_from_slice_get, sl
 use Rattle.module_table.specs.Needed.{ArePairs, lent}
 use Rattle.ninja_text.specs.Bytes.{Precedes}
 use Rattle.module_table.proofs.Places.{Has, contained, has_more, from_option_map, provision_by, neither_less}
-use Rattle.module_table.proofs.IndexRows.{placed, in_filter_map}
-use Rattle.ninja_text.proofs.ForCallers.{same_some, from_push, to_map, from_map, element_at}
+use Rattle.module_table.proofs.IndexRows.{placed}
+use Rattle.ninja_text.proofs.ForCallers.{same_some, from_push, to_map, from_map, element_at, in_filter_map}
 use Rattle.std.specs.Option.{option_map}
 use Rattle.module_table.specs.Modules.{Provision, provisions}
 use Rattle.module_table.specs.Added.{first_mentions, pair_of, required_of, AllRequired}

@@ -1,7 +1,7 @@
 -- What the pairs of an object are.
 use Rattle.std.proofs.Common.{◌≡◌, ℕ, zero, suc, ◌+◌, ◌⊎◌, Bool, true, false, List, [], ◌∷◌, ◌++◌, filter, find, Option, Some, None, refl, ap, subst, sym, ◌∙◌, inl, inr, arith, slice_get, Contains, cond, bytes_eq, ⊎_elim, ◌<◌, length, map, ◌||◌, IsTrue, ap₂, true≢false, MatchBool}
 use Rattle.std.specs.Option.{option_map}
-use Rattle.std.specs.List.{flat_map, enumerate_from, filter_map, cons_option}
+use Rattle.std.specs.List.{flat_map, enumerate_from, filter_map}
 use Rattle.std.specs.Cmp.Lexicographic.{bytes_decides}
 use Rattle.std.proofs.lemmas.Option.{slice_get_within, get_or_from_slice_get, slice_get-get_or}
 use Rattle.scan_docs.specs.Info.{ModuleValue, InfoValue}
@@ -9,7 +9,7 @@ use Rattle.module_table.specs.TableValue.{TableValue}
 use Rattle.module_table.specs.Modules.{IsProvidedBy, Provision, provisions, object_provisions, info_provisions, Provides, Requires, InfoProvides, IsProvided, DependsOn, InfoRequires, IsInfoProvided, InfoRequirement, info_requirements, requirements_of_info, module_requirements}
 use Rattle.module_table.specs.Added.{first_mentions, file_of, required_of, RequiredFiles, AddedNeeds, AddedOrderable, FilesOnce, FilesApart, OneFile}
 use Rattle.module_table.specs.declared.fault.Maker.TheVariants.{Object, Info}
-use Rattle.ninja_text.proofs.ForCallers.{same_some, from_map, to_map, in_first, in_second, three_ways}
+use Rattle.ninja_text.proofs.ForCallers.{same_some, from_map, to_map, in_first, in_second, three_ways, from_filter_map}
 use Rattle.scan_docs.specs.Scan.{RuleValue}
 use Rattle.dep_order.specs.Needs.{IsOrderable}
 use Rattle.dep_order.proofs.ForCallers.{orderable_same}
@@ -91,18 +91,6 @@ pub from_mentions : (names : List (List ℕ)) (name : List ℕ) → Has (first_m
 from_mentions [] name h = h
 from_mentions (n ∷ names) name (zero, e) = (0, e)
 from_mentions (n ∷ names) name (suc k, e) = has_more n names name (from_mentions names name (from_filter _ (first_mentions names) name (k, e)))
-
-abbrev pub FromItem : {X Y : Type 0} → (X → Option Y) → List X → Y → Type 0
-FromItem {X} h xs y = (x : X) × Has xs x × (h x ≡ Some y)
-
-taken : {X Y : Type 0} (h : X → Option Y) (x : X) (xs : List X) (ys : List Y) (y : Y) → ((k : ℕ) → slice_get ys k ≡ Some y → FromItem h xs y) → (o : Option Y) → h x ≡ o → (k : ℕ) → slice_get (cons_option o ys) k ≡ Some y → FromItem h (x ∷ xs) y
-taken h x xs ys y rest None is k e = let r = rest k e in (r.0, has_more x xs r.0 r.1, r.2)
-taken h x xs ys y rest (Some z) is zero e = (x, (0, refl), is ∙ e)
-taken h x xs ys y rest (Some z) is (suc k) e = let r = rest k e in (r.0, has_more x xs r.0 r.1, r.2)
-
-pub from_filter_map : {X Y : Type 0} (h : X → Option Y) (xs : List X) (k : ℕ) (y : Y) → slice_get (filter_map h xs) k ≡ Some y → FromItem h xs y
-from_filter_map h [] k y e = cc
-from_filter_map h (x ∷ xs) k y e = taken h x xs (filter_map h xs) y (λ k e. from_filter_map h xs k y e) (h x) refl k e
 
 pub from_option_map : {A B : Type 0} (f : A → B) (o : Option A) (y : B) → option_map f o ≡ Some y → (x : A) × (o ≡ Some x) × (f x ≡ y)
 from_option_map f None y e = cc

@@ -56,6 +56,8 @@ pub use Rattle.ninja_text.proofs.SpelledTexts.{First, written_first}
 pub use Rattle.ninja_text.proofs.Lists.{same_some, same_cons, element_at, from_map, to_map, in_append, in_first, in_second, from_push, from_take, in_take, map_take, take_next, to_the_end, zip_is_map}
 -- The elements of lists put one after another: the parts of a list that `flat_map` makes.
 pub use Rattle.ninja_text.proofs.Lists.{offset, InPart, in_flat_map, FromPart, from_flat_map}
+-- The elements of a list that `filter_map` makes, and those that they are made of.
+pub use Rattle.ninja_text.proofs.Lists.{FromItem, from_filter_map, in_filter_map}
 -- A value whose result had its error mapped.
 pub use Rattle.ninja_text.proofs.Lists.{with_other_error}
 -- Numbers in one of three orders; a choice for each number makes a list.

@@ -3,7 +3,7 @@ use Rattle.std.proofs.Common.{◌≡◌, ℕ, ◌<◌, Bool, ◌&&◌, ◌==◌,
 use Rattle.std.specs.Io.KnownBytes.{Appends}
 use Rattle.std.specs.Prelude.{Result, MatchResult, is_ok}
 use Rattle.ninja_text.specs.Counting.{Call, TakesInTurn, IsTakenInTurn}
-use Rattle.std.specs.List.{flat_map, AllZip, list_any}
+use Rattle.std.specs.List.{cons_option, filter_map, flat_map, AllZip, list_any}
 use Rattle.std.proofs.lemmas.List.{take_all, take_more}
 use Rattle.std.proofs.lemmas.Option.{slice_get_within, get_or_from_slice_get}
 use Rattle.std.specs.Cmp.Lexicographic.{bytes_decides}
@@ -132,6 +132,31 @@ zip_is_map R f is [] [] h = refl
 zip_is_map R f is [] (y ∷ ys) h = absurd h
 zip_is_map R f is (x ∷ xs) [] h = absurd h
 zip_is_map R f is (x ∷ xs) (y ∷ ys) h = ap₂ (λ a b. a ∷ b) (is x y h.0) (zip_is_map R f is xs ys h.1)
+
+-- an element of the list comes from one that something is made of
+abbrev pub FromItem : {X Y : Type 0} → (X → Option Y) → List X → Y → Type 0
+FromItem {X} h xs y = (x : X) × ((j : ℕ) × (slice_get xs j ≡ Some x)) × (h x ≡ Some y)
+
+later : {X Y : Type 0} (h : X → Option Y) (z : X) (xs : List X) (y : Y) → FromItem h xs y → FromItem h (z ∷ xs) y
+later h z xs y c = (c.0, (suc c.1.0, c.1.1), c.2)
+
+from_cons : {X Y : Type 0} (h : X → Option Y) (z : X) (xs : List X) (o : Option Y) (k : ℕ) (y : Y) → h z ≡ o → slice_get (cons_option o (filter_map h xs)) k ≡ Some y → ((l : ℕ) → slice_get (filter_map h xs) l ≡ Some y → FromItem h xs y) → FromItem h (z ∷ xs) y
+from_cons h z xs None k y is at rest = later h z xs y (rest k at)
+from_cons h z xs (Some w) zero y is at rest = (z, (0, refl), is ∙ at)
+from_cons h z xs (Some w) (suc k) y is at rest = later h z xs y (rest k at)
+
+pub from_filter_map : {X Y : Type 0} (h : X → Option Y) (xs : List X) (k : ℕ) (y : Y) → slice_get (filter_map h xs) k ≡ Some y → FromItem h xs y
+from_filter_map h [] k y at = cc
+from_filter_map h (z ∷ xs) k y at = from_cons h z xs (h z) k y refl at (λ l. from_filter_map h xs l y)
+
+put_in : {Y : Type 0} (o : Option Y) (ys : List Y) (y : Y) → (k : ℕ) × (slice_get ys k ≡ Some y) → (k : ℕ) × (slice_get (cons_option o ys) k ≡ Some y)
+put_in None ys y h = h
+put_in (Some z) ys y h = (suc h.0, h.1)
+
+pub in_filter_map : {X Y : Type 0} (h : X → Option Y) (xs : List X) (k : ℕ) (x : X) (y : Y) → slice_get xs k ≡ Some x → h x ≡ Some y → (j : ℕ) × (slice_get (filter_map h xs) j ≡ Some y)
+in_filter_map h [] k x y at is = cc
+in_filter_map h (z ∷ xs) zero x y at is = let made : h z ≡ Some y = ap h (same_some _ _ at) ∙ is in subst (λ o. (j : ℕ) × (slice_get (cons_option o (filter_map h xs)) j ≡ Some y)) (sym made) (0, refl)
+in_filter_map h (z ∷ xs) (suc k) x y at is = put_in (h z) (filter_map h xs) y (in_filter_map h xs k x y at is)
 
 -- two numbers are in one of three orders
 pub three_ways : (a b : ℕ) → (a < b) ⊎ ((a ≡ b) ⊎ (b < a))
