@@ -14,3 +14,5 @@ pub use Rattle.dep_order.proofs.Orders.{AreWithin, orderable}
 pub use Rattle.dep_order.proofs.Answered.{within}
 -- At most one list is the order by smallest numbers, and at most one is the least cycle.
 pub use Rattle.dep_order.proofs.Orders.{one_order, one_cycle}
+-- Different numbers test as different.
+pub use Rattle.dep_order.proofs.Orders.{other_number}

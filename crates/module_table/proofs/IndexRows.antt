@@ -5,7 +5,7 @@ use Rattle.std.proofs.lemmas.Option.{slice_get_within, slice_get-get_or, get_or_
 use Rattle.dep_order.specs.Needs.{NodeNeeds, NeedsAreNodes}
 use Rattle.dep_order.specs.Sortings.{IsSortingOf}
 use Rattle.dep_order.specs.declared.Sorting.{Sorting}
-use Rattle.dep_order.proofs.ForCallers.{sorting_same}
+use Rattle.dep_order.proofs.ForCallers.{other_number, sorting_same}
 use Rattle.scan_docs.specs.Scan.{RuleValue}
 use Rattle.module_table.specs.TableValue.{TableValue}
 use Rattle.module_table.specs.Modules.{Provides, IsProvidedBy, DependsOn, Provision, provisions}
@@ -267,14 +267,11 @@ module _ (h : ℕ → Option ℕ) (one : (k l x : ℕ) → h k ≡ Some x → h 
   all_made [] differ = λ i j x at_i at_j. cc
   all_made (n ∷ ns) differ = made_behind n ns differ (all_made ns (λ k l m at_k at_l. let e = differ (suc k) (suc l) m at_k at_l in omega (arith, e))) (h n) refl
 
-not_equal : (x y : ℕ) → x ≢ y → eqb x y ≡ false
-not_equal x y h = grind (arith, nat_tests)
-
 -- different numbers, sorted
 pub strictly : (ns sorted : List ℕ) → AreDifferent ns → IsPermutation ns sorted → IsSorted nat_cmp sorted → IsStrictlyIncreasing sorted
 strictly ns sorted differ permuted in_order =
     IsStrictlyIncreasing-from_distinct sorted (IsNonDecreasingBy-from_sort (λ x. x) sorted in_order)
     (IsDistinct-IsPermutation eqb nat_eq_equiv.symm ns sorted permuted
     (IsDistinct-from_apart eqb ns
-    (λ i j d lt in_j. not_equal (get_or ns i d) (get_or ns j d)
+    (λ i j d lt in_j. other_number (get_or ns i d) (get_or ns j d)
     (λ same. let e = differ i j (get_or ns j d) (slice_get-get_or ns i d (omega (arith, lt, in_j)) ∙ ap (λ n. Some n) same) (slice_get-get_or ns j d in_j) in omega (arith, lt, e)))))
