@@ -1,8 +1,8 @@
 -- The row and the class that the walk finds for a line are those of its definition.
 use Rattle.std.proofs.Common.{inl, inr, ◌⊎◌, ◌≡◌, ℕ, Bool, true, false, List, [], ◌∷◌, ◌++◌, append_assoc, length, map, Ok, Err, refl, sym, ap, ◌∙◌, subst, Option, Some, None}
-use Rattle.std.specs.Prelude.{codes, nat_lt, Result, ◌&&◌}
+use Rattle.std.specs.Prelude.{codes, nat_lt, Result}
 use Rattle.std.proofs.lemmas.List.{map-append, append-nil}
-use Rattle.std.proofs.lemmas.Bool.{cases_Bool, and_parts}
+use Rattle.std.proofs.lemmas.Bool.{cases_Bool}
 use Rattle.ninja_text.specs.Lexical.{lexical_fault}
 use Rattle.ninja_text.specs.Tokens.{TokenAt, tokens, value_of}
 use Rattle.ninja_text.specs.Assignments.{SeenAssignment, assignment_of}
@@ -10,7 +10,7 @@ use Rattle.ninja_text.specs.Paths.{path_of, is_empty}
 use Rattle.ninja_text.specs.declared.fault.LexFault.{LexFault}
 use Rattle.ninja_text.specs.declared.fault.PathFault.{PathFault}
 use Rattle.ninja_text.proofs.ForCallers.{assignment_not_empty}
-use Rattle.dyndep_file.specs.Classes.{Symbol, WordSymbol, SignSymbol, symbols, begins_at_start, begins_with_space}
+use Rattle.dyndep_file.specs.Classes.{Symbol, symbols, begins_at_start, begins_with_space}
 use Rattle.dyndep_file.specs.Faults.{same_bytes, after_build}
 use Rattle.dyndep_file.proofs.ForCallers.{after_keyword, keyword_first, same_bytes-true, no_indent_at_token}
 use Rattle.build_effect.specs.Effect.{ArePaths}

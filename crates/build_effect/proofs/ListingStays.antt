@@ -1,10 +1,7 @@
 -- A fault in the bytes so far is the fault of every text that begins with them.
-use Rattle.std.proofs.Common.{◌≡◌, ℕ, ◌<◌, List, [], ◌∷◌, ◌++◌, length, take, drop, Option, Some, None, inl, inr, ap, sym, subst, ◌∙◌, arith, append_assoc, length-append}
+use Rattle.std.proofs.Common.{◌≡◌, ℕ, ◌<◌, List, [], ◌∷◌, ◌++◌, length, inl, inr, ap, sym, subst, ◌∙◌, arith, append_assoc, length-append}
 use Rattle.std.specs.List.{flat_map}
-use Rattle.std.proofs.Math.Seq.{take-append_seam}
-use Rattle.std.proofs.lemmas.List.{take-append-drop, take-append-le}
-use Rattle.std.proofs.lemmas.Bool.{cases_lt}
-use Rattle.ninja_text.specs.Lines.{line_limit, LineEnd, line_end, IsLine, Divides}
+use Rattle.ninja_text.specs.Lines.{line_limit, line_end, IsLine, Divides}
 use Rattle.ninja_text.proofs.ForCallers.{divides_some, AllByRecursion-append, one_more_line}
 use Rattle.dyndep_file.proofs.ForCallers.{longer}
 use Rattle.build_effect.specs.ListingReading.{HasFaultyLine, HasFaultyEnd, HasListingFault}

@@ -1,5 +1,5 @@
 -- Tables of the edges that make files, and the order of edges that they give.
-use Rattle.std.proofs.Common.{◌≡◌, ℕ, zero, suc, ◌+◌, ◌⊎◌, Bool, true, false, List, [], ◌∷◌, ◌++◌, length, map, take, Option, Some, refl, ap, subst, sym, ◌∙◌, inl, inr, arith, slice_get, bytes_eq, cond, Bor, ◌<◌, get_or, None, Contains, ⊎_elim}
+use Rattle.std.proofs.Common.{◌≡◌, ℕ, zero, suc, ◌+◌, ◌⊎◌, Bool, true, false, List, [], ◌∷◌, ◌++◌, length, map, take, Option, Some, refl, ap, subst, sym, ◌∙◌, inl, inr, arith, slice_get, bytes_eq, cond, Bor, ◌<◌, get_or, Contains, ⊎_elim}
 use Rattle.std.specs.HashMap as hash
 use Rattle.std.specs.HashMap.{HashMap}
 use Rattle.std.specs.Cmp.Lexicographic.{bytes_decides}

@@ -1,6 +1,6 @@
 -- The info files that the targets of a project link.
 use Rattle.ninja_text.proofs.ForCallers.{element_at, from_map, to_map, same_some}
-use Rattle.std.proofs.Common.{◌≡◌, ℕ, ◌<◌, List, [], length, map, Option, Some, refl, ap, subst, sym, ◌∙◌, arith, slice_get, Contains, zero, suc, ◌∷◌, None, get_or, ap₂, Bool, IsTrue, All, IfSome, option_map, option_copied, is_some, Bor}
+use Rattle.std.proofs.Common.{◌≡◌, ℕ, ◌<◌, List, [], length, map, Option, Some, refl, ap, subst, sym, ◌∙◌, arith, slice_get, Contains, suc, ◌∷◌, None, get_or, ap₂, Bool, IsTrue, All, IfSome, option_map, option_copied, is_some, Bor}
 use Rattle.std.specs.Option.{option_map_or}
 use Rattle.std.proofs.lemmas.List.Elements.{All-cons}
 use Rattle.std.proofs.lemmas.Option.{slice_get_within, get_or_from_slice_get, slice_get_read}

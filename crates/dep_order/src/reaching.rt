@@ -55,7 +55,9 @@ impl<'g> Reaching<'g> {
         ensures reached { IfOk result
             (λ reached. AreReached (NodeNeeds self.old) node reached.items) }
     {
-        let mut found = vec![in alloc; node]?;
+        // (most searches find a few nodes)
+        let mut found = Vec::with_capacity(alloc, 16)?;
+        found.push(node)?;
         self.indexes[node] = 0;
         let mut next = 0;
         'search: while next < found.len() {

@@ -22,7 +22,10 @@ use std::{env, io};
 
 fn main(rt: HostRuntime) -> ExitCode {
     let arguments = arguments_of(&rt);
-    let mut folder = SystemFiles { rt: &rt };
+    let mut folder = SystemFiles {
+        rt: &rt,
+        mark: None,
+    };
     let mut out = Counted::new(rt.stdout());
     let mut err = Counted::new(rt.stderr());
     let status = program_run(rt.alloc(), &arguments, &mut folder, &mut out, &mut err);
@@ -39,6 +42,8 @@ fn arguments_of<R: Env + AllocGlobal>(rt: &R) -> io::Result<Vec<String>> {
 #[derive(Drop)]
 struct SystemFiles<'a, R> {
     rt: &'a R,
+    /// The mark of new files, once one was written.
+    mark: Option<u64>,
 }
 
 impl<R: Files + RandomSource + AllocGlobal> Folder for SystemFiles<'_, R> {
@@ -74,6 +79,9 @@ impl<R: Files + RandomSource + AllocGlobal> Folder for SystemFiles<'_, R> {
     }
 
     fn write(&mut self, name: &str, bytes: &[u8]) -> io::Result<()> {
-        system_files::write(self.rt, name, bytes)
+        if self.mark.is_none() {
+            self.mark = system_files::mark(self.rt);
+        }
+        system_files::write(self.rt, self.mark, name, bytes)
     }
 }

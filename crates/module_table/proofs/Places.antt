@@ -1,7 +1,7 @@
 -- What the pairs of an object are.
 use Rattle.std.proofs.Common.{◌≡◌, ℕ, zero, suc, ◌+◌, ◌⊎◌, Bool, true, false, List, [], ◌∷◌, ◌++◌, filter, find, Option, Some, None, refl, ap, subst, sym, ◌∙◌, inl, inr, arith, slice_get, Contains, cond, bytes_eq, ⊎_elim, ◌<◌, length, map, ◌||◌, IsTrue, ap₂, true≢false, MatchBool}
 use Rattle.std.specs.Option.{option_map}
-use Rattle.std.specs.List.{flat_map, enumerate_from, filter_map}
+use Rattle.std.specs.List.{flat_map, enumerate_from}
 use Rattle.std.specs.Cmp.Lexicographic.{bytes_decides}
 use Rattle.std.proofs.lemmas.Option.{slice_get_within, get_or_from_slice_get, slice_get-get_or}
 use Rattle.scan_docs.specs.Info.{ModuleValue, InfoValue}

@@ -48,25 +48,38 @@ pub fn has_bytes<R: Files>(rt: &R, name: &str, bytes: &[u8]) -> io::Result<bool>
     Ok(file.read(&mut found[..1])? == 0)
 }
 
+/// Returns a random number for the names of new files, which no other run has. Returns `None` if the
+/// system gives no random bytes.
+pub fn mark<R: RandomSource>(rt: &R) -> Option<u64> {
+    let mut bytes = [0; 8];
+    rt.fill_bytes(&mut bytes).ok()?;
+    Some(u64::from_le_bytes(bytes))
+}
+
 /// Makes these the bytes of the file of this name. A file that is replaced keeps its permissions. If
-/// the name is a link, the file that it leads to is written. After an error the file has its old
-/// bytes, or, if it was written in place, maybe only the first of the new ones.
-pub fn write<R: Files + RandomSource + AllocGlobal>(
+/// the name is a link, the file that it leads to is written. Without a `mark` of the run, the file is
+/// written in place. After an error the file has its old bytes, or, if it was written in place, maybe
+/// only the first of the new ones.
+pub fn write<R: Files + AllocGlobal>(
     rt: &R,
+    mark: Option<u64>,
     name: &str,
     bytes: &[u8],
 ) -> io::Result<()> {
     match fs::symlink_metadata(rt, name) {
-        Ok(old) if old.is_symlink() => write_behind_link(rt, name, bytes),
-        Ok(old) if old.is_file() => write_whole(rt, name, Some(old.permissions()), bytes),
-        Err(error) if error.kind() == ErrorKind::NotFound => write_whole(rt, name, None, bytes),
+        Ok(old) if old.is_symlink() => write_behind_link(rt, mark, name, bytes),
+        Ok(old) if old.is_file() => write_whole(rt, mark, name, Some(old.permissions()), bytes),
+        Err(error) if error.kind() == ErrorKind::NotFound => write_whole(
+            rt, mark, name, None, bytes,
+        ),
         _ => fs::write(rt, name, bytes),
     }
 }
 
 /// Writes the file that a link leads to. The link stays.
-fn write_behind_link<R: Files + RandomSource + AllocGlobal>(
+fn write_behind_link<R: Files + AllocGlobal>(
     rt: &R,
+    mark: Option<u64>,
     link: &str,
     bytes: &[u8],
 ) -> io::Result<()> {
@@ -75,20 +88,24 @@ fn write_behind_link<R: Files + RandomSource + AllocGlobal>(
     };
     match fs::metadata(rt, target.as_path()) {
         Ok(old) if old.is_file() => {
-            write_whole(rt, target.as_str(), Some(old.permissions()), bytes)
+            write_whole(rt, mark, target.as_str(), Some(old.permissions()), bytes)
         }
         _ => fs::write(rt, link, bytes),
     }
 }
 
 /// Writes a file that is replaced whole if a new one can take its place, with these permissions.
-fn write_whole<R: Files + RandomSource + AllocGlobal>(
+fn write_whole<R: Files + AllocGlobal>(
     rt: &R,
+    mark: Option<u64>,
     name: &str,
     permissions: Option<Permissions>,
     bytes: &[u8],
 ) -> io::Result<()> {
-    let Ok(new) = name_beside(rt, name) else {
+    let Some(mark) = mark else {
+        return fs::write(rt, name, bytes);
+    };
+    let Ok(new) = format!(in rt.alloc(); "{name}.{mark:016x}.tmp") else {
         return fs::write(rt, name, bytes);
     };
     if replace(rt, name, new.as_str(), permissions, bytes)? {
@@ -96,14 +113,6 @@ fn write_whole<R: Files + RandomSource + AllocGlobal>(
     } else {
         fs::write(rt, name, bytes)
     }
-}
-
-/// Returns a name next to this one that no other run has.
-fn name_beside<R: RandomSource + AllocGlobal>(rt: &R, name: &str) -> io::Result<String> {
-    let mut bytes = [0; 8];
-    rt.fill_bytes(&mut bytes)?;
-    let number = u64::from_le_bytes(bytes);
-    Ok(format!(in rt.alloc(); "{name}.{number:016x}.tmp")?)
 }
 
 /// Writes the bytes to the file `new`, and renames it. Returns whether it could be made and
