@@ -17,7 +17,7 @@ use crate::info::info_again;
 use crate::projects::ProjectTarget;
 use crate::table::rules_of_all;
 use module_maps::MapStyle;
-use module_table::{Pool, Table, parts, sound_tables};
+use module_table::{Pool, Scratch, Table, parts, sound_tables};
 use ninja_text::Failure;
 use scan_docs::{Info, info_read};
 use std::alloc::{AllocError, Global};
@@ -30,6 +30,7 @@ pub(crate) fn collate_linked<M: MapStyle>(
     is_read: bool,
     outs: &[Collated],
     pool: &Pool,
+    scratch: &mut Scratch,
     style: Option<&M>,
 ) -> Result<(Collated, Option<Info>), Failure<RefusedTarget>>
     requires { AreKnown outs.now pool.now }
@@ -55,7 +56,9 @@ pub(crate) fn collate_linked<M: MapStyle>(
         infos: &infos,
         kept: target.kept,
     };
-    if let Some(found) = collate_by_part(alloc, &with_infos, target.linked, is_read, pool, style)? {
+    let linked = target.linked;
+    let found = collate_by_part(alloc, &with_infos, linked, is_read, pool, scratch, style)?;
+    if let Some(found) = found {
         return Ok(found);
     }
     let out = collate_or_refused(alloc, &with_infos, style)?;
@@ -88,6 +91,7 @@ fn collate_by_part<M: MapStyle>(
     linked: &[usize],
     is_read: bool,
     pool: &Pool,
+    scratch: &mut Scratch,
     style: Option<&M>,
 ) -> Result<Option<(Collated, Option<Info>)>, AllocError>
     requires { AreLinkedInfos pool.now linked.now target.now.infos }
@@ -97,7 +101,7 @@ fn collate_by_part<M: MapStyle>(
     let Some(objects) = unless_faulty(rules_of_all(alloc, target.setting, target.scans))? else {
         return Ok(None);
     };
-    let Some(part) = pool.part(alloc, &objects, linked, style.is_some())? else {
+    let Some(part) = pool.part(alloc, &objects, linked, style.is_some(), scratch)? else {
         return Ok(None);
     };
     let built = Table::build_or_refused(alloc, objects, part, target.kept, Some(pool.key()));

@@ -13,7 +13,7 @@ use crate::info::add_line;
 use crate::laws::{project_maps, project_orders};
 use crate::linking::collate_linked;
 use module_maps::MapStyle;
-use module_table::Pool;
+use module_table::{Pool, Scratch};
 use ninja_text::Failure;
 use scan_docs::{Name, Setting, TargetName};
 use std::alloc::{AllocError, Global};
@@ -124,9 +124,18 @@ pub fn project_or_refused<M: MapStyle>(
     let linked = linked_targets(alloc, targets)?;
     let mut outs = Vec::new(alloc);
     let mut pool = Pool::new(alloc, project_key(targets));
+    let mut scratch = Scratch::new(alloc);
     for (index, target) in targets.iter().enumerate() {
         let is_read = linked.get(index) == Some(&true);
-        match collate_linked(alloc, target, is_read, outs.as_slice(), &pool, style) {
+        match collate_linked(
+            alloc,
+            target,
+            is_read,
+            outs.as_slice(),
+            &pool,
+            &mut scratch,
+            style,
+        ) {
             Ok((out, info)) => {
                 pool = pool.push(alloc, info)?;
                 outs.push(out)?;

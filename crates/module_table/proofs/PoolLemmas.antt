@@ -1,5 +1,5 @@
 -- What lists have, and rows of entries by keys: an entry that is added is listed.
-use Rattle.std.proofs.Common.{◌≡◌, ℕ, zero, suc, ◌+◌, ◌<◌, ◌≤◌, ◌⊎◌, Bool, true, false, cond, List, [], ◌∷◌, ◌++◌, length, Option, Some, None, option_copied, refl, ap, subst, sym, ◌∙◌, inl, inr, ⊎_elim, arith, slice_get, slice_set, bytes_eq, true≢false, is_some, IfSome, MatchBool, Bor, get_or, map, take, length-append}
+use Rattle.std.proofs.Common.{◌≡◌, ℕ, zero, suc, ◌+◌, ◌<◌, ◌≤◌, ◌⊎◌, Bool, true, false, cond, List, [], ◌∷◌, ◌++◌, length, Option, Some, None, option_copied, refl, ap, subst, sym, ◌∙◌, inl, inr, ⊎_elim, arith, slice_get, bytes_eq, true≢false, is_some, IfSome, MatchBool, Bor, get_or, map, length-append}
 use Rattle.std.specs.List.{AllWithin, AllZip}
 use Rattle.std.specs.Cmp.Lexicographic.{bytes_decides}
 use Rattle.std.proofs.lemmas.Option.{slice_get_within, get_or_from_slice_get}
@@ -7,26 +7,14 @@ use Rattle.indexmap.specs.IndexMap.{IndexMap, get}
 use Rattle.smallvec.specs.SmallVec.{SmallVec}
 use Rattle.scan_docs.specs.Info.{ModuleValue, InfoValue}
 use Rattle.module_table.specs.declared.pool.related.Listed.{Listed}
-use Rattle.module_table.specs.inner.Pools.{Has, By, by_name, by_file, key_of, InRow, IsPut, Lists, Keeps, StillListed, AreListed, Below, IsLinked, IsUnlinked, IsKnownModule, IsSource, IsRelated, HasSource, HasClash, IsPool, ArePlaces, AreFit, IsFitAt, IsApart, IsPicked, IsPickedOf}
-use Rattle.ninja_text.proofs.ForCallers.{same_some, in_first, in_second, from_push, three_ways, same_cons, to_map, from_map, from_take, in_take}
+use Rattle.module_table.specs.inner.Pools.{Has, By, by_name, by_file, key_of, InRow, IsPut, Lists, Keeps, StillListed, AreListed, Below, IsUnlinked, IsKnownModule, IsSource, IsRelated, HasSource, HasClash, IsPool, ArePlaces, AreFit, IsFitAt, IsApart, IsPicked, IsPickedOf}
+use Rattle.ninja_text.proofs.ForCallers.{same_some, in_first, in_second, from_push, three_ways, same_cons, to_map, from_map}
 use Rattle.module_table.proofs.IndexRows.{placed as index_of}
 use Rattle.scan_docs.specs.Scan.{RuleValue}
 use Rattle.module_table.specs.Parts.{HasModule, IsAlike, IsPartOf, KeepsRequired, InfosApart, OwnApart, AreClosed, IsEnough, AreLinked}
 use Rattle.module_table.specs.declared.pool.related.Related.{Related}
 
 -- ---- a list with another element
-
-pub set_there : {X : Type 0} (xs : List X) (n : ℕ) (x y : X) → slice_get xs n ≡ Some x → slice_get (slice_set xs n y) n ≡ Some y
-set_there [] n x y e = cc
-set_there (z ∷ xs) zero x y e = refl
-set_there (z ∷ xs) (suc n) x y e = set_there xs n x y e
-
-pub set_other : {X : Type 0} (xs : List X) (n m : ℕ) (y : X) → (m ≡ n → ⊥) → slice_get (slice_set xs n y) m ≡ slice_get xs m
-set_other [] n m y apart = refl
-set_other (z ∷ xs) zero zero y apart = absurd (apart refl)
-set_other (z ∷ xs) zero (suc m) y apart = refl
-set_other (z ∷ xs) (suc n) zero y apart = refl
-set_other (z ∷ xs) (suc n) (suc m) y apart = set_other xs n m y (λ e. apart (ap suc e))
 
 pub has_pushed : {X : Type 0} (xs : List X) (y x : X) → Has xs x → Has (xs ++ y ∷ []) x
 has_pushed xs y x h = (h.0, in_first xs (y ∷ []) h.0 x h.1)
@@ -75,10 +63,6 @@ all_pushed P xs new y pushed before here x h =
     elim (from_push xs y h.0 x (ap (λ ys. slice_get ys h.0) (sym pushed) ∙ h.1)) [ inl old ↦ before x (h.0, old) | inr last ↦ subst P last.1 here ]
 
 -- ---- truth values
-
-pub none_if : {X : Type 0} (o : Option X) → is_some o ≡ false → o ≡ None
-none_if None e = refl
-none_if (Some x) e = absurd (true≢false e)
 
 pub there_is : {X : Type 0} (P : X → Type 0) (o : Option X) → is_some o ≡ true → IfSome o P → (x : X) × (o ≡ Some x) × P x
 there_is P None e h = absurd (true≢false (sym e))
@@ -147,59 +131,17 @@ module _ {S : Type 0} (old new : IndexMap (List ℕ) (SmallVec (ℕ × ℕ)) S) 
     }
 
 -- no entry of what `get` returns is linked
-pub unlinked : {S : Type 0} (places : List (Option ℕ)) (rows : IndexMap (List ℕ) (SmallVec (ℕ × ℕ)) S) (key : List ℕ) (r : Option (Bor (SmallVec (ℕ × ℕ)))) → option_copied r ≡ get bytes_eq rows key
-    → IfSome r (λ row. (entry : ℕ × ℕ) → Has row.now.items entry → IsLinked places entry.0 → ⊥) → IsUnlinked places (InRow rows) key
-unlinked places rows key None same all entry h = let none : None ≡ Some h.0 = same ∙ h.1 in cc
-unlinked places rows key (Some row) same all entry h = all entry (subst (λ (v : SmallVec (ℕ × ℕ)). Has v.items entry) (sym (same_some _ _ (same ∙ h.1))) h.2)
+pub unlinked : {S : Type 0} (linked : List ℕ) (rows : IndexMap (List ℕ) (SmallVec (ℕ × ℕ)) S) (key : List ℕ) (r : Option (Bor (SmallVec (ℕ × ℕ)))) → option_copied r ≡ get bytes_eq rows key
+    → IfSome r (λ row. (entry : ℕ × ℕ) → Has row.now.items entry → Has linked entry.0 → ⊥) → IsUnlinked linked (InRow rows) key
+unlinked linked rows key None same all entry h = let none : None ≡ Some h.0 = same ∙ h.1 in cc
+unlinked linked rows key (Some row) same all entry h = all entry (subst (λ (v : SmallVec (ℕ × ℕ)). Has v.items entry) (sym (same_some _ _ (same ∙ h.1))) h.2)
 
 -- ---- What is looked at of linked info files and of objects, and what is copied of the info files
 
--- ---- the places of the linked info files
-
-module _ (linked : List ℕ) (p n : ℕ) (places : List (Option ℕ)) (at : slice_get linked p ≡ Some n) (free : slice_get places n ≡ Some None) (before : ArePlaces (take p linked) places) where
-  abbrev now : List (Option ℕ)
-  now = slice_set places n (Some p)
-
-  to_place : (i m : ℕ) → slice_get (take (p + 1) linked) i ≡ Some m → slice_get now m ≡ Some (Some i)
-  to_place i m here =
-      let t = from_take (p + 1) linked i m here in
-      elim (three_ways i p) [
-        | inl lt ↦
-            let old = before.to_place i m (in_take p linked i m lt t.1) in
-            set_other places n m (Some p) (λ same. let clash = sym old ∙ ap (slice_get places) same ∙ free in cc clash) ∙ old
-        | inr rest ↦ elim rest [
-          | inl same ↦
-              let one : m ≡ n = same_some _ _ (sym t.1 ∙ ap (slice_get linked) same ∙ at) in
-              ap (slice_get now) one ∙ set_there places n None (Some p) free ∙ ap (λ k. Some (Some k)) (sym same)
-          | inr gt ↦ absurd (omega (arith, t.0, gt))
-        ]
-      ]
-
-  other_place : (m i : ℕ) → (m ≡ n → ⊥) → slice_get now m ≡ Some (Some i) → slice_get (take (p + 1) linked) i ≡ Some m
-  other_place m i apart here =
-      let t = from_take p linked i m (before.from_place m i (sym (set_other places n m (Some p) apart) ∙ here)) in
-      in_take (p + 1) linked i m (omega (arith, t.0)) t.1
-
-  from_place : (m i : ℕ) → slice_get now m ≡ Some (Some i) → slice_get (take (p + 1) linked) i ≡ Some m
-  from_place m i here =
-      elim (three_ways m n) [
-        | inl lt ↦ other_place m i (λ e. omega (arith, lt, e)) here
-        | inr rest ↦ elim rest [
-          | inl same ↦
-              let one : Some p ≡ Some i = same_some _ _ (sym (set_there places n None (Some p) free) ∙ ap (slice_get now) (sym same) ∙ here) in
-              let index : p ≡ i = same_some _ _ one in
-              in_take (p + 1) linked i m (omega (arith, index)) (ap (slice_get linked) (sym index) ∙ at ∙ ap Some (sym same))
-          | inr gt ↦ other_place m i (λ e. omega (arith, gt, e)) here
-        ]
-      ]
-
-  pub placed : ArePlaces (take (p + 1) linked) now
-  placed = record { to_place = to_place; from_place = from_place }
-
 -- ---- what is looked at
 
-pub all_fit : (linked : List ℕ) (places : List (Option ℕ)) (related : List (Option Related)) → ((n : ℕ) → Has linked n → IsFitAt places related n) → AreFit linked places related
-all_fit linked places related fit = record {
+pub all_fit : (linked : List ℕ) (related : List (Option Related)) → ((n : ℕ) → Has linked n → IsFitAt linked related n) → AreFit linked related
+all_fit linked related fit = record {
   closed = λ n s h source. let f = fit n h in f.2 s (subst (λ (r : Related). Has r.sources.items s) (same_some _ _ (same_some _ _ (sym source.1 ∙ f.1))) source.2);
   apart = λ n c h clash. let f = fit n h in f.3 c (subst (λ (r : Related). Has r.clashes.items c) (same_some _ _ (same_some _ _ (sym clash.1 ∙ f.1))) clash.2);
 }
@@ -225,10 +167,10 @@ module _ (known : List (Option InfoValue)) (linked : List ℕ) (infos : List Inf
       let info = from_map (λ (info : InfoValue). Some info) infos i (Some has.0) at in
       (info.0, info.1, ap (λ (v : InfoValue). slice_get v.modules j) (same_some _ _ info.2) ∙ has.2)
 
-  module _ (listed : Listed) (related : List (Option Related)) (pool : IsPool known listed related) (places : List (Option ℕ)) (at : ArePlaces linked places) (fit : AreFit linked places related) where
+  module _ (listed : Listed) (related : List (Option Related)) (pool : IsPool known listed related) (places : List ℕ) (at : ArePlaces linked places) (fit : AreFit linked related) where
     -- no info is linked twice
     once : (i k n : ℕ) → slice_get linked i ≡ Some n → slice_get linked k ≡ Some n → i ≡ k
-    once i k n a b = same_some _ _ (same_some _ _ (sym (at.to_place i n a) ∙ at.to_place k n b))
+    once i k n a b = same_some _ _ (sym (at i n a) ∙ at k n b)
 
     apart_by : (by : By) (i j k l : ℕ) (a b : ModuleValue) → HasModule infos i j a → HasModule infos k l b → key_of by a ≡ key_of by b → (i ≡ k) × (j ≡ l)
     apart_by by i j k l a b has_a has_b alike =
@@ -237,8 +179,8 @@ module _ (known : List (Option InfoValue)) (linked : List ℕ) (infos : List Inf
         elim (pool.clashes by x.0 j y.0 l a b x.2 y.2 alike) [
           | inl same ↦ (once i k y.0 (x.1 ∙ ap Some same.0) y.1, same.1)
           | inr clash ↦ elim clash [
-            | inl h ↦ absurd (fit.apart y.0 x.0 (k, y.1) h (i, at.to_place i x.0 x.1))
-            | inr h ↦ absurd (fit.apart x.0 y.0 (i, x.1) h (k, at.to_place k y.0 y.1))
+            | inl h ↦ absurd (fit.apart y.0 x.0 (k, y.1) h (i, x.1))
+            | inr h ↦ absurd (fit.apart x.0 y.0 (i, x.1) h (k, y.1))
           ]
         ]
 
@@ -250,21 +192,20 @@ module _ (known : List (Option InfoValue)) (linked : List ℕ) (infos : List Inf
         let x = known_at i j m has in
         let s = pool.sources x.0 j m (name, file) x.2 (index_of m.required (name, file) needs) in
         let there = fit.closed x.0 s.0 (i, x.1) s.1 in
-        let here = at.from_place s.0 there.0 there.1 in
-        (there.0, s.2.0, s.2.1, linked_at there.0 s.0 s.2.0 s.2.1 here s.2.2, s.2.3, s.2.4, λ private. once there.0 i x.0 (here ∙ ap Some (s.2.5 private)) x.1)
+        (there.0, s.2.0, s.2.1, linked_at there.0 s.0 s.2.0 s.2.1 there.1 s.2.2, s.2.3, s.2.4, λ private. once there.0 i x.0 (there.1 ∙ ap Some (s.2.5 private)) x.1)
 
-    module _ (objects : List RuleValue) (rules : (o : ℕ) (rule : RuleValue) → slice_get objects o ≡ Some rule → IsApart places listed rule) where
+    module _ (objects : List RuleValue) (rules : (o : ℕ) (rule : RuleValue) → slice_get objects o ≡ Some rule → IsApart linked listed rule) where
       own_apart : OwnApart objects infos
       own_apart = record {
         names = λ o j i k rule name file m here provides has same.
             let x = known_at i k m has in
-            ((rules o rule here).provided (name, file) (j, provides)).0 (x.0, k) (rw same (pool.are_listed by_name x.0 k m x.2)) (i, at.to_place i x.0 x.1);
+            ((rules o rule here).provided (name, file) (j, provides)).0 (x.0, k) (rw same (pool.are_listed by_name x.0 k m x.2)) (i, x.1);
         files = λ o j i k rule name file m here provides has same.
             let x = known_at i k m has in
-            ((rules o rule here).provided (name, file) (j, provides)).1 (x.0, k) (rw same (pool.are_listed by_file x.0 k m x.2)) (i, at.to_place i x.0 x.1);
+            ((rules o rule here).provided (name, file) (j, provides)).1 (x.0, k) (rw same (pool.are_listed by_file x.0 k m x.2)) (i, x.1);
         paths = λ o i k rule m here has same.
             let x = known_at i k m has in
-            (rules o rule here).path (x.0, k) (rw same (pool.are_listed by_file x.0 k m x.2)) (i, at.to_place i x.0 x.1);
+            (rules o rule here).path (x.0, k) (rw same (pool.are_listed by_file x.0 k m x.2)) (i, x.1);
       }
 
       -- the part that was copied is enough

@@ -43,10 +43,10 @@
 //! - `needed.rt` lists the modules that each object requires, with their files. [`Needs`] calls
 //!   `Reaching` of `dep_order` in the graph, and sorts what it finds by the ranks of the names, which
 //!   are computed once.
-//! - `pool.rt`: a pool lists the modules of its info files by name and by file (`rows.rt`), and for
-//!   each info file the others that it requires modules of or shares names and files with
-//!   (`related.rt`). By these numbers it finds out whether a part of the linked modules is enough
-//!   (`fit.rt`), picks the part (`picking.rt`) and copies it (`copies.rt`).
+//! - `pool.rt`: a pool lists the modules of its info files by name and by file, and for each info
+//!   file the others that it requires modules of or shares names and files with (`related.rt`). By
+//!   these numbers it finds out whether a part of the linked modules is enough (`fit.rt`), picks the
+//!   part (`picking.rt`) and copies it (`copies.rt`).
 //!
 //! Other crates cite only one file of the proofs: `proofs/ForCallers.antt` shows that at most one
 //! list has exactly the pairs of a relation.
@@ -56,9 +56,10 @@
 //! `thiserror` for its fault.
 //!
 //! `must-fail/` has a wrong body for each public function with these exceptions. Laws have no body.
-//! [`TableFault::name`] is a list of texts. [`Pool::new`] returns an empty pool. [`Table::build`],
-//! [`Table::objects`], [`Table::required`], [`Table::resolved`], [`Table::into_resolved`] and
-//! [`Table::needs`] pass on what other functions return, and these have edits.
+//! [`TableFault::name`] is a list of texts. [`Pool::new`] and [`Scratch::new`] return empty values.
+//! [`Table::build`], [`Table::objects`], [`Table::required`], [`Table::resolved`],
+//! [`Table::into_resolved`] and [`Table::needs`] pass on what other functions return, and these have
+//! edits.
 #![tactic(auto)]
 
 mod checks;
@@ -73,5 +74,5 @@ mod table;
 pub use fault::{Maker, RefusedTable, TableFault};
 pub use laws::{added_files, one_fault, parts, sound_tables};
 pub use needed::Needs;
-pub use pool::Pool;
+pub use pool::{Pool, Scratch};
 pub use table::{Resolved, Table};

@@ -4,8 +4,9 @@ ghost use Rattle.scan_docs.specs.Info.{InfoValue};
 ghost use Rattle.module_table.specs.Parts.{AreLinked, IsAdded, IsEnough, KeepsRequired};
 
 use copies::part_of;
-use fit::{are_apart, are_fit, places_of};
+use fit::{are_apart, are_fit, put_places};
 use indexmap::IndexMap;
+pub use picking::Scratch;
 use related::{Listed, Related};
 use scan_docs::{Info, Rule};
 use std::alloc::{AllocError, Global};
@@ -120,27 +121,27 @@ impl Pool {
     /// Returns `None` if an info file is not known or linked twice, if two linked modules have one
     /// name or one file, if an object provides a name or is a file of a linked module, or if a
     /// linked module requires a module that is not linked. Then the table of all linked modules
-    /// tells more.
+    /// tells more. The scratch may have been used for other parts before.
     pub fn part(
         &self,
         alloc: Global,
         objects: &[Rule],
         linked: &[usize],
         keeps: bool,
+        scratch: &mut Scratch,
     ) -> Result<Option<Vec<Info>>, AllocError>
         ensures { IfOk result (λ found. IfSome found (λ part. (infos : List InfoValue)
             × AreLinked self.now linked.now infos × IsEnough objects.now part.items infos
             × (IsTrue keeps → KeepsRequired part.items infos))) }
     {
-        // up to the last linked one, since a project may have many more
-        let count = linked.iter().max().map_or(0, |last| last.saturating_add(1));
-        let Some(places) = places_of(alloc, linked, count.min(self.infos.len()))? else {
-            return Ok(None);
-        };
-        if !are_fit(linked, &places, &self.related) || !are_apart(&places, &self.listed, objects) {
+        scratch.places.resize(self.infos.len(), 0)?;
+        if !put_places(linked, &mut scratch.places)
+            || !are_fit(linked, &scratch.places, &self.related)
+            || !are_apart(linked, &scratch.places, &self.listed, objects)
+        {
             return Ok(None);
         }
-        let picked = self.pick(alloc, objects, &places, linked.len(), keeps)?;
+        let picked = self.pick(alloc, objects, linked, keeps, scratch)?;
         part_of(alloc, &self.infos, linked, &picked, keeps)
     }
 }

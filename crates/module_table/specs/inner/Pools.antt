@@ -111,30 +111,26 @@ pub record IsPool (known : List (Option InfoValue)) (listed : Listed)
       → ((i ≡ k) × (j ≡ l)) ⊎ (HasClash related k i ⊎ HasClash related i k)
   pub many : length related ≡ length known
 
--- The index in `linked` of each linked info, by the index of the info. No info is linked twice.
-pub record ArePlaces (linked : Numbers) (places : List (Option ℕ)) : Type 0 where
-  pub to_place : (i n : ℕ) → slice_get linked i ≡ Some n → slice_get places n ≡ Some (Some i)
-  pub from_place : (n i : ℕ) → slice_get places n ≡ Some (Some i) → slice_get linked i ≡ Some n
-
-abbrev pub IsLinked : List (Option ℕ) → ℕ → Type 0
-IsLinked places n = (i : ℕ) × (slice_get places n ≡ Some (Some i))
+-- the index in `linked` of each linked info, by the index of the info: no info is linked twice
+abbrev pub ArePlaces : Numbers → Numbers → Type 0
+ArePlaces linked places =
+    (i n : ℕ) → slice_get linked i ≡ Some n → slice_get places n ≡ Some i
 
 -- The sources of linked info files are linked, and their clashes are not.
-pub record AreFit (linked : Numbers) (places : List (Option ℕ)) (related : List (Option Related))
-    : Type 0 where
-  pub closed : (n s : ℕ) → Has linked n → HasSource related n s → IsLinked places s
-  pub apart : (n c : ℕ) → Has linked n → HasClash related n c → IsLinked places c → ⊥
+pub record AreFit (linked : Numbers) (related : List (Option Related)) : Type 0 where
+  pub closed : (n s : ℕ) → Has linked n → HasSource related n s → Has linked s
+  pub apart : (n c : ℕ) → Has linked n → HasClash related n c → Has linked c → ⊥
 
 -- no linked info is listed by the key
-abbrev pub IsUnlinked : List (Option ℕ) → Listing → Name → Type 0
-IsUnlinked places lists key = (entry : ℕ × ℕ) → lists key entry → IsLinked places entry.0 → ⊥
+abbrev pub IsUnlinked : Numbers → Listing → Name → Type 0
+IsUnlinked linked lists key = (entry : ℕ × ℕ) → lists key entry → Has linked entry.0 → ⊥
 
 -- no linked info has the path, a name or a file of the object
-pub record IsApart (places : List (Option ℕ)) (listed : Listed) (rule : RuleValue) : Type 0 where
-  pub path : IsUnlinked places (Lists listed by_file) rule.object
+pub record IsApart (linked : Numbers) (listed : Listed) (rule : RuleValue) : Type 0 where
+  pub path : IsUnlinked linked (Lists listed by_file) rule.object
   pub provided : (pair : Name × PathText) → Has rule.provided pair
-      → IsUnlinked places (Lists listed by_name) pair.0
-      × IsUnlinked places (Lists listed by_file) pair.1
+      → IsUnlinked linked (Lists listed by_name) pair.0
+      × IsUnlinked linked (Lists listed by_file) pair.1
 
 -- m is a copy of a module of the info file, with what that requires or without
 abbrev pub IsCopied : Type 0 → InfoValue → ModuleValue → Type 0
@@ -151,10 +147,10 @@ abbrev pub Below : {X : Type 0} → (X → Type 0) → List X → ℕ → Type 0
 Below {X} P xs i = (k : ℕ) (x : X) → k < i → slice_get xs k ≡ Some x → P x
 
 -- what is looked at of one linked info
-abbrev pub IsFitAt : List (Option ℕ) → List (Option Related) → ℕ → Type 0
-IsFitAt places related n = (r : Related) × (slice_get related n ≡ Some (Some r))
-    × ((s : ℕ) → Has r.sources.items s → IsLinked places s)
-    × ((c : ℕ) → Has r.clashes.items c → IsLinked places c → ⊥)
+abbrev pub IsFitAt : Numbers → List (Option Related) → ℕ → Type 0
+IsFitAt linked related n = (r : Related) × (slice_get related n ≡ Some (Some r))
+    × ((s : ℕ) → Has r.sources.items s → Has linked s)
+    × ((c : ℕ) → Has r.clashes.items c → Has linked c → ⊥)
 
 -- the picked modules of the info that is known at this index
 abbrev pub IsPickedOf : Type 0 → List (Option InfoValue) → ℕ → InfoValue → Type 0

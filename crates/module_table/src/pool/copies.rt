@@ -3,7 +3,6 @@ ghost use Rattle.std.specs.Prelude.{◌≡◌, List, IfOk, IfSome, IsTrue};
 ghost use Rattle.scan_docs.specs.Info.{InfoValue};
 ghost use Rattle.module_table.specs.Parts.{AreLinked, IsAlike, IsPartOf, KeepsRequired};
 
-use crate::pool::picking::Picked;
 use scan_docs::{Info, InfoModule};
 use std::alloc::{AllocError, Global};
 
@@ -13,7 +12,7 @@ pub(crate) fn part_of(
     alloc: Global,
     infos: &[Option<Info>],
     linked: &[usize],
-    picked: &[Picked],
+    picked: &[Vec<usize>],
     keeps: bool,
 ) -> Result<Option<Vec<Info>>, AllocError>
     ensures { IfOk result (λ found. IfSome found (λ part. (known : List InfoValue)
@@ -26,7 +25,7 @@ pub(crate) fn part_of(
             return Ok(None);
         };
         let indexes = match picked.get(place) {
-            Some(picked) => picked.indexes.as_slice(),
+            Some(picked) => picked.as_slice(),
             None => &[],
         };
         let mut modules = Vec::with_capacity(alloc, indexes.len())?;

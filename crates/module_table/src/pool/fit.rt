@@ -1,46 +1,45 @@
 //! Whether a part of the linked info files is enough for a target's table.
-ghost use Rattle.std.specs.Prelude.{◌≡◌, ℕ, IfOk, IfSome, IsTrue, slice_get, Some, true, false};
+ghost use Rattle.std.specs.Prelude.{◌≡◌, ℕ, IfSome, IsTrue, slice_get, Some, true, false};
 ghost use Rattle.scan_docs.specs.Scan.{RuleValue};
-ghost use Rattle.module_table.specs.inner.Pools.{Has, ArePlaces, IsLinked, AreFit, IsApart};
+ghost use Rattle.module_table.specs.inner.Pools.{Has, ArePlaces, AreFit, IsApart};
 
 use crate::pool::related::{Listed, Related, Row};
 use scan_docs::Rule;
-use std::alloc::{AllocError, Global};
 
-/// Returns the index in `linked` of each linked info file, by the index of the info file. Returns
-/// `None` if an index is too high or if an info file is linked twice.
-pub(crate) fn places_of(
-    alloc: Global,
-    linked: &[usize],
-    count: usize,
-) -> Result<Option<Vec<Option<usize>>>, AllocError>
-    ensures { IfOk result (λ found. IfSome found (λ places. ArePlaces linked.now places.items)) }
+/// Puts the index in `linked` of each linked info file into `places`, by the index of the info file.
+/// The other places stay. Returns false if an index is too high or if an info file is linked twice.
+pub(crate) fn put_places(linked: &[usize], places: &mut Vec<usize>) -> bool
+    ensures { IsTrue result → ArePlaces linked.now places.new.items }
 {
-    let mut places: Vec<Option<usize>> = vec![in alloc; None; count]?;
     for (place, number) in linked.iter().enumerate() {
-        if *number >= count || places[*number].is_some() {
-            return Ok(None);
+        if *number < places.len() {
+            places[*number] = place;
         }
-        places[*number] = Some(place);
     }
-    Ok(Some(places))
+    for (place, number) in linked.iter().enumerate() {
+        if *number >= places.len() || places[*number] != place {
+            return false;
+        }
+    }
+    true
 }
 
 /// Returns whether the info file of that index is linked.
-pub(crate) fn is_linked(places: &[Option<usize>], number: usize) -> bool
-    ensures linked { result ≡ true → IsLinked places.now number }
-    ensures unlinked { result ≡ false → IsLinked places.now number → ⊥ }
+pub(crate) fn is_linked(linked: &[usize], places: &[usize], number: usize) -> bool
+    ensures linked { result ≡ true → Has linked.now number }
+    ensures unlinked { ArePlaces linked.now places.now → result ≡ false
+        → Has linked.now number → ⊥ }
 {
-    matches!(places.get(number), Some(Some(_)))
+    match places.get(number) {
+        Some(place) => linked.get(*place) == Some(&number),
+        None => false,
+    }
 }
 
 /// Returns whether the linked modules require only linked modules and share no name or file.
-pub(crate) fn are_fit(
-    linked: &[usize],
-    places: &[Option<usize>],
-    related: &[Option<Related>],
-) -> bool
-    ensures { IsTrue result → AreFit linked.now places.now related.now }
+pub(crate) fn are_fit(linked: &[usize], places: &[usize], related: &[Option<Related>]) -> bool
+    requires { ArePlaces linked.now places.now }
+    ensures { IsTrue result → AreFit linked.now related.now }
 {
     for number in linked {
         let Some(Some(relations)) = related.get(*number) else {
@@ -49,11 +48,11 @@ pub(crate) fn are_fit(
         if !relations
             .sources
             .iter()
-            .all(|source| is_linked(places, *source))
+            .all(|source| is_linked(linked, places, *source))
             || relations
                 .clashes
                 .iter()
-                .any(|clash| is_linked(places, *clash))
+                .any(|clash| is_linked(linked, places, *clash))
         {
             return false;
         }
@@ -62,17 +61,23 @@ pub(crate) fn are_fit(
 }
 
 /// Returns whether no linked module has the path, a name or a file of an object.
-pub(crate) fn are_apart(places: &[Option<usize>], listed: &Listed, objects: &[Rule]) -> bool
+pub(crate) fn are_apart(
+    linked: &[usize],
+    places: &[usize],
+    listed: &Listed,
+    objects: &[Rule],
+) -> bool
+    requires { ArePlaces linked.now places.now }
     ensures { IsTrue result → (o : ℕ) (rule : RuleValue) → slice_get objects.now o ≡ Some rule
-        → IsApart places.now listed.now rule }
+        → IsApart linked.now listed.now rule }
 {
     for rule in objects {
-        if !none_linked(places, listed.files.get(&rule.object)) {
+        if !none_linked(linked, places, listed.files.get(&rule.object)) {
             return false;
         }
         for pair in &rule.provided {
-            if !none_linked(places, listed.names.get(&pair.0))
-                || !none_linked(places, listed.files.get(&pair.1))
+            if !none_linked(linked, places, listed.names.get(&pair.0))
+                || !none_linked(linked, places, listed.files.get(&pair.1))
             {
                 return false;
             }
@@ -82,15 +87,16 @@ pub(crate) fn are_apart(places: &[Option<usize>], listed: &Listed, objects: &[Ru
 }
 
 /// Returns whether no entry of a row is of a linked info file.
-fn none_linked(places: &[Option<usize>], row: Option<&Row>) -> bool
+fn none_linked(linked: &[usize], places: &[usize], row: Option<&Row>) -> bool
+    requires { ArePlaces linked.now places.now }
     ensures { IsTrue result → IfSome row.entry (λ row. (entry : ℕ × ℕ) → Has row.now.items entry
-        → IsLinked places.now entry.0 → ⊥) }
+        → Has linked.now entry.0 → ⊥) }
 {
     match row {
         Some(row) => !row
             .as_slice()
             .iter()
-            .any(|entry| is_linked(places, entry.0)),
+            .any(|entry| is_linked(linked, places, entry.0)),
         None => true,
     }
 }

@@ -6,43 +6,43 @@ use crate::pool::fit::is_linked;
 use scan_docs::Rule;
 use std::alloc::{AllocError, Global};
 
-/// The picked modules of a linked info file.
+/// What [`Pool::part`] keeps from one target to the next, so that its work for a target does not grow
+/// with the project.
+///
+/// Nothing in it is cleared. A place is only believed if it leads back to the info file or to the
+/// module.
 #[derive(Drop)]
-pub(crate) struct Picked {
-    pub indexes: Vec<usize>,
-    /// Whether each module is picked. It is empty before the first one is.
-    marks: Vec<bool>,
+pub struct Scratch {
+    /// The place of an info file in the list of links.
+    pub(crate) places: Vec<usize>,
+    /// The place of a module in the list of picked ones, by info file and by module.
+    picked: Vec<Vec<usize>>,
 }
 
-impl Picked {
-    /// Picks the module of this index. The info file has `count` modules. Returns false if the
-    /// module was picked before.
-    fn add(&mut self, index: usize, count: usize) -> Result<bool, AllocError> {
-        if self.marks.is_empty() {
-            self.marks.resize(count, false)?;
+impl Scratch {
+    /// Returns an empty scratch.
+    pub fn new(alloc: Global) -> Scratch {
+        Scratch {
+            places: Vec::new(alloc),
+            picked: Vec::new(alloc),
         }
-        if index >= self.marks.len() || self.marks[index] {
-            return Ok(false);
-        }
-        self.marks[index] = true;
-        self.indexes.push(index)?;
-        Ok(true)
     }
 }
 
 impl Pool {
     /// Returns the modules that the objects require, for each linked info file. If the part `keeps`
-    /// what modules require, these modules are picked also. `places` has the index in the list of
-    /// links of each linked info file.
+    /// what modules require, these modules are picked also.
     pub(crate) fn pick(
         &self,
         alloc: Global,
         objects: &[Rule],
-        places: &[Option<usize>],
-        count: usize,
+        linked: &[usize],
         keeps: bool,
-    ) -> Result<Vec<Picked>, AllocError> {
-        let mut picked = none_picked(alloc, count)?;
+        scratch: &mut Scratch,
+    ) -> Result<Vec<Vec<usize>>, AllocError> {
+        for _ in scratch.picked.len()..self.infos.len() {
+            scratch.picked.push(Vec::new(alloc))?;
+        }
         let mut entries = Vec::new(alloc);
         for rule in objects {
             for name in &rule.required {
@@ -50,8 +50,8 @@ impl Pool {
                     continue;
                 };
                 let mut row = row.as_slice().iter();
-                if let Some(entry) = row.find(|entry| is_linked(places, entry.0)) {
-                    self.add(places, *entry, &mut picked, &mut entries)?;
+                if let Some(entry) = row.find(|entry| is_linked(linked, &scratch.places, entry.0)) {
+                    self.add(linked, *entry, scratch, &mut entries)?;
                 }
             }
         }
@@ -65,41 +65,44 @@ impl Pool {
                     && let Some(required) = related.required.get(index)
                 {
                     for entry in required {
-                        self.add(places, *entry, &mut picked, &mut entries)?;
+                        self.add(linked, *entry, scratch, &mut entries)?;
                     }
                 }
+            }
+        }
+        let mut picked = Vec::with_capacity(alloc, linked.len())?;
+        for _ in linked {
+            picked.push(Vec::new(alloc))?;
+        }
+        for entry in entries {
+            if let Some(place) = scratch.places.get(entry.0)
+                && *place < picked.len()
+            {
+                picked[*place].push(entry.1)?;
             }
         }
         Ok(picked)
     }
 
-    /// Picks a module of a linked info file. If it was not picked before, it is put after the
-    /// entries.
+    /// Adds a module of a linked info file to the picked ones, if it is not among them.
     fn add(
         &self,
-        places: &[Option<usize>],
+        linked: &[usize],
         entry: (usize, usize),
-        picked: &mut Vec<Picked>,
+        scratch: &mut Scratch,
         entries: &mut Vec<(usize, usize)>,
     ) -> Result<(), AllocError> {
-        if let Some(Some(place)) = places.get(entry.0)
+        if is_linked(linked, &scratch.places, entry.0)
             && let Some(info) = self.known(entry.0)
-            && *place < picked.len()
-            && picked[*place].add(entry.1, info.modules.len())?
+            && entry.0 < scratch.picked.len()
         {
-            entries.push(entry)?;
+            let places = &mut scratch.picked[entry.0];
+            places.resize(info.modules.len(), 0)?;
+            if entry.1 < places.len() && entries.get(places[entry.1]) != Some(&entry) {
+                places[entry.1] = entries.len();
+                entries.push(entry)?;
+            }
         }
         Ok(())
     }
-}
-
-fn none_picked(alloc: Global, count: usize) -> Result<Vec<Picked>, AllocError> {
-    let mut picked = Vec::with_capacity(alloc, count)?;
-    for _ in 0..count {
-        picked.push(Picked {
-            indexes: Vec::new(alloc),
-            marks: Vec::new(alloc),
-        })?;
-    }
-    Ok(picked)
 }

@@ -3,7 +3,7 @@ use Rattle.module_table.specs.inner.Pools.{Below, by_name, by_file, Lists, IsApa
 use Rattle.module_table.proofs.pool.fit.are_apart.Given as goal
 
 abbrev pub invariant-loop-rule : goal.invariant-loop-rule
-invariant-loop-rule l = Below (IsApart l.places l.listed) l.objects l.rule-index
+invariant-loop-rule l = Below (IsApart l.linked l.listed) l.objects l.rule-index
 
 abbrev pub invariant-loop-pair : goal.invariant-loop-pair
-invariant-loop-pair l = Below (λ (pair : List ℕ × List ℕ). IsUnlinked l.places (Lists l.listed by_name) pair.0 × IsUnlinked l.places (Lists l.listed by_file) pair.1) l.pair-items l.pair-index
+invariant-loop-pair l = Below (λ (pair : List ℕ × List ℕ). IsUnlinked l.linked (Lists l.listed by_name) pair.0 × IsUnlinked l.linked (Lists l.listed by_file) pair.1) l.pair-items l.pair-index

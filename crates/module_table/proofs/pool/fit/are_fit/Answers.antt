@@ -1,7 +1,7 @@
 use Rattle.std.proofs.Common.{rules, tests, ◌∙◌, ℕ, ap, Some, get_or, refl}
 use Rattle.std.proofs.lemmas.Iterator.{YieldsList-from_slice, cases_from_all, cases_from_any}
 use Rattle.std.proofs.lemmas.Option.{slice_get-get_or, slice_get_read}
-use Rattle.module_table.specs.inner.Pools.{IsFitAt, IsLinked}
+use Rattle.module_table.specs.inner.Pools.{Has, IsFitAt}
 use Rattle.module_table.proofs.PoolLemmas.{below_next, below_all, all_true, any_false, all_fit}
 use Rattle.module_table.proofs.pool.fit.are_fit.Goals as goal
 
@@ -12,9 +12,9 @@ loop-number-preserved c =
     let i = c.loop-number.number-index in
     let relations = c.in-Some-Some.relations in
     let found = c.in-Some-Some.ensures.lookup in
-    let Linked : ℕ → Type 0 = IsLinked c.args.places.now in
+    let Linked : ℕ → Type 0 = Has c.args.linked.now in
     let Apart : ℕ → Type 0 = λ n. Linked n → ⊥ in
-    below_next (IsFitAt c.args.places.now related) linked i _ (slice_get-get_or linked i 0 c.loop-number-test.true) c.loop-number.invariant (
+    below_next (IsFitAt c.args.linked.now related) linked i _ (slice_get-get_or linked i 0 c.loop-number-test.true) c.loop-number.invariant (
       relations,
       slice_get_read related _ (get_or linked i 0) c.in-Some-Some.field-0.now refl found.3.0 found.1 ∙ ap Some c.in-Some-Some.field-0-is,
       all_true Linked _ relations.sources.items c.all.result (cases_from_all _ _ _ Linked Apart c.all.ensures.ran (YieldsList-from_slice relations.sources.items (c.iter.ensures.rest ∙ c.deref.ensures.value)) (λ x q k. search (rules, tests)) (λ x q k. search (rules, tests))) c.if-not-all.false,
@@ -22,4 +22,4 @@ loop-number-preserved c =
     )
 
 pub returns : goal.returns
-returns c = λ is. all_fit c.args.linked.now c.args.places.now c.args.related.now (below_all (IsFitAt c.args.places.now c.args.related.now) c.args.linked.now c.loop-number.number-index c.loop-number-test.false c.loop-number.invariant)
+returns c = λ is. all_fit c.args.linked.now c.args.related.now (below_all (IsFitAt c.args.linked.now c.args.related.now) c.args.linked.now c.loop-number.number-index c.loop-number-test.false c.loop-number.invariant)
