@@ -52,6 +52,11 @@ alone() {
     echo "$1" "$2" "$3" $(cat "$work/measured")
 }
 
+# what_it_says FILE: the statements of a dyndep file, without the empty lines of cmake's.
+what_it_says() {
+    sed -e 1d -e '/^$/d' "$1"
+}
+
 # table WHAT: of the lines of compare, the processor time that program and plain take, of the fastest run and of the median
 # one, and how often the program takes what plain takes; that of floor's fastest run, and how often the program takes that;
 # the kilobytes that program and plain hold at most, and how often the program holds what plain holds; then the program's

@@ -88,3 +88,20 @@ function target_document(title, module_dir, scans, linked, dyndep, info, map) {
         (map == "none" ? "" : ",\"map\":\"" map "\"") ",\"module-dir\":\"" module_dir "\"" \
         ",\"module-ext\":\".gcm\",\"scans\":[" scans "],\"target\":\"" title "\",\"version\":1}"
 }
+
+# What cmake reads in place of a target document: its beginning with the directories of the linked targets, an entry for the
+# source of each object, and its end.
+function dyndep_info_begin(linked) {
+    return "{\"language\":\"CXX\",\"compiler-id\":\"GNU\",\"dir-cur-bld\":\"/b\",\"dir-cur-src\":\"/s\"" \
+        ",\"dir-top-bld\":\"/b\",\"dir-top-src\":\"/s\",\"include-dirs\":[],\"module-dir\":\"mod\"" \
+        ",\"linked-target-dirs\":[" linked "],\"cxx-modules\":{"
+}
+
+function dyndep_info_entry(number) {
+    return "\"" path("obj", number, ".o") "\":{\"name\":\"fs\",\"source\":\"" path("/s/src", number, ".cppm") "\"" \
+        ",\"relative-directory\":\"\",\"type\":\"CXX_MODULES\",\"visibility\":\"PUBLIC\",\"destination\":null}"
+}
+
+function dyndep_info_end() {
+    return "},\"bmi-installation\":null,\"exports\":[],\"config\":\"\"}"
+}

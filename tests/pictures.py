@@ -1,7 +1,8 @@
-"""The picture of the times in docs/COMPARED.md is the one that bench/picture draws from the page's table.
+"""The pictures of the times in docs/COMPARED.md are those that bench/picture draws from the page's tables.
 
     python3 -m unittest tests.pictures
-    bench/picture > docs/time.svg
+    bench/picture objects > docs/time.svg
+    bench/picture targets > docs/targets.svg
 """
 import subprocess
 import sys
@@ -12,10 +13,17 @@ TOP = Path(__file__).resolve().parent.parent
 
 
 class Pictures(unittest.TestCase):
-    def test_times(self):
-        """bench/picture > docs/time.svg"""
-        drawn = subprocess.run([sys.executable, TOP / "bench/picture"], capture_output=True, text=True, check=True)
-        self.assertEqual((TOP / "docs/time.svg").read_text(), drawn.stdout)
+    def check(self, what, picture):
+        drawn = subprocess.run([sys.executable, TOP / "bench/picture", what], capture_output=True, text=True, check=True)
+        self.assertEqual((TOP / "docs" / picture).read_text(), drawn.stdout)
+
+    def test_objects(self):
+        """bench/picture objects > docs/time.svg"""
+        self.check("objects", "time.svg")
+
+    def test_targets(self):
+        """bench/picture targets > docs/targets.svg"""
+        self.check("targets", "targets.svg")
 
 
 if __name__ == "__main__":

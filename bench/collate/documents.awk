@@ -74,15 +74,11 @@ function write_targets(map,    linked) {
 # What cmake reads in place of the target document.
 function write_dyndep_info(    file, number) {
     file = d "/DyndepInfo.json"
-    printf "{\"language\":\"CXX\",\"compiler-id\":\"GNU\",\"dir-cur-bld\":\"/b\",\"dir-cur-src\":\"/s\"" > file
-    printf ",\"dir-top-bld\":\"/b\",\"dir-top-src\":\"/s\",\"include-dirs\":[],\"module-dir\":\"mod\"" > file
-    printf ",\"linked-target-dirs\":[%s],\"cxx-modules\":{", texts("../documents/lib", 10, "") > file
+    printf "%s", dyndep_info_begin(texts("../documents/lib", 10, "")) > file
     for (number = 0; number < objects; number++) {
-        printf "%s\"%s\":{\"name\":\"fs\",\"source\":\"%s\",\"relative-directory\":\"\"", number == 0 ? "" : ",", \
-            path("obj", number, ".o"), path("/s/src", number, ".cppm") > file
-        printf ",\"type\":\"CXX_MODULES\",\"visibility\":\"PUBLIC\",\"destination\":null}" > file
+        printf "%s%s", number == 0 ? "" : ",", dyndep_info_entry(number) > file
     }
-    printf "},\"bmi-installation\":null,\"exports\":[],\"config\":\"\"}" > file
+    printf "%s", dyndep_info_end() > file
     close(file)
 }
 

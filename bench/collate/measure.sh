@@ -21,11 +21,6 @@ size_of() {
     find "$documents" -regextype egrep -regex ".*/($1)" -printf '%s\n' | awk '{ sum += $1 } END { print sum }'
 }
 
-# what_it_says FILE: the statements of a dyndep file, without the empty lines of cmake's.
-what_it_says() {
-    sed -e 1d -e '/^$/d' "$1"
-}
-
 # measure_cmake OBJECTS BYTES ROUNDS: cmake is told the documents as it is by its own generator, and knows GCC's maps.
 measure_cmake() {
     local directory=$work/cmake
