@@ -2,6 +2,7 @@
 use Rattle.std.proofs.Common.{◌≡◌, ℕ, suc, ◌+◌, ◌<◌, ◌≤◌, List, [], ◌∷◌, ◌++◌, map, length, take, drop, get_or, Bool, true, false, cond, Option, Some, None, refl, sym, ap, ◌∙◌, subst, add-one, ◌&&◌, option_map, option_and_then, append_assoc, ◌≢◌, Result, Ok, Err, IfOk, IfErr}
 use Rattle.std.proofs.Math.Seq.{drop-cons}
 use Rattle.std.proofs.lemmas.List.{get_or-map, take_more, take_all, at_drop_all, length-map}
+use Rattle.std.specs.Result.{IsErrAnd}
 use Rattle.std.specs.List.{AllZip, list_all, All}
 use Rattle.std.specs.Option.{option_or}
 use Rattle.serde_json.specs.Data.{Data}
@@ -68,6 +69,11 @@ refusal_after (c ∷ cs) b e = none_step c.holds c.refusal (first_refusal cs) (f
 pub failure_before : (a b : List Check) (f : Failure DocFault) → first_failure a ≡ Some f → first_failure (a ++ b) ≡ Some f
 failure_before [] b f e = absurd (cc)
 failure_before (c ∷ cs) b f e = some_step c.holds (Fault c.refusal) f (first_failure cs) (first_failure (cs ++ b)) e (failure_before cs b f)
+
+-- what a reader returns where a call within it has failed
+pub stopped : {T : Type 0} (checks : List Check) (means : T → Type 0) (r : Result T (Failure DocFault)) (e : Failure DocFault) → IsErrAnd r (λ y. y ≡ e) → (e ≢ Memory → first_failure checks ≡ Some e) → Answers checks means r
+stopped checks means (Ok x) e is k = absurd is
+stopped checks means (Err y) e is k = rw is k
 
 -- ---- entries of a list
 
@@ -169,13 +175,10 @@ module _ (found : List (List ℕ)) (vs : List Value) (i : ℕ) (v : Value) where
 
 -- ---- what a document's reader returns, from what the reader of its tree returns
 
-apart : {F : Type 0} (f : F) → Fault f ≢ Memory
-apart f e = cc
-
-module _ {T V : Type 0} (see : T → V) (checks : Data → List Check) (means : Data → V → Type 0) (bytes : List ℕ) (tree : Data) (small : length bytes ≤ document_limit) (reads : IsTree bytes tree) where
+module _ {T V : Type 0} (see : T → V) (checks : Data → List Check) (means : Data → V → Type 0) (bytes : List ℕ) (tree : Data) (read : (length bytes ≤ document_limit) × IsTree bytes tree) where
   -- what follows from an accepted value holds of the result
   pub holds : (P : V → Type 0) → ((v : V) → IsAccepted checks means bytes v → P v) → (result : Result T (Failure DocFault)) → Answers (checks tree) (λ x. means tree (see x)) result → IfOk result (λ x. P (see x))
-  holds P k (Ok x) h = k (see x) (record { small = small; tree = tree; reads = reads; passes = none_refused (checks tree) h.0; meaning = h.1 })
+  holds P k (Ok x) h = k (see x) (record { small = read.0; tree = tree; reads = read.1; passes = none_refused (checks tree) h.0; meaning = h.1 })
   holds P k (Err e) h = tt
 
   pub accepted : (result : Result T (Failure DocFault)) → Answers (checks tree) (λ x. means tree (see x)) result → IfOk result (λ x. IsAccepted checks means bytes (see x))
@@ -184,4 +187,4 @@ module _ {T V : Type 0} (see : T → V) (checks : Data → List Check) (means : 
   pub refused : (result : Result T (Failure DocFault)) → Answers (checks tree) (λ x. means tree (see x)) result → IfErr result (ForFault (IsRefused checks bytes))
   refused (Ok x) h = tt
   refused (Err Memory) h = tt
-  refused (Err (Fault f)) h = false_check small tree reads (some_refused (checks tree) f (h (apart f)))
+  refused (Err (Fault f)) h = false_check read.0 tree read.1 (some_refused (checks tree) f (h (λ e. cc)))

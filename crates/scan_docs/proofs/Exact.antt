@@ -6,7 +6,7 @@ use Rattle.ninja_text.proofs.ForCallers.{zip_is_map}
 use Rattle.ninja_text.specs.declared.fault.PathFault.{PathFault}
 use Rattle.scan_docs.specs.declared.member.Member.TheVariants as m
 use Rattle.scan_docs.specs.declared.map_form.MapForm.{MapForm}
-use Rattle.scan_docs.specs.Shape.{text, text_of, texts, entries_of, is_object, entries, whole_number}
+use Rattle.scan_docs.specs.Shape.{text, text_of, texts, entries_of, is_object, entries, whole_number, fits}
 use Rattle.scan_docs.specs.Document.{IsTree, IsAccepted, IsRefused, large, no_tree, false_check, HasOneAnswer}
 use Rattle.scan_docs.specs.Scan.{SettingValue, RuleValue, object_of, module_file_of, IsProvidedModule, IsRequired, IsRule, AreRules, IsText, IsRuleText}
 use Rattle.scan_docs.specs.Info.{ModuleValue, InfoValue, has_visibility, privacy, IsRequirement, IsModule, IsInfo}
@@ -242,3 +242,8 @@ info_head d = ap (λ holds. first_failure (shape_check place.Document m.Document
 pub target_head : (d : Data) → first_failure (target.head_checks d) ≡ first_failure (version_checks (1 ∷ []) d)
 unfolding target.head_checks version_checks
 target_head d = ap (λ holds. first_failure (shape_check place.Document m.Document (is_object d) ∷ (holds otherwise BadVersion) ∷ [])) (sym (target_versions (whole_number m.Version d)))
+
+-- all checks of a target document
+pub target_parts : (d : Data) → first_failure (target_checks d) ≡ option_or (first_failure (version_checks (1 ∷ []) d)) (option_or (first_failure (target.name_checks d)) (option_or (first_failure (target.directory_checks d)) (option_or (first_failure (shape_check place.Document m.Scans (fits texts m.Scans d) ∷ shape_check place.Document m.Linked (fits texts m.Linked d) ∷ [])) (option_or (first_failure (target.kept_checks d)) (option_or (first_failure (target.dyndep_checks d)) (first_failure (target.file_checks d)))))))
+unfolding target_checks target.list_checks
+target_parts d = rw (failure_of_both, target_head, failure_of_both, failure_of_both, failure_of_both, failure_of_both, failure_of_both) refl

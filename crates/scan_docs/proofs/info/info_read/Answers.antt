@@ -13,23 +13,19 @@ returns-in_err-tree-clause-one_answer c = info_one_answer c.args.bytes.now
 
 pub returns-clause-accepted : goal.returns-clause-accepted
 returns-clause-accepted c =
-    let read = c.in_ok-tree.ensures.read in
-    accepted (λ x. x) info_checks IsInfo c.args.bytes.now (view c.in_ok-tree.tree) read.0 read.1 c.read_info.result c.read_info.ensures
+    accepted (λ x. x) info_checks IsInfo c.args.bytes.now (view c.in_ok-tree.tree) c.in_ok-tree.ensures.read c.read_info.result c.read_info.ensures
 
 pub returns-clause-refused : goal.returns-clause-refused
 returns-clause-refused c =
-    let read = c.in_ok-tree.ensures.read in
-    refused (λ x. x) info_checks IsInfo c.args.bytes.now (view c.in_ok-tree.tree) read.0 read.1 c.read_info.result c.read_info.ensures
+    refused (λ x. x) info_checks IsInfo c.args.bytes.now (view c.in_ok-tree.tree) c.in_ok-tree.ensures.read c.read_info.result c.read_info.ensures
 
 pub returns-clause-one_answer : goal.returns-clause-one_answer
 returns-clause-one_answer c = info_one_answer c.args.bytes.now
 
 pub returns-clause-text : goal.returns-clause-text
 returns-clause-text c =
-    let read = c.in_ok-tree.ensures.read in
-    holds (λ x. x) info_checks IsInfo c.args.bytes.now (view c.in_ok-tree.tree) read.0 read.1 IsInfoText (λ info h. info_text h.tree info h.meaning) c.read_info.result c.read_info.ensures
+    holds (λ x. x) info_checks IsInfo c.args.bytes.now (view c.in_ok-tree.tree) c.in_ok-tree.ensures.read IsInfoText (λ info h. info_text h.tree info h.meaning) c.read_info.result c.read_info.ensures
 
 pub returns-clause-value : goal.returns-clause-value
 returns-clause-value c =
-    let read = c.in_ok-tree.ensures.read in
-    holds (λ x. x) info_checks IsInfo c.args.bytes.now (view c.in_ok-tree.tree) read.0 read.1 (λ info. info ≡ info_of c.args.bytes.now) (info_value c.args.bytes.now) c.read_info.result c.read_info.ensures
+    holds (λ x. x) info_checks IsInfo c.args.bytes.now (view c.in_ok-tree.tree) c.in_ok-tree.ensures.read (λ info. info ≡ info_of c.args.bytes.now) (info_value c.args.bytes.now) c.read_info.result c.read_info.ensures

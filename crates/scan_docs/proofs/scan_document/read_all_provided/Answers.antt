@@ -1,17 +1,15 @@
-use Rattle.std.proofs.lemmas.Result.{err_from_is_err_and}
 use Rattle.serde_json.specs.View.{view}
-use Rattle.std.proofs.Common.{option_copied}
+use Rattle.std.proofs.Common.{option_copied, map}
 use Rattle.scan_docs.specs.Scan.{IsProvidedModule}
 use Rattle.scan_docs.specs.ScanChecks.{provided_checks, all_provided_checks}
 use Rattle.scan_docs.specs.declared.fault.Place.TheVariants as place
-use Rattle.scan_docs.proofs.Each.{one_more, refused_at}
+use Rattle.scan_docs.proofs.Each.{one_more, refused_at, stopped}
 use Rattle.scan_docs.proofs.scan_document.read_all_provided.Goals as goal
 
 pub returns-in_err-pair : goal.returns-in_err-pair
 unfolding all_provided_checks
 returns-in_err-pair c =
-    let p = err_from_is_err_and c.from_residual-in_err-pair.result c.from_residual-in_err-pair.ensures.1 in
-    rw (p.1, p.2) (λ ne. refused_at view (λ entry d. provided_checks c.args.setting.now (option_copied c.args.work) (place.Provides c.args.rule entry) d) (IsProvidedModule c.args.setting.now (option_copied c.args.work)) c.args.entries.now c.loop-entry.entry c.index-entries-entry.result _ c.loop-entry.found.items c.loop-entry-test.true c.index-entries-entry.is (c.in_err-pair.ensures ne) c.loop-entry.invariant)
+    stopped (all_provided_checks c.args.setting.now (option_copied c.args.work) c.args.rule (map view c.args.entries.now)) _ c.from_residual-in_err-pair.result _ c.from_residual-in_err-pair.ensures.1 (λ ne. refused_at view (λ entry d. provided_checks c.args.setting.now (option_copied c.args.work) (place.Provides c.args.rule entry) d) (IsProvidedModule c.args.setting.now (option_copied c.args.work)) c.args.entries.now c.loop-entry.entry c.index-entries-entry.result _ c.loop-entry.found.items c.loop-entry-test.true c.index-entries-entry.is (c.in_err-pair.ensures ne) c.loop-entry.invariant)
 
 pub loop-entry-preserved : goal.loop-entry-preserved
 loop-entry-preserved c =

@@ -13,24 +13,19 @@ returns-in_err-tree-clause-one_answer c = scan_one_answer c.args.setting.now c.a
 
 pub returns-clause-accepted : goal.returns-clause-accepted
 returns-clause-accepted c =
-    let read = c.in_ok-tree.ensures.read in
-    accepted (λ rules. rules.items) (scan_checks c.args.setting.now) (AreRules c.args.setting.now) c.args.bytes.now (view c.in_ok-tree.tree) read.0 read.1 c.read_rules.result c.read_rules.ensures
+    accepted (λ rules. rules.items) (scan_checks c.args.setting.now) (AreRules c.args.setting.now) c.args.bytes.now (view c.in_ok-tree.tree) c.in_ok-tree.ensures.read c.read_rules.result c.read_rules.ensures
 
 pub returns-clause-refused : goal.returns-clause-refused
 returns-clause-refused c =
-    let read = c.in_ok-tree.ensures.read in
-    refused (λ rules. rules.items) (scan_checks c.args.setting.now) (AreRules c.args.setting.now) c.args.bytes.now (view c.in_ok-tree.tree) read.0 read.1 c.read_rules.result c.read_rules.ensures
+    refused (λ rules. rules.items) (scan_checks c.args.setting.now) (AreRules c.args.setting.now) c.args.bytes.now (view c.in_ok-tree.tree) c.in_ok-tree.ensures.read c.read_rules.result c.read_rules.ensures
 
 pub returns-clause-one_answer : goal.returns-clause-one_answer
 returns-clause-one_answer c = scan_one_answer c.args.setting.now c.args.bytes.now
 
 pub returns-clause-text : goal.returns-clause-text
 returns-clause-text c =
-    let read = c.in_ok-tree.ensures.read in
-    holds (λ rules. rules.items) (scan_checks c.args.setting.now) (AreRules c.args.setting.now) c.args.bytes.now (view c.in_ok-tree.tree) read.0 read.1 (All IsRuleText) (λ rules h. rules_text c.args.setting.now _ rules h.meaning) c.read_rules.result c.read_rules.ensures
+    holds (λ rules. rules.items) (scan_checks c.args.setting.now) (AreRules c.args.setting.now) c.args.bytes.now (view c.in_ok-tree.tree) c.in_ok-tree.ensures.read (All IsRuleText) (λ rules h. rules_text c.args.setting.now _ rules h.meaning) c.read_rules.result c.read_rules.ensures
 
 pub returns-clause-value : goal.returns-clause-value
 returns-clause-value c =
-    let read = c.in_ok-tree.ensures.read in
-    let s = c.args.setting.now in
-    holds (λ rules. rules.items) (scan_checks s) (AreRules s) c.args.bytes.now (view c.in_ok-tree.tree) read.0 read.1 (λ rules. rules ≡ rules_of s c.args.bytes.now) (scan_value s c.args.bytes.now) c.read_rules.result c.read_rules.ensures
+    holds (λ rules. rules.items) (scan_checks c.args.setting.now) (AreRules c.args.setting.now) c.args.bytes.now (view c.in_ok-tree.tree) c.in_ok-tree.ensures.read (λ rules. rules ≡ rules_of c.args.setting.now c.args.bytes.now) (scan_value c.args.setting.now c.args.bytes.now) c.read_rules.result c.read_rules.ensures

@@ -9,15 +9,12 @@ use Rattle.scan_docs.proofs.target_document.project_read.Goals as goal
 
 pub returns-clause-accepted : goal.returns-clause-accepted
 returns-clause-accepted c =
-    let read = c.in_ok-tree.ensures.read in
-    accepted (λ x. x) project_checks IsProject c.args.bytes.now (view c.in_ok-tree.tree) read.0 read.1 c.read_project.result c.read_project.ensures
+    accepted (λ x. x) project_checks IsProject c.args.bytes.now (view c.in_ok-tree.tree) c.in_ok-tree.ensures.read c.read_project.result c.read_project.ensures
 
 pub returns-clause-refused : goal.returns-clause-refused
 returns-clause-refused c =
-    let read = c.in_ok-tree.ensures.read in
-    refused (λ x. x) project_checks IsProject c.args.bytes.now (view c.in_ok-tree.tree) read.0 read.1 c.read_project.result c.read_project.ensures
+    refused (λ x. x) project_checks IsProject c.args.bytes.now (view c.in_ok-tree.tree) c.in_ok-tree.ensures.read c.read_project.result c.read_project.ensures
 
 pub returns-clause-value : goal.returns-clause-value
 returns-clause-value c =
-    let read = c.in_ok-tree.ensures.read in
-    holds (λ x. x) project_checks IsProject c.args.bytes.now (view c.in_ok-tree.tree) read.0 read.1 (λ project. project ≡ project_of c.args.bytes.now) (project_value c.args.bytes.now) c.read_project.result c.read_project.ensures
+    holds (λ x. x) project_checks IsProject c.args.bytes.now (view c.in_ok-tree.tree) c.in_ok-tree.ensures.read (λ project. project ≡ project_of c.args.bytes.now) (project_value c.args.bytes.now) c.read_project.result c.read_project.ensures

@@ -9,18 +9,15 @@ use Rattle.scan_docs.proofs.target_document.spec_read.Goals as goal
 
 pub returns-clause-accepted : goal.returns-clause-accepted
 returns-clause-accepted c =
-    let read = c.in_ok-tree.ensures.read in
-    accepted (λ x. x) target_checks IsTarget c.args.bytes.now (view c.in_ok-tree.tree) read.0 read.1 c.read_spec.result c.read_spec.ensures
+    accepted (λ x. x) target_checks IsTarget c.args.bytes.now (view c.in_ok-tree.tree) c.in_ok-tree.ensures.read c.read_spec.result c.read_spec.ensures
 
 pub returns-clause-refused : goal.returns-clause-refused
 returns-clause-refused c =
-    let read = c.in_ok-tree.ensures.read in
-    refused (λ x. x) target_checks IsTarget c.args.bytes.now (view c.in_ok-tree.tree) read.0 read.1 c.read_spec.result c.read_spec.ensures
+    refused (λ x. x) target_checks IsTarget c.args.bytes.now (view c.in_ok-tree.tree) c.in_ok-tree.ensures.read c.read_spec.result c.read_spec.ensures
 
 pub returns-clause-one_answer : goal.returns-clause-one_answer
 returns-clause-one_answer c = target_one_answer c.args.bytes.now
 
 pub returns-clause-value : goal.returns-clause-value
 returns-clause-value c =
-    let read = c.in_ok-tree.ensures.read in
-    holds (λ x. x) target_checks IsTarget c.args.bytes.now (view c.in_ok-tree.tree) read.0 read.1 (λ spec. spec ≡ spec_of c.args.bytes.now) (target_value c.args.bytes.now) c.read_spec.result c.read_spec.ensures
+    holds (λ x. x) target_checks IsTarget c.args.bytes.now (view c.in_ok-tree.tree) c.in_ok-tree.ensures.read (λ spec. spec ≡ spec_of c.args.bytes.now) (target_value c.args.bytes.now) c.read_spec.result c.read_spec.ensures
