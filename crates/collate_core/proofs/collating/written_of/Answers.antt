@@ -4,7 +4,6 @@ use Rattle.dyndep_file.specs.StatementValue.{StatementValue}
 use Rattle.dyndep_file.specs.WriteFaults.{text_or_fault}
 use Rattle.dyndep_file.specs.Reading.{StandsForOnly}
 use Rattle.collate_core.specs.Statements.{statements_of}
-use Rattle.collate_core.specs.Collation.{HasPaths}
 use Rattle.collate_core.specs.inner.Parts.{HasSpelled}
 use Rattle.scan_docs.specs.InfoText.{IsInfoText}
 use Rattle.collate_core.proofs.Documents.{info_is_text}
@@ -29,12 +28,8 @@ lent_info_write-requires g c = subst IsInfoText (sym c.in_ok-info.ensures) (info
 
 pub new-requires : goal.new-requires
 new-requires g c =
-    let laws = c.added_files.ensures in
     let are = ap statements_of c.resolved.ensures in
-    let spelled = subst (All HasSpelled) are c.in_ok-text.ensures.spelled in
-    let meaning = subst (StandsForOnly c.in_ok-text.text.items) are c.in_ok-text.ensures.meaning in
-    let canonical : All HasPaths (statements_of c.args.table.now) = has_paths (statements_of c.args.table.now) spelled in
-    (statements_of c.args.table.now, collated_text c.args.table.now c.requires.sound laws.orderable laws.once laws.apart laws.required c.in_ok-objects.objects.items c.in_ok-text.text.items c.in_ok-objects.ensures meaning canonical)
+    (statements_of c.args.table.now, collated_text c.args.table.now c.requires.sound c.added_files.ensures.orderable c.added_files.ensures.once c.added_files.ensures.apart c.added_files.ensures.required c.in_ok-objects.objects.items c.in_ok-text.text.items c.in_ok-objects.ensures (subst (StandsForOnly c.in_ok-text.text.items) are c.in_ok-text.ensures.meaning) (has_paths (statements_of c.args.table.now) (subst (All HasSpelled) are c.in_ok-text.ensures.spelled)))
 
 pub returns-clause-written : goal.returns-clause-written
 returns-clause-written g c =

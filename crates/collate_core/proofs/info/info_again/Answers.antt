@@ -1,4 +1,4 @@
-use Rattle.std.proofs.Common.{◌≡◌, ◌≤◌, ℕ, List, length, ap, ap₂, subst, sym, ◌∙◌, arith, take_all}
+use Rattle.std.proofs.Common.{◌≡◌, ℕ, List, ap, ap₂, subst, sym, ◌∙◌, take_all}
 use Rattle.scan_docs.specs.Document.{IsAccepted}
 use Rattle.scan_docs.specs.Info.{InfoValue, ModuleValue, IsInfo}
 use Rattle.scan_docs.specs.InfoChecks.{info_checks}
@@ -14,8 +14,7 @@ returns c =
     let modules = c.loop-entry.invariant ∙ take_all c.loop-entry.entry-index c.deref-entry-items.result.now c.loop-entry-test.false
     ∙ c.deref-entry-items.ensures.value ∙ ap (λ (i : InfoValue). i.modules) (c.info.view_is ∙ c.in_ok-info.ensures) in
     let copy = ap₂ (λ (target : List ℕ) (modules : List ModuleValue). let i : InfoValue = record { target = target; modules = modules } in i) c.in_ok-target.ensures modules in
-    let small : length c.args.text.now ≤ 16777216 = omega (arith, c.if-text-gt-DOCUMENT_LIMIT.false) in
-    let accepted : IsAccepted info_checks IsInfo c.args.text.now info = c.requires.text.same small in
+    let accepted : IsAccepted info_checks IsInfo c.args.text.now info = c.requires.text.same c.if-text-gt-DOCUMENT_LIMIT.false in
     let value : info ≡ info_of c.args.text.now = c.value_of_bytes.ensures.info c.args.text.now info accepted in
     record {
       accepted = subst (IsAccepted info_checks IsInfo c.args.text.now) value accepted;

@@ -1,4 +1,4 @@
-use Rattle.std.proofs.Common.{◌≡◌, ℕ, List, Some, refl, ap, sym, ◌∙◌, slice_get}
+use Rattle.std.proofs.Common.{◌≡◌, ℕ, List, Some, refl, ap, sym, ◌∙◌, slice_get, take_all}
 use Rattle.std.proofs.lemmas.Option.{slice_get_read}
 use Rattle.collate_core.specs.Infos.{is_private_name}
 use Rattle.collate_core.proofs.Lists.{one_more_name}
@@ -7,7 +7,9 @@ use Rattle.collate_core.proofs.info.set_of.Goals as goal
 pub loop-name-preserved : goal.loop-name-preserved
 loop-name-preserved c = λ name.
     let names : List (List ℕ) = c.args.names.now in
-    let i : ℕ = c.loop-name.name-index in
-    let here : slice_get names i ≡ Some c.name-item.result = slice_get_read names _ i _ refl c.loop-name-test.true c.name-item.is in
+    let here : slice_get names c.loop-name.name-index ≡ Some c.name-item.result = slice_get_read names _ c.loop-name.name-index _ refl c.loop-name-test.true c.name-item.is in
     ap (λ (keys : List (List ℕ)). is_private_name keys name) c.in_ok-insert.ensures.keys
-    ∙ one_more_name names c.loop-name.set.keys i c.in_ok-copy.field-0 (here ∙ ap (λ (n : List ℕ). Some n) (sym c.in_ok-copy.ensures)) c.loop-name.invariant name
+    ∙ one_more_name names c.loop-name.set.keys c.loop-name.name-index c.in_ok-copy.field-0 (here ∙ ap (λ (n : List ℕ). Some n) (sym c.in_ok-copy.ensures)) c.loop-name.invariant name
+
+pub returns : goal.returns
+returns c = λ name. c.loop-name.invariant name ∙ ap (λ (names : List (List ℕ)). is_private_name names name) (take_all c.loop-name.name-index c.args.names.now c.loop-name-test.false)

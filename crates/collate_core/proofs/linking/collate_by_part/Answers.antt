@@ -18,12 +18,9 @@ part_collated-requires-clause-enough g c =
     let scans : AreScansAccepted target.setting target.scans = rw (← c.target.view_is) (without_fault _ _ _ _ c.in-Some.is c.in_ok-objects.ensures read.accepted) in
     let rules : objects ≡ all_rules target.setting target.scans = rw (← c.target.view_is) (without_fault (λ rules. rules.items ≡ all_rules c.target.inside.setting.now _) _ _ _ c.in-Some.is c.in_ok-objects.ensures read.rules) in
     let found = subst (λ found. IfSome found (λ part. (infos : List InfoValue) × AreLinked c.args.pool.now c.args.linked.now infos × IsEnough c.deref.result.now part.items infos × (IsTrue c.is_some.result → KeepsRequired part.items infos))) c.in-Some-2.is c.in_ok-part.ensures in
-    let enough = subst (λ (os : List RuleValue). IsEnough os c.in-Some-2.part.items found.0) c.deref.ensures.value found.2 in
-    let text : All IsRuleText objects = without_fault (λ rules. All IsRuleText rules.items) _ _ _ c.in-Some.is c.in_ok-objects.ensures read.text in
     let enough_here = enough_for_target (option_map g.M.MapStyle.written (option_copied c.args.style)) target c.requires.0 c.args.pool.now c.args.linked.now objects c.in-Some-2.part.items found.0
-    c.requires.1 c.requires.2 c.requires.3 scans rules text found.1 enough (keeps_for_style c.args.style g.M.MapStyle.written c.is_some.result c.in-Some-2.part.items found.0 c.is_some.ensures found.3) in
-    let built = c.build_or_refused-built.ensures in
-    subst (IsEnoughFor target (option_map g.M.MapStyle.written (option_copied c.args.style))) (sym (without_fault _ _ _ _ c.in-Some-3.is c.in_ok-table.ensures built.table)) enough_here
+    c.requires.1 c.requires.2 c.requires.3 scans rules (without_fault (λ rules. All IsRuleText rules.items) _ _ _ c.in-Some.is c.in_ok-objects.ensures read.text) found.1 (subst (λ (os : List RuleValue). IsEnough os c.in-Some-2.part.items found.0) c.deref.ensures.value found.2) (keeps_for_style c.args.style g.M.MapStyle.written c.is_some.result c.in-Some-2.part.items found.0 c.is_some.ensures found.3) in
+    subst (IsEnoughFor target (option_map g.M.MapStyle.written (option_copied c.args.style))) (sym (without_fault _ _ _ _ c.in-Some-3.is c.in_ok-table.ensures c.build_or_refused-built.ensures.table)) enough_here
 
 pub part_collated-requires-clause-sound : goal.part_collated-requires-clause-sound
 part_collated-requires-clause-sound g c = without_fault IsSound _ _ _ c.in-Some-3.is c.in_ok-table.ensures c.build_or_refused-built.ensures.sound

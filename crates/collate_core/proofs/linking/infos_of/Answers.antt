@@ -1,5 +1,5 @@
 use Rattle.ninja_text.proofs.ForCallers.{element_at, take_next}
-use Rattle.std.proofs.Common.{◌≡◌, ℕ, ◌+◌, ◌<◌, List, [], ◌∷◌, ◌++◌, length, take, get_or, Option, Some, ap, subst, sym, ◌∙◌, slice_get}
+use Rattle.std.proofs.Common.{◌≡◌, ℕ, ◌<◌, List, [], length, take, get_or, Option, Some, ap, subst, sym, ◌∙◌, slice_get}
 use Rattle.std.specs.Option.{option_map_or}
 use Rattle.std.proofs.lemmas.List.{map-append, take_all}
 use Rattle.std.proofs.lemmas.Option.{get_or_from_slice_get}
@@ -20,8 +20,7 @@ loop-target-preserved c =
     let is_out : c.index-outs-target.result ≡ out.0 = c.index-outs-target.is ∙ ap (λ v. get_or outs v c.index-outs-target.result) is_k ∙ get_or_from_slice_get outs k.0 out.0 c.index-outs-target.result out.1 in
     let value : c.info.result.now ≡ option_map_or (λ (x : CollatedValue). x.info) (slice_get outs k.0) [] =
     c.info.ensures ∙ ap (λ (x : CollatedValue). x.info) is_out ∙ ap (λ (z : Option CollatedValue). option_map_or (λ (x : CollatedValue). x.info) z []) (sym out.1) in
-    let next : take (i + 1) linked ≡ take i linked ++ k.0 ∷ [] = take_next linked i k.0 k.1 in
-    rw (c.in_ok-push.ensures.items, next, map-append)
+    rw (c.in_ok-push.ensures.items, take_next linked i k.0 k.1, map-append)
     (map_push (λ (x : ℕ). option_map_or (λ (y : CollatedValue). y.info) (slice_get outs x) []) (take i linked) k.0 _ c.info.result.now c.loop-target.invariant value)
 
 -- said here, so that a loop over something else is rejected soon

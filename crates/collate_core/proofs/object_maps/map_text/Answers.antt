@@ -15,7 +15,7 @@ provided g c =
     ∙ map-id pairs
 
 pub returns-clause-text : goal.returns-clause-text
-returns-clause-text g c = search (rules, provided g c)
+returns-clause-text g c = search (rules, provided g c) fits 200
 
 pub returns-clause-refused : goal.returns-clause-refused
 returns-clause-refused g c = search (rules, provided g c)

@@ -17,11 +17,9 @@ pub loop-object-preserved : goal.loop-object-preserved
 loop-object-preserved g c =
     let t : TableValue = c.args.table.now in
     let written : Written = g.M.MapStyle.written c.in-Some.style.now in
-    let items = c.in_ok-push.ensures.items in
-    let text = c.in_ok-map_text.field-0 in
     record {
       needs = search rules;
-      count = ap length items ∙ omega (arith, length-append c.loop-object.texts.items (text ∷ []), c.loop-object.invariant.count);
-      each = subst (λ xs. EachMap t written (map (λ m. m.items) xs)) (sym items)
-          (more_maps t written c.loop-object.texts.items c.loop-object.object text c.loop-object.invariant.count c.loop-object.invariant.each c.in_ok-map_text.ensures.text);
+      count = ap length c.in_ok-push.ensures.items ∙ omega (arith, length-append c.loop-object.texts.items (c.in_ok-map_text.field-0 ∷ []), c.loop-object.invariant.count);
+      each = subst (λ xs. EachMap t written (map (λ m. m.items) xs)) (sym c.in_ok-push.ensures.items)
+          (more_maps t written c.loop-object.texts.items c.loop-object.object c.in_ok-map_text.field-0 c.loop-object.invariant.count c.loop-object.invariant.each c.in_ok-map_text.ensures.text);
     }

@@ -1,5 +1,5 @@
 use Rattle.ninja_text.proofs.ForCallers.{take_next}
-use Rattle.std.proofs.Common.{rules, ◌≡◌, ℕ, ◌+◌, List, [], ◌∷◌, ◌++◌, take, length, Option, Some, refl, subst, sym, slice_get, option_copied, option_map}
+use Rattle.std.proofs.Common.{rules, ◌≡◌, ℕ, List, take, length, Option, Some, refl, subst, sym, slice_get, option_copied, option_map}
 use Rattle.std.proofs.lemmas.List.{take_all}
 use Rattle.std.proofs.lemmas.Option.{slice_get_read}
 use Rattle.ninja_text.specs.Failure.{ForFault}
@@ -55,11 +55,10 @@ loop-index-preserved g c =
     let n : ℕ = c.loop-index.index-counter in
     let p : ProjectTargetValue = c.index-targets-index.result in
     let here : slice_get targets n ≡ Some p = slice_get_read targets _ n _ refl c.loop-index-test.true c.index-targets-index.is in
-    let next : take (n + 1) targets ≡ take n targets ++ p ∷ [] = take_next targets n p here in
     let outs : List CollatedValue = c.loop-index.outs.items in
     let linked : CollatesLinked style outs p c.in-Ok.out = subst (λ (os : List CollatedValue). CollatesLinked style os p c.in-Ok.out) c.as_slice.ensures.value c.in-Ok.ensures.collated in
     record {
-      collated = rw (next, c.in_ok-push-in-Ok.ensures.items) (project_push style (take n targets) outs c.loop-index.invariant.collated p c.in-Ok.out linked.0 linked.1);
+      collated = rw (take_next targets n p here, c.in_ok-push-in-Ok.ensures.items) (project_push style (take n targets) outs c.loop-index.invariant.collated p c.in-Ok.out linked.0 linked.1);
       known = subst (λ (os : List CollatedValue). AreKnown os c.in_ok-pool-in-Ok.pool) (sym c.in_ok-push-in-Ok.ensures.items)
           (known_added outs c.loop-index.pool c.loop-index.invariant.known c.in-Ok.out c.in-Ok.info c.in-Ok.ensures.known c.in_ok-pool-in-Ok.pool c.in_ok-pool-in-Ok.ensures);
     }
