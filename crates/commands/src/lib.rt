@@ -28,10 +28,13 @@
 //! It uses the other library crates of this repository, of which `command_line` says what a
 //! task is.
 //!
-//! `must-fail/` has a wrong body of each public function. `usage_with_status_1` shows the clause of
-//! each call that makes a [`Stop`], `every_document_reported_as_no_json` that of the message of a
-//! rejection, whatever the command, and `file_read_twice` that of what is read, how often and in
-//! which order.
+//! `must-fail/` has a wrong body of each public function, with three exceptions. `order_of_no_edges`
+//! of `in_memory` shows the clause of [`order_edges`]. That of [`Answer::of`] names each part of the
+//! answer, and that of [`Folder::feed`], which has a body for files in memory, names its calls.
+//! `usage_with_status_1` shows the clause of each call that makes a [`Stop`],
+//! `every_document_reported_as_no_json` that of the message of a rejection, whatever the command, and
+//! so that of [`collate_scan`], and `file_read_twice` that of what is read, how often and in which
+//! order.
 #![tactic(auto)]
 
 mod answer;

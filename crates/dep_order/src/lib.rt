@@ -27,7 +27,8 @@
 //! is recursive. The crate depends on std alone. Definitions that only private contracts use are in
 //! `specs/inner/`.
 //!
-//! `must-fail/` has a wrong body of each public function, except for laws, which have no body.
+//! `must-fail/` has a wrong body of each public function, except for laws, which have no body, and for
+//! [`Digraph::new`] and [`Reaching::new`], which fill fields.
 //!
 //! # Dependencies between other things
 //!

@@ -24,12 +24,11 @@
 //! Definitions that only private contracts use are in `specs/inner/`. Lemmas for other crates are in
 //! `proofs/ForCallers.antt`.
 //!
-//! `must-fail/` has a wrong body of each public function, except for laws, which have no body, and for
-//! [`Failure::map`] and [`Counted::into_inner`], which can only pass on values of any type.
-//! `token_begins_at_its_end` stands for all functions that return one field, and
-//! `escapes_stay_in_a_value` for both functions `value_into`. For constructors and for what is kept
-//! from call to call, see `lines_numbered_from_0`, `failed_calls_are_not_counted` and
-//! `refusal_forgotten`.
+//! `must-fail/` has a wrong body of each public function, except for laws, which have no body, for
+//! [`Failure::map`], which can only pass on values of any type, and for functions whose clause is an
+//! equation that names the value, such as those that fill or return a field. The README lists them.
+//! `continuation_leaves_a_space` stands for both functions `value_into`, and
+//! `failed_calls_are_not_counted` for [`Counted::read`] and [`Counted::write`].
 #![tactic(auto)]
 
 mod assigning;
