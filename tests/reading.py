@@ -303,8 +303,8 @@ class Reading(unittest.TestCase):
 
     def test_examples(self):
         """The page of a library quotes its example: python3 -m tests.reading --write"""
-        self.assertEqual(set(EXAMPLES), set(CRATES) - {"c_library", "command_line", "commands", "dyncollate", "library_tests",
-                                                       "system_files", "table_keys"})
+        self.assertEqual(set(EXAMPLES), set(CRATES) - {"c_library", "command_line", "commands", "dyncollate", "info_pool",
+                                                       "library_tests", "system_files", "table_keys"})
         for crate, path in EXAMPLES.items():
             with self.subTest(crate):
                 self.assertIn(example(path), QUOTED.findall(page_of(crate).read_text()))
@@ -357,8 +357,8 @@ class Reading(unittest.TestCase):
 # ---- the words of definitions
 
 # The files that give names to lists of numbers, and to the numbers of bytes.
-FILES_OF_NAMES = ("ninja_text/specs/Bytes.antt", "dep_order/specs/Numbers.antt", "table_keys/specs/Hashed.antt",
-                  "command_line/specs/Arguments.antt")
+FILES_OF_NAMES = ("ninja_text/specs/Bytes.antt", "dep_order/specs/Numbers.antt", "info_pool/specs/Indexes.antt",
+                  "table_keys/specs/Hashed.antt", "command_line/specs/Arguments.antt")
 BYTE_NUMBER = re.compile(r"(?:== |∷ |\bthen |\belse |\bnat_l[et] (?:\w+ )?)\d\d+\b|\b\d\d+ ∷")
 
 

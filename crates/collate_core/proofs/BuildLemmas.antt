@@ -3,7 +3,7 @@ use Rattle.ninja_text.proofs.ForCallers.{element_at, same_some, from_map, to_map
 use Rattle.std.proofs.Common.{◌≡◌, ◌⊎◌, ℕ, ◌+◌, ◌<◌, List, ◌++◌, length, Some, subst, sym, ◌∙◌, inl, inr, arith, slice_get, Contains, slice_index, zero, suc, [], ◌∷◌, Option, None, get_or, refl, ap}
 use Rattle.std.proofs.lemmas.Option.{slice_get_within, get_or_from_slice_get, slice_get-get_or}
 use Rattle.dep_order.specs.Orders.{IsLeastOrder}
-use Rattle.scan_docs.specs.Scan.{RuleValue}
+use Rattle.document_values.specs.Rule.{RuleValue}
 use Rattle.build_effect.specs.EdgeValue.{EdgeValue}
 use Rattle.build_effect.specs.Graphs.{Makes, HasInput, EdgeNeeds, made_by, inputs_of}
 use Rattle.module_table.specs.TableValue.{TableValue}
@@ -12,7 +12,8 @@ use Rattle.module_table.specs.Added.{required_of, RequiredFiles, AllRequired, On
 use Rattle.collate_core.specs.Statements.{module_files}
 use Rattle.collate_core.specs.Headline.{Modules, with_modules}
 use Rattle.collate_core.specs.Builds.{IsMaker, IsReader, RequiresFile, ProvidesFile, IsRunOrder, HasNoRace, HasReason, required, listed, HasNoFalseWait, HasSameChains, without_order_only, rebuild_graph, HasNoFalseRebuild, HasNoFalseCycle}
-use Rattle.collate_core.proofs.Linked.{index_of, contained}
+use Rattle.ninja_text.proofs.ForCallers.{placed as index_of}
+use Rattle.collate_core.proofs.Linked.{contained}
 use Rattle.std.proofs.lemmas.Bool.{cases_lt}
 use Rattle.std.proofs.lemmas.List.{length-map}
 use Rattle.dep_order.specs.Needs.{NodeNeeds, NeedsAreNodes, IsOrderable}

@@ -9,8 +9,9 @@ use Rattle.ninja_text.specs.declared.failure.Failure.{Failure}
 use Rattle.ninja_text.specs.declared.failure.Failure.TheVariants.{Fault}
 use Rattle.scan_docs.specs.Document.{IsRefused}
 use Rattle.scan_docs.specs.ScanChecks.{scan_checks}
-use Rattle.scan_docs.specs.Scan.{SettingValue, RuleValue, IsRuleText, IsText}
-use Rattle.scan_docs.specs.Info.{InfoValue, ModuleValue}
+use Rattle.scan_docs.specs.Scan.{SettingValue, IsRuleText, IsText}
+use Rattle.document_values.specs.Rule.{RuleValue}
+use Rattle.document_values.specs.Info.{InfoValue, ModuleValue}
 use Rattle.scan_docs.specs.InfoText.{IsInfoText, IsModuleText}
 use Rattle.scan_docs.specs.InfoChecks.{info_checks}
 use Rattle.scan_docs.specs.Values.{rules_of, info_of}
@@ -28,7 +29,7 @@ use Rattle.collate_core.specs.Statements.{statement_of, statements_of, module_fi
 use Rattle.collate_core.specs.Infos.{modules_of, module_of, info_of_table}
 use Rattle.std.specs.List.{AllByRecursion}
 use Rattle.ninja_text.specs.Paths.{IsPath}
-use Rattle.scan_docs.specs.Name.{IsName, IsTargetName}
+use Rattle.document_values.specs.Name.{IsName, IsTargetName}
 use Rattle.scan_docs.specs.Sound.{IsSoundPair, IsSoundModule, IsSoundInfo}
 use Rattle.module_table.specs.Modules.{IsProvidedBy}
 use Rattle.module_table.specs.declared.fault.Maker.{Maker}

@@ -7,7 +7,7 @@ use Rattle.ninja_text.specs.Paths.{IsPath}
 use Rattle.dep_order.specs.Needs.{IsOrderable}
 use Rattle.dyndep_file.specs.StatementValue.{StatementValue}
 use Rattle.dyndep_file.specs.Reading.{StandsForOnly}
-use Rattle.scan_docs.specs.Scan.{RuleValue}
+use Rattle.document_values.specs.Rule.{RuleValue}
 use Rattle.build_effect.specs.EdgeValue.{EdgeValue}
 use Rattle.build_effect.specs.Graphs.{Names, EdgeNeeds}
 use Rattle.build_effect.specs.Effect.{IsCanonical, AreCanonical, Extends, extended}
@@ -27,7 +27,8 @@ use Rattle.collate_core.proofs.Parts.{all_images}
 use Rattle.build_effect.specs.Files.{NamedFile, AreFiles, AnyOrder, OrdersEndAlike, FilesMeet, AreFileIndices, Applies, GainsExactly}
 use Rattle.collate_core.specs.Projects.{target_of, CollatesProject, project_tables}
 use Rattle.collate_core.specs.ProjectOrders.{dyndep_files, AllOrders, Sees, ProjectProvides, IsProjectOrdered}
-use Rattle.collate_core.proofs.Linked.{collation_at, sound_of, contained, index_of}
+use Rattle.ninja_text.proofs.ForCallers.{placed as index_of}
+use Rattle.collate_core.proofs.Linked.{collation_at, sound_of, contained}
 use Rattle.std.proofs.lemmas.Option.{slice_get_within, get_or_from_slice_get}
 use Rattle.build_effect.specs.Numbering.{HasOutputsOnly, IsRisingNumbering, IsAboveOthers, AreOrdered, rank_at, FilesOrder}
 use Rattle.collate_core.proofs.NeededLemmas.{task_in}

@@ -2,14 +2,15 @@
 use Rattle.ninja_text.proofs.ForCallers.{same_some}
 use Rattle.std.proofs.Common.{◌≡◌, ℕ, zero, suc, ◌<◌, List, [], ◌∷◌, Some, None, codes, refl, ap, subst, sym, ◌∙◌, inl, inr, arith, slice_get, Contains, bytes_eq, false, true≢false}
 use Rattle.std.proofs.lemmas.Slice.Eq.{bytes_eq-Decides}
-use Rattle.scan_docs.specs.Scan.{RuleValue}
+use Rattle.document_values.specs.Rule.{RuleValue}
 use Rattle.build_effect.specs.EdgeValue.{EdgeValue}
 use Rattle.build_effect.specs.Graphs.{Makes, HasInput, EdgeNeeds, made_by}
 use Rattle.module_table.specs.TableValue.{TableValue}
 use Rattle.module_table.specs.Modules.{Provides, Requires}
 use Rattle.module_table.specs.declared.fault.Maker.TheVariants.{Object}
 use Rattle.collate_core.specs.Builds.{IsMaker, IsReader, IsEdgeOf, RequiresFile, ProvidesFile, ComesAfter, IsRunOrder, HasNoRace, HasReason, required, listed, HasNoFalseWait, HasNoFalseCycle}
-use Rattle.collate_core.proofs.Linked.{index_of, contained}
+use Rattle.ninja_text.proofs.ForCallers.{placed as index_of}
+use Rattle.collate_core.proofs.Linked.{contained}
 
 -- `a.o` provides `A` and requires `B`, which `b.o` provides
 abbrev two_objects : TableValue

@@ -2,7 +2,7 @@
 use Rattle.ninja_text.proofs.ForCallers.{same_some, from_map, to_map, element_at}
 use Rattle.std.proofs.Common.{◌≡◌, ◌≢◌, ◌⊎◌, ℕ, zero, suc, List, [], ◌∷◌, map, Option, Some, None, refl, ap, subst, sym, ◌∙◌, inl, inr, slice_get, Contains, ◌<◌, length, arith, zip, filter_map}
 use Rattle.dyndep_file.specs.StatementValue.{StatementValue}
-use Rattle.scan_docs.specs.Scan.{RuleValue}
+use Rattle.document_values.specs.Rule.{RuleValue}
 use Rattle.build_effect.specs.EdgeValue.{EdgeValue}
 use Rattle.build_effect.specs.Graphs.{Names, Makes}
 use Rattle.build_effect.specs.Effect.{Effect, extended}
@@ -17,7 +17,8 @@ use Rattle.collate_core.specs.Headline.{with_modules, AddsExactly}
 use Rattle.collate_core.specs.Builds.{IsMaker, RequiresFile, HasNoRace}
 use Rattle.collate_core.specs.BuildLaws.{IsAfterTarget, IsAfterProject, tables_of}
 use Rattle.collate_core.proofs.Lists.{same_or_not}
-use Rattle.collate_core.proofs.Linked.{index_of, contained, sound_of}
+use Rattle.ninja_text.proofs.ForCallers.{placed as index_of}
+use Rattle.collate_core.proofs.Linked.{contained, sound_of}
 use Rattle.collate_core.proofs.NeededLemmas.{task_in}
 use Rattle.collate_core.proofs.BuildLemmas.{IsOfObject, Gained}
 use Rattle.std.specs.List.{cons_option}

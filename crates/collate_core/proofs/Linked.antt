@@ -1,16 +1,17 @@
 -- The info files that the targets of a project link.
-use Rattle.ninja_text.proofs.ForCallers.{element_at, from_map, to_map, same_some}
+use Rattle.ninja_text.proofs.ForCallers.{element_at, placed as index_of, from_map, to_map, same_some}
 use Rattle.std.proofs.Common.{◌≡◌, ℕ, ◌<◌, List, [], length, map, Option, Some, refl, ap, subst, sym, ◌∙◌, arith, slice_get, Contains, suc, ◌∷◌, None, get_or, ap₂, Bool, IsTrue, All, IfSome, option_map, option_copied, is_some, Bor}
 use Rattle.std.specs.Option.{option_map_or}
 use Rattle.std.proofs.lemmas.List.Elements.{All-cons}
-use Rattle.std.proofs.lemmas.Option.{slice_get_within, get_or_from_slice_get, slice_get_read}
-use Rattle.scan_docs.specs.Info.{InfoValue, IsInfo, ModuleValue}
+use Rattle.std.proofs.lemmas.Option.{slice_get_within, get_or_from_slice_get}
+use Rattle.scan_docs.specs.Info.{IsInfo}
+use Rattle.document_values.specs.Info.{InfoValue, ModuleValue}
 use Rattle.scan_docs.specs.InfoChecks.{info_checks}
 use Rattle.scan_docs.specs.Document.{IsAccepted}
 use Rattle.module_maps.specs.Maps.{Written}
 use Rattle.module_table.specs.TableValue.{TableValue, table_with}
 use Rattle.module_table.specs.Sound.{IsSound}
-use Rattle.module_table.proofs.ForCallers.{known_there}
+use Rattle.info_pool.proofs.ForCallers.{known_there}
 use Rattle.scan_docs.specs.Values.{info_of}
 use Rattle.collate_core.specs.Values.{CollatedValue, ProjectTargetValue, TargetValue}
 use Rattle.collate_core.specs.Documents.{table_of, IsInfoAccepted, AreScansAccepted, all_rules}
@@ -18,9 +19,11 @@ use Rattle.collate_core.specs.Infos.{info_of_table}
 use Rattle.collate_core.specs.Collation.{Collates}
 use Rattle.collate_core.specs.Projects.{target_of, linked_infos, project_tables, CollatesProject}
 use Rattle.collate_core.proofs.Lists.{all_at}
-use Rattle.scan_docs.specs.Scan.{RuleValue, IsRuleText, IsText}
+use Rattle.scan_docs.specs.Scan.{IsRuleText, IsText}
+use Rattle.document_values.specs.Rule.{RuleValue}
 use Rattle.scan_docs.specs.InfoText.{IsInfoText, IsModuleText}
-use Rattle.module_table.specs.Parts.{HasModule, IsPartOf, KeepsRequired, IsEnough, AreLinked}
+use Rattle.document_values.specs.Parts.{HasModule, IsPartOf, KeepsRequired, IsEnough}
+use Rattle.info_pool.specs.Pool.{AreLinked}
 use Rattle.collate_core.specs.inner.ReadInfos.{IsReadAs, AreReadAs, AreKnown}
 use Rattle.collate_core.specs.inner.PartTables.{IsEnoughFor}
 
@@ -28,9 +31,6 @@ use Rattle.collate_core.specs.inner.PartTables.{IsEnoughFor}
 
 pub contained : {X : Type 0} (xs : List X) (k : ℕ) (x : X) → slice_get xs k ≡ Some x → Contains xs x
 contained xs k x e = (k, slice_get_within _ _ _ e, get_or_from_slice_get xs k x x e)
-
-pub index_of : {X : Type 0} (xs : List X) (x : X) → Contains xs x → (k : ℕ) × (slice_get xs k ≡ Some x)
-index_of xs x h = (h.0, slice_get_read xs _ h.0 x refl h.1 (sym h.2))
 
 -- an accepted info is that of the function of its bytes
 abbrev pub InfoIs : Type 0

@@ -6,9 +6,9 @@ use Rattle.std.proofs.lemmas.Grind.{flat_map-append}
 use Rattle.std.proofs.lemmas.Option.{slice_get_within, get_or_from_slice_get}
 use Rattle.ninja_text.proofs.ForCallers.{same_some, from_push, take_next}
 use Rattle.std.proofs.Math.Nat.{mul-le-mul_right}
-use Rattle.scan_docs.specs.Info.{InfoValue, ModuleValue}
+use Rattle.document_values.specs.Info.{InfoValue, ModuleValue}
 use Rattle.collate_core.specs.Values.{CollatedValue}
-use Rattle.module_table.specs.Parts.{IsAdded}
+use Rattle.info_pool.specs.Pool.{IsAdded}
 use Rattle.collate_core.specs.inner.ReadInfos.{IsReadAs, AreKnown}
 use Rattle.std.proofs.lemmas.Slice.Eq.{bytes_eq-Decides}
 use Rattle.indexmap.specs.IndexSet.{insert_key}

@@ -1,8 +1,8 @@
 -- What an object needs in the table of its target is what it needs in the project.
 use Rattle.ninja_text.proofs.ForCallers.{from_map, to_map, same_some, offset, in_flat_map, from_flat_map}
 use Rattle.std.proofs.Common.{◌≡◌, ℕ, ◌+◌, ◌⊎◌, List, [], ◌∷◌, ◌++◌, Option, Some, Result, refl, ap, subst, sym, ◌∙◌, inl, inr, slice_get, Contains, ◌↔◌, flat_map}
-use Rattle.scan_docs.specs.Scan.{RuleValue}
-use Rattle.scan_docs.specs.Info.{InfoValue, ModuleValue}
+use Rattle.document_values.specs.Rule.{RuleValue}
+use Rattle.document_values.specs.Info.{InfoValue, ModuleValue}
 use Rattle.build_effect.specs.Premises.{AddsAt}
 use Rattle.module_maps.specs.Values.{ModuleMapValue}
 use Rattle.module_maps.specs.Maps.{Written, AreEntriesOf, AreStyleLaws}
@@ -21,7 +21,8 @@ use Rattle.collate_core.specs.Infos.{info_of_table, module_of, modules_of}
 use Rattle.collate_core.specs.Projects.{CollatesProject, project_tables}
 use Rattle.collate_core.specs.ProjectOrders.{ProjectProvides}
 use Rattle.collate_core.specs.ProjectNeeds.{IsProjectNeeded, direct, onward, AddedApart, MapsReadBack}
-use Rattle.collate_core.proofs.Linked.{InfoIs, contained, index_of, collation_at, sound_of, info_at, info_of_link}
+use Rattle.ninja_text.proofs.ForCallers.{placed as index_of}
+use Rattle.collate_core.proofs.Linked.{InfoIs, contained, collation_at, sound_of, info_at, info_of_link}
 
 abbrev pub task_in : TableValue → RuleValue → Task
 task_in t rule = (rule, required_of t rule)

@@ -5,7 +5,8 @@ use Rattle.std.proofs.lemmas.List.Folds.{length-flat_map-take}
 use Rattle.std.proofs.lemmas.Option.{slice_get_within, get_or_from_slice_get}
 use Rattle.dyndep_file.specs.declared.fault.WriteFault.TheVariants as write
 use Rattle.scan_docs.specs.Document.{HasOneAnswer, IsRefused}
-use Rattle.scan_docs.specs.Scan.{SettingValue, RuleValue, AreRules}
+use Rattle.scan_docs.specs.Scan.{SettingValue, AreRules}
+use Rattle.document_values.specs.Rule.{RuleValue}
 use Rattle.scan_docs.specs.ScanChecks.{scan_checks}
 use Rattle.scan_docs.specs.Info.{IsInfo}
 use Rattle.scan_docs.specs.InfoChecks.{info_checks}

@@ -23,7 +23,7 @@ use Rattle.collate_core.specs.declared.fault.Refusal.TheVariants.{Scan, Info, Ta
 use Rattle.ninja_text.proofs.ForCallers.{element_at, in_append, same_some}
 use Rattle.std.specs.declared.alloc.Global.{Global}
 use Rattle.std.proofs.lemmas.List.{map_push, length-map}
-use Rattle.scan_docs.specs.Scan.{RuleValue}
+use Rattle.document_values.specs.Rule.{RuleValue}
 use Rattle.module_table.specs.TableValue.{TableValue, table_with}
 use Rattle.module_table.specs.Faults.{IsFault}
 use Rattle.module_table.specs.Sound.{IsSound, PrivateAreProvided}
@@ -34,12 +34,13 @@ use Rattle.collate_core.specs.Documents.{table_of, AreAccepted, IsResolved}
 use Rattle.collate_core.specs.Statements.{statements_of, statement_of}
 use Rattle.collate_core.specs.Refusals.{IsRefusal, IsMapRefusal, WasRead}
 use Rattle.collate_core.specs.declared.fault.RefusedTarget.{RefusedTarget}
-use Rattle.scan_docs.specs.Info.{InfoValue}
+use Rattle.document_values.specs.Info.{InfoValue}
 use Rattle.scan_docs.specs.InfoText.{info_text, ReadsBack}
 use Rattle.module_table.specs.Outcomes.{SoundHasNoFault}
 use Rattle.module_table.specs.Added.{Task, tasks_of}
 use Rattle.module_table.specs.Needed.{ArePairs, IsNeeded}
-use Rattle.module_table.specs.Parts.{IsEnough, KeepsRequired, PartIsSound, PartHasTasks, PartIsNeeded}
+use Rattle.module_table.specs.Parts.{PartIsSound, PartHasTasks, PartIsNeeded}
+use Rattle.document_values.specs.Parts.{IsEnough, KeepsRequired}
 use Rattle.collate_core.specs.Infos.{modules_of}
 use Rattle.collate_core.specs.inner.PartTables.{IsEnoughFor}
 

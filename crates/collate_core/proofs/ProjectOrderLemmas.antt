@@ -12,7 +12,8 @@ use Rattle.module_table.specs.Added.{RequiredFiles, AllRequired, OneFile, FilesO
 use Rattle.collate_core.specs.Values.{CollatedValue, ProjectTargetValue}
 use Rattle.collate_core.specs.Projects.{CollatesProject, project_tables}
 use Rattle.collate_core.specs.ProjectOrders.{ProjectProvides, IsProjectOrdered}
-use Rattle.collate_core.proofs.Linked.{InfoIs, index_of, sound_of}
+use Rattle.ninja_text.proofs.ForCallers.{placed as index_of}
+use Rattle.collate_core.proofs.Linked.{InfoIs, sound_of}
 use Rattle.collate_core.proofs.NeededLemmas.{provided_from, same_provides}
 
 -- the ranks of a table's objects

@@ -5,7 +5,7 @@ use Rattle.ninja_text.specs.Bytes.{PathText, Name}
 use Rattle.dep_order.specs.Numbers.{Numbers}
 use Rattle.dep_order.specs.Needs.{IsChain, IsOrderable}
 use Rattle.dep_order.specs.Cycles.{IsCycle}
-use Rattle.scan_docs.specs.Scan.{RuleValue}
+use Rattle.document_values.specs.Rule.{RuleValue}
 use Rattle.build_effect.specs.EdgeValue.{EdgeValue}
 use Rattle.build_effect.specs.Graphs.{HasInput, MakesAt, EdgeNeeds}
 use Rattle.module_table.specs.TableValue.{TableValue}

@@ -5,7 +5,7 @@ use Rattle.ninja_text.specs.Paths.{IsPath}
 use Rattle.dyndep_file.specs.StatementValue.{StatementValue}
 use Rattle.dyndep_file.specs.WriteFaults.{text_or_fault, paths_of}
 use Rattle.dyndep_file.specs.Reading.{StandsForOnly}
-use Rattle.scan_docs.specs.Scan.{RuleValue}
+use Rattle.document_values.specs.Rule.{RuleValue}
 use Rattle.scan_docs.specs.InfoText.{info_text, ReadsBack}
 use Rattle.module_table.specs.TableValue.{TableValue}
 use Rattle.module_maps.specs.Values.{ModuleMapValue}

@@ -3,7 +3,8 @@ use Rattle.std.specs.Prelude.{ℕ, ◌≤◌, List, length, map, All}
 use Rattle.std.specs.List.{flat_map}
 use Rattle.ninja_text.specs.Bytes.{Text}
 use Rattle.scan_docs.specs.Document.{IsAccepted}
-use Rattle.scan_docs.specs.Scan.{SettingValue, RuleValue, AreRules}
+use Rattle.scan_docs.specs.Scan.{SettingValue, AreRules}
+use Rattle.document_values.specs.Rule.{RuleValue}
 use Rattle.scan_docs.specs.ScanChecks.{scan_checks}
 use Rattle.scan_docs.specs.Info.{IsInfo}
 use Rattle.scan_docs.specs.InfoChecks.{info_checks}

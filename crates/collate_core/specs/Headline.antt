@@ -4,7 +4,7 @@ use Rattle.ninja_text.specs.Bytes.{Text, PathText, Name}
 use Rattle.dep_order.specs.Needs.{IsOrderable}
 use Rattle.dyndep_file.specs.StatementValue.{StatementValue}
 use Rattle.dyndep_file.specs.Reading.{StandsForOnly}
-use Rattle.scan_docs.specs.Scan.{RuleValue}
+use Rattle.document_values.specs.Rule.{RuleValue}
 use Rattle.module_table.specs.TableValue.{TableValue}
 use Rattle.module_table.specs.Added.{AddedNeeds, required_of}
 use Rattle.build_effect.specs.EdgeValue.{EdgeValue}

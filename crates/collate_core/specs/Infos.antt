@@ -2,7 +2,7 @@
 use Rattle.std.specs.Prelude.{Bool, List, map, bytes_eq}
 use Rattle.std.specs.List.{flat_map, list_any}
 use Rattle.ninja_text.specs.Bytes.{PathText, Name}
-use Rattle.scan_docs.specs.Info.{ModuleValue, InfoValue}
+use Rattle.document_values.specs.Info.{ModuleValue, InfoValue}
 use Rattle.module_table.specs.TableValue.{TableValue}
 use Rattle.module_table.specs.Added.{Task, tasks_of}
 

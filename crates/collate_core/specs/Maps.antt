@@ -1,6 +1,6 @@
 -- The module maps of a target's objects.
 use Rattle.std.specs.Prelude.{◌≡◌, ℕ}
-use Rattle.scan_docs.specs.Scan.{RuleValue}
+use Rattle.document_values.specs.Rule.{RuleValue}
 use Rattle.module_maps.specs.Values.{ModuleMapValue}
 use Rattle.module_maps.specs.Maps.{IsModuleMap}
 use Rattle.module_table.specs.TableValue.{TableValue}

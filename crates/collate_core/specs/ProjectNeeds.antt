@@ -1,7 +1,7 @@
 -- What an object needs in a project, and the maps that say so.
 use Rattle.std.specs.Prelude.{◌≡◌, ℕ, List, ◌++◌, slice_get, Some, Ok}
 use Rattle.ninja_text.specs.Bytes.{Text, PathText, Name}
-use Rattle.scan_docs.specs.Scan.{RuleValue}
+use Rattle.document_values.specs.Rule.{RuleValue}
 use Rattle.build_effect.specs.Premises.{AddsAt}
 use Rattle.module_table.specs.TableValue.{TableValue}
 use Rattle.module_table.specs.Modules.{Requires}

@@ -4,7 +4,8 @@ use Rattle.ninja_text.specs.Bytes.{Text}
 use Rattle.dyndep_file.specs.WriteFaults.{write_fault}
 use Rattle.dyndep_file.specs.declared.fault.WriteFault.TheVariants as write
 use Rattle.scan_docs.specs.Document.{IsRefused}
-use Rattle.scan_docs.specs.Scan.{SettingValue, RuleValue}
+use Rattle.scan_docs.specs.Scan.{SettingValue}
+use Rattle.document_values.specs.Rule.{RuleValue}
 use Rattle.scan_docs.specs.ScanChecks.{scan_checks}
 use Rattle.scan_docs.specs.InfoChecks.{info_checks}
 use Rattle.scan_docs.specs.declared.fault.DocFault.{DocFault}

@@ -17,11 +17,12 @@ use crate::laws::headline;
 use crate::object_maps::maps_of;
 use crate::statements::dyndep_text;
 use crate::table::table_of;
+use document_values::{Name, TargetName};
 use module_maps::MapStyle;
 use module_table::{Table, added_files};
 use ninja_text::{Failure, Path};
 use scan_docs::laws::{info_again, target_names};
-use scan_docs::{Name, Setting, TargetName, lent_info_write};
+use scan_docs::{Setting, lent_info_write};
 use std::alloc::{AllocError, Global};
 use std::marker::Model;
 

@@ -3,11 +3,12 @@ ghost use Rattle.std.specs.Prelude.{◌≡◌, Ok, IfOk, IfSome};
 ghost use Rattle.ninja_text.specs.Failure.{Turns};
 
 use build_effect::EffectFault;
+use document_values::{Info, Rule};
 use dyndep_file::ReadFault;
 use module_maps::MapFault;
 use module_table::TableFault;
 use ninja_text::Failure;
-use scan_docs::{DocFault, Info, Rule};
+use scan_docs::DocFault;
 use std::alloc::{AllocError, Global};
 use thiserror::Error;
 

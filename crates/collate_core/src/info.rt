@@ -6,11 +6,12 @@ ghost use Rattle.collate_core.specs.Infos.{is_private_name, modules_of, info_of_
 ghost use Rattle.collate_core.specs.inner.Parts.{IsTableText};
 ghost use Rattle.collate_core.specs.inner.ReadInfos.{IsReadAs};
 
+use document_values::{Info, InfoModule, Name, Rule, TargetName};
 use indexmap::IndexSet;
 use module_table::{Table, added_files};
 use ninja_text::Path;
 use scan_docs::laws::value_of_bytes;
-use scan_docs::{DOCUMENT_LIMIT, Info, InfoModule, LentInfo, LentModule, Name, Rule, TargetName};
+use scan_docs::{DOCUMENT_LIMIT, LentInfo, LentModule};
 use std::alloc::{AllocError, Global};
 use table_keys::{KeyDigest, TableKey};
 

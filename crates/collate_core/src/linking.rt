@@ -16,10 +16,12 @@ use crate::fault::{Refusal, RefusedTarget, unless_faulty, without_table};
 use crate::info::info_again;
 use crate::projects::ProjectTarget;
 use crate::table::rules_of_all;
+use document_values::Info;
+use info_pool::{Pool, Scratch};
 use module_maps::MapStyle;
-use module_table::{Pool, Scratch, Table, parts, sound_tables};
+use module_table::{Table, parts, sound_tables};
 use ninja_text::Failure;
-use scan_docs::{Info, info_read};
+use scan_docs::info_read;
 use std::alloc::{AllocError, Global};
 
 /// Collates a target with the info files of the targets that it links, all of which have to be

@@ -2,7 +2,7 @@
 ghost use Rattle.std.specs.Prelude.{◌≡◌, ◌<◌, length, map, slice_get, Some, IfOk, IfErr};
 ghost use Rattle.std.specs.Option.{option_copied, option_map};
 ghost use Rattle.ninja_text.specs.Failure.{ForFault};
-ghost use Rattle.scan_docs.specs.Scan.{RuleValue};
+ghost use Rattle.document_values.specs.Rule.{RuleValue};
 ghost use Rattle.collate_core.specs.Collation.{AreMaps, IsMapText};
 ghost use Rattle.collate_core.specs.inner.Parts.{IsMapsRefusal, IsObjectRefusal};
 

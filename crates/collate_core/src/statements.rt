@@ -9,10 +9,10 @@ ghost use Rattle.collate_core.specs.Statements.{module_files, statements_of};
 ghost use Rattle.collate_core.specs.inner.Parts.{lent_files, IsSpelled, HasSpelled, IsWriteRefusal, IsLineRefusal};
 
 use crate::fault::Refusal;
+use document_values::Name;
 use dyndep_file::{DyndepText, LentStatement, WriteFault, laws};
 use module_table::Resolved;
 use ninja_text::{Failure, Path};
-use scan_docs::Name;
 use std::alloc::{AllocError, Global};
 
 /// Returns the text of one statement per object, in the order of the objects, or the first statement

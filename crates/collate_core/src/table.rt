@@ -11,9 +11,10 @@ ghost use Rattle.collate_core.specs.inner.ReadInfos.{AreReadAs};
 
 use crate::collating::Target;
 use crate::fault::{Refusal, RefusedTarget, nothing_read};
+use document_values::{Info, Rule};
 use module_table::{RefusedTable, Table};
 use ninja_text::Failure;
-use scan_docs::{DocFault, Info, Place, Rule, Setting, info_read, scan};
+use scan_docs::{DocFault, Place, Setting, info_read, scan};
 use std::alloc::Global;
 
 /// The maximum number of rules of a target.

@@ -3,7 +3,8 @@ use Rattle.std.proofs.Common.{◌≡◌, ◌∙◌, ℕ, suc, List, [], ◌∷�
 use Rattle.std.specs.List.{AllZip}
 use Rattle.std.proofs.lemmas.List.{map-append, take_more, length-map, map_push}
 use Rattle.std.proofs.lemmas.List.Elements.{All-nil, All-cons, All-head, All-tail, All-append, All-map}
-use Rattle.scan_docs.specs.Scan.{SettingValue, RuleValue, IsRule}
+use Rattle.scan_docs.specs.Scan.{SettingValue, IsRule}
+use Rattle.document_values.specs.Rule.{RuleValue}
 use Rattle.scan_docs.specs.Values.{rules_of, info_of}
 use Rattle.module_maps.specs.Maps.{Written}
 use Rattle.collate_core.specs.Values.{TargetValue, CollatedValue, ProjectTargetValue}
@@ -16,7 +17,7 @@ use Rattle.commands.specs.declared.stop.OutputFile.{OutputFile}
 use Rattle.ninja_text.specs.Failure.{ForFault}
 use Rattle.ninja_text.specs.declared.failure.Failure.{Failure}
 use Rattle.ninja_text.specs.declared.failure.Failure.TheVariants.{Memory, Fault}
-use Rattle.scan_docs.specs.Info.{InfoValue}
+use Rattle.document_values.specs.Info.{InfoValue}
 use Rattle.module_table.specs.TableValue.{TableValue, table_with}
 use Rattle.collate_core.specs.Refusals.{IsRefusal, WasRead}
 use Rattle.collate_core.specs.declared.fault.Refusal.{Refusal}

@@ -5,7 +5,8 @@ use Rattle.ninja_text.specs.Bytes.{Text, Name}
 use Rattle.dyndep_file.specs.FaultTexts.{write_fault_text}
 use Rattle.dyndep_file.specs.declared.fault.WriteFault.TheVariants as write
 use Rattle.scan_docs.specs.FaultTexts.{doc_fault_text}
-use Rattle.scan_docs.specs.Scan.{SettingValue, RuleValue}
+use Rattle.scan_docs.specs.Scan.{SettingValue}
+use Rattle.document_values.specs.Rule.{RuleValue}
 use Rattle.scan_docs.specs.Values.{info_of}
 use Rattle.scan_docs.specs.declared.fault.DocFault.{DocFault}
 use Rattle.module_maps.specs.declared.fault.MapFault.{MapFault}

@@ -5,7 +5,7 @@ use Rattle.std.specs.List.{flat_map}
 use Rattle.std.specs.Option.{option_map_or}
 use Rattle.ninja_text.specs.Bytes.{Text, PathText, Name}
 use Rattle.dep_order.specs.Numbers.{Numbers}
-use Rattle.scan_docs.specs.Scan.{RuleValue}
+use Rattle.document_values.specs.Rule.{RuleValue}
 use Rattle.module_table.specs.FaultNames.{fault_name}
 use Rattle.module_table.specs.declared.fault.Maker.{Maker}
 use Rattle.module_table.specs.declared.fault.Maker.TheVariants.{Object, Info}

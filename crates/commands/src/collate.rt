@@ -15,9 +15,10 @@ use crate::stop::{self, Output, OutputFile, Stop};
 use collate_core::{
     Collated, CollatedParts, Target, collate_dyndep_or_refused, collate_or_refused,
 };
+use document_values::TargetName;
 use module_maps::{Clang, Gcc};
 use ninja_text::Path;
-use scan_docs::{MapForm, Setting, TargetName, TargetSpec, spec_read};
+use scan_docs::{MapForm, Setting, TargetSpec, spec_read};
 use std::alloc::{AllocError, Global};
 
 /// Runs `collate TARGETFILE` on the bytes of the target document. The files that it names are read

@@ -9,10 +9,10 @@ ghost use Rattle.commands.specs.inner.Refusals.{refusal_line, refused_line};
 use crate::reading::pushed;
 use build_effect::{Edge, EffectFault, ListFault};
 use collate_core::{Refusal, RefusedTarget};
+use document_values::{Name, Rule, TargetName};
 use dyndep_file::WriteFault;
 use module_maps::MapFault;
 use module_table::{Maker, TableFault};
-use scan_docs::{Name, Rule, TargetName};
 use std::alloc::{AllocError, Global};
 
 /// Returns what is reported of a rejected target. Info files are named by the names in them.

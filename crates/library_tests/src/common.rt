@@ -1,7 +1,8 @@
 //! What several tests use: the values of calls, paths, names, and the setting of a target.
 
+use document_values::{Name, TargetName};
 use ninja_text::{Failure, Path};
-use scan_docs::{Name, Setting, TargetName};
+use scan_docs::Setting;
 use std::alloc::{AllocError, Global};
 use std::test::Fail;
 

@@ -4,6 +4,7 @@
 mod build_effect_example;
 mod collate_core_example;
 mod dep_order_example;
+mod document_values_example;
 mod dyndep_file_example;
 mod in_memory_example;
 mod module_maps_example;

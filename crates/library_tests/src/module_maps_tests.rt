@@ -5,10 +5,10 @@ mod growths;
 
 use crate::common::{name, path, push_line, some, value};
 pub(crate) use bare::Bare;
+use document_values::Name;
 use module_maps::map_lines::{LineForm, pair_in, push_named};
 use module_maps::{Clang, Gcc, MapEntry, MapFault, MapStyle, ModuleMap};
 use ninja_text::{Failure, Path};
-use scan_docs::Name;
 use std::alloc::{AllocError, Global};
 use std::test::Fail;
 

@@ -3,9 +3,10 @@
 mod growths;
 
 use crate::common::setting;
+use document_values::Name;
 use module_table::{Maker, Table};
 use ninja_text::Path;
-use scan_docs::{Name, info_read, scan};
+use scan_docs::{info_read, scan};
 use std::alloc::{AllocError, Global};
 use std::test::Fail;
 

@@ -11,7 +11,7 @@ use Rattle.std.proofs.lemmas.Str.Ascii.{IsAscii-cons, IsAscii-nil}
 use Rattle.std.proofs.lemmas.Str.{IsUtf8-from_ascii, IsUtf8-from_is_utf8}
 use Rattle.ninja_text.specs.Paths.{path_of, is_empty, IsPath}
 use Rattle.ninja_text.specs.declared.fault.PathFault.{PathFault}
-use Rattle.scan_docs.specs.Name.{is_name}
+use Rattle.document_values.specs.Name.{is_name}
 use Rattle.module_maps.specs.Maps.{IsModulePair}
 use Rattle.module_maps.specs.MapLines.{canonical_in, is_fit, first_unfit, name_in, path_in, cut, both, pair_in, LineForm, read_lines}
 use Rattle.module_maps.specs.declared.module_map.MapEntry.{MapEntry}

@@ -5,7 +5,7 @@ use Rattle.std.specs.Str.{is_utf8}
 use Rattle.ninja_text.specs.Paths.{path_of, is_empty}
 use Rattle.ninja_text.specs.Bytes.{Byte, Text, PathText, Name, line_feed, space, double_quote, single_quote, backslash, delete}
 use Rattle.ninja_text.specs.declared.fault.PathFault.{PathFault}
-use Rattle.scan_docs.specs.Name.{is_name}
+use Rattle.document_values.specs.Name.{is_name}
 use Rattle.module_maps.specs.declared.module_map.MapEntry.{MapEntry}
 use Rattle.module_maps.specs.declared.fault.MapFault.{MapFault}
 use Rattle.module_maps.specs.declared.fault.MapFault.TheVariants.{BadMapLine}

@@ -13,8 +13,8 @@ use crate::map_lines::{
 };
 use crate::map_style::MapStyle;
 use crate::module_map::{MapEntry, ModuleMap};
+use document_values::Name;
 use ninja_text::{Failure, Path};
-use scan_docs::Name;
 use std::alloc::{AllocError, Global};
 
 /// The style of Clang, for a response file (Clang documentation, "Standard C++ Modules").

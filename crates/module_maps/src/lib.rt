@@ -13,11 +13,12 @@
 //!   they write (`IsWrittenText`). The lemmas for the laws are in `specs/map_laws/`, because the
 //!   proof of a trait's law is part of its `impl`, which can only use the crate's `specs/`.
 //!
-//! `must-fail/` has a wrong body of each public function. `needed_lent_as_provided` shows the clause
-//! of `provided` and `needed`, `names_left_out` that of both functions that push entries, and
-//! `name_read_as_path` that of both functions that read a path. `gcc_map_without_the_needed`,
-//! `nothing_fits` and `clang_map_keeps_no_needed` show the clauses of `write`, `fits` and `keeps`,
-//! which are the same for each style.
+//! `must-fail/` has a wrong body of each public function with these exceptions.
+//! [`ModuleMap::of_rising`], [`ModuleMap::provided`] and [`ModuleMap::needed`] fill or return fields,
+//! and their clauses name the fields. In [`map_lines`], `path_in`, `push_named` and `push_nameless`
+//! have one equation each, which names the result. `gcc_map_without_the_needed`, `nothing_fits`,
+//! `clang_map_keeps_no_needed` and `nothing_read` show the clauses of `write`, `fits`, `keeps` and
+//! `read`, which are the same for each style.
 #![tactic(auto)]
 
 mod clang;

@@ -7,8 +7,8 @@ ghost use Rattle.module_maps.specs.MapLines.{LineForm, is_map_byte, is_fit, firs
 
 use crate::fault::MapFault;
 use crate::module_map::{MapEntry, ModuleMap};
+use document_values::Name;
 use ninja_text::{Failure, Path};
-use scan_docs::Name;
 use std::alloc::{AllocError, Global};
 use std::str;
 

@@ -3,8 +3,8 @@ ghost use Rattle.std.specs.Prelude.{◌≡◌, ◌↔◌, IsSome, IfSome, IsTrue
 ghost use Rattle.std.specs.List.{All};
 ghost use Rattle.module_maps.specs.Maps.{IsModuleMap, IsModulePair, IsRising, lent_pairs};
 
+use document_values::Name;
 use ninja_text::Path;
-use scan_docs::Name;
 use std::marker::Model;
 
 /// A module that was read from a map: its path, and its name if the style keeps it.

@@ -6,8 +6,8 @@ use Rattle.std.specs.List.{filter_map, cons_option}
 use Rattle.std.specs.Cmp.Lexicographic.{bytes_decides}
 use Rattle.std.proofs.lemmas.Bool.{cases_Bool, cases_eq, true≢false}
 use Rattle.std.proofs.lemmas.Option.{slice_get_within}
-use Rattle.scan_docs.specs.Scan.{RuleValue}
-use Rattle.scan_docs.specs.Info.{InfoValue, ModuleValue}
+use Rattle.document_values.specs.Rule.{RuleValue}
+use Rattle.document_values.specs.Info.{InfoValue, ModuleValue}
 use Rattle.dep_order.specs.Needs.{NodeNeeds, IsOrderable}
 use Rattle.dep_order.specs.Cycles.{IsCycle, IsLeastCycle}
 use Rattle.dep_order.proofs.ForCallers.{AreWithin, orderable_same, cycle_same, orderable_or_cycle, least_is_short, no_cycle_without_least}
@@ -24,8 +24,10 @@ use Rattle.module_table.specs.inner.Numbered.{IsNumbered, maker_at}
 use Rattle.module_table.specs.declared.fault.Maker.{Maker}
 use Rattle.module_table.specs.declared.fault.Maker.TheVariants.{Object, Info}
 use Rattle.module_table.specs.declared.fault.TableFault.TheVariants.{ObjectTwice, InfoTwice, ProvidedTwice, BmiTwice, ModuleUnknown, InfoUnknown, InfoDisagrees, ImportCycle, ModulePrivate, PrivateUnknown}
-use Rattle.module_table.proofs.Places.{neither_less, requirement_of, requirement, agreed, contained}
-use Rattle.module_table.proofs.IndexRows.{placed, number_known, as_many, to_depends, from_depends, are_nodes}
+use Rattle.module_table.proofs.Places.{neither_less, requirement_of, requirement, agreed}
+use Rattle.ninja_text.proofs.ForCallers.{contained}
+use Rattle.module_table.proofs.IndexRows.{number_known, as_many, to_depends, from_depends, are_nodes}
+use Rattle.ninja_text.proofs.ForCallers.{placed}
 use Rattle.module_table.proofs.Found.{absent_unknown, provided_numbered, nothing_named, object_not_info, info_not_object}
 use Rattle.module_table.proofs.Passing.{from_info, unknown_by, unprovided_by, provided_by}
 use Rattle.ninja_text.proofs.ForCallers.{to_map, from_map}

@@ -6,14 +6,15 @@ use Rattle.dep_order.specs.Needs.{NodeNeeds, NeedsAreNodes}
 use Rattle.dep_order.specs.Sortings.{IsSortingOf}
 use Rattle.dep_order.specs.declared.Sorting.{Sorting}
 use Rattle.dep_order.proofs.ForCallers.{other_number, sorting_same}
-use Rattle.scan_docs.specs.Scan.{RuleValue}
+use Rattle.document_values.specs.Rule.{RuleValue}
 use Rattle.module_table.specs.TableValue.{TableValue}
 use Rattle.module_table.specs.Modules.{Provides, IsProvidedBy, DependsOn, Provision, provisions}
 use Rattle.module_table.specs.inner.Views.{names_of}
 use Rattle.module_table.specs.inner.Numbered.{IsNumbered, object_of, maker_at, AreIndexes}
 use Rattle.module_table.specs.declared.fault.Maker.{Maker}
 use Rattle.module_table.specs.declared.fault.Maker.TheVariants.{Object, Info}
-use Rattle.module_table.proofs.Places.{object_provision, neither_less, Has, contained, from_provisions}
+use Rattle.module_table.proofs.Places.{object_provision, neither_less, Has, from_provisions}
+use Rattle.ninja_text.proofs.ForCallers.{contained, placed}
 use Rattle.module_table.proofs.Found.{one_index, in_row}
 use Rattle.ninja_text.proofs.ForCallers.{take_next, same_some, to_map, from_map, from_filter_map, in_filter_map}
 use Rattle.std.specs.Cmp.Lexicographic.{bytes_decides}
@@ -24,7 +25,7 @@ use Rattle.ninja_text.specs.Firsts.{AllDiffer}
 use Rattle.module_table.specs.inner.Graph.{index_in, indexes_in}
 use Rattle.module_table.proofs.Lists.{finds}
 use Rattle.std.specs.declared.alloc.Global.{Global}
-use Rattle.scan_docs.specs.Info.{InfoValue}
+use Rattle.document_values.specs.Info.{InfoValue}
 use Rattle.dep_order.specs.Rows.{rows}
 use Rattle.std.specs.List.Sorted.{IsSorted, IsPermutation, IsStrictlyIncreasing}
 use Rattle.std.specs.Ordering.{nat_cmp}
@@ -133,10 +134,6 @@ module _ (t : TableValue) (ps : List Provision) (rows : List (List ℕ)) (is : I
       sorting_same (length t.objects) (NodeNeeds graph) (DependsOn t) sorting to_depends from_depends (subst (λ n. IsSortingOf n (NodeNeeds graph) sorting) as_many sorted)
 
 -- ---- the number of a name is its place in a list in which all names differ
-
--- what is contained is at some place
-pub placed : {X : Type 0} (xs : List X) (x : X) → Contains xs x → Has xs x
-placed xs x h = (h.0, slice_get-get_or xs h.0 x h.1 ∙ ap (λ y. Some y) h.2)
 
 -- a list of one element has only that
 pub only_one : (m n : ℕ) → Has (m ∷ []) n → n ≡ m

@@ -10,5 +10,4 @@ pub mod Pairs
 pub mod Mentions
 pub mod OneReported
 pub mod PartLemmas
-pub mod PoolLemmas
 pub mod ForCallers

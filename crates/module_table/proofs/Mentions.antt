@@ -13,11 +13,12 @@ use Rattle.ninja_text.specs.Firsts.{AllDiffer}
 use Rattle.module_table.specs.inner.Views.{names_of}
 use Rattle.module_table.specs.inner.Indexed.{pair_at}
 use Rattle.module_table.specs.inner.Mentioned.{name_in, AreMarked, ArePairsSoFar, mentioned_names, info_names}
-use Rattle.module_table.proofs.Places.{neither_less, contained, from_append, from_flat_map}
+use Rattle.module_table.proofs.Places.{neither_less, from_append, from_flat_map}
+use Rattle.ninja_text.proofs.ForCallers.{contained}
 use Rattle.module_table.proofs.Lists.{pushes_next}
 use Rattle.module_table.proofs.Found.{named_found, numbered_provided}
-use Rattle.scan_docs.specs.Scan.{RuleValue}
-use Rattle.scan_docs.specs.Info.{ModuleValue}
+use Rattle.document_values.specs.Rule.{RuleValue}
+use Rattle.document_values.specs.Info.{ModuleValue}
 use Rattle.module_table.specs.TableValue.{TableValue}
 use Rattle.module_table.specs.Sound.{IsSound}
 use Rattle.module_table.specs.declared.fault.Maker.TheVariants.{Info}

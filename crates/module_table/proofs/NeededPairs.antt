@@ -1,8 +1,8 @@
 -- Chains of needs in the graph lead to a node if names lead from one to the next.
 use Rattle.std.proofs.Common.{◌≡◌, ℕ, ◌+◌, ◌<◌, ◌⊎◌, List, [], ◌∷◌, length, map, Some, refl, ap, subst, sym, ◌∙◌, inl, inr, ⊎_elim, arith, slice_get, Contains, get_or, Option, ap₂}
 use Rattle.std.proofs.lemmas.Option.{slice_get_within, get_or_from_slice_get, slice_get-get_or}
-use Rattle.scan_docs.specs.Scan.{RuleValue}
-use Rattle.scan_docs.specs.Info.{ModuleValue}
+use Rattle.document_values.specs.Rule.{RuleValue}
+use Rattle.document_values.specs.Info.{ModuleValue}
 use Rattle.dep_order.specs.Needs.{NodeNeeds, IsChain, Reaches, AreReached}
 use Rattle.module_table.specs.TableValue.{TableValue}
 use Rattle.module_table.specs.Modules.{Provides, Requires, InfoProvides, IsProvided, Provision, provisions}
@@ -14,11 +14,13 @@ use Rattle.module_table.specs.inner.Origins.{origins_of}
 use Rattle.module_table.specs.inner.Graph.{IsModuleGraph, IsModuleRow, indexes_in}
 use Rattle.module_table.specs.declared.fault.Maker.{Maker}
 use Rattle.module_table.specs.declared.fault.Maker.TheVariants.{Object, Info}
-use Rattle.module_table.proofs.Places.{object_provision, info_provision, Has, contained, from_provisions}
+use Rattle.module_table.proofs.Places.{object_provision, info_provision, Has, from_provisions}
+use Rattle.ninja_text.proofs.ForCallers.{contained}
 use Rattle.module_table.proofs.Found.{in_row, numbered_provided}
 use Rattle.module_table.proofs.Lists.{zip_there, zip_length}
 use Rattle.module_table.proofs.Graph.{IsPlaceOf, module_places, one_at, one_entry, all_from}
-use Rattle.module_table.proofs.IndexRows.{different, all_made, strictly, placed, only_one, one_number, to_numbers, from_numbers, length_mapped}
+use Rattle.module_table.proofs.IndexRows.{different, all_made, strictly, only_one, one_number, to_numbers, from_numbers, length_mapped}
+use Rattle.ninja_text.proofs.ForCallers.{placed}
 use Rattle.ninja_text.proofs.ForCallers.{same_some, to_map, in_first, in_second, from_map, element_at, from_filter_map, in_filter_map}
 use Rattle.std.specs.Borrow.{Bor}
 use Rattle.std.specs.List.{All, AllPairs, filter_map}

@@ -1,14 +1,15 @@
 -- A sound table has no fault, and one fault at most is reported of a table.
 use Rattle.std.proofs.Common.{◌≡◌, ℕ, List, Some, ap, subst, sym, ◌∙◌, arith, slice_get, ◌<◌}
 use Rattle.std.specs.List.{enumerate_from}
-use Rattle.scan_docs.specs.Scan.{RuleValue}
-use Rattle.scan_docs.specs.Info.{InfoValue, ModuleValue}
+use Rattle.document_values.specs.Rule.{RuleValue}
+use Rattle.document_values.specs.Info.{InfoValue, ModuleValue}
 use Rattle.module_table.specs.TableValue.{TableValue}
 use Rattle.module_table.specs.Modules.{InfoRequires, InfoRequirement, module_requirements, requirements_of_info, info_requirements, DependsOn, provisions, Provision}
 use Rattle.module_table.specs.Outcomes.{SoundHasNoFault, IsSameFault, same, same_ring, OneTableFault}
 use Rattle.module_table.specs.declared.fault.Maker.TheVariants.{Object, Info}
 use Rattle.module_table.specs.declared.fault.TableFault.TheVariants.{ObjectTwice, InfoTwice, ProvidedTwice, BmiTwice, ModuleUnknown, InfoUnknown, InfoDisagrees, ImportCycle, ModulePrivate, PrivateUnknown}
-use Rattle.module_table.proofs.Places.{one_file, neither_less, from_flat_map, from_numbered, contained}
+use Rattle.module_table.proofs.Places.{one_file, neither_less, from_flat_map, from_numbered}
+use Rattle.ninja_text.proofs.ForCallers.{contained}
 use Rattle.ninja_text.proofs.ForCallers.{from_map, same_some}
 use Rattle.dep_order.proofs.ForCallers.{one_cycle}
 use Rattle.ninja_text.specs.Firsts.{IsFirst, IsFirstRepetition, AllDiffer}

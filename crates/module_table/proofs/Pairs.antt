@@ -7,8 +7,9 @@ use Rattle.std.specs.Cmp.Lexicographic.{nat_list_cmp_total, bytes_decides, slice
 use Rattle.std.proofs.lemmas.Option.{slice_get_within, get_or_from_slice_get, slice_get-get_or}
 use Rattle.module_table.specs.Needed.{ArePairs, lent}
 use Rattle.ninja_text.specs.Bytes.{Precedes}
-use Rattle.module_table.proofs.Places.{Has, contained, has_more, from_option_map, provision_by, neither_less}
-use Rattle.module_table.proofs.IndexRows.{placed}
+use Rattle.module_table.proofs.Places.{Has, has_more, from_option_map, provision_by, neither_less}
+use Rattle.ninja_text.proofs.ForCallers.{contained}
+use Rattle.ninja_text.proofs.ForCallers.{placed}
 use Rattle.ninja_text.proofs.ForCallers.{same_some, from_push, to_map, from_map, element_at, in_filter_map}
 use Rattle.std.specs.Option.{option_map}
 use Rattle.module_table.specs.Modules.{Provision, provisions}

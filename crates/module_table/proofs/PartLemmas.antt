@@ -2,20 +2,22 @@
 use Rattle.std.proofs.Common.{◌≡◌, ◌↔◌, ℕ, suc, ◌+◌, ◌<◌, ◌⊎◌, true, false, List, [], ◌∷◌, length, map, Option, Some, refl, ap, ap₂, subst, sym, ◌∙◌, inl, inr, arith, slice_get, Contains}
 use Rattle.std.specs.Option.{option_map}
 use Rattle.std.specs.List.{flat_map, enumerate_from, filter_map, cons_option}
-use Rattle.scan_docs.specs.Scan.{RuleValue}
-use Rattle.scan_docs.specs.Info.{InfoValue, ModuleValue}
+use Rattle.document_values.specs.Rule.{RuleValue}
+use Rattle.document_values.specs.Info.{InfoValue, ModuleValue}
 use Rattle.module_table.specs.TableValue.{TableValue, table_with}
 use Rattle.module_table.specs.Modules.{Provides, Requires, InfoRequires, IsProvided, IsProvidedBy, IsInfoProvided, Provision, provisions, object_provisions, info_provisions}
 use Rattle.module_table.specs.Faults.{Claim, claims, own_claims, Collides, HasPrivate}
 use Rattle.module_table.specs.Sound.{IsSound}
 use Rattle.module_table.specs.Needed.{LeadsTo, Leads, IsNeeded}
 use Rattle.module_table.specs.Added.{first_mentions, file_of, pair_of, required_of, tasks_of}
-use Rattle.module_table.specs.Parts.{HasModule, KeepsRequired, IsEnough, PartIsSound, PartHasTasks, PartIsNeeded}
+use Rattle.module_table.specs.Parts.{PartIsSound, PartHasTasks, PartIsNeeded}
+use Rattle.document_values.specs.Parts.{HasModule, KeepsRequired, IsEnough}
 use Rattle.module_table.specs.inner.Views.{names_of}
 use Rattle.module_table.specs.declared.fault.Maker.{Maker}
 use Rattle.module_table.specs.declared.fault.Maker.TheVariants.{Object, Info}
 use Rattle.ninja_text.specs.Firsts.{AllDiffer}
-use Rattle.module_table.proofs.Places.{one_file, offset, provision_by, contained, from_numbered, from_mentions}
+use Rattle.module_table.proofs.Places.{one_file, offset, provision_by, from_numbered, from_mentions}
+use Rattle.ninja_text.proofs.ForCallers.{contained}
 use Rattle.module_table.proofs.Graph.{one_entry}
 use Rattle.module_table.proofs.Found.{named_found}
 use Rattle.ninja_text.proofs.ForCallers.{to_map, from_map, in_first, in_second, in_append}

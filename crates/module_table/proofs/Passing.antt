@@ -10,13 +10,14 @@ use Rattle.module_table.specs.inner.Reported.{Reports}
 use Rattle.module_table.specs.declared.fault.Maker.TheVariants.{Object, Info}
 use Rattle.module_table.specs.declared.fault.TableFault.{TableFault}
 use Rattle.module_table.specs.declared.fault.TableFault.TheVariants.{InfoUnknown, InfoDisagrees, PrivateUnknown, ModulePrivate, ObjectTwice, InfoTwice, ProvidedTwice, BmiTwice, ModuleUnknown, ImportCycle}
-use Rattle.module_table.proofs.Places.{object_provision, info_provision, from_provisions, from_append, from_flat_map, from_numbered, contained}
+use Rattle.module_table.proofs.Places.{object_provision, info_provision, from_provisions, from_append, from_flat_map, from_numbered}
+use Rattle.ninja_text.proofs.ForCallers.{contained}
 use Rattle.module_table.proofs.Found.{reports_same, claimed_files, for_fault, in_row, provided_numbered, one_module}
 use Rattle.ninja_text.proofs.ForCallers.{same_some, in_take, from_map, to_map}
 use Rattle.std.specs.List.{flat_map, enumerate_from}
 use Rattle.std.proofs.lemmas.Option.{slice_get-get_or}
-use Rattle.scan_docs.specs.Scan.{RuleValue}
-use Rattle.scan_docs.specs.Info.{ModuleValue, InfoValue}
+use Rattle.document_values.specs.Rule.{RuleValue}
+use Rattle.document_values.specs.Info.{ModuleValue, InfoValue}
 use Rattle.std.proofs.lemmas.Bool.{cases_eq}
 use Rattle.ninja_text.specs.Failure.{ForFault}
 use Rattle.ninja_text.specs.declared.failure.Failure.{Failure}

@@ -1,16 +1,17 @@
 -- What the pairs of an object are.
-use Rattle.std.proofs.Common.{◌≡◌, ℕ, zero, suc, ◌+◌, ◌⊎◌, Bool, true, false, List, [], ◌∷◌, ◌++◌, filter, find, Option, Some, None, refl, ap, subst, sym, ◌∙◌, inl, inr, arith, slice_get, Contains, cond, bytes_eq, ⊎_elim, ◌<◌, length, map, ◌||◌, IsTrue, ap₂, true≢false, MatchBool}
+use Rattle.std.proofs.Common.{◌≡◌, ℕ, zero, suc, ◌+◌, ◌⊎◌, Bool, true, false, List, [], ◌∷◌, ◌++◌, filter, find, Option, Some, None, refl, ap, subst, sym, ◌∙◌, inl, inr, arith, slice_get, cond, bytes_eq, ⊎_elim, ◌<◌, length, map, ◌||◌, IsTrue, ap₂, true≢false, MatchBool}
 use Rattle.std.specs.Option.{option_map}
 use Rattle.std.specs.List.{flat_map, enumerate_from}
 use Rattle.std.specs.Cmp.Lexicographic.{bytes_decides}
-use Rattle.std.proofs.lemmas.Option.{slice_get_within, get_or_from_slice_get, slice_get-get_or}
-use Rattle.scan_docs.specs.Info.{ModuleValue, InfoValue}
+use Rattle.std.proofs.lemmas.Option.{slice_get-get_or}
+use Rattle.ninja_text.proofs.ForCallers.{contained}
+use Rattle.document_values.specs.Info.{ModuleValue, InfoValue}
 use Rattle.module_table.specs.TableValue.{TableValue}
 use Rattle.module_table.specs.Modules.{IsProvidedBy, Provision, provisions, object_provisions, info_provisions, Provides, Requires, InfoProvides, IsProvided, DependsOn, InfoRequires, IsInfoProvided, InfoRequirement, info_requirements, requirements_of_info, module_requirements}
 use Rattle.module_table.specs.Added.{first_mentions, file_of, required_of, RequiredFiles, AddedNeeds, AddedOrderable, FilesOnce, FilesApart, OneFile}
 use Rattle.module_table.specs.declared.fault.Maker.TheVariants.{Object, Info}
 use Rattle.ninja_text.proofs.ForCallers.{same_some, from_map, to_map, in_first, in_second, three_ways, from_filter_map}
-use Rattle.scan_docs.specs.Scan.{RuleValue}
+use Rattle.document_values.specs.Rule.{RuleValue}
 use Rattle.dep_order.specs.Needs.{IsOrderable}
 use Rattle.dep_order.proofs.ForCallers.{orderable_same}
 use Rattle.module_table.specs.Faults.{Claim, claims, own_claims, Disagrees}
@@ -95,9 +96,6 @@ from_mentions (n ∷ names) name (suc k, e) = has_more n names name (from_mentio
 pub from_option_map : {A B : Type 0} (f : A → B) (o : Option A) (y : B) → option_map f o ≡ Some y → (x : A) × (o ≡ Some x) × (f x ≡ y)
 from_option_map f None y e = cc
 from_option_map f (Some x) y e = (x, refl, same_some _ _ e)
-
-pub contained : {X : Type 0} (xs : List X) (x : X) → Has xs x → Contains xs x
-contained xs x h = (h.0, slice_get_within _ _ _ h.1, get_or_from_slice_get xs h.0 x x h.1)
 
 pub required_files : RequiredFiles
 unfolding required_of

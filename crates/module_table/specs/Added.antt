@@ -4,7 +4,7 @@ use Rattle.std.specs.Option.{option_map}
 use Rattle.std.specs.List.{filter_map}
 use Rattle.ninja_text.specs.Bytes.{PathText, Name}
 use Rattle.dep_order.specs.Needs.{IsOrderable}
-use Rattle.scan_docs.specs.Scan.{RuleValue}
+use Rattle.document_values.specs.Rule.{RuleValue}
 use Rattle.module_table.specs.TableValue.{TableValue}
 use Rattle.module_table.specs.Modules.{Provides, Requires, IsProvided, Provision, provisions}
 use Rattle.module_table.specs.Sound.{IsSound}

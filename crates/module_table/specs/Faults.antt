@@ -2,8 +2,8 @@
 use Rattle.std.specs.Prelude.{◌≡◌, ◌≢◌, ℕ, ◌≤◌, Bool, true, false, ◌||◌, List, ◌++◌, map, slice_get, Some, IsTrue}
 use Rattle.std.specs.List.{enumerate_from}
 use Rattle.ninja_text.specs.Bytes.{PathText, Name}
-use Rattle.scan_docs.specs.Scan.{RuleValue}
-use Rattle.scan_docs.specs.Info.{ModuleValue}
+use Rattle.document_values.specs.Rule.{RuleValue}
+use Rattle.document_values.specs.Info.{ModuleValue}
 use Rattle.dep_order.specs.Cycles.{IsLeastCycle}
 use Rattle.module_table.specs.TableValue.{TableValue}
 use Rattle.module_table.specs.Modules.{Provides, Requires, InfoProvides, IsProvided, IsInfoProvided, DependsOn, Provision, provisions, InfoRequirement, info_requirements}

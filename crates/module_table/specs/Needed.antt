@@ -2,7 +2,7 @@
 use Rattle.std.specs.Prelude.{◌≡◌, ◌⊎◌, ◌↔◌, ℕ, List, [], ◌∷◌, Contains, AllPairs}
 use Rattle.std.specs.Borrow.{Bor}
 use Rattle.ninja_text.specs.Bytes.{PathText, Name, Precedes}
-use Rattle.scan_docs.specs.Info.{ModuleValue}
+use Rattle.document_values.specs.Info.{ModuleValue}
 use Rattle.module_table.specs.TableValue.{TableValue}
 use Rattle.module_table.specs.Modules.{Provides, Requires, InfoRequires, IsProvided}
 

@@ -2,8 +2,8 @@
 use Rattle.std.specs.Prelude.{◌≡◌, ℕ, ◌<◌, List, length, slice_get, Some, Contains}
 use Rattle.ninja_text.specs.Bytes.{PathText, Name}
 use Rattle.dep_order.specs.Numbers.{Numbers}
-use Rattle.scan_docs.specs.Scan.{RuleValue}
-use Rattle.scan_docs.specs.Info.{InfoValue, ModuleValue}
+use Rattle.document_values.specs.Rule.{RuleValue}
+use Rattle.document_values.specs.Info.{InfoValue, ModuleValue}
 use Rattle.dep_order.specs.Needs.{IsOrderable}
 use Rattle.dep_order.specs.Cycles.{IsCycle}
 use Rattle.module_table.specs.TableValue.{TableValue}

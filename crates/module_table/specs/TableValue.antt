@@ -1,7 +1,7 @@
 -- What a contract sees of a module table.
 use Rattle.std.specs.Prelude.{List}
-use Rattle.scan_docs.specs.Scan.{RuleValue}
-use Rattle.scan_docs.specs.Info.{InfoValue}
+use Rattle.document_values.specs.Rule.{RuleValue}
+use Rattle.document_values.specs.Info.{InfoValue}
 
 -- the objects of a target, and the info files of the targets that it links, both by index
 pub record TableValue : Type 0 where

@@ -10,4 +10,3 @@ pub mod Indexed
 pub mod Graph
 pub mod Ranks
 pub mod LookUps
-pub mod Pools

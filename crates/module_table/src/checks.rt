@@ -20,12 +20,12 @@ use crate::modules::Modules;
 use crate::needed::all_pairs;
 use crate::requirements::{all_required, object_rows};
 use dep_order::Digraph;
+use document_values::{Info, Name, Rule};
 use indexmap::IndexSet;
 use ninja_text::{Failure, Path};
 use privacy::{check_infos_allowed, check_kept, check_objects_allowed};
 use repeated::{check_files, check_infos, check_names, check_objects};
 use required::{check_infos_agree, check_infos_known, check_objects_known, check_rings};
-use scan_docs::{Info, Name, Rule};
 use std::alloc::{AllocError, Global};
 use table_keys::TableKey;
 

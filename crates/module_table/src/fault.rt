@@ -2,8 +2,8 @@
 ghost use Rattle.std.specs.Prelude.{◌≡◌};
 ghost use Rattle.ninja_text.specs.Failure.{ForFault};
 
+use document_values::{Info, Name, Rule, TargetName};
 use ninja_text::{Failure, Path};
-use scan_docs::{Info, Name, Rule, TargetName};
 use std::alloc::Global;
 use std::fmt;
 use thiserror::Error;

@@ -20,9 +20,8 @@
 //! a build (`specs/Added.antt`). All these definitions are relations over rules and info files
 //! (`specs/Modules.antt`). Definitions that only private clauses use are in `specs/inner/`.
 //!
-//! A [`Pool`] has the info files of a project's targets. [`Pool::part`] returns the part of the
-//! linked modules that a target's table needs, so that the work for a target does not grow with all
-//! that it links. The law [`parts`] says what a table of such a part tells (`specs/Parts.antt`).
+//! The law [`parts`] says what a table tells that has only a part of the linked modules
+//! (`specs/Parts.antt`). The crate `info_pool` picks such parts.
 //!
 //! [`TableFault::name`] returns the code and the name of a fault (`specs/FaultNames.antt`).
 //!
@@ -43,23 +42,20 @@
 //! - `needed.rt` lists the modules that each object requires, with their files. [`Needs`] calls
 //!   `Reaching` of `dep_order` in the graph, and sorts what it finds by the ranks of the names, which
 //!   are computed once.
-//! - `pool.rt`: a pool lists the modules of its info files by name and by file, and for each info
-//!   file the others that it requires modules of or shares names and files with (`related.rt`). By
-//!   these numbers it finds out whether a part of the linked modules is enough (`fit.rt`), picks the
-//!   part (`picking.rt`) and copies it (`copies.rt`).
 //!
 //! Other crates cite only one file of the proofs: `proofs/ForCallers.antt` shows that at most one
 //! list has exactly the pairs of a relation.
 //!
-//! The crate uses `scan_docs` for rules, info files and names, `ninja_text` for paths, `dep_order`
+//! The crate uses `document_values` for rules, info files and names, `ninja_text` for paths, `dep_order`
 //! for cycles and for what a module leads to, `indexmap` and `table_keys` for look-ups, and
 //! `thiserror` for its fault.
 //!
 //! `must-fail/` has a wrong body for each public function with these exceptions. Laws have no body.
-//! [`TableFault::name`] is a list of texts. [`Pool::new`] and [`Scratch::new`] return empty values.
-//! [`Table::build`], [`Table::objects`], [`Table::required`], [`Table::resolved`],
-//! [`Table::into_resolved`] and [`Table::needs`] pass on what other functions return, and these have
-//! edits.
+//! [`TableFault::name`] is a list of texts. [`Table::build`], [`Table::objects`],
+//! [`Table::required`], [`Table::resolved`], [`Table::into_resolved`], [`Table::needs`] and
+//! [`Table::needed`] pass on what other functions return. [`Resolved::objects`],
+//! [`Resolved::into_parts`] and [`Table::provided`] return fields or an entry of a field, and their
+//! clauses name it, as that of [`Resolved::required`] does (`required_by_the_first_object`).
 #![tactic(auto)]
 
 mod checks;
@@ -67,12 +63,10 @@ mod fault;
 mod laws;
 mod modules;
 mod needed;
-mod pool;
 mod requirements;
 mod table;
 
 pub use fault::{Maker, RefusedTable, TableFault};
 pub use laws::{added_files, one_fault, parts, sound_tables};
 pub use needed::Needs;
-pub use pool::{Pool, Scratch};
 pub use table::{Resolved, Table};

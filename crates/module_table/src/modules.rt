@@ -11,9 +11,9 @@ ghost use Rattle.module_table.specs.inner.Graph.{index_in};
 ghost use Rattle.module_table.specs.inner.Origins.{origins_of, origin_of};
 
 use crate::fault::Maker;
+use document_values::{Info, Name, Rule};
 use indexmap::IndexSet;
 use ninja_text::Path;
-use scan_docs::{Info, Name, Rule};
 use std::alloc::{AllocError, Global};
 use std::marker::Model;
 use table_keys::TableKey;

@@ -18,8 +18,8 @@ ghost use Rattle.module_table.specs.inner.Ranks.{pairs_of};
 use crate::fault::Maker;
 use crate::modules::{Modules, module_at};
 use dep_order::{Digraph, Reaching};
+use document_values::{Info, Name, Rule};
 use ninja_text::Path;
-use scan_docs::{Info, Name, Rule};
 use std::alloc::{AllocError, Global};
 use std::marker::Model;
 

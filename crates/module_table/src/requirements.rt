@@ -11,8 +11,8 @@ ghost use Rattle.module_table.specs.inner.Found.{looked_up, lookups_of, AreLooke
 
 use crate::fault::Maker;
 use crate::modules::{Module, Modules};
+use document_values::{Info, InfoModule, Name, TargetName};
 use ninja_text::Path;
-use scan_docs::{Info, InfoModule, Name, TargetName};
 use std::alloc::{AllocError, Global};
 
 /// A requirement of a module of an info file: the name, the file that the info file says, and the

@@ -1,7 +1,7 @@
 //! The table of the modules of one target, and its look-ups.
 ghost use Rattle.std.specs.Prelude.{◌≡◌, ◌<◌, IfOk, IfErr, IfSome, IfNone, length, map, slice_get, Some};
 ghost use Rattle.ninja_text.specs.Failure.{ForFault};
-ghost use Rattle.scan_docs.specs.Scan.{RuleValue};
+ghost use Rattle.document_values.specs.Rule.{RuleValue};
 ghost use Rattle.module_table.specs.TableValue.{table_with};
 ghost use Rattle.module_table.specs.Modules.{IsProvidedBy};
 ghost use Rattle.module_table.specs.Faults.{IsReported, IsFault, IsUnknown};
@@ -15,9 +15,9 @@ use crate::fault::{Maker, RefusedTable, TableFault};
 use crate::modules::index_of;
 use crate::needed::{Needs, copy_pair, named_at};
 use dep_order::Digraph;
+use document_values::{Info, Name, Rule};
 use indexmap::IndexSet;
 use ninja_text::{Failure, Path};
-use scan_docs::{Info, Name, Rule};
 use std::alloc::{AllocError, Global};
 use std::marker::Model;
 use table_keys::{KeyDigest, TableKey};

@@ -3,9 +3,9 @@ use Rattle.std.proofs.Common.{◌≡◌, ℕ, ◌<◌, Bool, ◌&&◌, ◌==◌,
 use Rattle.std.specs.Io.KnownBytes.{Appends}
 use Rattle.std.specs.Prelude.{Result, MatchResult, is_ok}
 use Rattle.ninja_text.specs.Counting.{Call, TakesInTurn, IsTakenInTurn}
-use Rattle.std.specs.List.{cons_option, filter_map, flat_map, AllZip, list_any}
+use Rattle.std.specs.List.{Contains, cons_option, filter_map, flat_map, AllZip, list_any}
 use Rattle.std.proofs.lemmas.List.{take_all, take_more}
-use Rattle.std.proofs.lemmas.Option.{slice_get_within, get_or_from_slice_get}
+use Rattle.std.proofs.lemmas.Option.{slice_get_within, get_or_from_slice_get, slice_get-get_or}
 use Rattle.std.specs.Cmp.Lexicographic.{bytes_decides}
 use Rattle.std.proofs.lemmas.List.Folds.{list_any_at}
 use Rattle.ninja_text.specs.Firsts.{AllDiffer}
@@ -64,6 +64,13 @@ pub element_at : {X : Type 0} (xs : List X) (k : ℕ) → k < length xs → (x :
 element_at [] k h = absurd (omega arith)
 element_at (x ∷ xs) zero h = (x, refl)
 element_at (x ∷ xs) (suc k) h = element_at xs k (omega arith)
+
+-- what is at an index is contained, and what is contained is at an index
+pub contained : {X : Type 0} (xs : List X) (x : X) → (k : ℕ) × (slice_get xs k ≡ Some x) → Contains xs x
+contained xs x h = (h.0, slice_get_within _ _ _ h.1, get_or_from_slice_get xs h.0 x x h.1)
+
+pub placed : {X : Type 0} (xs : List X) (x : X) → Contains xs x → (k : ℕ) × (slice_get xs k ≡ Some x)
+placed xs x h = (h.0, slice_get-get_or xs h.0 x h.1 ∙ ap (λ y. Some y) h.2)
 
 -- an element of a mapped list comes from one of the list
 pub from_map : {A B : Type 0} (f : A → B) (xs : List A) (k : ℕ) (y : B) → slice_get (map f xs) k ≡ Some y → (x : A) × (slice_get xs k ≡ Some x) × (f x ≡ y)

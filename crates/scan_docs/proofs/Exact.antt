@@ -8,8 +8,10 @@ use Rattle.scan_docs.specs.declared.member.Member.TheVariants as m
 use Rattle.scan_docs.specs.declared.map_form.MapForm.{MapForm}
 use Rattle.scan_docs.specs.Shape.{text, text_of, texts, entries_of, is_object, entries, whole_number, fits}
 use Rattle.scan_docs.specs.Document.{IsTree, IsAccepted, IsRefused, large, no_tree, false_check, HasOneAnswer}
-use Rattle.scan_docs.specs.Scan.{SettingValue, RuleValue, object_of, module_file_of, IsProvidedModule, IsRequired, IsRule, AreRules, IsText, IsRuleText}
-use Rattle.scan_docs.specs.Info.{ModuleValue, InfoValue, has_visibility, privacy, IsRequirement, IsModule, IsInfo}
+use Rattle.scan_docs.specs.Scan.{SettingValue, object_of, module_file_of, IsProvidedModule, IsRequired, IsRule, AreRules, IsText, IsRuleText}
+use Rattle.document_values.specs.Rule.{RuleValue}
+use Rattle.scan_docs.specs.Info.{has_visibility, privacy, IsRequirement, IsModule, IsInfo}
+use Rattle.document_values.specs.Info.{ModuleValue, InfoValue}
 use Rattle.scan_docs.specs.Target.{TargetDocumentValue, IsTarget, build_dir}
 use Rattle.scan_docs.specs.Project.{ProjectValue, IsProject}
 use Rattle.scan_docs.specs.Values.{tree_of, accepted_path, provided_in, rule_in, rules_in, requirement_in, module_in, info_in, target_setting, target_in, project_in, rules_of, info_of, spec_of, project_of}
@@ -21,7 +23,7 @@ use Rattle.scan_docs.specs.TargetChecks.{target_checks}
 use Rattle.scan_docs.specs.ProjectChecks.{project_checks}
 use Rattle.std.specs.List.{AllZip, All, AllByRecursion}
 use Rattle.std.proofs.lemmas.List.Elements.{All-from_recursion}
-use Rattle.scan_docs.specs.Name.{IsName}
+use Rattle.document_values.specs.Name.{IsName}
 use Rattle.scan_docs.specs.InfoText.{IsModuleText, IsInfoText}
 use Rattle.std.proofs.lemmas.Bool.Decides.{nat_tests}
 use Rattle.std.specs.Option.{option_or}

@@ -7,7 +7,8 @@ use Rattle.serde_json.specs.View.{items_of}
 use Rattle.serde_json.specs.Sent.{number_token}
 use Rattle.serde_json.specs.Written.{compact_text, items_text, outline, items_outline, comma_if}
 use Rattle.serde_json.proofs.OnLiterals.{serde_json_on_literals}
-use Rattle.scan_docs.specs.Info.{ModuleValue, InfoValue, visibility_meaning, IsRequirement, IsModule, IsInfo}
+use Rattle.scan_docs.specs.Info.{visibility_meaning, IsRequirement, IsModule, IsInfo}
+use Rattle.document_values.specs.Info.{ModuleValue, InfoValue}
 use Rattle.scan_docs.specs.InfoText.{requirement_tree, requirements_tree, visibility_text, module_tree, info_tree, info_text, ReadsBack}
 use Rattle.scan_docs.proofs.JsonStrings.{Token, tokens, tokens_after, tokens_next, begin_array, end_array, begin_object, end_object, key_token, string_token, escaped, value, items, string_read, as_it_is}
 use Rattle.std.proofs.lemmas.List.Elements.{recursion_from_All}

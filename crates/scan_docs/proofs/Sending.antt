@@ -6,7 +6,7 @@ use Rattle.serde_json.specs.Data.{Data, array}
 use Rattle.serde_json.specs.Events.{items_len, SendsValue, SendsItems}
 use Rattle.serde_json.specs.View.{items_of}
 use Rattle.serde_json.specs.Written.{has_float, items_have_float}
-use Rattle.scan_docs.specs.Info.{ModuleValue, InfoValue}
+use Rattle.document_values.specs.Info.{ModuleValue, InfoValue}
 use Rattle.scan_docs.specs.InfoText.{requirement_tree, requirements_tree, module_tree, info_tree}
 
 -- ---- an array, entry by entry

@@ -1,5 +1,5 @@
 -- What an info document means.
-use Rattle.std.specs.Prelude.{◌≡◌, List, Bool, true, false, ◌==◌, if◌then◌else◌, Option, Some, None, option_and_then, Ok, codes, bytes_eq}
+use Rattle.std.specs.Prelude.{◌≡◌, Bool, true, false, ◌==◌, if◌then◌else◌, Option, Some, None, option_and_then, Ok, codes, bytes_eq}
 use Rattle.std.specs.List.{AllZip}
 use Rattle.std.specs.Option.{option_map_or}
 use Rattle.ninja_text.specs.Bytes.{Text, PathText, Name}
@@ -7,20 +7,8 @@ use Rattle.ninja_text.specs.Paths.{path_of}
 use Rattle.serde_json.specs.Data.{Data}
 use Rattle.scan_docs.specs.declared.member.Member.TheVariants as m
 use Rattle.scan_docs.specs.Shape.{text, text_of, entries_of, whole_number}
+use Rattle.document_values.specs.Info.{ModuleValue, InfoValue}
 use Rattle.scan_docs.specs.Scan.{IsText}
-
--- a module, its file, the modules that it requires, each with the file that it was found in, and
--- whether it is private
-pub record ModuleValue : Type 0 where
-  pub name : Name
-  pub file : PathText
-  pub required : List (Name × PathText)
-  pub is_private : Bool
-
--- a target, and its modules in order
-pub record InfoValue : Type 0 where
-  pub target : Name
-  pub modules : List ModuleValue
 
 -- ---- what the members stand for
 

@@ -9,7 +9,7 @@ use Rattle.scan_docs.specs.declared.fault.Place.TheVariants as place
 use Rattle.scan_docs.specs.declared.member.Member.TheVariants as m
 use Rattle.scan_docs.specs.Check.{Check, ◌otherwise◌, shape_check, path_checks, each_from}
 use Rattle.scan_docs.specs.Shape.{is_object, text, text_of, entries, entries_of, whole_number}
-use Rattle.scan_docs.specs.Name.{is_name}
+use Rattle.document_values.specs.Name.{is_name}
 use Rattle.scan_docs.specs.TargetChecks.{name_checks}
 use Rattle.scan_docs.specs.Info.{has_visibility, privacy}
 

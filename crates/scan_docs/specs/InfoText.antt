@@ -9,7 +9,8 @@ use Rattle.scan_docs.specs.declared.fault.DocFault.TheVariants.{TooLarge}
 use Rattle.scan_docs.specs.declared.fault.Place.TheVariants as place
 use Rattle.scan_docs.specs.Document.{document_limit, IsAccepted, IsRefused}
 use Rattle.scan_docs.specs.Scan.{IsText}
-use Rattle.scan_docs.specs.Info.{ModuleValue, InfoValue, IsInfo}
+use Rattle.scan_docs.specs.Info.{IsInfo}
+use Rattle.document_values.specs.Info.{ModuleValue, InfoValue}
 use Rattle.scan_docs.specs.InfoChecks.{info_checks}
 
 -- a required module, with its file

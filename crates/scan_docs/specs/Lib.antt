@@ -2,7 +2,6 @@ pub mod Member
 pub mod Place
 pub mod FaultTexts
 pub mod Shape
-pub mod Name
 pub mod Check
 pub mod Document
 pub mod Scan

@@ -7,20 +7,14 @@ use Rattle.ninja_text.specs.declared.fault.PathFault.{PathFault}
 use Rattle.serde_json.specs.Data.{Data}
 use Rattle.scan_docs.specs.declared.member.Member.TheVariants as m
 use Rattle.scan_docs.specs.Shape.{text, text_of, flag, entries_of}
-use Rattle.scan_docs.specs.Name.{IsName}
+use Rattle.document_values.specs.Name.{IsName}
+use Rattle.document_values.specs.Rule.{RuleValue}
 
 -- the files that a target's modules are compiled to, and the directory that Ninja runs in
 pub record SettingValue : Type 0 where
   pub module_dir : PathText
   pub module_ext : Text
   pub build_dir : Option PathText
-
--- an object file, the modules that its source provides, each with its file, and the modules that
--- it requires
-pub record RuleValue : Type 0 where
-  pub object : PathText
-  pub provided : List (Name × PathText)
-  pub required : List Name
 
 -- ---- what the members stand for
 

@@ -8,7 +8,7 @@ use Rattle.scan_docs.specs.declared.fault.Place.TheVariants as place
 use Rattle.scan_docs.specs.declared.member.Member.TheVariants as m
 use Rattle.scan_docs.specs.Check.{Check, ◌otherwise◌, shape_check, path_checks, each_from}
 use Rattle.scan_docs.specs.Shape.{is_object, given, text, text_of, flag, entries, entries_of, whole_number, fits}
-use Rattle.scan_docs.specs.Name.{is_name}
+use Rattle.document_values.specs.Name.{is_name}
 use Rattle.scan_docs.specs.Scan.{SettingValue, object_of, module_file_of, is_unique_on_source, names_header, is_method}
 
 -- the most rules of a document, and entries of one of a rule's lists

@@ -2,9 +2,9 @@
 use Rattle.std.specs.List.{All}
 use Rattle.ninja_text.specs.Bytes.{PathText, Name}
 use Rattle.ninja_text.specs.Paths.{IsPath}
-use Rattle.scan_docs.specs.Name.{IsName, IsTargetName}
+use Rattle.document_values.specs.Name.{IsName, IsTargetName}
 use Rattle.scan_docs.specs.Scan.{IsText}
-use Rattle.scan_docs.specs.Info.{ModuleValue, InfoValue}
+use Rattle.document_values.specs.Info.{ModuleValue, InfoValue}
 
 -- a name that is accepted, and a canonical path that is text
 pub record IsSoundPair (name : Name) (path : PathText) : Type 0 where

@@ -8,7 +8,7 @@ use Rattle.scan_docs.specs.declared.fault.Place.TheVariants as place
 use Rattle.scan_docs.specs.declared.member.Member.TheVariants as m
 use Rattle.scan_docs.specs.Check.{Check, ◌otherwise◌, shape_check, path_checks}
 use Rattle.scan_docs.specs.Shape.{is_object, given, text, text_of, flag, texts, texts_of, whole_number, fits}
-use Rattle.scan_docs.specs.Name.{is_name, is_target_name}
+use Rattle.document_values.specs.Name.{is_name, is_target_name}
 use Rattle.scan_docs.specs.Target.{build_dir, map_form}
 
 -- 1

@@ -9,8 +9,10 @@ use Rattle.ninja_text.specs.Paths.{path_of, placed}
 use Rattle.ninja_text.specs.declared.fault.PathFault.{PathFault}
 use Rattle.scan_docs.specs.declared.member.Member.TheVariants as m
 use Rattle.scan_docs.specs.Shape.{text, text_of, texts_of, entries_of}
-use Rattle.scan_docs.specs.Scan.{SettingValue, RuleValue, object_of, module_file_of}
-use Rattle.scan_docs.specs.Info.{ModuleValue, InfoValue, has_visibility, privacy}
+use Rattle.scan_docs.specs.Scan.{SettingValue, object_of, module_file_of}
+use Rattle.document_values.specs.Rule.{RuleValue}
+use Rattle.scan_docs.specs.Info.{has_visibility, privacy}
+use Rattle.document_values.specs.Info.{ModuleValue, InfoValue}
 use Rattle.scan_docs.specs.Target.{TargetDocumentValue, build_dir, map_form, restat}
 use Rattle.scan_docs.specs.Project.{ProjectValue}
 

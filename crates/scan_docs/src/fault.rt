@@ -4,10 +4,14 @@ ghost use Rattle.std.specs.Prelude.{◌≡◌, Result, IfOk, IsUtf8};
 ghost use Rattle.ninja_text.specs.Bytes.{PathText};
 ghost use Rattle.ninja_text.specs.Failure.{Gives};
 ghost use Rattle.ninja_text.specs.declared.fault.PathFault.{PathFault};
-ghost use Rattle.scan_docs.specs.inner.Reading.{AnswersPath};
+ghost use Rattle.document_values.specs.Name.{is_name, IsName};
+ghost use Rattle.scan_docs.specs.Check.{◌otherwise◌};
+ghost use Rattle.scan_docs.specs.inner.Reading.{AnswersPath, Tests};
 
 use crate::member::Member;
+use document_values::{Name, SharedNames};
 use ninja_text::{Failure, Path, PathFault};
+use std::alloc::Global;
 use std::fmt;
 use thiserror::Error;
 
@@ -112,4 +116,18 @@ pub(crate) fn path_at(
         → AnswersPath place outcome result }
 {
     read.map_err(|failure| failure.map(|fault| DocFault::BadPath { place, fault }))
+}
+
+/// Returns the name of a string of the document, or its fault at the place.
+pub(crate) fn read_name(
+    alloc: Global,
+    names: &mut SharedNames,
+    text: &str,
+    place: Place,
+) -> Result<Name, Failure<DocFault>>
+    ensures { Tests (is_name text.now otherwise DocFault.BadName place)
+        (λ name. (name ≡ text.now) × IsName name) result }
+{
+    let name = names.read(alloc, text)?;
+    name.ok_or(Failure::Fault(DocFault::BadName { place }))
 }

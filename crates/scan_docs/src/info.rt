@@ -15,54 +15,14 @@ ghost use Rattle.scan_docs.specs.Values.{info_of};
 ghost use Rattle.scan_docs.specs.declared.member.Member.TheVariants as m;
 
 use crate::document::{read_tree, read_version};
-use crate::fault::{DocFault, Place, bad_shape, path_at};
+use crate::fault::{DocFault, Place, bad_shape, path_at, read_name};
 use crate::member::Member;
-use crate::name::{Name, SharedNames};
 use crate::shape;
 use crate::target_document::read_target_name;
-use crate::target_name::TargetName;
+use document_values::{Info, InfoModule, Name, SharedNames};
 use ninja_text::{Failure, Path};
 use serde_json::Value;
 use std::alloc::{AllocError, Global};
-use std::marker::Model;
-
-/// A module that a target provides: its BMI (compiled module file), the modules that it requires,
-/// each with its BMI, and whether it is private.
-#[derive(Clone, Drop)]
-pub struct InfoModule {
-    pub name: Name,
-    pub file: Path,
-    pub required: Vec<(Name, Path)>,
-    pub is_private: bool,
-}
-
-impl Model for InfoModule {
-    ghost use Rattle.scan_docs.specs.Info.{ModuleValue};
-
-    ghost Value = { ModuleValue };
-
-    ghost view = { λ v. record {
-      name = v.name;
-      file = v.file;
-      required = v.required.items;
-      is_private = v.is_private;
-    } };
-}
-
-/// What a target tells the targets that link it.
-#[derive(Clone, Drop)]
-pub struct Info {
-    pub target: TargetName,
-    pub modules: Vec<InfoModule>,
-}
-
-impl Model for Info {
-    ghost use Rattle.scan_docs.specs.Info.{InfoValue};
-
-    ghost Value = { InfoValue };
-
-    ghost view = { λ i. record { target = i.target; modules = i.modules.items } };
-}
 
 /// Returns the info of an info document.
 ///
@@ -202,7 +162,7 @@ fn read_named_file(
         × IsText pair.1) result }
 {
     let (name, path) = texts;
-    let name = names.read(alloc, name, place)?;
+    let name = read_name(alloc, names, name, place)?;
     let file = path_at(place, Path::of(alloc, path.as_bytes()))?;
     Ok((name, file))
 }

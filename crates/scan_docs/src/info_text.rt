@@ -7,9 +7,7 @@ ghost use Rattle.scan_docs.specs.InfoText.{module_tree, info_tree, info_text, Is
 ghost use Rattle.scan_docs.specs.Sound.{IsSoundPair, IsSoundModule, IsSoundInfo};
 ghost use Rattle.scan_docs.specs.inner.Writing.{SendsText, BeginsNamedFile};
 
-use crate::info::Info;
-use crate::name::Name;
-use crate::target_name::TargetName;
+use document_values::{Info, Name, TargetName};
 use ninja_text::Path;
 use serde::{Described, Serialize, Serializer};
 use std::alloc::{AllocError, Global};
@@ -26,7 +24,7 @@ pub struct LentModule<'a> {
 }
 
 impl<'a> Model for LentModule<'a> {
-    ghost use Rattle.scan_docs.specs.Info.{ModuleValue};
+    ghost use Rattle.document_values.specs.Info.{ModuleValue};
 
     ghost Value = { ModuleValue };
 
@@ -46,7 +44,7 @@ pub struct LentInfo<'a> {
 }
 
 impl<'a> Model for LentInfo<'a> {
-    ghost use Rattle.scan_docs.specs.Info.{InfoValue};
+    ghost use Rattle.document_values.specs.Info.{InfoValue};
 
     ghost Value = { InfoValue };
 
@@ -100,7 +98,7 @@ struct InfoDocument<'a> {
 }
 
 impl<'a> Model for InfoDocument<'a> {
-    ghost use Rattle.scan_docs.specs.Info.{InfoValue};
+    ghost use Rattle.document_values.specs.Info.{InfoValue};
     ghost use Rattle.scan_docs.specs.InfoText.{IsInfoText};
 
     ghost Value = { InfoValue };

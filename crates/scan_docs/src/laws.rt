@@ -1,11 +1,13 @@
 //! Laws of documents, for callers' proofs: each is the contract of a function that does nothing.
 ghost use Rattle.std.specs.Prelude.{◌≡◌, List, true, IsUtf8};
 ghost use Rattle.ninja_text.specs.Bytes.{Bytes};
-ghost use Rattle.scan_docs.specs.Name.{is_target_name};
+ghost use Rattle.document_values.specs.Name.{is_target_name};
 ghost use Rattle.scan_docs.specs.Document.{IsAccepted, HasOneAnswer};
-ghost use Rattle.scan_docs.specs.Scan.{SettingValue, RuleValue, AreRules};
+ghost use Rattle.scan_docs.specs.Scan.{SettingValue, AreRules};
+ghost use Rattle.document_values.specs.Rule.{RuleValue};
 ghost use Rattle.scan_docs.specs.ScanChecks.{scan_checks};
-ghost use Rattle.scan_docs.specs.Info.{InfoValue, IsInfo};
+ghost use Rattle.scan_docs.specs.Info.{IsInfo};
+ghost use Rattle.document_values.specs.Info.{InfoValue};
 ghost use Rattle.scan_docs.specs.InfoText.{info_text, ReadsBack};
 ghost use Rattle.scan_docs.specs.Sound.{IsSoundInfo};
 ghost use Rattle.scan_docs.specs.InfoChecks.{info_checks};
@@ -15,7 +17,7 @@ ghost use Rattle.scan_docs.specs.Project.{ProjectValue, IsProject};
 ghost use Rattle.scan_docs.specs.ProjectChecks.{project_checks};
 ghost use Rattle.scan_docs.specs.Values.{rules_of, info_of, spec_of, project_of};
 
-use crate::target_name::TargetName;
+use document_values::TargetName;
 
 /// All bytes, read as a document of one kind, have at most one result: one value or one fault, and
 /// never both.

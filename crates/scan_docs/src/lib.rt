@@ -6,10 +6,11 @@
 //!   documents a project has. Each returns what the document means if all checks hold, and otherwise
 //!   the fault of the first check that fails. The checks are lists, `specs/ScanChecks.antt` and so
 //!   on; the meanings are in `specs/Scan.antt` and so on. `specs/Document.antt` puts them together,
-//!   and `specs/Values.antt` gives the meaning as a function of the bytes.
+//!   and `specs/Values.antt` gives the meaning as a function of the bytes. The types of rules,
+//!   of what an info file has, and of names are those of the crate `document_values`.
 //! - `document` makes a tree of a document's bytes by `serde_json` and reads its version, and
 //!   `shape` returns members of the tree that have a type. The names of a scan document or an info
-//!   document share one string (`SharedNames` in `name`), which is collected from the tree first.
+//!   document share one string (`SharedNames`), which is collected from the tree first.
 //!   The tree is dropped once the value is made.
 //! - [`info_write`] returns the one text of an info (`specs/InfoText.antt`), and [`lent_info_write`]
 //!   does so for an info whose parts are borrowed. The text is read as the same info, which
@@ -17,15 +18,13 @@
 //! - [`laws`] proves that all bytes have one result at most, that the value of an accepted document
 //!   is the value of the function, and that the text of every sound info (`specs/Sound.antt`) is
 //!   read as that info.
-//! - [`Name`] and [`TargetName`] hold strings that are names (`specs/Name.antt`).
 //! - [`DocFault`], [`Place`] and [`Member`] print themselves (`specs/FaultTexts.antt`,
 //!   `specs/Place.antt`, `specs/Member.antt`).
 //!
-//! `must-fail/` has a wrong body for each public function except the laws, which have no bodies.
-//! The clause that rejects `name_bytes_of_another` is also that of [`Name::text`] and
-//! [`TargetName::text`]. `name_copy_of_another` also stands for the copies of [`TargetName`],
-//! `first_module_written_for_each` for both functions that write an info, and
-//! `indexes_of_a_place_swapped` for the texts of [`DocFault`] and [`Member`].
+//! `must-fail/` has a wrong body for each public function with these exceptions. Laws have no body.
+//! [`Member::key`] and the texts of [`DocFault`], [`Place`] and [`Member`] have an equation for each
+//! variant, which names the text. `first_module_written_for_each` shows the clauses of both functions
+//! that write an info file.
 #![tactic(auto)]
 
 mod document;
@@ -35,19 +34,15 @@ mod info_text;
 pub mod laws;
 mod map_form;
 mod member;
-mod name;
 mod scan_document;
 mod shape;
 mod target_document;
-mod target_name;
 
 pub use document::DOCUMENT_LIMIT;
 pub use fault::{DocFault, Place};
-pub use info::{Info, InfoModule, info_read};
+pub use info::info_read;
 pub use info_text::{LentInfo, LentModule, info_write, lent_info_write};
 pub use map_form::MapForm;
 pub use member::Member;
-pub use name::{NAME_LIMIT, Name};
-pub use scan_document::{COUNT_LIMIT, Rule, scan};
+pub use scan_document::{COUNT_LIMIT, scan};
 pub use target_document::{ProjectSpec, Setting, TargetSpec, project_read, spec_read};
-pub use target_name::TargetName;

@@ -12,39 +12,17 @@ ghost use Rattle.scan_docs.specs.ScanChecks.{scan_checks, provided_checks, all_p
 ghost use Rattle.scan_docs.specs.Values.{rules_of};
 
 use crate::document::{read_tree, read_version};
-use crate::fault::{DocFault, Place, bad_shape, path_at};
+use crate::fault::{DocFault, Place, bad_shape, path_at, read_name};
 use crate::member::Member;
-use crate::name::{Name, SharedNames};
 use crate::shape;
 use crate::target_document::Setting;
+use document_values::{Name, Rule, SharedNames};
 use ninja_text::{Failure, Path, place};
 use serde_json::Value;
 use std::alloc::{AllocError, Global};
-use std::marker::Model;
 
 /// The maximum number of rules in a document, and of entries in each list of a rule.
 pub const COUNT_LIMIT: usize = 65536;
-
-/// A rule of a scan document: an object file, the modules that its source provides, each with its
-/// BMI, and the names of the modules that it requires, both in the order of the document.
-#[derive(Clone, Drop)]
-pub struct Rule {
-    pub object: Path,
-    pub provided: Vec<(Name, Path)>,
-    pub required: Vec<Name>,
-}
-
-impl Model for Rule {
-    ghost use Rattle.scan_docs.specs.Scan.{RuleValue};
-
-    ghost Value = { RuleValue };
-
-    ghost view = { λ r. record {
-      object = r.object;
-      provided = r.provided.items;
-      required = r.required.items;
-    } };
-}
 
 /// Returns the rules of a scan document (P1689R5), in its order.
 ///
@@ -180,7 +158,7 @@ fn read_provided(
     if unique == Some(true) {
         return Err(Failure::Fault(DocFault::HeaderUnit { place }));
     }
-    let name = names.read(alloc, text, place)?;
+    let name = read_name(alloc, names, text, place)?;
     if let Some(path) = path {
         let file = read_path(alloc, setting, work, path.as_bytes(), place)?;
         return Ok((name, file));
@@ -233,7 +211,7 @@ fn read_required(
     if unique == Some(true) || header {
         return Err(Failure::Fault(DocFault::HeaderUnit { place }));
     }
-    names.read(alloc, name, place)
+    read_name(alloc, names, name, place)
 }
 
 /// Returns the canonical path of a path of the document.

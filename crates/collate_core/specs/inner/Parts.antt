@@ -7,7 +7,8 @@ use Rattle.dyndep_file.specs.StatementValue.{StatementValue}
 use Rattle.dyndep_file.specs.WriteFaults.{write_fault, statement_fault, text_or_fault, paths_of}
 use Rattle.dyndep_file.specs.Reading.{StandsForOnly}
 use Rattle.dyndep_file.specs.declared.fault.WriteFault.TheVariants as write
-use Rattle.scan_docs.specs.Scan.{RuleValue, IsRuleText}
+use Rattle.scan_docs.specs.Scan.{IsRuleText}
+use Rattle.document_values.specs.Rule.{RuleValue}
 use Rattle.scan_docs.specs.InfoText.{IsInfoText, info_text, ReadsBack}
 use Rattle.scan_docs.specs.declared.fault.DocFault.{DocFault}
 use Rattle.module_table.specs.TableValue.{TableValue}

@@ -2,7 +2,7 @@
 use Rattle.std.specs.Prelude.{◌≡◌, ◌<◌, ℕ, List, length, map, slice_get, Option, Some, All, IfSome}
 use Rattle.ninja_text.specs.Bytes.{Text}
 use Rattle.dep_order.specs.Numbers.{Numbers}
-use Rattle.scan_docs.specs.Info.{InfoValue}
+use Rattle.document_values.specs.Info.{InfoValue}
 use Rattle.scan_docs.specs.InfoText.{IsInfoText}
 use Rattle.scan_docs.specs.Values.{info_of}
 use Rattle.module_maps.specs.Maps.{Written}

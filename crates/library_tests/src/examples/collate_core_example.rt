@@ -1,6 +1,7 @@
 //! The dyndep text of a target.
 use collate_core::{Target, collate_dyndep};
-use scan_docs::{Setting, TargetName};
+use document_values::TargetName;
+use scan_docs::Setting;
 use std::alloc::Global;
 use std::test::Fail;
 

@@ -1,7 +1,7 @@
 //! A module map is written for Clang.
+use document_values::Name;
 use module_maps::{Clang, MapStyle, ModuleMap};
 use ninja_text::Path;
-use scan_docs::Name;
 use std::alloc::Global;
 use std::test::Fail;
 

@@ -1,6 +1,7 @@
 //! The rules of a scan document are read.
+use document_values::Rule;
 use ninja_text::Failure;
-use scan_docs::{DocFault, Rule, Setting, scan};
+use scan_docs::{DocFault, Setting, scan};
 use std::alloc::Global;
 use std::test::Fail;
 

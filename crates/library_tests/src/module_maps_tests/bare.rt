@@ -4,10 +4,10 @@ ghost use Rattle.std.specs.List.{flat_map};
 ghost use Rattle.module_maps.specs.Maps.{pairs_of, lent_pairs};
 ghost use Rattle.module_maps.specs.MapLines.{ended_line, nameless};
 
+use document_values::Name;
 use module_maps::map_lines::{LineForm, first_unfit, path_in, push_nameless, read_lines};
 use module_maps::{MapEntry, MapFault, MapStyle, ModuleMap};
 use ninja_text::{Failure, Path};
-use scan_docs::Name;
 use std::alloc::{AllocError, Global};
 
 pub struct Bare;

@@ -3,7 +3,8 @@
 //! result has to be the example's.
 
 use crate::common::{name, target_name};
-use scan_docs::{Name, TargetName, info_read, info_write};
+use document_values::{Name, TargetName};
+use scan_docs::{info_read, info_write};
 use std::alloc::Global;
 use std::test::Fail;
 

@@ -15,7 +15,7 @@ use Rattle.std.proofs.lemmas.Option.{slice_get-map}
 use Rattle.std.proofs.lemmas.Slice.Eq.{bytes_eq-Decides}
 use Rattle.std.proofs.lemmas.Str.{IsUtf8-from_is_utf8, is_utf8-from_IsUtf8}
 use Rattle.ninja_text.specs.Paths.{path_of, IsPath}
-use Rattle.scan_docs.specs.Name.{is_name, is_name_byte, is_not_empty, is_separator, name_limit}
+use Rattle.document_values.specs.Name.{is_name, is_name_byte, is_not_empty, is_separator, name_limit}
 use Rattle.module_maps.specs.Maps.{IsModulePair, AreEntriesOf}
 use Rattle.module_maps.specs.MapLines.{is_map_byte, canonical_in, named, ended_line, is_fit, first_unfit, is_line_end, lines_of, name_in, path_in, cut, both, read_pair, pair_in, LineForm, read_lines}
 use Rattle.module_maps.specs.declared.module_map.MapEntry.{MapEntry}

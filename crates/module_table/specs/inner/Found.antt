@@ -1,7 +1,7 @@
 -- What info files' modules require, with the modules of those names.
 use Rattle.std.specs.Prelude.{◌≡◌, ℕ, List, map}
 use Rattle.std.specs.Option.{option_map}
-use Rattle.scan_docs.specs.Info.{ModuleValue}
+use Rattle.document_values.specs.Info.{ModuleValue}
 use Rattle.module_table.specs.TableValue.{TableValue}
 use Rattle.module_table.specs.Modules.{Provision, provisions, InfoRequirement, info_requirements}
 use Rattle.ninja_text.specs.Firsts.{AllDiffer}

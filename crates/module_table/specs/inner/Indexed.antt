@@ -1,8 +1,8 @@
 -- What is found at the origin of a module.
 use Rattle.std.specs.Prelude.{◌≡◌, ℕ, ◌<◌, List, slice_get, Option, Some}
 use Rattle.std.specs.Option.{option_map}
-use Rattle.scan_docs.specs.Scan.{RuleValue}
-use Rattle.scan_docs.specs.Info.{InfoValue, ModuleValue}
+use Rattle.document_values.specs.Rule.{RuleValue}
+use Rattle.document_values.specs.Info.{InfoValue, ModuleValue}
 use Rattle.module_table.specs.Modules.{Provision}
 use Rattle.module_table.specs.declared.fault.Maker.{Maker}
 use Rattle.module_table.specs.declared.fault.Maker.TheVariants.{Object, Info}

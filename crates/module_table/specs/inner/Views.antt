@@ -1,6 +1,6 @@
 -- What the values that the code borrows stand for.
 use Rattle.std.specs.Prelude.{◌≡◌, ℕ, List, ◌++◌, map, slice_get, Some}
-use Rattle.scan_docs.specs.Scan.{RuleValue}
+use Rattle.document_values.specs.Rule.{RuleValue}
 use Rattle.module_table.specs.TableValue.{TableValue}
 use Rattle.module_table.specs.Modules.{Provision, provisions, InfoRequirement}
 use Rattle.module_table.specs.Faults.{Claim, claims_of}

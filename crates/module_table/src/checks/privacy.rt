@@ -16,8 +16,8 @@ ghost use Rattle.module_table.specs.declared.fault.TableFault.TheVariants.{Modul
 use crate::fault::{Maker, TableFault, failure_of};
 use crate::modules::{Modules, module_at};
 use crate::requirements::InfoRequired;
+use document_values::Name;
 use ninja_text::Failure;
-use scan_docs::Name;
 use std::alloc::Global;
 
 /// M9: no object requires a module that is private to an info file. `indexes[i]` are the modules

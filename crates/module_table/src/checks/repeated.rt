@@ -12,9 +12,9 @@ ghost use Rattle.module_table.specs.inner.Reported.{Reports};
 
 use crate::fault::{Maker, TableFault, failure_of};
 use crate::modules::{Module, Modules, module_at, provided_modules};
+use document_values::{Info, Name, Rule};
 use indexmap::IndexSet;
 use ninja_text::{Failure, Path};
-use scan_docs::{Info, Name, Rule};
 use std::alloc::Global;
 use table_keys::TableKey;
 

@@ -18,8 +18,8 @@ use crate::fault::{Maker, TableFault, failure_of};
 use crate::modules::{Module, Modules};
 use crate::requirements::InfoRequired;
 use dep_order::{Digraph, Sorting, order};
+use document_values::{Name, TargetName};
 use ninja_text::Failure;
-use scan_docs::{Name, TargetName};
 use std::alloc::{AllocError, Global};
 
 /// M5: each required name is provided. Returns the indexes of the modules that each object

@@ -3,8 +3,8 @@ use Rattle.std.proofs.lemmas.Result.{err_from_is_err_and}
 use Rattle.dyndep_file.specs.StatementValue.{StatementValue}
 use Rattle.dyndep_file.specs.WriteFaults.{text_or_fault}
 use Rattle.dyndep_file.specs.Reading.{StandsForOnly}
-use Rattle.scan_docs.specs.Name.{IsTargetName}
-use Rattle.scan_docs.specs.Info.{InfoValue}
+use Rattle.document_values.specs.Name.{IsTargetName}
+use Rattle.document_values.specs.Info.{InfoValue}
 use Rattle.scan_docs.specs.InfoText.{info_text}
 use Rattle.module_table.specs.TableValue.{TableValue}
 use Rattle.collate_core.specs.Values.{TargetValue, CollatedValue}

@@ -1,6 +1,7 @@
 use Rattle.std.proofs.Common.{◌≡◌, ℕ, List, ap, ap₂, subst, sym, ◌∙◌, take_all}
 use Rattle.scan_docs.specs.Document.{IsAccepted}
-use Rattle.scan_docs.specs.Info.{InfoValue, ModuleValue, IsInfo}
+use Rattle.scan_docs.specs.Info.{IsInfo}
+use Rattle.document_values.specs.Info.{InfoValue, ModuleValue}
 use Rattle.scan_docs.specs.InfoChecks.{info_checks}
 use Rattle.scan_docs.specs.InfoText.{IsInfoText}
 use Rattle.scan_docs.specs.Values.{info_of}

@@ -1,7 +1,9 @@
 use Rattle.std.proofs.Common.{◌≡◌, List, All, subst, sym, IsTrue, IfSome, option_copied, option_map}
-use Rattle.scan_docs.specs.Scan.{RuleValue, IsRuleText}
-use Rattle.scan_docs.specs.Info.{InfoValue}
-use Rattle.module_table.specs.Parts.{AreLinked, IsEnough, KeepsRequired}
+use Rattle.scan_docs.specs.Scan.{IsRuleText}
+use Rattle.document_values.specs.Rule.{RuleValue}
+use Rattle.document_values.specs.Info.{InfoValue}
+use Rattle.info_pool.specs.Pool.{AreLinked}
+use Rattle.document_values.specs.Parts.{IsEnough, KeepsRequired}
 use Rattle.module_table.specs.Sound.{IsSound, PrivateAreProvided}
 use Rattle.collate_core.specs.Values.{TargetValue}
 use Rattle.collate_core.specs.Documents.{all_rules, AreScansAccepted}

@@ -1,5 +1,5 @@
 use Rattle.std.proofs.Common.{◌≡◌, ℕ, List, length, map, Some, slice_get}
-use Rattle.scan_docs.specs.Scan.{RuleValue}
+use Rattle.document_values.specs.Rule.{RuleValue}
 use Rattle.collate_core.specs.Collation.{IsMapText}
 use Rattle.collate_core.proofs.object_maps.maps_of.Given as goal
 

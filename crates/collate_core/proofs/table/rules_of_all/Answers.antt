@@ -1,6 +1,7 @@
 use Rattle.std.proofs.Common.{◌≡◌, ℕ, ◌+◌, ◌<◌, ◌≤◌, List, ◌++◌, length, map, subst, sym, arith, length-append}
 use Rattle.scan_docs.specs.Document.{IsAccepted}
-use Rattle.scan_docs.specs.Scan.{SettingValue, RuleValue, AreRules}
+use Rattle.scan_docs.specs.Scan.{SettingValue, AreRules}
+use Rattle.document_values.specs.Rule.{RuleValue}
 use Rattle.scan_docs.specs.ScanChecks.{scan_checks}
 use Rattle.scan_docs.specs.Values.{rules_of}
 use Rattle.collate_core.specs.Documents.{IsScanAccepted}

@@ -1,7 +1,7 @@
 use Rattle.std.proofs.Common.{◌≡◌, ap₂, subst, sym, List, rules, Option, IfErr}
 use Rattle.std.proofs.lemmas.Result.{IfOk-weaker}
-use Rattle.scan_docs.specs.Scan.{RuleValue}
-use Rattle.scan_docs.specs.Info.{InfoValue}
+use Rattle.document_values.specs.Rule.{RuleValue}
+use Rattle.document_values.specs.Info.{InfoValue}
 use Rattle.module_table.specs.TableValue.{TableValue, table_with}
 use Rattle.collate_core.specs.Values.{TargetValue}
 use Rattle.collate_core.specs.Documents.{all_rules, IsResolved, AreScansAccepted, AreAccepted, table_of}

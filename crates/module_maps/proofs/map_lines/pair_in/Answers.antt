@@ -1,7 +1,7 @@
 use Rattle.std.proofs.Common.{◌≡◌, ℕ, List, Some, None, Option, ap₂, sym, ◌∙◌, refl, subst, IsTrue}
 use Rattle.std.specs.Prelude.{IsUtf8}
 use Rattle.std.specs.Option.{SomeIff}
-use Rattle.scan_docs.specs.Name.{is_name}
+use Rattle.document_values.specs.Name.{is_name}
 use Rattle.module_maps.specs.MapLines.{cut, both, name_in, path_in, pair_in}
 use Rattle.module_maps.specs.map_laws.LineLemmas.{pair-of, name-text, name-other}
 use Rattle.module_maps.proofs.map_lines.pair_in.Goals as goal

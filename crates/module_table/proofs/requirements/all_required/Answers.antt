@@ -1,7 +1,7 @@
 use Rattle.std.proofs.Common.{◌∙◌, ◌+◌, ◌++◌, ap, map, sym, refl, take, [], ℕ, Vec, Global}
 use Rattle.std.specs.List.{flat_map, enumerate_from}
 use Rattle.std.proofs.lemmas.Option.{slice_get_read}
-use Rattle.scan_docs.specs.Info.{InfoValue, ModuleValue}
+use Rattle.document_values.specs.Info.{InfoValue, ModuleValue}
 use Rattle.dep_order.specs.Rows.{rows}
 use Rattle.module_table.specs.Modules.{provisions}
 use Rattle.module_table.specs.inner.Views.{names_of}

@@ -1,6 +1,6 @@
 use Rattle.std.proofs.Common.{◌≡◌, ◌++◌, map, take, ℕ}
 use Rattle.std.specs.List.{flat_map, enumerate_from}
-use Rattle.scan_docs.specs.Info.{InfoValue}
+use Rattle.document_values.specs.Info.{InfoValue}
 use Rattle.module_table.specs.Modules.{provisions}
 use Rattle.dep_order.specs.Rows.{rows}
 use Rattle.module_table.specs.inner.Views.{names_of}

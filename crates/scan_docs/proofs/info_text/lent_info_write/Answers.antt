@@ -5,7 +5,7 @@ use Rattle.serde.specs.Event.{Log}
 use Rattle.serde_json.specs.Events.{SendsValue}
 use Rattle.serde_json.specs.Sent.{IsTextOf}
 use Rattle.serde_json.proofs.FreeTexts.{text_of_value}
-use Rattle.scan_docs.specs.Info.{InfoValue}
+use Rattle.document_values.specs.Info.{InfoValue}
 use Rattle.scan_docs.specs.InfoText.{info_tree, info_text, ReadsBack}
 use Rattle.scan_docs.proofs.Sending.{info_plain}
 use Rattle.scan_docs.proofs.InfoTexts.{text_again}

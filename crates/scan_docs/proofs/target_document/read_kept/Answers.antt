@@ -1,6 +1,6 @@
 use Rattle.std.proofs.Common.{string_bytes, refl, ap, sym, ◌∙◌}
 use Rattle.std.proofs.lemmas.Bool.{false_from_ne_true}
-use Rattle.scan_docs.specs.Name.{is_name}
+use Rattle.document_values.specs.Name.{is_name}
 use Rattle.scan_docs.specs.TargetChecks.{kept_checks}
 use Rattle.scan_docs.proofs.Each.{fails, passes, more}
 use Rattle.scan_docs.proofs.target_document.read_kept.Goals as goal

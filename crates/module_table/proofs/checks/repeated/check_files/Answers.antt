@@ -1,6 +1,6 @@
 use Rattle.std.proofs.Common.{◌≡◌, ◌+◌, ◌-◌, ◌≤◌, ap, map, refl, arith, length, slice_get, subst, sym, take, true, ◌∙◌, ◌++◌, List, ℕ, Some}
 use Rattle.std.proofs.lemmas.Option.{slice_get_read}
-use Rattle.scan_docs.specs.Scan.{RuleValue}
+use Rattle.document_values.specs.Rule.{RuleValue}
 use Rattle.module_table.specs.Faults.{Claim, claims_of}
 use Rattle.module_table.specs.Modules.{Provision, provisions}
 use Rattle.ninja_text.specs.Firsts.{AllDiffer, RepeatsFirst}

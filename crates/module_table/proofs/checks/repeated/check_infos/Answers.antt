@@ -1,6 +1,6 @@
 use Rattle.std.proofs.Common.{◌≡◌, ap, map, refl, subst, sym, ◌∙◌, List, ℕ, Bor, Some}
 use Rattle.std.proofs.lemmas.Option.{slice_get_read}
-use Rattle.scan_docs.specs.Info.{InfoValue}
+use Rattle.document_values.specs.Info.{InfoValue}
 use Rattle.ninja_text.specs.Firsts.{IsFirstRepetition}
 use Rattle.module_table.specs.declared.fault.TableFault.TheVariants.{InfoTwice}
 use Rattle.module_table.proofs.Lists.{repeats_if_found, keys_if_new, differ_if_new, text_repetition}

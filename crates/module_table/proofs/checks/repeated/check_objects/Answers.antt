@@ -1,6 +1,6 @@
 use Rattle.std.proofs.Common.{◌≡◌, ap, map, refl, subst, sym, ◌∙◌, List, ℕ, Some}
 use Rattle.std.proofs.lemmas.Option.{slice_get_read}
-use Rattle.scan_docs.specs.Scan.{RuleValue}
+use Rattle.document_values.specs.Rule.{RuleValue}
 use Rattle.ninja_text.specs.Firsts.{IsFirstRepetition}
 use Rattle.module_table.specs.declared.fault.Maker.TheVariants.{Object}
 use Rattle.module_table.specs.declared.fault.TableFault.TheVariants.{ObjectTwice}

@@ -2,7 +2,7 @@ use Rattle.std.proofs.Common.{ap, subst, sym, OnOk, ◌∙◌}
 use Rattle.std.proofs.lemmas.Result.{on_ok_weaker}
 use Rattle.std.specs.List.{All}
 use Rattle.serde_json.specs.Events.{SendsValue}
-use Rattle.scan_docs.specs.Info.{ModuleValue, InfoValue}
+use Rattle.document_values.specs.Info.{ModuleValue, InfoValue}
 use Rattle.scan_docs.specs.InfoText.{IsModuleText, module_tree, info_tree}
 use Rattle.scan_docs.specs.Sound.{IsSoundModule, IsSoundInfo}
 use Rattle.scan_docs.proofs.Each.{All-grow, All-end}

@@ -1,0 +1,4 @@
+pub mod Name
+pub mod Rule
+pub mod Info
+pub mod Parts

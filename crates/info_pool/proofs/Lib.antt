@@ -1,0 +1,2 @@
+mod PoolLemmas
+pub mod ForCallers

@@ -1,0 +1,35 @@
+use Rattle.std.proofs.Common.{◌≡◌, ◌∙◌, ap, sym, refl, subst, List, ℕ}
+use Rattle.std.proofs.lemmas.Option.{slice_get_read}
+use Rattle.document_values.specs.Rule.{RuleValue}
+use Rattle.info_pool.specs.inner.Pools.{Has, by_name, by_file, Lists, IsUnlinked, IsApart}
+use Rattle.info_pool.proofs.PoolLemmas.{below_next, below_all, unlinked}
+use Rattle.info_pool.proofs.fit.are_apart.Goals as goal
+
+pub loop-pair-preserved : goal.loop-pair-preserved
+loop-pair-preserved c =
+    let linked = c.args.linked.now in
+    let listed = c.args.listed.now in
+    let i = c.loop-pair.pair-index in
+    let provided = c.deref-pair-items.result.now in
+    let pair = c.pair-item.result in
+    let at = slice_get_read provided _ i pair refl c.loop-pair-test.true c.pair-item.is in
+    below_next (λ (pair : List ℕ × List ℕ). IsUnlinked linked (Lists listed by_name) pair.0 × IsUnlinked linked (Lists listed by_file) pair.1) provided i pair at c.loop-pair.invariant
+    (unlinked linked listed.names pair.0 _ c.get-in-loop-pair.ensures.value (c.none_linked-in-loop-pair.ensures c.if-not-none_linked-2.false), unlinked linked listed.files pair.1 _ c.get-else-not-none_linked-2.ensures.value (c.none_linked-else-not-none_linked-2.ensures c.if-not-none_linked-3.false))
+
+pub loop-rule-preserved : goal.loop-rule-preserved
+loop-rule-preserved c =
+    let linked = c.args.linked.now in
+    let listed = c.args.listed.now in
+    let i = c.loop-rule.rule-index in
+    let rule = c.rule-item.result in
+    let at = slice_get_read c.args.objects.now _ i rule refl c.loop-rule-test.true c.rule-item.is in
+    let Apart : List ℕ × List ℕ → Type 0 = λ pair. IsUnlinked linked (Lists listed by_name) pair.0 × IsUnlinked linked (Lists listed by_file) pair.1 in
+    below_next (IsApart linked listed) c.args.objects.now i rule at c.loop-rule.invariant (record {
+      path = unlinked linked listed.files rule.object _ (rw (sym (ap (λ (r : RuleValue). r.object) c.rule.view_is)) c.get.ensures.value) (c.none_linked.ensures c.if-not-none_linked.false);
+      provided =
+          let list : c.deref-pair-items.result.now ≡ rule.provided = c.deref-pair-items.ensures.value ∙ ap (λ (r : RuleValue). r.provided) c.rule.view_is in
+          subst (λ (pairs : List (List ℕ × List ℕ)). (pair : List ℕ × List ℕ) → Has pairs pair → Apart pair) list (below_all Apart c.deref-pair-items.result.now c.loop-pair.pair-index c.loop-pair-test.false c.loop-pair.invariant);
+    })
+
+pub returns : goal.returns
+returns c = λ is o rule at. below_all (IsApart c.args.linked.now c.args.listed.now) c.args.objects.now c.loop-rule.rule-index c.loop-rule-test.false c.loop-rule.invariant rule (o, at)

@@ -1,0 +1,7 @@
+use Rattle.info_pool.proofs.related.Related.of.Goals as goal
+
+pub returns-clause-related : goal.returns-clause-related
+returns-clause-related c = record {
+  are_listed = rw c.in-Some.is at c.in_ok-clashes.ensures.listed;
+  sources = rw c.in-Some-2.is at c.in_ok-required.ensures;
+}

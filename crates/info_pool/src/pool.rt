@@ -1,0 +1,143 @@
+//! The info files of a project, and the part of the linked ones that a target's table needs.
+ghost use Rattle.std.specs.Prelude.{◌≡◌, [], List, IfOk, IfSome, IfNone, IsTrue, None, Some, get_or};
+ghost use Rattle.document_values.specs.Info.{InfoValue};
+ghost use Rattle.info_pool.specs.Pool.{AreLinked, IsAdded};
+ghost use Rattle.document_values.specs.Parts.{IsEnough, KeepsRequired};
+
+use crate::copies::part_of;
+use crate::fit::{are_apart, are_fit, put_places};
+use crate::picking::Scratch;
+use crate::related::{Listed, Related};
+use document_values::{Info, Rule};
+use indexmap::IndexMap;
+use std::alloc::{AllocError, Global};
+use std::marker::Model;
+use table_keys::TableKey;
+
+/// The info files of a project's targets, by index. A contract sees them as a list, with `None` in
+/// place of each info file that is not known.
+///
+/// A target that links many targets needs few of their modules. [`Pool::part`] returns these
+/// modules, so the work for a target grows with its own rules and with the number of its links. It
+/// does not grow with the modules of the linked targets.
+pub struct Pool {
+    pub(crate) infos: Vec<Option<Info>>,
+    pub(crate) listed: Listed,
+    /// The relations of each known info file to those before it.
+    pub(crate) related: Vec<Option<Related>>,
+    key: TableKey,
+}
+
+// Not derived: a derived drop is written out, field by field, wherever a value goes.
+impl Drop for Pool {
+    fn drop(self) {
+        let Pool {
+            infos: _,
+            listed: _,
+            related: _,
+            key: _,
+        } = self;
+    }
+}
+
+impl Model for Pool {
+    ghost use Rattle.std.specs.Prelude.{List, Option};
+    ghost use Rattle.document_values.specs.Info.{InfoValue};
+    ghost use Rattle.info_pool.specs.inner.Pools.{IsPool};
+
+    ghost Value = { List (Option InfoValue) };
+
+    ghost view = { λ p. p.infos.items };
+
+    ghost invariant = { λ p. IsPool p.infos.items p.listed p.related.items };
+}
+
+impl Pool {
+    /// Returns an empty pool. Names and files are hashed under the key.
+    pub fn new(alloc: Global, key: TableKey) -> Pool
+        ensures { result ≡ [] }
+    {
+        Pool {
+            infos: Vec::new(alloc),
+            listed: Listed {
+                names: IndexMap::with_hasher(alloc, key),
+                files: IndexMap::with_hasher(alloc, key),
+            },
+            related: Vec::new(alloc),
+            key,
+        }
+    }
+
+    /// Adds the info file of the next target. `None` is added in its place if the pool has 64
+    /// modules of one of its names or files, or if it has no module that a module of the info file
+    /// requires.
+    pub fn push(self, alloc: Global, info: Option<Info>) -> Result<Pool, AllocError>
+        ensures { IfOk result (λ pool. IsAdded self info pool) }
+    {
+        let Pool {
+            mut infos,
+            mut listed,
+            mut related,
+            key,
+        } = self;
+        let relations = match &info {
+            Some(info) => Related::of(alloc, &infos, info, &mut listed)?,
+            None => None,
+        };
+        infos.push(if relations.is_some() { info } else { None })?;
+        related.push(relations)?;
+        Ok(Pool {
+            infos,
+            listed,
+            related,
+            key,
+        })
+    }
+
+    /// Returns the key that names and files are hashed under.
+    pub fn key(&self) -> TableKey {
+        self.key
+    }
+
+    /// Returns the info file of that index, if it is known.
+    pub fn known(&self, number: usize) -> Option<&Info>
+        ensures found { IfSome result (λ info. get_or self.now number None ≡ Some info.now) }
+        ensures none { IfNone result (get_or self.now number None ≡ None) }
+    {
+        match self.infos.get(number) {
+            Some(Some(info)) => Some(info),
+            _ => None,
+        }
+    }
+
+    /// Returns a part of the linked info files that is enough for a table of these objects: all of
+    /// the files, each with only the modules that the objects require. If the part `keeps` what
+    /// modules require, it also has the modules that its own modules require.
+    ///
+    /// Returns `None` if an info file is not known or linked twice, if two linked modules have one
+    /// name or one file, if an object provides a name or is a file of a linked module, or if a
+    /// linked module requires a module that is not linked. Then the table of all linked modules
+    /// tells more. The scratch may have been used for other parts before.
+    pub fn part(
+        &self,
+        alloc: Global,
+        objects: &[Rule],
+        linked: &[usize],
+        keeps: bool,
+        scratch: &mut Scratch,
+    ) -> Result<Option<Vec<Info>>, AllocError>
+        ensures { IfOk result (λ found. IfSome found (λ part. (infos : List InfoValue)
+            × AreLinked self.now linked.now infos × IsEnough objects.now part.items infos
+            × (IsTrue keeps → KeepsRequired part.items infos))) }
+    {
+        scratch.places.resize(self.infos.len(), 0)?;
+        if !put_places(linked, &mut scratch.places)
+            || !are_fit(linked, &scratch.places, &self.related)
+            || !are_apart(linked, &scratch.places, &self.listed, objects)
+        {
+            return Ok(None);
+        }
+        let picked = self.pick(alloc, objects, linked, keeps, scratch)?;
+        part_of(alloc, &self.infos, linked, &picked, keeps)
+    }
+}

@@ -1,7 +1,0 @@
-use Rattle.module_table.proofs.pool.related.Related.of.Goals as goal
-
-pub returns-clause-related : goal.returns-clause-related
-returns-clause-related c = record {
-  are_listed = rw c.in-Some.is at c.in_ok-clashes.ensures.listed;
-  sources = rw c.in-Some-2.is at c.in_ok-required.ensures;
-}

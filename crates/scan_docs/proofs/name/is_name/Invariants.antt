@@ -1,6 +1,0 @@
-use Rattle.std.proofs.Common.{◌≡◌, drop, true, false}
-use Rattle.scan_docs.proofs.Names.{name_from}
-use Rattle.scan_docs.proofs.name.is_name.Given as goal
-
-abbrev pub invariant-loop-byte : goal.invariant-loop-byte
-invariant-loop-byte l = name_from l.has_colon l.is_empty (drop l.byte-index l.text) ≡ name_from false true l.text
