@@ -6,7 +6,7 @@ ghost use Rattle.collate_core.specs.Infos.{is_private_name, modules_of, info_of_
 ghost use Rattle.collate_core.specs.inner.Parts.{IsTableText};
 ghost use Rattle.collate_core.specs.inner.ReadInfos.{IsReadAs};
 
-use document_values::{Info, InfoModule, Name, Rule, TargetName};
+use document_values::{Info, Name, Rule, TargetName};
 use indexmap::IndexSet;
 use module_table::{Table, added_files};
 use ninja_text::Path;
@@ -38,17 +38,7 @@ pub(crate) fn info_again(
         return Ok(None);
     }
     let info = lent_info(alloc, name, kept, table)?;
-    let mut modules = Vec::with_capacity(alloc, info.modules.len())?;
-    for entry in &info.modules {
-        modules.push(InfoModule {
-            name: entry.name.copy(alloc)?,
-            file: entry.file.copy(alloc)?,
-            required: entry.required.to_vec(alloc)?,
-            is_private: entry.is_private,
-        })?;
-    }
-    let target = name.copy(alloc)?;
-    Ok(Some(Info { target, modules }))
+    Ok(Some(info.to_info(alloc)?))
 }
 
 /// Returns the info file of a target of this name, with all parts borrowed. The names in `kept` are

@@ -7,7 +7,7 @@ ghost use Rattle.scan_docs.specs.InfoText.{module_tree, info_tree, info_text, Is
 ghost use Rattle.scan_docs.specs.Sound.{IsSoundPair, IsSoundModule, IsSoundInfo};
 ghost use Rattle.scan_docs.specs.inner.Writing.{SendsText, BeginsNamedFile};
 
-use document_values::{Info, Name, TargetName};
+use document_values::{Info, InfoModule, Name, TargetName};
 use ninja_text::Path;
 use serde::{Described, Serialize, Serializer};
 use std::alloc::{AllocError, Global};
@@ -49,6 +49,29 @@ impl<'a> Model for LentInfo<'a> {
     ghost Value = { InfoValue };
 
     ghost view = { λ i. record { target = i.target.now; modules = i.modules.items } };
+}
+
+impl LentInfo<'_> {
+    /// Returns the same info with parts of its own.
+    ///
+    /// # Errors
+    ///
+    /// Returns an error if an allocation fails.
+    pub fn to_info(&self, alloc: Global) -> Result<Info, AllocError>
+        ensures { IfOk result (λ info. info ≡ self.now) }
+    {
+        let mut modules = Vec::with_capacity(alloc, self.modules.len())?;
+        for entry in &self.modules {
+            modules.push(InfoModule {
+                name: entry.name.copy(alloc)?,
+                file: entry.file.copy(alloc)?,
+                required: entry.required.to_vec(alloc)?,
+                is_private: entry.is_private,
+            })?;
+        }
+        let target = self.target.copy(alloc)?;
+        Ok(Info { target, modules })
+    }
 }
 
 /// Returns the info as a document of version 2: compact JSON with keys in byte order, without a line

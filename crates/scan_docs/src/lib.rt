@@ -22,9 +22,9 @@
 //!   `specs/Place.antt`, `specs/Member.antt`).
 //!
 //! `must-fail/` has a wrong body for each public function with these exceptions. Laws have no body.
-//! [`Member::key`] and the texts of [`DocFault`], [`Place`] and [`Member`] have an equation for each
-//! variant, which names the text. `first_module_written_for_each` shows the clauses of both functions
-//! that write an info file.
+//! [`LentInfo::to_info`] returns its view, which its clause names. [`Member::key`] and the texts of
+//! [`DocFault`], [`Place`] and [`Member`] have an equation for each variant, which names the text.
+//! `first_module_written_for_each` shows the clauses of both functions that write an info file.
 #![tactic(auto)]
 
 mod document;

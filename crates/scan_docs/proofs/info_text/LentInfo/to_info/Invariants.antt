@@ -1,5 +1,5 @@
 use Rattle.std.proofs.Common.{◌≡◌, take}
-use Rattle.collate_core.proofs.info.info_again.Given as goal
+use Rattle.scan_docs.proofs.info_text.LentInfo.to_info.Given as goal
 
 -- the modules so far
 abbrev pub invariant-loop-entry : goal.invariant-loop-entry
