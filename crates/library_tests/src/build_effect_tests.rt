@@ -28,12 +28,13 @@ pub(crate) fn graph_of(alloc: Global, listing: &[u8]) -> Result<Graph, Fail> {
     value(reader.finish())
 }
 
-/// Edges: one, with every part that an edge can have.
-pub(crate) fn whole_edge(alloc: Global) -> Result<Vec<Edge>, Fail>
-    ensures { IfOk result (λ edges. All (λ e. e.outputs ≢ []) edges.items) }
+/// An edge with an output and no other path.
+fn short_edge(alloc: Global) -> Result<Edge, Fail>
+    ensures { IfOk result (λ edge. edge.outputs ≢ []) }
 {
-    let mut edge = Edge {
-        rule: Vec::from_slice(alloc, b"cxx")?,
+    let rule = Vec::from_slice(alloc, b"cxx")?;
+    Ok(Edge {
+        rule,
         outputs: vec![in alloc; path(alloc, "a.o")?]?,
         implicit_outputs: Vec::new(alloc),
         inputs: Vec::new(alloc),
@@ -41,7 +42,14 @@ pub(crate) fn whole_edge(alloc: Global) -> Result<Vec<Edge>, Fail>
         order_only: Vec::new(alloc),
         dyndep: None,
         restat: true,
-    };
+    })
+}
+
+/// Edges: one, with every part that an edge can have.
+pub(crate) fn whole_edge(alloc: Global) -> Result<Vec<Edge>, Fail>
+    ensures { IfOk result (λ edges. All (λ e. e.outputs ≢ []) edges.items) }
+{
+    let mut edge = short_edge(alloc)?;
     add_paths(alloc, &mut edge)?;
     Ok(vec![in alloc; edge]?)
 }

@@ -4,7 +4,7 @@ ghost use Rattle.std.specs.Prelude.{◌≡◌, ◌<◌, length, IfOk};
 
 mod growths;
 
-use dep_order::{Digraph, Reaching};
+use dep_order::{Digraph, Reaching, Sorting, reach};
 use std::alloc::{AllocError, Global};
 
 /// Node 0 needs node 1, node 1 needs node 2, and node 3 needs node 0.
@@ -33,6 +33,21 @@ fn loop_graph(alloc: Global) -> Result<Digraph, AllocError>
 {
     let needs = vec![in alloc; 0]?;
     Ok(Digraph::new(vec![in alloc; needs]?))
+}
+
+/// Whether this is the least cycle.
+fn is_cycle(sorting: &Sorting, wanted: &[usize]) -> bool {
+    match sorting {
+        Sorting::Order(_) => false,
+        Sorting::Cycle(nodes) => nodes.as_slice() == wanted,
+    }
+}
+
+/// Whether these are the nodes that are reached from the first, in order.
+fn reaches(alloc: Global, graph: &Digraph, wanted: &[usize]) -> Result<bool, AllocError>
+    requires { 0 < length graph.now }
+{
+    Ok(reach(alloc, graph, 0)?.as_slice() == wanted)
 }
 
 /// Whether a search finds these nodes.

@@ -141,13 +141,18 @@ fn lent<'p>(
     }
 }
 
-#[test]
-fn lent_statements_are_added(rt: HostRuntime) -> Result<(), Fail> {
-    let mut text = DyndepText::new(rt.alloc())?;
-    for (output, outputs, inputs) in TWO_ROWS {
+/// The text of these rows, which are added one by one.
+fn added(alloc: Global, rows: &[Row]) -> Result<Vec<u8>, Failure<WriteFault>> {
+    let mut text = DyndepText::new(alloc)?;
+    for (output, outputs, inputs) in rows {
         text.add(&lent(output, outputs, inputs))?;
     }
-    assert!(rt; text.finish().as_slice() == TWO_STATEMENTS);
+    Ok(text.finish())
+}
+
+#[test]
+fn lent_statements_are_added(rt: HostRuntime) -> Result<(), Fail> {
+    assert!(rt; added(rt.alloc(), TWO_ROWS)?.as_slice() == TWO_STATEMENTS);
     Ok(())
 }
 

@@ -56,16 +56,22 @@ ninja_dyndep_version = 1
 build main.o: dyndep | mod/B.bmi
 ";
 
-/// The status, the texts and the files of an answer.
-fn printed(alloc: Global, answer: &Answer) -> Result<Vec<u8>, AllocError> {
-    let mut out = format!(in alloc; "{}\n", answer.status)?.into_bytes();
+/// Appends the texts and the files of an answer.
+fn push_printed(out: &mut Vec<u8>, answer: &Answer) -> Result<(), AllocError> {
     out.extend_from_slice(&answer.out)?;
     out.extend_from_slice(&answer.err)?;
     for file in &answer.files {
         out.extend_from_slice(file.name.as_bytes())?;
-        push_line(&mut out, if file.keeps { b" (left alone)" } else { b"" })?;
+        push_line(out, if file.keeps { b" (left alone)" } else { b"" })?;
         out.extend_from_slice(&file.bytes)?;
     }
+    Ok(())
+}
+
+/// The status, the texts and the files of an answer.
+fn printed(alloc: Global, answer: &Answer) -> Result<Vec<u8>, AllocError> {
+    let mut out = format!(in alloc; "{}\n", answer.status)?.into_bytes();
+    push_printed(&mut out, answer)?;
     Ok(out)
 }
 
@@ -77,6 +83,16 @@ fn is(alloc: Global, answer: &Answer, wanted: &[u8]) -> Result<bool, AllocError>
 /// Whether the target has this answer over these files.
 fn collates(alloc: Global, files: &[File<'_>], wanted: &[u8]) -> Result<bool, AllocError> {
     is(alloc, &collate_run(alloc, TARGET, files)?, wanted)
+}
+
+/// Whether the project has this answer over these files.
+fn projects(alloc: Global, files: &[File<'_>], wanted: &[u8]) -> Result<bool, AllocError> {
+    is(alloc, &project_run(alloc, PROJECT, files)?, wanted)
+}
+
+/// Whether these edges, put in order, have this answer.
+fn orders(alloc: Global, edges: &[u8], wanted: &[u8]) -> Result<bool, AllocError> {
+    is(alloc, &order_run(alloc, edges)?, wanted)
 }
 
 fn file<'a>(name: &'a str, bytes: &'a [u8]) -> File<'a> {
@@ -125,17 +141,14 @@ fn two_targets_of_a_project(rt: HostRuntime) -> Result<(), Fail> {
         file("0.ddi", PROVIDES_B),
         file("1.ddi", NEEDS_B),
     ];
-    let answer = project_run(rt.alloc(), PROJECT, &files)?;
-    assert!(rt; is(rt.alloc(), &answer, PROJECT_FILES)?);
+    assert!(rt; projects(rt.alloc(), &files, PROJECT_FILES)?);
     Ok(())
 }
 
 #[test]
 fn a_project_without_its_second_document(rt: HostRuntime) -> Result<(), Fail> {
     let files = [file("0.json", FIRST), file("0.ddi", PROVIDES_B)];
-    let answer = project_run(rt.alloc(), PROJECT, &files)?;
-    let wanted = b"3\ndyncollate: cannot read 1.json\n";
-    assert!(rt; is(rt.alloc(), &answer, wanted)?);
+    assert!(rt; projects(rt.alloc(), &files, b"3\ndyncollate: cannot read 1.json\n")?);
     Ok(())
 }
 
@@ -180,9 +193,8 @@ fn an_edge_after_the_effect(rt: HostRuntime) -> Result<(), Fail> {
 
 #[test]
 fn edges_in_order_and_in_a_cycle(rt: HostRuntime) -> Result<(), Fail> {
-    let answer = order_run(rt.alloc(), b"build a: r b\nbuild b: r c\n")?;
-    assert!(rt; is(rt.alloc(), &answer, b"0\nb\na\n")?);
-    let answer = order_run(rt.alloc(), b"build a: r b\nbuild b: r a\n")?;
-    assert!(rt; is(rt.alloc(), &answer, b"1\ndyncollate: cycle a -> b\n")?);
+    assert!(rt; orders(rt.alloc(), b"build a: r b\nbuild b: r c\n", b"0\nb\na\n")?);
+    let wanted = b"1\ndyncollate: cycle a -> b\n";
+    assert!(rt; orders(rt.alloc(), b"build a: r b\nbuild b: r a\n", wanted)?);
     Ok(())
 }

@@ -12,11 +12,17 @@ use ninja_text::{Failure, Path};
 use std::alloc::{AllocError, Global};
 use std::test::Fail;
 
+/// A module with this name and this path.
+fn pair(alloc: Global, texts: (&str, &str)) -> Result<(Name, Path), Fail> {
+    let name = name(alloc, texts.0)?;
+    Ok((name, path(alloc, texts.1)?))
+}
+
 /// Modules with these names and paths.
 fn pairs(alloc: Global, texts: &[(&str, &str)]) -> Result<Vec<(Name, Path)>, Fail> {
     let mut pairs = Vec::new(alloc);
     for text in texts {
-        pairs.push((name(alloc, text.0)?, path(alloc, text.1)?))?;
+        pairs.push(pair(alloc, *text)?)?;
     }
     Ok(pairs)
 }
@@ -43,42 +49,77 @@ fn map_of<'p>(
     some(ModuleMap::new(provided, lent(alloc, needed)?))
 }
 
+/// Appends a line of the entry's name and path.
+fn push_entry_text(out: &mut Vec<u8>, entry: &MapEntry) -> Result<(), AllocError> {
+    match &entry.name {
+        Some(name) => out.extend_from_slice(name.text().as_bytes())?,
+        None => out.push(b'-')?,
+    }
+    out.push(b' ')?;
+    push_line(out, entry.path.bytes())
+}
+
 /// The entries, one per line.
 fn entries_text(alloc: Global, entries: &[MapEntry]) -> Result<Vec<u8>, AllocError> {
     let mut out = Vec::new(alloc);
     for entry in entries {
-        match &entry.name {
-            Some(name) => out.extend_from_slice(name.text().as_bytes())?,
-            None => out.push(b'-')?,
-        }
-        out.push(b' ')?;
-        push_line(&mut out, entry.path.bytes())?;
+        push_entry_text(&mut out, entry)?;
     }
     Ok(out)
+}
+
+/// Appends the entry of a line of the form.
+fn push_entry<F: LineForm>(
+    alloc: Global,
+    form: &F,
+    entries: &mut Vec<MapEntry>,
+    line: &[u8],
+) -> Result<(), Fail> {
+    let entry = some(form.entry(alloc, entries, line)?)?;
+    entries.push(entry)?;
+    Ok(())
 }
 
 /// The entries of a line of GCC's form and of one of Clang's, which comes after it.
 pub(crate) fn entries_of_lines(alloc: Global) -> Result<Vec<u8>, Fail> {
     let mut entries = Vec::new(alloc);
-    let first = some(Gcc.entry(alloc, &entries, b"A mod/A.bmi")?)?;
-    entries.push(first)?;
-    let second = some(Clang.entry(alloc, &entries, b"-fmodule-file=B=mod/B.bmi")?)?;
-    entries.push(second)?;
+    push_entry(alloc, &Gcc, &mut entries, b"A mod/A.bmi")?;
+    push_entry(alloc, &Clang, &mut entries, b"-fmodule-file=B=mod/B.bmi")?;
     Ok(entries_text(alloc, &entries)?)
+}
+
+/// The entry with its name of this module.
+fn named_text(alloc: Global, name: &Name, path: &Path) -> Result<Vec<u8>, AllocError> {
+    let mut entries = Vec::new(alloc);
+    push_named(alloc, &mut entries, &[(name, path)])?;
+    entries_text(alloc, &entries)
 }
 
 /// The entry of a module that is in a text as a name, `=` and a path.
 pub(crate) fn entry_of_pair(alloc: Global) -> Result<Vec<u8>, Fail> {
     let pair = some(pair_in(alloc, b'=', b"M:p=mod/M=p.bmi")?)?;
-    let mut entries = Vec::new(alloc);
-    push_named(alloc, &mut entries, &[(&pair.0, &pair.1)])?;
-    Ok(entries_text(alloc, &entries)?)
+    Ok(named_text(alloc, &pair.0, &pair.1)?)
 }
 
-/// The entries that the style keeps of the map.
-fn kept<M: MapStyle>(alloc: Global, style: &M, map: &ModuleMap<'_>) -> Result<Vec<u8>, AllocError> {
-    let entries = style.keeps(alloc, map)?;
-    entries_text(alloc, &entries)
+/// Whether the style writes this text of the map.
+fn is_written<M: MapStyle>(
+    alloc: Global,
+    style: &M,
+    map: &ModuleMap<'_>,
+    text: &str,
+) -> Result<bool, Fail> {
+    Ok(value(style.write(alloc, map))?.as_slice() == text.as_bytes())
+}
+
+/// Whether the style keeps these entries of the map.
+fn are_kept<M: MapStyle>(
+    alloc: Global,
+    style: &M,
+    map: &ModuleMap<'_>,
+    entries: &str,
+) -> Result<bool, AllocError> {
+    let kept = style.keeps(alloc, map)?;
+    Ok(entries_text(alloc, &kept)?.as_slice() == entries.as_bytes())
 }
 
 /// The entries that the style reads in a text of its form.
@@ -97,8 +138,8 @@ fn has_text<M: MapStyle>(
     entries: &str,
 ) -> Result<bool, Fail> {
     Ok(
-        value(style.write(alloc, map))?.as_slice() == text.as_bytes()
-            && kept(alloc, style, map)?.as_slice() == entries.as_bytes()
+        is_written(alloc, style, map, text)?
+            && are_kept(alloc, style, map, entries)?
             && entries_in(alloc, style, text)?.as_slice() == entries.as_bytes(),
     )
 }
@@ -130,27 +171,39 @@ fn bad_line<M: MapStyle>(alloc: Global, style: &M, text: &str) -> Result<Option<
     }
 }
 
+/// Whether this is the number of the first line of each text that the style can't read.
+fn are_refused<M: MapStyle>(
+    alloc: Global,
+    style: &M,
+    rows: &[(&str, u64)],
+) -> Result<bool, AllocError> {
+    for (text, line) in rows {
+        if bad_line(alloc, style, text)? != Some(*line) {
+            return Ok(false);
+        }
+    }
+    Ok(true)
+}
+
 #[test]
 fn a_text_that_is_no_map_is_refused_at_its_first_bad_line(rt: HostRuntime) -> Result<(), Fail> {
-    for (text, line) in [
+    let rows = [
         ("A mod/A.bmi", 1),
         ("A ./a\n", 1),
         ("A a\n a\n", 2),
         ("A a\n\n", 2),
         ("A a b\n", 1),
-    ] {
-        assert!(rt; bad_line(rt.alloc(), &Gcc, text)? == Some(line));
-    }
+    ];
+    assert!(rt; are_refused(rt.alloc(), &Gcc, &rows)?);
     assert!(rt; entries_in(rt.alloc(), &Gcc, "")?.is_empty());
-    for (text, line) in [
+    let rows = [
         ("-x c++-module\n", 2),
         ("-x c++-module\n-fmodule-output=a", 2),
         ("-x c++-module\n-fmodule-output=a\n-x c++-module\n", 3),
         ("-fmodule-output=a\n", 1),
         ("-fmodule-file=C=c\n-fmodule-file=B=b\n", 2),
-    ] {
-        assert!(rt; bad_line(rt.alloc(), &Clang, text)? == Some(line));
-    }
+    ];
+    assert!(rt; are_refused(rt.alloc(), &Clang, &rows)?);
     assert!(rt; entries_in(rt.alloc(), &Clang, "")?.is_empty());
     let found = entries_in(rt.alloc(), &Clang, "-fmodule-file=B=a=b\n")?;
     assert!(rt; found.as_slice() == b"B a=b\n".as_slice());
@@ -173,6 +226,15 @@ fn is_unfit<M: MapStyle>(
     }
 }
 
+/// The same of every style.
+fn fits_no_style(alloc: Global, map: &ModuleMap<'_>, text: &str) -> Result<bool, AllocError> {
+    Ok(
+        is_unfit(alloc, &Gcc, map, text)?
+            && is_unfit(alloc, &Clang, map, text)?
+            && is_unfit(alloc, &Bare, map, text)?,
+    )
+}
+
 #[test]
 fn a_path_that_a_map_cannot_have_fits_no_style(rt: HostRuntime) -> Result<(), Fail> {
     let alloc = rt.alloc();
@@ -180,9 +242,7 @@ fn a_path_that_a_map_cannot_have_fits_no_style(rt: HostRuntime) -> Result<(), Fa
     let provided = pairs(alloc, &[("A", "a"), ("B", "b")])?;
     let needed = pairs(alloc, &[("C", "my mods/C"), ("D", "it's")])?;
     let map = map_of(alloc, &provided, &needed)?;
-    assert!(rt; is_unfit(alloc, &Gcc, &map, "my mods/C")?);
-    assert!(rt; is_unfit(alloc, &Clang, &map, "my mods/C")?);
-    assert!(rt; is_unfit(alloc, &Bare, &map, "my mods/C")?);
+    assert!(rt; fits_no_style(alloc, &map, "my mods/C")?);
     Ok(())
 }
 

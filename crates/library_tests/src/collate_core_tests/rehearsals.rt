@@ -73,6 +73,21 @@ fn is_bad_at(alloc: Global, text: &[u8], graph: &Graph, number: u64) -> Result<b
     Ok(true)
 }
 
+/// Whether a text with a bad line is rejected for it, though its statement has no effect on the
+/// graph.
+fn line_comes_first(alloc: Global, graph: &Graph) -> Result<bool, Fail> {
+    let rule = b"ninja_dyndep_version = 1\nrule cc\n";
+    let text = b"ninja_dyndep_version = 1\nbuild x.o: dyndep\nrule cc\n";
+    Ok(is_bad_at(alloc, rule, graph, 2)? && is_bad_at(alloc, text, graph, 3)?)
+}
+
+/// Whether a text is rejected for what its statement would do to the graph.
+fn is_without_effect(alloc: Global, graph: &Graph) -> Result<bool, Fail> {
+    let text = b"ninja_dyndep_version = 1\nbuild a.o: dyndep\n";
+    let found = refused(alloc, text, graph, &[30])?;
+    Ok(matches!(found, Some(RehearseFault::Effect(_))))
+}
+
 /// A faulty line counts before what the statements do to the graph, of whatever edges it is.
 #[test]
 fn a_text_without_an_effect_is_refused_at_its_line_or_for_the_graph(
@@ -80,18 +95,10 @@ fn a_text_without_an_effect_is_refused_at_its_line_or_for_the_graph(
 ) -> Result<(), Fail> {
     let alloc = rt.alloc();
     let rule = b"ninja_dyndep_version = 1\nrule cc\n";
-    let graph = graph_of(alloc, LIBRARY)?;
-    assert!(rt; is_bad_at(alloc, rule, &graph, 2)?);
-    let text = b"ninja_dyndep_version = 1\nbuild x.o: dyndep\nrule cc\n";
-    assert!(rt; is_bad_at(alloc, text, &graph, 3)?);
     assert!(rt; is_bad_at(alloc, rule, &graph_of(alloc, b"")?, 2)?);
-    let found = refused(
-        alloc,
-        b"ninja_dyndep_version = 1\nbuild a.o: dyndep\n",
-        &graph,
-        &[30],
-    )?;
-    assert!(rt; matches!(found, Some(RehearseFault::Effect(_))));
+    let graph = graph_of(alloc, LIBRARY)?;
+    assert!(rt; line_comes_first(alloc, &graph)?);
+    assert!(rt; is_without_effect(alloc, &graph)?);
     Ok(())
 }
 

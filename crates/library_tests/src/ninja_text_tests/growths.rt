@@ -3,7 +3,9 @@
 //! which nothing was appended has what it had.
 
 use crate::common::{path, value};
-use ninja_text::{Failure, Line, LineCutter, assignment, escape_into, words};
+use ninja_text::{
+    Assignment, Failure, Line, LineCutter, Path, Words, assignment, escape_into, words,
+};
 use std::alloc::{AllocError, Global};
 use std::test::Fail;
 
@@ -63,13 +65,23 @@ const ESCAPES: &str = "a b$c:d e$f:g h$i:j k$l:m n$o:p";
 
 const ESCAPED: &[u8] = b"xa$ b$$c$:d$ e$$f$:g$ h$$i$:j$ k$$l$:m$ n$$o$:p";
 
+/// Whether the path is appended in its escaped form.
+fn appends_escaped(alloc: Global, path: &Path) -> Result<bool, AllocError> {
+    let mut out = vec![in alloc; b'x']?;
+    let answer = escape_into(path.bytes(), &mut out);
+    has_all(answer, &out, b"x", ESCAPED)
+}
+
+/// Whether both kinds of copy of the path are equal to it.
+fn is_copied(alloc: Global, path: &Path) -> Result<bool, AllocError> {
+    Ok(path.clone()? == *path && path.copy(alloc)? == *path)
+}
+
 #[test]
 fn a_path_is_escaped_as_a_whole(rt: HostRuntime) -> Result<(), Fail> {
     let path = path(rt.alloc(), ESCAPES)?;
-    let mut out = vec![in rt.alloc(); b'x']?;
-    let answer = escape_into(path.bytes(), &mut out);
-    assert!(rt; has_all(answer, &out, b"x", ESCAPED)?);
-    assert!(rt; path.clone()? == path && path.copy(rt.alloc())? == path);
+    assert!(rt; appends_escaped(rt.alloc(), &path)?);
+    assert!(rt; is_copied(rt.alloc(), &path)?);
     Ok(())
 }
 
@@ -77,6 +89,24 @@ fn a_path_is_escaped_as_a_whole(rt: HostRuntime) -> Result<(), Fail> {
 const ASSIGNMENT: &[u8] = b"v = a$ b$$c$:d$ e$$f$:g$ h$$i$:j$ k$$l$:m$ n$$o$:p\n";
 
 const VALUE: &[u8] = b"xa b$c:d e$f:g h$i:j k$l:m n$o:p";
+
+/// Whether the value of the assignment is appended.
+fn appends_value(alloc: Global, found: Assignment<'_>) -> Result<bool, AllocError> {
+    let mut out = vec![in alloc; b'x']?;
+    let answer = found.value_into(&mut out);
+    has_all(answer, &out, b"x", VALUE)
+}
+
+/// Whether the third word, which starts at index 4, is appended.
+fn appends_third_word(alloc: Global, tokens: Words<'_>) -> Result<bool, AllocError> {
+    let mut all = true;
+    for token in tokens {
+        let mut out = vec![in alloc; b'x']?;
+        let answer = token.value_into(&mut out);
+        all = all && (token.start() != 4 || has_all(answer, &out, b"x", VALUE)?);
+    }
+    Ok(all)
+}
 
 /// Whether the value of the line is appended, as a value and as the third word.
 fn appends_values(alloc: Global, line: Line<'_>) -> Result<bool, AllocError> {
@@ -86,15 +116,7 @@ fn appends_values(alloc: Global, line: Line<'_>) -> Result<bool, AllocError> {
     let (Ok(Some(found)), Ok(tokens)) = (assignment(line), words(line)) else {
         return Ok(false);
     };
-    let mut out = vec![in alloc; b'x']?;
-    let answer = found.value_into(&mut out);
-    let mut all = has_all(answer, &out, b"x", VALUE)?;
-    for token in tokens {
-        let mut out = vec![in alloc; b'x']?;
-        let answer = token.value_into(&mut out);
-        all = all && (token.start() != 4 || has_all(answer, &out, b"x", VALUE)?);
-    }
-    Ok(all)
+    Ok(appends_value(alloc, found)? && appends_third_word(alloc, tokens)?)
 }
 
 #[test]
