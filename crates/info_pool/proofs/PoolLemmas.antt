@@ -1,5 +1,5 @@
 -- What lists have, and rows of entries by keys: an entry that is added is listed.
-use Rattle.std.proofs.Common.{◌≡◌, ℕ, zero, suc, ◌+◌, ◌<◌, ◌≤◌, ◌⊎◌, Bool, true, false, cond, List, [], ◌∷◌, ◌++◌, length, Option, Some, None, option_copied, refl, ap, subst, sym, ◌∙◌, inl, inr, ⊎_elim, arith, slice_get, bytes_eq, true≢false, is_some, IfSome, MatchBool, Bor, get_or, map, length-append}
+use Rattle.std.proofs.Common.{◌≡◌, ℕ, zero, suc, ◌+◌, ◌<◌, ◌≤◌, ◌⊎◌, Bool, true, false, cond, List, [], ◌∷◌, ◌++◌, length, Option, Some, None, option_copied, refl, ap, subst, sym, ◌∙◌, inl, inr, ⊎_elim, arith, slice_get, slice_set, bytes_eq, true≢false, is_some, IfSome, MatchBool, Bor, get_or, map, length-append}
 use Rattle.std.specs.List.{AllWithin, AllZip}
 use Rattle.std.specs.Cmp.Lexicographic.{bytes_decides}
 use Rattle.std.proofs.lemmas.Option.{slice_get_within, get_or_from_slice_get}
@@ -7,7 +7,7 @@ use Rattle.indexmap.specs.IndexMap.{IndexMap, get}
 use Rattle.smallvec.specs.SmallVec.{SmallVec}
 use Rattle.document_values.specs.Info.{ModuleValue, InfoValue}
 use Rattle.info_pool.specs.declared.related.Listed.{Listed}
-use Rattle.info_pool.specs.inner.Pools.{Has, By, by_name, by_file, key_of, InRow, IsPut, Lists, Keeps, StillListed, AreListed, Below, IsUnlinked, IsKnownModule, IsSource, IsRelated, HasSource, HasClash, IsPool, ArePlaces, AreFit, IsFitAt, IsApart, IsPicked, IsPickedOf}
+use Rattle.info_pool.specs.inner.Pools.{Has, By, by_name, by_file, key_of, InRow, IsPut, Lists, Keeps, StillListed, AreListed, Below, IsUnlinked, IsKnownModule, IsSource, IsRelated, HasSource, HasClash, IsPool, ArePlaces, AreFit, IsFitAt, IsApart, IsCopied, IsPicked, IsPickedOf}
 use Rattle.ninja_text.proofs.ForCallers.{same_some, in_first, in_second, from_push, three_ways, same_cons, to_map, from_map}
 use Rattle.ninja_text.proofs.ForCallers.{placed as index_of}
 use Rattle.document_values.specs.Rule.{RuleValue}
@@ -220,6 +220,18 @@ zip_pushed R [] [] x y h here = (here, tt)
 zip_pushed R [] (b ∷ ys) x y h here = absurd h
 zip_pushed R (a ∷ xs) [] x y h here = absurd h
 zip_pushed R (a ∷ xs) (b ∷ ys) x y h here = (h.0, zip_pushed R xs ys x y h.1 here)
+
+-- the pair at an index, and what holds of each pair once the second of this pair is another
+pub zip_at : {X Y : Type 0} (R : X → Y → Type 0) (xs : List X) (ys : List Y) (i : ℕ) (x : X) → AllZip R xs ys → slice_get xs i ≡ Some x → (y : Y) × (slice_get ys i ≡ Some y) × R x y × ((z : Y) → R x z → AllZip R xs (slice_set ys i z))
+zip_at R [] ys i x h at = let none = at in cc
+zip_at R (a ∷ xs) [] i x h at = absurd h
+zip_at R (a ∷ xs) (b ∷ ys) zero x h at = let same = same_some _ _ at in (b, refl, subst (λ v. R v b) same h.0, λ z here. (subst (λ v. R v z) (sym same) here, h.1))
+zip_at R (a ∷ xs) (b ∷ ys) (suc i) x h at = let rest = zip_at R xs ys i x h.1 at in (rest.0, rest.1, rest.2, λ z here. (h.0, rest.3 z here))
+
+-- one more module is copied
+pub one_more_picked : (keeps : Type 0) (known : List (Option InfoValue)) (n : ℕ) (info old new : InfoValue) (m : ModuleValue) → IsPickedOf keeps known n old → get_or known n None ≡ Some info → IsCopied keeps info m → new.target ≡ old.target → new.modules ≡ old.modules ++ m ∷ [] → IsPickedOf keeps known n new
+one_more_picked keeps known n info old new m picked is copied target pushed =
+    (picked.0, picked.1, (target ∙ picked.2.0, all_pushed (IsCopied keeps picked.0) old.modules new.modules m pushed picked.2.1 (subst (λ v. IsCopied keeps v m) (same_some _ _ (sym is ∙ picked.1)) copied)))
 
 module _ (keeps : Type 0) where
   abbrev AreCopied : List InfoValue → List InfoValue → Type 0

@@ -7,13 +7,14 @@ ghost use Rattle.document_values.specs.Parts.{IsAlike, IsPartOf, KeepsRequired};
 use document_values::{Info, InfoModule};
 use std::alloc::{AllocError, Global};
 
-/// Returns the linked info files with only the modules of these indexes. Each module has what it
+/// Returns the linked info files with only the modules of the picked entries. Each module has what it
 /// requires if the part `keeps` it. Returns `None` if a linked info file is not known.
 pub(crate) fn part_of(
     alloc: Global,
     infos: &[Option<Info>],
     linked: &[usize],
-    picked: &[Vec<usize>],
+    places: &[usize],
+    picked: &[(usize, usize)],
     keeps: bool,
 ) -> Result<Option<Vec<Info>>, AllocError>
     ensures { IfOk result (λ found. IfSome found (λ part. (known : List InfoValue)
@@ -21,25 +22,24 @@ pub(crate) fn part_of(
         × (IsTrue keeps → KeepsRequired part.items known))) }
 {
     let mut part = Vec::with_capacity(alloc, linked.len())?;
-    for (place, number) in linked.iter().enumerate() {
+    for number in linked {
         let Some(Some(info)) = infos.get(*number) else {
             return Ok(None);
         };
-        let indexes = match picked.get(place) {
-            Some(picked) => picked.as_slice(),
-            None => &[],
-        };
-        let mut modules = Vec::with_capacity(alloc, indexes.len())?;
-        for index in indexes {
-            match info.modules.get(*index) {
-                Some(module) => modules.push(copy_module(alloc, module, keeps)?)?,
-                None => {}
-            }
-        }
         part.push(Info {
             target: info.target.copy(alloc)?,
-            modules,
+            modules: Vec::new(alloc),
         })?;
+    }
+    for (number, index) in picked {
+        if let Some(place) = places.get(*number)
+            && linked.get(*place) == Some(number)
+            && let Some(Some(info)) = infos.get(*number)
+            && let Some(module) = info.modules.get(*index)
+        {
+            let copy = copy_module(alloc, module, keeps)?;
+            part[*place].modules.push(copy)?;
+        }
     }
     Ok(Some(part))
 }

@@ -30,7 +30,7 @@ impl Scratch {
 }
 
 impl Pool {
-    /// Returns the modules that the objects require, for each linked info file. If the part `keeps`
+    /// Returns the entries of the modules that the objects require, each once. If the part `keeps`
     /// what modules require, these modules are picked also.
     pub(crate) fn pick(
         &self,
@@ -39,10 +39,10 @@ impl Pool {
         linked: &[usize],
         keeps: bool,
         scratch: &mut Scratch,
-    ) -> Result<Vec<Vec<usize>>, AllocError> {
-        for _ in scratch.picked.len()..self.infos.len() {
-            scratch.picked.push(Vec::new(alloc))?;
-        }
+    ) -> Result<Vec<(usize, usize)>, AllocError> {
+        scratch
+            .picked
+            .resize_with(self.infos.len(), || Vec::new(alloc))?;
         let mut entries = Vec::new(alloc);
         for rule in objects {
             for name in &rule.required {
@@ -51,7 +51,7 @@ impl Pool {
                 };
                 let mut row = row.as_slice().iter();
                 if let Some(entry) = row.find(|entry| is_linked(linked, &scratch.places, entry.0)) {
-                    self.add(linked, *entry, scratch, &mut entries)?;
+                    self.add(*entry, scratch, &mut entries)?;
                 }
             }
         }
@@ -65,35 +65,22 @@ impl Pool {
                     && let Some(required) = related.required.get(index)
                 {
                     for entry in required {
-                        self.add(linked, *entry, scratch, &mut entries)?;
+                        self.add(*entry, scratch, &mut entries)?;
                     }
                 }
             }
         }
-        let mut picked = Vec::with_capacity(alloc, linked.len())?;
-        for _ in linked {
-            picked.push(Vec::new(alloc))?;
-        }
-        for entry in entries {
-            if let Some(place) = scratch.places.get(entry.0)
-                && *place < picked.len()
-            {
-                picked[*place].push(entry.1)?;
-            }
-        }
-        Ok(picked)
+        Ok(entries)
     }
 
-    /// Adds a module of a linked info file to the picked ones, if it is not among them.
+    /// Adds a module of a known info file to the picked ones, if it is not among them.
     fn add(
         &self,
-        linked: &[usize],
         entry: (usize, usize),
         scratch: &mut Scratch,
         entries: &mut Vec<(usize, usize)>,
     ) -> Result<(), AllocError> {
-        if is_linked(linked, &scratch.places, entry.0)
-            && let Some(info) = self.known(entry.0)
+        if let Some(info) = self.known(entry.0)
             && entry.0 < scratch.picked.len()
         {
             let places = &mut scratch.picked[entry.0];

@@ -138,6 +138,6 @@ impl Pool {
             return Ok(None);
         }
         let picked = self.pick(alloc, objects, linked, keeps, scratch)?;
-        part_of(alloc, &self.infos, linked, &picked, keeps)
+        part_of(alloc, &self.infos, linked, &scratch.places, &picked, keeps)
     }
 }

@@ -1,11 +1,10 @@
 use Rattle.std.proofs.Common.{IsTrue, take}
 use Rattle.std.specs.List.{AllZip}
-use Rattle.document_values.specs.Info.{ModuleValue}
-use Rattle.info_pool.specs.inner.Pools.{Has, IsCopied, IsPickedOf}
+use Rattle.info_pool.specs.inner.Pools.{IsPickedOf}
 use Rattle.info_pool.proofs.copies.part_of.Given as goal
 
-abbrev pub invariant-loop-place : goal.invariant-loop-place
-invariant-loop-place l = AllZip (IsPickedOf (IsTrue l.keeps) l.infos) (take l.place l.linked) l.part.items
+abbrev pub invariant-loop-number : goal.invariant-loop-number
+invariant-loop-number l = AllZip (IsPickedOf (IsTrue l.keeps) l.infos) (take l.number-index l.linked) l.part.items
 
-abbrev pub invariant-loop-index : goal.invariant-loop-index
-invariant-loop-index l = (m : ModuleValue) → Has l.modules.items m → IsCopied (IsTrue l.keeps) (record { target = l.info-inside.target; modules = l.info-inside.modules.items }) m
+abbrev pub invariant-loop-number-2 : goal.invariant-loop-number-2
+invariant-loop-number-2 l = AllZip (IsPickedOf (IsTrue l.keeps) l.infos) l.linked l.part.items
