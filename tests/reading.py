@@ -303,8 +303,8 @@ class Reading(unittest.TestCase):
 
     def test_examples(self):
         """The page of a library quotes its example: python3 -m tests.reading --write"""
-        self.assertEqual(set(EXAMPLES), set(CRATES) - {"c_library", "command_line", "commands", "dyncollate", "info_pool",
-                                                       "library_tests", "system_files", "table_keys"})
+        self.assertEqual(set(EXAMPLES), set(CRATES) - {"c_library", "command_line", "commands", "dyncollate", "library_tests",
+                                                       "system_files", "table_keys"})
         for crate, path in EXAMPLES.items():
             with self.subTest(crate):
                 self.assertIn(example(path), QUOTED.findall(page_of(crate).read_text()))
