@@ -14,13 +14,23 @@ returns-in_err-table-clause-refused g c =
     let p = err_from_is_err_and c.from_residual.result c.from_residual.ensures.1 in
     rw (p.1, p.2) (any_style c.args.target.now (option_map g.M.MapStyle.written (option_copied c.args.style)) _ c.in_err-table.ensures.refused)
 
+pub returns-in_err-table-clause-read : goal.returns-in_err-table-clause-read
+returns-in_err-table-clause-read g c =
+    let p = err_from_is_err_and c.from_residual.result c.from_residual.ensures.1 in
+    rw (p.1, p.2) c.in_err-table.ensures.read
+
 pub written_of-requires-clause-sound : goal.written_of-requires-clause-sound
 written_of-requires-clause-sound g c = subst IsSound (sym c.in_ok-table.ensures.table) c.in_ok-table.ensures.resolved.sound
 
+pub written_of-requires-clause-text : goal.written_of-requires-clause-text
+written_of-requires-clause-text g c = c.in_ok-table.ensures.text
+
+pub returns-in-Ok-clause-collated : goal.returns-in-Ok-clause-collated
+returns-in-Ok-clause-collated g c = collates c.args.target.now (option_map g.M.MapStyle.written (option_copied c.args.style)) c.in_ok-table.table c.in-Ok.collated c.in_ok-table.ensures.table c.in_ok-table.ensures.resolved c.in-Ok.ensures.written
+
 pub returns-in-Ok-clause-headline : goal.returns-in-Ok-clause-headline
 returns-in-Ok-clause-headline g c =
-    c.headline.ensures c.args.target.now (option_map g.M.MapStyle.written (option_copied c.args.style)) c.in-Ok.collated
-    (collates c.args.target.now (option_map g.M.MapStyle.written (option_copied c.args.style)) c.in_ok-table.table c.in-Ok.collated c.in_ok-table.ensures.table c.in_ok-table.ensures.resolved c.in-Ok.ensures.written)
+    c.headline.ensures c.args.target.now (option_map g.M.MapStyle.written (option_copied c.args.style)) c.in-Ok.collated (returns-in-Ok-clause-collated g c)
 
 pub returns-in-Err-clause-refused : goal.returns-in-Err-clause-refused
 returns-in-Err-clause-refused g c =

@@ -1,4 +1,5 @@
-use Rattle.std.proofs.Common.{ℕ, ◌+◌, map, take, subst, sym}
+use Rattle.std.proofs.Common.{ℕ, ◌+◌, ◌≤◌, map, take, subst, sym}
+use Rattle.std.proofs.lemmas.List.{take_all, length-map}
 use Rattle.scan_docs.specs.Document.{IsAccepted}
 use Rattle.scan_docs.specs.Info.{IsInfo}
 use Rattle.scan_docs.specs.InfoChecks.{info_checks}
@@ -22,3 +23,8 @@ loop-index-preserved c =
       value = c.in-Ok.ensures.value;
       text = c.in-Ok.ensures.text;
     }))
+
+pub returns-clause-read : goal.returns-clause-read
+returns-clause-read c =
+    let documents = map (λ info. info.now) c.args.documents.now in
+    subst (λ ds. AreReadAs ds c.loop-index.infos.items) (take_all c.loop-index.index documents (subst (λ n. n ≤ c.loop-index.index) (sym (length-map c.args.documents.now (λ info. info.now))) c.loop-index-test.false)) c.loop-index.invariant

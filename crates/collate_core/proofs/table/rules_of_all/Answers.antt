@@ -1,10 +1,11 @@
-use Rattle.std.proofs.Common.{◌≡◌, ℕ, ◌+◌, ◌<◌, ◌≤◌, List, ◌++◌, length, map, subst, sym, arith, length-append}
+use Rattle.std.proofs.Common.{◌≡◌, ℕ, ◌+◌, ◌<◌, ◌≤◌, ◌∙◌, List, ◌++◌, length, map, take, ap, subst, sym, arith, length-append}
+use Rattle.std.proofs.lemmas.List.{take_all, length-map}
 use Rattle.scan_docs.specs.Document.{IsAccepted}
 use Rattle.scan_docs.specs.Scan.{SettingValue, AreRules}
 use Rattle.document_values.specs.Rule.{RuleValue}
 use Rattle.scan_docs.specs.ScanChecks.{scan_checks}
 use Rattle.scan_docs.specs.Values.{rules_of}
-use Rattle.collate_core.specs.Documents.{IsScanAccepted}
+use Rattle.collate_core.specs.Documents.{IsScanAccepted, AreScansAccepted, all_rules}
 use Rattle.collate_core.specs.Refusals.{IsScanRefusal}
 use Rattle.collate_core.proofs.Documents.{ScansSoFar, lent_scans, past_limit, refused_scan}
 use Rattle.collate_core.proofs.table.rules_of_all.Goals as goal
@@ -33,3 +34,13 @@ loop-index-preserved c =
     let short : length (rules ++ more) ≤ 65536 = omega (arith, length-append rules more, c.loop-index.invariant.short, c.if-len.false, c.len.ensures, c.len-in-Ok.ensures) in
     subst (ScansSoFar c.args.setting.now (map (λ scan. scan.now) c.args.scans.now) (i + 1)) (sym c.in_ok-append-in-Ok.ensures.items)
     (lent_scans (λ scan. scan.now) c.args.scans.now i _ c.args.setting.now rules more c.loop-index-test.true c.loop-index.invariant (accepted c.args.setting.now _ more c.in-Ok.ensures.value c.in-Ok.ensures.accepted) c.in-Ok.ensures.value c.in-Ok.ensures.text short)
+
+-- at the loop's end the documents so far are all
+at_end : (c : goal.After-loop-index) → take c.loop-index.index (map (λ scan. scan.now) c.args.scans.now) ≡ map (λ scan. scan.now) c.args.scans.now
+at_end c = take_all c.loop-index.index (map (λ scan. scan.now) c.args.scans.now) (subst (λ n. n ≤ c.loop-index.index) (sym (length-map c.args.scans.now (λ scan. scan.now))) c.loop-index-test.false)
+
+pub returns-clause-accepted : goal.returns-clause-accepted
+returns-clause-accepted c = subst (AreScansAccepted c.args.setting.now) (at_end c) c.loop-index.invariant.accepted
+
+pub returns-clause-rules : goal.returns-clause-rules
+returns-clause-rules c = c.loop-index.invariant.same ∙ ap (all_rules c.args.setting.now) (at_end c)

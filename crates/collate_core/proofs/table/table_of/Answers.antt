@@ -1,4 +1,4 @@
-use Rattle.std.proofs.Common.{◌≡◌, ap₂, subst, sym, List, rules, Option, IfErr}
+use Rattle.std.proofs.Common.{◌≡◌, ap₂, subst, sym, List, rules, Option, IfErr, IfOk}
 use Rattle.std.proofs.lemmas.Result.{IfOk-weaker}
 use Rattle.document_values.specs.Rule.{RuleValue}
 use Rattle.document_values.specs.Info.{InfoValue}
@@ -49,3 +49,11 @@ returns-clause-refused c =
     c.build_or_refused.result c.map_err.result c.map_err.ensures.cases
     (subst (λ (read : TableValue). IfErr c.build_or_refused.result (ForFault (λ (refused : RefusedTable). IsReported read target.kept refused.fault))) same_table
     (rw (← c.target.view_is) c.build_or_refused.ensures.fault))
+
+pub returns-clause-table : goal.returns-clause-table
+returns-clause-table c =
+    let target : TargetValue = c.args.target.now in
+    let are : c.in-Ok.objects.items ≡ all_rules target.setting target.scans = rw (← c.target.view_is) c.in-Ok.ensures.rules in
+    let read : AreReadAs target.infos c.in-Ok-infos_of_all.infos.items = rw (← c.target.view_is) c.in-Ok-infos_of_all.ensures.read in
+    value_stays (λ table. table ≡ table_of target) _ c.build_or_refused.result c.map_err.result c.map_err.ensures.cases
+    (subst (λ (read : TableValue). IfOk c.build_or_refused.result (λ table. table ≡ read)) (ap₂ (λ (objects : List RuleValue) (infos : List InfoValue). table_with objects infos) are read.values) c.build_or_refused.ensures.table)
