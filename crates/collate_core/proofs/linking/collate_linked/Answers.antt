@@ -1,4 +1,4 @@
-use Rattle.std.proofs.Common.{rules, tests, arith, ◌≡◌, ◌∙◌, ℕ, ◌<◌, ◌≤◌, ◌⊎◌, List, map, length, get_or, ap, subst, inl, inr, All, MatchBool, Option, Some, None, IfSome, Result, Ok, Err, IfOk}
+use Rattle.std.proofs.Common.{rules, tests, arith, ◌≡◌, ◌∙◌, ℕ, ◌<◌, ◌≤◌, ◌⊎◌, List, map, length, get_or, ap, subst, inl, inr, All, MatchBool, Option, Some, None, IfSome, Result, Ok, IfOk}
 use Rattle.std.specs.List.{AllWithin, HoldsAt}
 use Rattle.std.proofs.lemmas.Iterator.{YieldsList-from_slice, cases_from_all}
 use Rattle.std.proofs.lemmas.List.Elements.{All-from_all_within}

@@ -1,4 +1,4 @@
-use Rattle.std.proofs.Common.{rules, ◌<◌, [], ◌∷◌, length, map, refl, subst, sym, ap, ◌∙◌, arith, length-append}
+use Rattle.std.proofs.Common.{rules, ◌<◌, [], ◌∷◌, length, map, subst, sym, ap, ◌∙◌, arith, length-append}
 use Rattle.std.proofs.lemmas.Result.{err_from_is_err_and}
 use Rattle.module_table.specs.TableValue.{TableValue}
 use Rattle.module_maps.specs.Maps.{Written}
@@ -23,9 +23,3 @@ loop-object-preserved g c =
       each = subst (λ xs. EachMap t written (map (λ m. m.items) xs)) (sym c.in_ok-push.ensures.items)
           (more_maps t written c.loop-object.texts.items c.loop-object.object c.in_ok-map_text.field-0 c.loop-object.invariant.count c.loop-object.invariant.each c.in_ok-map_text.ensures.text);
     }
-
-pub loop-object-init : goal.loop-object-init
-loop-object-init g c = rw c.in_ok-texts.ensures.items (record { needs = c.in_ok-needs.ensures; count = refl; each = λ o rule text at found. absurd (cc) })
-
-pub map_text-requires-clause-needs : goal.map_text-requires-clause-needs
-map_text-requires-clause-needs g c = c.loop-object.invariant.needs

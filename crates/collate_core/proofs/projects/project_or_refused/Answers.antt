@@ -84,6 +84,3 @@ returns-clause-maps g c =
       keeps_pairs = λ m is. g.met.M.MapStyle.keeps_pairs s m is;
     })
     c.project_maps.ensures.maps c.args.targets.now c.loop-index.outs.items (returns-clause-collated g c)
-
-pub collate_linked-requires : goal.collate_linked-requires
-collate_linked-requires g c = subst (λ (os : List CollatedValue). AreKnown os c.loop-index.pool) (sym c.as_slice.ensures.value) c.loop-index.invariant.known

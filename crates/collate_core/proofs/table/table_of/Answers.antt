@@ -4,9 +4,8 @@ use Rattle.document_values.specs.Rule.{RuleValue}
 use Rattle.document_values.specs.Info.{InfoValue}
 use Rattle.module_table.specs.TableValue.{TableValue, table_with}
 use Rattle.collate_core.specs.Values.{TargetValue}
-use Rattle.collate_core.specs.Documents.{all_rules, IsResolved, AreScansAccepted, AreAccepted, table_of}
+use Rattle.collate_core.specs.Documents.{IsResolved, AreAccepted, table_of}
 use Rattle.collate_core.specs.inner.Parts.{IsTableText, IsOfTable}
-use Rattle.collate_core.specs.inner.ReadInfos.{AreReadAs}
 use Rattle.ninja_text.specs.Failure.{ForFault}
 use Rattle.module_maps.specs.Maps.{Written}
 use Rattle.module_table.specs.Faults.{IsReported}
