@@ -1,5 +1,5 @@
 //! Collating a target of a project, which links earlier targets.
-ghost use Rattle.std.specs.Prelude.{◌≡◌, ◌<◌, IfOk, IfErr, IfSome, All, map, length};
+ghost use Rattle.std.specs.Prelude.{◌≡◌, ◌<◌, MatchOption, IfOk, IfErr, IfSome, All, map, length};
 ghost use Rattle.std.specs.Option.{option_copied, option_map};
 ghost use Rattle.ninja_text.specs.Failure.{ForFault};
 ghost use Rattle.module_table.specs.TableValue.{table_with};
@@ -46,11 +46,9 @@ pub(crate) fn collate_linked<M: MapStyle>(
         WasRead (target_of outs.now target.now) refused.refusal
         (table_with refused.objects.items refused.infos.items))) }
 {
-    let count = outs.len();
-    if !target.linked.iter().all(|index| *index < count) {
+    let Some(infos) = infos_of(alloc, target.linked, outs)? else {
         return Err(Failure::Fault(without_table(alloc, Refusal::LinkedLater)));
-    }
-    let infos = infos_of(alloc, target.linked, outs)?;
+    };
     let with_infos = Target {
         name: target.name,
         setting: target.setting,
@@ -68,21 +66,26 @@ pub(crate) fn collate_linked<M: MapStyle>(
     Ok((out, info))
 }
 
-/// Returns the info files that the targets of these indexes wrote.
+/// Returns the info files that the targets of these indexes wrote, or `None` if one of them is not
+/// earlier.
 fn infos_of<'a>(
     alloc: Global,
     linked: &[usize],
     outs: &'a [Collated],
-) -> Result<Vec<&'a [u8]>, AllocError>
-    requires { All (λ k. k < length outs.now) linked.now }
-    ensures { IfOk result
-        (λ infos. map (λ s. s.now) infos.items ≡ linked_infos outs.now linked.now) }
+) -> Result<Option<Vec<&'a [u8]>>, AllocError>
+    ensures { IfOk result (λ found. MatchOption found
+        (All (λ k. k < length outs.now) linked.now → ⊥)
+        (λ infos. All (λ k. k < length outs.now) linked.now
+        × (map (λ s. s.now) infos.items ≡ linked_infos outs.now linked.now))) }
 {
     let mut infos = Vec::new(alloc);
     for target in linked {
-        infos.push(outs[*target].info())?;
+        let Some(out) = outs.get(*target) else {
+            return Ok(None);
+        };
+        infos.push(out.info())?;
     }
-    Ok(infos)
+    Ok(Some(infos))
 }
 
 /// Collates a target by a table of few of the modules that it links. Returns `None` if the table of
