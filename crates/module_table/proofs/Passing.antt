@@ -238,7 +238,7 @@ module _ (t : TableValue) (kept : List (List ℕ)) where
 -- ---- what has passed after each check, and which fault is reported by then
 
 -- no code is below the first or above the last
-code_within : (fault : TableFault) → (1 ≤ code_number fault) × (code_number fault ≤ 10)
+pub code_within : (fault : TableFault) → (1 ≤ code_number fault) × (code_number fault ≤ 10)
 code_within (ObjectTwice path first second) = (omega arith, omega arith)
 code_within fault = (omega arith, omega arith)
 

@@ -1,14 +1,15 @@
-use Rattle.std.proofs.Common.{◌≡◌, ℕ, List, map, refl, subst, sym}
+use Rattle.std.proofs.Common.{◌≡◌, ℕ, List, arith, map, refl, subst, sym}
 use Rattle.std.proofs.lemmas.Result.{err_from_is_err_and}
 use Rattle.document_values.specs.Rule.{RuleValue}
 use Rattle.module_table.specs.TableValue.{TableValue}
 use Rattle.module_table.specs.Modules.{provisions}
 use Rattle.module_table.specs.Faults.{IsReported}
+use Rattle.module_table.specs.inner.LookUps.{AreLookUps}
 use Rattle.module_table.specs.inner.Passed.{Passed}
 use Rattle.ninja_text.specs.Firsts.{AllDiffer}
 use Rattle.module_table.specs.inner.Views.{names_of}
 use Rattle.module_table.proofs.Found.{for_fault}
-use Rattle.module_table.proofs.Passing.{reported, fails, none_passed, after_objects, after_infos, after_names, after_files}
+use Rattle.module_table.proofs.Passing.{code_within, reported, fails, none_passed, after_objects, after_infos, after_names, after_files}
 use Rattle.module_table.proofs.checks.check_all.Goals as goal
 
 pub returns-in_err-check_objects-clause-fault : goal.returns-in_err-check_objects-clause-fault
@@ -64,3 +65,13 @@ returns-in_err-needs-clause-fault c =
     let same = c.in_ok-modules.ensures.modules in
     let p = err_from_is_err_and c.from_residual-in_err-needs.result c.from_residual-in_err-needs.ensures.1 in
     rw (p.1, p.2) (for_fault _ _ _ (λ fault is. subst (λ t. IsReported t c.args.kept.now fault.value) same is) c.in_err-needs.ensures.fault)
+
+pub returns-clause-no_fault : goal.returns-clause-no_fault
+returns-clause-no_fault c = λ fault is.
+    let passed = subst (λ (t : TableValue). Passed 11 t c.args.kept.now) c.in_ok-modules.ensures.modules c.in_ok-needs.ensures.passed in
+    omega (arith, passed fault is, code_within fault)
+
+pub returns-clause-index : goal.returns-clause-index
+returns-clause-index c =
+    let index = c.in_ok-index.index in
+    subst (λ (t : TableValue). AreLookUps t index.names.keys index.origins.items index.graph (map (λ row. row.items) index.required.items)) c.in_ok-modules.ensures.modules c.in_ok-index.ensures

@@ -2,7 +2,7 @@ use Rattle.std.proofs.Common.{◌≡◌, ◌<◌, ◌+◌, ◌∙◌, ◌++◌, 
 use Rattle.std.specs.declared.alloc.Global.{Global}
 use Rattle.std.specs.List.{filter_map}
 use Rattle.std.specs.Option.{option_map}
-use Rattle.std.proofs.lemmas.List.{length-set, map-append}
+use Rattle.std.proofs.lemmas.List.{get_or-replicate, length-replicate, length-set, map-append}
 use Rattle.std.proofs.lemmas.Option.{slice_get-get_or, slice_get_read, get_or_from_slice_get}
 use Rattle.dep_order.specs.Rows.{rows}
 use Rattle.module_table.specs.Modules.{Provision, provisions}
@@ -10,7 +10,7 @@ use Rattle.module_table.specs.Added.{first_mentions, pair_of, required_of}
 use Rattle.module_table.specs.inner.Indexed.{pair_at}
 use Rattle.module_table.specs.inner.Views.{names_of, provision_of}
 use Rattle.module_table.specs.inner.Mentioned.{name_in, ArePairsSoFar}
-use Rattle.module_table.proofs.IndexRows.{length_mapped, take_all, rule_of, index_within}
+use Rattle.module_table.proofs.IndexRows.{length_mapped, many_rows, take_all, rule_of, index_within}
 use Rattle.module_table.proofs.Mentions.{row_names, pairs_found, no_pairs, pairs_new, pairs_old}
 use Rattle.module_table.proofs.needed.all_pairs.Goals as goal
 use Rattle.module_table.proofs.needed.all_pairs.Goals.{then-index-object+in_ok-copy_pair+in_ok-push, else-index-object}
@@ -105,4 +105,22 @@ loop-object-preserved c =
           ∙ ap (λ xs. xs ++ pairs ∷ []) c.loop-object.invariant.found
           ∙ ap (λ x. map (required_of t) (take i t.objects) ++ x ∷ []) same
           ∙ sym (ap (map (required_of t)) (take_next t.objects i rule.0 rule.1) ∙ map-append (required_of t) (take i t.objects) (rule.0 ∷ []));
+    }
+
+pub returns : goal.returns
+returns c =
+    let t = c.args.modules.now in
+    let vectors = c.args.required.now in
+    c.loop-object.invariant.found ∙ ap (map (required_of t)) (take_all t.objects c.loop-object.object (omega (arith, c.loop-object-test.false, many_rows t (rows vectors) c.requires, length_mapped items_of vectors)))
+
+pub loop-object-init : goal.loop-object-init
+loop-object-init c =
+    let provided = c.provided-provided.result.now in
+    let zeros = c.in_ok-marks.ensures.items_if_clones_equal (λ y same. same) in
+    record {
+      as_many = omega (arith, c.in_ok-marks.ensures.len, length_mapped provision_of provided, ap length c.provided-provided.ensures.provisions);
+      at_most = λ k d lt.
+          let within : k < length provided = omega (arith, lt, ap length zeros, length-replicate {A = ℕ} (length provided) 0) in
+          omega (arith, ap (λ xs. get_or xs k d) zeros, get_or-replicate {A = ℕ} (length provided) k 0 d within);
+      found = ap (map (λ row. row.items)) c.in_ok-all.ensures.items;
     }

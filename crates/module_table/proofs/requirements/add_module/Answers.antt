@@ -1,12 +1,12 @@
-use Rattle.std.proofs.Common.{◌≡◌, ◌∙◌, ◌+◌, ap, refl, slice_get, sym, take, List, ℕ}
+use Rattle.std.proofs.Common.{◌≡◌, ◌∙◌, ◌++◌, ◌+◌, ap, map, refl, slice_get, subst, sym, take, List, ℕ}
 use Rattle.std.specs.Option.{option_map}
 use Rattle.std.proofs.lemmas.Option.{slice_get_read}
 use Rattle.document_values.specs.Info.{ModuleValue}
 use Rattle.module_table.specs.Modules.{InfoRequirement, provisions}
 use Rattle.module_table.specs.inner.Views.{names_of}
-use Rattle.module_table.specs.inner.Graph.{index_in}
-use Rattle.module_table.specs.inner.Found.{looked_up, lookup_of}
-use Rattle.module_table.proofs.IndexRows.{takes_some, takes_none}
+use Rattle.module_table.specs.inner.Graph.{index_in, indexes_in}
+use Rattle.module_table.specs.inner.Found.{looked_up, lookup_of, lookups_of}
+use Rattle.module_table.proofs.IndexRows.{take_all, takes_some, takes_none}
 use Rattle.module_table.proofs.Lists.{pushes_next}
 use Rattle.module_table.proofs.requirements.add_module.Goals as goal
 use Rattle.module_table.proofs.requirements.add_module.Goals.{in-Some+in_ok-push-in-Some, in-None}
@@ -34,3 +34,16 @@ loop-pair-preserved c =
             | in-None w ↦ ap (λ v. v.items) w.row-is ∙ takes_none h entry.required i pair c.loop-pair.row.items at c.loop-pair.invariant.row (sym c.find-module.ensures.index ∙ ap (option_map _) w.in-None.is)
           ];
     }
+
+pub returns-clause-required : goal.returns-clause-required
+returns-clause-required c =
+    let entry = c.args.entry.now in
+    let list = c.deref-pair-items.ensures.value ∙ ap (λ (m : ModuleValue). m.required) c.entry.view_is in
+    let whole = subst (λ pairs. take c.loop-pair.pair-index pairs ≡ pairs) list (take_all c.deref-pair-items.result.now c.loop-pair.pair-index c.loop-pair-test.false) in
+    c.loop-pair.invariant.required ∙ ap (λ pairs. map looked_up c.args.all.now.items ++ lookups_of (provisions c.args.modules.now) c.args.info c.args.target.now (record entry { required = pairs })) whole
+
+pub returns-clause-row : goal.returns-clause-row
+returns-clause-row c =
+    let list = c.deref-pair-items.ensures.value ∙ ap (λ (m : ModuleValue). m.required) c.entry.view_is in
+    let whole = subst (λ pairs. take c.loop-pair.pair-index pairs ≡ pairs) list (take_all c.deref-pair-items.result.now c.loop-pair.pair-index c.loop-pair-test.false) in
+    c.loop-pair.invariant.row ∙ ap (indexes_in (names_of (provisions c.args.modules.now))) whole

@@ -50,3 +50,8 @@ returns-clause-required c = record {
       ∙ sym (lookups t);
   differ = c.infos-infos.ensures.differ;
 }
+
+pub returns-clause-needs : goal.returns-clause-needs
+returns-clause-needs c =
+    let whole = take_all c.infos-infos.result.now c.loop-info.info c.loop-info-test.false ∙ c.infos-infos.ensures.infos in
+    c.loop-info.invariant.needs ∙ ap (λ infos. rows c.args.needs.now.items ++ flat_map (info_rows (names_of (provisions c.args.modules.now))) (enumerate_from 0 infos)) whole

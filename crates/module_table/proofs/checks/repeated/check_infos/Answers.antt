@@ -1,9 +1,10 @@
 use Rattle.std.proofs.Common.{◌≡◌, ap, map, refl, subst, sym, ◌∙◌, List, ℕ, Bor, Some}
 use Rattle.std.proofs.lemmas.Option.{slice_get_read}
 use Rattle.document_values.specs.Info.{InfoValue}
-use Rattle.ninja_text.specs.Firsts.{IsFirstRepetition}
+use Rattle.ninja_text.specs.Firsts.{AllDiffer, IsFirstRepetition}
 use Rattle.module_table.specs.declared.fault.TableFault.TheVariants.{InfoTwice}
 use Rattle.module_table.proofs.Lists.{repeats_if_found, keys_if_new, differ_if_new, text_repetition}
+use Rattle.module_table.proofs.IndexRows.{map_take_all}
 use Rattle.module_table.proofs.Found.{reports_same, for_boxed}
 use Rattle.module_table.specs.inner.Reported.{Reports}
 use Rattle.module_table.specs.TableValue.{TableValue}
@@ -43,3 +44,7 @@ loop-info-preserved c =
       same = keys_if_new text_of (map target_of infos) i _ c.loop-info.targets.keys c.insert_full.new.self.keys at c.loop-info.invariant.same c.loop-info.invariant.differ h.keys fresh;
       differ = differ_if_new text_of (map target_of infos) i _ c.loop-info.targets.keys c.insert_full.new.self.keys at c.loop-info.invariant.same c.loop-info.invariant.differ h.keys fresh;
     }
+
+pub returns-clause-ok : goal.returns-clause-ok
+returns-clause-ok c =
+    subst AllDiffer (map_take_all target_of c.args.infos.now c.loop-info.info-index c.loop-info-test.false) c.loop-info.invariant.differ

@@ -1,4 +1,5 @@
-use Rattle.std.proofs.Common.{◌≡◌, ◌∙◌, ◌<◌, ap, arith, length, sym, refl, map, List, ℕ, Some, slice_get, get_or}
+use Rattle.std.proofs.Common.{◌≡◌, ◌∙◌, ◌<◌, ◌+◌, ap, arith, cond, length, sym, refl, map, List, ℕ, Some, slice_get, get_or}
+use Rattle.std.proofs.lemmas.List.{length-take}
 use Rattle.std.proofs.lemmas.Option.{slice_get_read, slice_get-get_or}
 use Rattle.module_table.specs.inner.Views.{provision_of, names_of}
 use Rattle.module_table.specs.Modules.{Provision, provisions}
@@ -52,3 +53,18 @@ loop-module-preserved c =
       same = sym (map_same c.insert_full.new.self.keys) ∙ keys_if_new (λ n. n) (names_of list) i c.in_ok-copy.field-0 c.loop-module.names.keys c.insert_full.new.self.keys at before c.loop-module.invariant.differ h.keys (sym c.if-not-is_new.false ∙ h.added);
       differ = differ_if_new (λ n. n) (names_of list) i c.in_ok-copy.field-0 c.loop-module.names.keys c.insert_full.new.self.keys at before c.loop-module.invariant.differ h.keys (sym c.if-not-is_new.false ∙ h.added);
     }
+
+-- the index of a name that is not new is one of those before
+pub bounds-provided-first : goal.bounds-provided-first
+bounds-provided-first c =
+    let old = c.loop-module.names.keys in
+    let h = c.in_ok-first.ensures in
+    let not_more = h.len ∙ ap (λ b. length old + cond b 1 0) c.if-not-is_new.true in
+    let before = ap length c.loop-module.invariant.same ∙ length-take c.loop-module.module-index (names_of (map provision_of c.args.provided.now)) in
+    omega (arith, h.within, not_more, before, c.loop-module-test.true)
+
+pub bounds-provided-first-in_ok-name : goal.bounds-provided-first-in_ok-name
+bounds-provided-first-in_ok-name c = bounds-provided-first c
+
+pub offset_bounds-provided-first : goal.offset_bounds-provided-first
+offset_bounds-provided-first c = let h = bounds-provided-first c in omega (arith, h)

@@ -48,3 +48,15 @@ returns-clause-ok c =
     let objects = c.objects-objects.result.now in
     are_indexes c.args.modules.now (names_of (provisions c.args.modules.now)) c.loop-object.indexes.items refl
     (c.loop-object.invariant ∙ ap (map (λ (rule : RuleValue). map (λ name. Some name) rule.required)) (take_all objects c.loop-object.object c.loop-object-test.false ∙ c.objects-objects.ensures))
+
+pub loop-object-preserved : goal.loop-object-preserved
+loop-object-preserved c =
+    let keys = names_of (provisions c.args.modules.now) in
+    let objects = c.objects-objects.result.now in
+    let o = c.loop-object.object in
+    let rule = c.index-objects-object.result in
+    let here = slice_get_read objects _ o rule refl c.loop-object-test.true c.index-objects-object.is in
+    let list : c.deref-required-items.result.now ≡ rule.required = c.deref-required-items.ensures.value ∙ ap (λ (r : RuleValue). r.required) c.rule.view_is in
+    let whole = take_all c.deref-required-items.result.now c.loop-required.required-index c.loop-required-test.false ∙ list in
+    pushes_next (λ (row : Vec ℕ Global). map (slice_get keys) row.items) (λ (rule : RuleValue). map (λ name. Some name) rule.required) (take o objects) (take (o + 1) objects) rule [] _ _ _ (take_next objects o rule here) c.loop-object.invariant c.in_ok-push.ensures.items
+    (c.loop-required.invariant ∙ ap (map (λ name. Some name)) whole)

@@ -80,3 +80,14 @@ overflow_add-len c =
     omega (arith, within, c.self.invariant.3, c.self.invariant.2.as_many, c.len.ensures, c.self.inside.ranks.ok.0)
 
 -- the invariant, once the workspace has been used
+pub invariant_of-self : goal.invariant_of-self
+invariant_of-self c = rw c.from.ensures.same c.self.invariant
+
+pub invariant_of-self-in_err-ranks : goal.invariant_of-self-in_err-ranks
+invariant_of-self-in_err-ranks c = rw c.from.ensures.same c.self.invariant
+
+pub invariant_of-self-in_err-push-in-Some : goal.invariant_of-self-in_err-push-in-Some
+invariant_of-self-in_err-push-in-Some c = rw c.from.ensures.same c.self.invariant
+
+pub invariant_of-self-2 : goal.invariant_of-self-2
+invariant_of-self-2 c = rw c.from.ensures.same c.self.invariant
