@@ -57,8 +57,7 @@ pub(crate) fn check_infos(
     ensures fault { IfErr result (ForFault (λ fault. (t : TableValue) (kept : List Name) →
         infos.now ≡ t.infos → Reports 2 t kept fault.value)) }
 {
-    let mut targets = IndexSet::with_hasher(alloc, key);
-    targets.reserve(infos.len())?;
+    let mut targets = IndexSet::with_capacity_and_hasher(alloc, infos.len(), key)?;
     for info in infos {
         let (_, is_new) = targets.insert_full(&info.target)?;
         if !is_new {
