@@ -1,2 +1,2 @@
-pub mod Hashed
+pub mod Entries
 pub mod Keys

@@ -3,30 +3,44 @@
 //! Whoever knows how a table hashes can choose entries that all hash alike, so that each look-up
 //! searches the whole table. A [`TableKey`] is made of the SHA-512 digest of the entries themselves:
 //! whoever chooses the entries cannot choose the digest as well. So a table needs no random bytes
-//! from outside, and a program hashes the same way in each run.
+//! from outside, and a program hashes the same way in each run. Each entry is digested with its
+//! length, so one digest cannot stand for the same bytes cut into other entries.
 //!
 //! ```rust
-//! let mut digest = KeyDigest::new();
-//! digest.update(b"first");
-//! digest.update(b"second");
-//! let mut names = IndexSet::with_hasher(alloc, digest.key());
+//! let key = TableKey::of(&[b"first".as_slice(), b"second".as_slice()]);
+//! let mut names = IndexSet::with_hasher(alloc, key);
 //! ```
 //!
 //! It uses `sha2` for the digest. The table's hasher is std's `DefaultHasher` (SipHash), which has
 //! hashed the digest before it hashes an entry.
 #![tactic(auto)]
 
-ghost use Rattle.std.specs.Prelude.{◌++◌, []};
-ghost use Rattle.table_keys.specs.Hashed.{Hashed};
+ghost use Rattle.std.specs.Prelude.{◌++◌, ◌∷◌, [], map};
+ghost use Rattle.table_keys.specs.Entries.{Entries};
 ghost use Rattle.table_keys.specs.Keys.{HasAdded, IsKeyOf};
 
 use sha2::{Digest, Sha512};
 use std::hash::{BuildHasher, DefaultHasher, Hasher};
 
+pub mod laws;
+
 /// Builds the hashers of a table. All of them start from the digest of the table's entries.
 #[derive(Clone, Copy)]
 pub struct TableKey {
     start: DefaultHasher,
+}
+
+impl TableKey {
+    /// Returns the key for the table of these entries.
+    pub fn of(entries: &[&[u8]]) -> TableKey
+        ensures { IsKeyOf result (map (λ entry. entry.now) entries.now) }
+    {
+        let mut digest = KeyDigest::new();
+        for entry in entries {
+            digest.add(entry);
+        }
+        digest.key()
+    }
 }
 
 impl BuildHasher for TableKey {
@@ -40,7 +54,8 @@ impl BuildHasher for TableKey {
     }
 }
 
-/// Computes the digest of a table's entries, one after another.
+/// Computes the digest of a table's entries, one after another. [`TableKey::of`] is for a list of
+/// entries.
 #[derive(Drop)]
 pub struct KeyDigest {
     digest: Sha512,
@@ -56,17 +71,19 @@ impl KeyDigest {
         }
     }
 
-    /// Adds an entry, or a part of one, to the digest.
-    pub fn update(&mut self, entry: &[u8])
-        ensures { (entries : Hashed) → HasAdded self.old entries
-            → HasAdded self.new (entries ++ entry.now) }
+    /// Adds an entry, with its length, to the digest.
+    #[tactic(auto, using(crate::proofs::Framing::one_more))]
+    pub fn add(&mut self, entry: &[u8])
+        ensures { (entries : Entries) → HasAdded self.old entries
+            → HasAdded self.new (entries ++ entry.now ∷ []) }
     {
+        self.digest.update(&entry.len().to_le_bytes());
         self.digest.update(entry);
     }
 
     /// Returns the key for the table of the entries so far.
     pub fn key(self) -> TableKey
-        ensures { (entries : Hashed) → HasAdded self entries → IsKeyOf result entries }
+        ensures { (entries : Entries) → HasAdded self entries → IsKeyOf result entries }
     {
         let mut start = DefaultHasher::new();
         start.write(&self.digest.finalize());
