@@ -14,7 +14,7 @@ ghost use Rattle.build_effect.specs.inner.StatementEdges.{statement_on};
 
 use crate::fault::EffectFault;
 use crate::graph::Edge;
-use crate::makers::{Makers, SeenFiles, table_key};
+use crate::makers::{Makers, SeenFiles, key_of};
 use dyndep_file::Statement;
 use indexmap::IndexSet;
 use ninja_text::{Failure, Path};
@@ -120,7 +120,7 @@ pub(crate) fn check_added(
         .flat_map(|addition| addition.implicit_outputs.iter());
     let files: Vec<&Path> = added.collect(alloc)?;
     let mut seen = SeenFiles {
-        set: IndexSet::with_hasher(alloc, table_key(files.as_slice())),
+        set: IndexSet::with_hasher(alloc, key_of(files.as_slice())),
     };
     for file in &files {
         let is_made = makers.maker_of(*file).is_some();

@@ -7,7 +7,7 @@ ghost use Rattle.build_effect.specs.Faults.{IsGraphFault, NamesUnread};
 ghost use Rattle.build_effect.specs.inner.Inputs.{NamesInput};
 
 use crate::fault::GraphFault;
-use crate::makers::{SeenFiles, made_files, table_key};
+use crate::makers::{SeenFiles, key_of, made_files};
 use indexmap::IndexSet;
 use ninja_text::{Failure, Path};
 use std::alloc::{AllocError, Global};
@@ -104,7 +104,7 @@ fn check_made(alloc: Global, edges: &[Edge]) -> Result<(), Failure<GraphFault>>
 {
     let files = made_files(alloc, edges)?;
     let mut seen = SeenFiles {
-        set: IndexSet::with_hasher(alloc, table_key(files.as_slice())),
+        set: IndexSet::with_hasher(alloc, key_of(files.as_slice())),
     };
     for file in &files {
         let is_new = seen.set.insert(*file)?;

@@ -5,6 +5,7 @@ ghost use Rattle.dep_order.specs.Sortings.{IsSortingOf};
 ghost use Rattle.build_effect.specs.Faults.{made_files};
 ghost use Rattle.build_effect.specs.Graphs.{EdgeNeeds};
 ghost use Rattle.build_effect.specs.inner.Makers.{maker_in, AreMakers};
+ghost use Rattle.table_keys.specs.Keys.{IsKeyOf};
 
 use crate::graph::{Edge, Graph};
 use dep_order::{Digraph, Sorting, order};
@@ -56,7 +57,7 @@ impl<'t> Makers<'t> {
         ensures { IfOk result (λ makers. AreMakers edges.now (maker_in makers.table)) }
     {
         let files = made_files(alloc, edges)?;
-        let table = IndexMap::with_hasher(alloc, table_key(files.as_slice()));
+        let table = IndexMap::with_hasher(alloc, key_of(files.as_slice()));
         let mut makers = Makers { table };
         for (edge_index, edge) in edges.iter().enumerate() {
             for file in edge.outputs.iter().chain(edge.implicit_outputs.iter()) {
@@ -97,10 +98,12 @@ pub(crate) fn made_files<'t>(alloc: Global, edges: &'t [Edge]) -> Result<Vec<&'t
 }
 
 /// Returns the key for a table of these files, which is made of the files themselves.
-pub(crate) fn table_key(files: &[&Path]) -> TableKey {
+pub(crate) fn key_of(files: &[&Path]) -> TableKey
+    ensures { IsKeyOf result (lists files.now) }
+{
     let mut digest = KeyDigest::new();
     for file in files {
-        digest.update(file.bytes());
+        digest.add(file.bytes());
     }
     digest.key()
 }
