@@ -1,5 +1,7 @@
 //! The info file of a target: its modules, for the targets that link it.
 ghost use Rattle.std.specs.Prelude.{◌≡◌, ◌++◌, IfOk, OnOk, IfSome};
+ghost use Rattle.indexmap.specs.IndexSet.{hasher_of};
+ghost use Rattle.table_keys.specs.Keys.{IsKeyOf};
 ghost use Rattle.ninja_text.specs.Bytes.{Name};
 ghost use Rattle.scan_docs.specs.InfoText.{ReadsBack};
 ghost use Rattle.collate_core.specs.Infos.{is_private_name, modules_of, info_of_table};
@@ -64,27 +66,28 @@ pub(crate) fn lent_info<'t>(
     })
 }
 
-/// Returns the set of these names. Its key is made of the names, so whoever chooses them cannot
-/// choose the key as well.
+/// Returns the set of these names, under a key that is made of them.
 fn set_of(alloc: Global, names: &[Name]) -> Result<IndexSet<Name, TableKey>, AllocError>
-    ensures { IfOk result (λ set. (name : Name) →
+    ensures names { IfOk result (λ set. (name : Name) →
         is_private_name set.keys name ≡ is_private_name names.now name) }
+    ensures key { IfOk result (λ set. IsKeyOf (hasher_of set) names.now) }
 {
-    let mut digest = KeyDigest::new();
-    for entry in names {
-        add_line(&mut digest, entry.bytes());
-    }
-    let mut set = IndexSet::with_hasher(alloc, digest.key());
+    let mut set = IndexSet::with_hasher(alloc, key_of(names));
     for name in names {
         set.insert(name.copy(alloc)?)?;
     }
     Ok(set)
 }
 
-/// Adds an entry of a table and a line end, which no entry has.
-pub(crate) fn add_line(digest: &mut KeyDigest, entry: &[u8]) {
-    digest.update(entry);
-    digest.update(b"\n".as_slice());
+/// Returns the key of a set of these names, so whoever chooses them cannot choose the key as well.
+fn key_of(names: &[Name]) -> TableKey
+    ensures { IsKeyOf result names.now }
+{
+    let mut digest = KeyDigest::new();
+    for name in names {
+        digest.add(name.bytes());
+    }
+    digest.key()
 }
 
 /// Appends the modules that an object provides. The object requires these modules.

@@ -109,7 +109,7 @@ fn collate_by_part<M: MapStyle>(
     let Some(part) = pool.part(alloc, &objects, linked, style.is_some(), scratch)? else {
         return Ok(None);
     };
-    let built = Table::build_or_refused(alloc, objects, part, target.kept, Some(pool.key()));
+    let built = Table::build_or_refused(alloc, objects, part, target.kept, None);
     let Some(table) = unless_faulty(built)? else {
         return Ok(None);
     };

@@ -9,7 +9,6 @@ ghost use Rattle.collate_core.specs.ProjectNeeds.{MapsReadBack};
 
 use crate::collated::Collated;
 use crate::fault::{Refusal, RefusedTarget};
-use crate::info::add_line;
 use crate::laws::{project_maps, project_orders};
 use crate::linking::collate_linked;
 use document_values::{Name, TargetName};
@@ -160,16 +159,20 @@ fn linked_targets(alloc: Global, targets: &[ProjectTarget<'_>]) -> Result<Vec<bo
     Ok(is_linked)
 }
 
-/// Returns the key of a table of the modules of these targets. It is made of all that their names and
+/// Returns the key of the tables that all these targets share. It is made of all that their names and
 /// paths come from, so whoever chooses these cannot choose the key as well.
 fn project_key(targets: &[ProjectTarget<'_>]) -> TableKey {
     let mut digest = KeyDigest::new();
     for target in targets {
         let setting = target.setting;
-        add_line(&mut digest, setting.module_dir.as_bytes());
-        add_line(&mut digest, setting.module_ext.as_bytes());
+        digest.add(target.name.text().as_bytes());
+        digest.add(setting.module_dir.as_bytes());
+        digest.add(setting.module_ext.as_bytes());
+        if let Some(build_dir) = &setting.build_dir {
+            digest.add(build_dir.bytes());
+        }
         for scan in target.scans {
-            digest.update(scan);
+            digest.add(scan);
         }
     }
     digest.key()

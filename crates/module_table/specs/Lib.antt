@@ -1,5 +1,6 @@
 pub mod TableValue
 pub mod Modules
+pub mod Entries
 pub mod Faults
 pub mod FaultNames
 pub mod Sound

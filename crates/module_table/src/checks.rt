@@ -4,9 +4,11 @@
 ghost use Rattle.std.specs.Prelude.{◌≡◌, map, IfOk, IfErr, OnOk};
 ghost use Rattle.ninja_text.specs.Bytes.{Name};
 ghost use Rattle.ninja_text.specs.Failure.{ForFault};
-ghost use Rattle.indexmap.specs.IndexSet.{IsEmpty};
+ghost use Rattle.indexmap.specs.IndexSet.{IsEmpty, hasher_of};
 ghost use Rattle.dep_order.specs.Rows.{rows};
+ghost use Rattle.table_keys.specs.Keys.{Covers};
 ghost use Rattle.module_table.specs.TableValue.{table_with};
+ghost use Rattle.module_table.specs.Entries.{table_entries};
 ghost use Rattle.module_table.specs.Faults.{IsReported};
 ghost use Rattle.module_table.specs.Outcomes.{HasNoFault};
 ghost use Rattle.module_table.specs.inner.Passed.{Passed};
@@ -85,7 +87,9 @@ pub(crate) fn check_all(
     paths: &mut IndexSet<Path, TableKey>,
     key: TableKey,
 ) -> Result<Index, Failure<Box<TableFault>>>
-    requires { IsEmpty paths.old }
+    requires paths { IsEmpty paths.old }
+    requires hasher { hasher_of paths.old ≡ key }
+    requires key { Covers key (table_entries (table_with objects.now infos.now)) }
     ensures no_fault { OnOk result
         (HasNoFault (table_with objects.now infos.now) kept.now) }
     ensures paths { OnOk result (paths.new.keys ≡ paths_of (table_with objects.now infos.now)) }

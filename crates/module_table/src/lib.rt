@@ -8,9 +8,9 @@
 //! that no other fault is reported (`specs/Outcomes.antt`).
 //!
 //! Names, paths and targets are looked up in hash tables. Their key is the digest of all of them
-//! (`table_keys`), so nobody can choose names that all hash alike. [`Table::build_or_refused`] also
-//! returns the objects and info files with a fault, because a fault has only indexes
-//! ([`RefusedTable`]).
+//! (`specs/Entries.antt`, `table_entries`), so nobody can choose names that all hash alike. One key
+//! may serve several tables ([`add_objects`]). [`Table::build_or_refused`] also returns the objects
+//! and info files with a fault, because a fault has only indexes ([`RefusedTable`]).
 //!
 //! [`Table::lookup`] returns the producer of a name. [`Table::provided`] and [`Table::required`]
 //! return what an object provides and requires. [`Table::needed`] returns the modules that an
@@ -33,6 +33,7 @@
 //!   fails. `checks/repeated.rt` has M1 to M4, `checks/required.rt` M5 to M8, and
 //!   `checks/privacy.rt` M9 and M10. M8 calls `order` of `dep_order`. `requirements.rt` looks up once
 //!   what the modules of info files require. M6, M7 and M9 use what it finds.
+//! - `keys.rt` makes the key of a table's hash tables.
 //! - `table.rt`: a table has the objects and what each requires with the files ([`Resolved`]).
 //!   Names and paths have numbers, which are their indexes in two hash tables. Names are numbered
 //!   by first mention, the names of provided modules before those that are required. By these
@@ -50,7 +51,8 @@
 //! for cycles and for what a module leads to, `indexmap` and `table_keys` for look-ups, and
 //! `thiserror` for its fault.
 //!
-//! `must-fail/` has a wrong body for each public function with these exceptions. Laws have no body.
+//! `must-fail/` has wrong bodies for each public function and for the key of a table, with these
+//! exceptions. Laws have no body.
 //! [`TableFault::name`] is a list of texts. [`Table::build`], [`Table::objects`],
 //! [`Table::required`], [`Table::resolved`], [`Table::into_resolved`], [`Table::needs`] and
 //! [`Table::needed`] pass on what other functions return. [`Resolved::objects`],
@@ -60,6 +62,7 @@
 
 mod checks;
 mod fault;
+mod keys;
 mod laws;
 mod modules;
 mod needed;
@@ -67,6 +70,7 @@ mod requirements;
 mod table;
 
 pub use fault::{Maker, RefusedTable, TableFault};
+pub use keys::add_objects;
 pub use laws::{added_files, one_fault, parts, sound_tables};
 pub use needed::Needs;
 pub use table::{Resolved, Table};

@@ -1,8 +1,11 @@
 //! The table of the modules of one target, and its look-ups.
 ghost use Rattle.std.specs.Prelude.{◌≡◌, ◌<◌, IfOk, IfErr, IfSome, IfNone, length, map, slice_get, Some};
+ghost use Rattle.std.specs.Option.{ForSome};
+ghost use Rattle.table_keys.specs.Keys.{Covers};
 ghost use Rattle.ninja_text.specs.Failure.{ForFault};
 ghost use Rattle.document_values.specs.Rule.{RuleValue};
 ghost use Rattle.module_table.specs.TableValue.{table_with};
+ghost use Rattle.module_table.specs.Entries.{table_entries};
 ghost use Rattle.module_table.specs.Modules.{IsProvidedBy};
 ghost use Rattle.module_table.specs.Faults.{IsReported, IsFault, IsUnknown};
 ghost use Rattle.module_table.specs.Sound.{IsSound, PrivateAreProvided};
@@ -12,6 +15,7 @@ ghost use Rattle.module_table.specs.declared.fault.TableFault.{TableFault};
 
 use crate::checks::check_all;
 use crate::fault::{Maker, RefusedTable, TableFault};
+use crate::keys::table_key;
 use crate::modules::index_of;
 use crate::needed::{Needs, copy_pair, named_at};
 use dep_order::Digraph;
@@ -20,7 +24,7 @@ use indexmap::IndexSet;
 use ninja_text::{Failure, Path};
 use std::alloc::{AllocError, Global};
 use std::marker::Model;
-use table_keys::{KeyDigest, TableKey};
+use table_keys::TableKey;
 
 /// The modules of one target and of the targets that it links. It has none of the faults M1 to M10.
 pub struct Table {
@@ -98,8 +102,8 @@ impl Table {
     }
 
     /// Does the same as `build`, and returns the objects and the info files with a fault, because
-    /// the fault has only their indexes. The table hashes under the key. Without one it makes a key
-    /// of its names and paths.
+    /// the fault has only their indexes. The table hashes under the key, which is made of all its
+    /// names and paths and possibly others. Without one it makes a key of its names and paths.
     pub fn build_or_refused(
         alloc: Global,
         objects: Vec<Rule>,
@@ -107,6 +111,8 @@ impl Table {
         kept: &[Name],
         key: Option<TableKey>,
     ) -> Result<Table, Failure<RefusedTable>>
+        requires { ForSome key
+            (λ key. Covers key (table_entries (table_with objects.items infos.items))) }
         ensures table { IfOk result (λ table. table ≡ table_with objects.items infos.items) }
         ensures sound { IfOk result IsSound }
         ensures kept { IfOk result (λ table. PrivateAreProvided table kept.now) }
@@ -332,31 +338,4 @@ impl Resolved {
     {
         &self.required[object]
     }
-}
-
-/// Returns the key of the table of these objects and info files. It is made of all names and paths
-/// that the table holds, so whoever chooses them cannot choose the key as well.
-fn table_key(objects: &[Rule], infos: &[Info]) -> TableKey {
-    let mut digest = KeyDigest::new();
-    for rule in objects {
-        add_entry(&mut digest, rule.object.bytes());
-        for pair in &rule.provided {
-            add_entry(&mut digest, pair.0.bytes());
-            add_entry(&mut digest, pair.1.bytes());
-        }
-    }
-    for info in infos {
-        add_entry(&mut digest, info.target.text().as_bytes());
-        for module in &info.modules {
-            add_entry(&mut digest, module.name.bytes());
-            add_entry(&mut digest, module.file.bytes());
-        }
-    }
-    digest.key()
-}
-
-/// Adds an entry and its end. No entry has a line end, so no two lists of entries have one digest.
-fn add_entry(digest: &mut KeyDigest, entry: &[u8]) {
-    digest.update(entry);
-    digest.update(b"\n".as_slice());
 }

@@ -17,7 +17,7 @@ loop-index-preserved c =
     let rule : RuleValue = c.index-objects-index.result in
     let here : slice_get t.objects c.loop-index.index ≡ Some rule = rw (← c.objects-objects.ensures.objects) (slice_get_read _ _ _ _ refl c.loop-index-test.true c.index-objects-index.is) in
     c.in_ok-add_modules.ensures
-    ∙ ap (λ ms. c.loop-index.modules.items ++ ms) (modules_same c.in_ok-private_names.private_names.keys kept c.in_ok-private_names.ensures c.required-required.result.now rule.provided)
+    ∙ ap (λ ms. c.loop-index.modules.items ++ ms) (modules_same c.in_ok-private_names.private_names.keys kept c.in_ok-private_names.ensures.names c.required-required.result.now rule.provided)
     ∙ more_modules kept t c.loop-index.index rule c.required-required.result.now c.loop-index.modules.items here (c.required-required.ensures rule here) c.loop-index.invariant
 
 pub returns : goal.returns

@@ -1,7 +1,12 @@
 use Rattle.std.proofs.Common.{◌≡◌, ℕ, List, take}
+use Rattle.indexmap.specs.IndexSet.{hasher_of}
+use Rattle.table_keys.specs.Keys.{IsKeyOf}
 use Rattle.collate_core.specs.Infos.{is_private_name}
 use Rattle.collate_core.proofs.info.set_of.Given as goal
 
--- the set has the names so far
+-- the set has the names so far, under the key of all
 abbrev pub invariant-loop-name : goal.invariant-loop-name
-invariant-loop-name l = (name : List ℕ) → is_private_name l.set.keys name ≡ is_private_name (take l.name-index l.names) name
+invariant-loop-name l = record {
+  names : (name : List ℕ) → is_private_name l.set.keys name ≡ is_private_name (take l.name-index l.names) name;
+  key : IsKeyOf (hasher_of l.set) l.names;
+}

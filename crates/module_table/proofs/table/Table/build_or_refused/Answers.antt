@@ -1,5 +1,8 @@
 use Rattle.std.proofs.Common.{◌≡◌, ◌∙◌, refl, sym, subst, map, arith}
-use Rattle.module_table.specs.TableValue.{TableValue}
+use Rattle.std.proofs.lemmas.List.Elements.{All-contains_itself}
+use Rattle.table_keys.specs.Keys.{Covers, IsKeyOf}
+use Rattle.module_table.specs.TableValue.{TableValue, table_with}
+use Rattle.module_table.specs.Entries.{table_entries}
 use Rattle.module_table.specs.Added.{first_mentions, required_of}
 use Rattle.module_table.specs.Modules.{provisions}
 use Rattle.module_table.specs.Outcomes.{HasNoFault}
@@ -10,6 +13,19 @@ use Rattle.module_table.proofs.Mentions.{all_names}
 use Rattle.module_table.proofs.IndexRows.{same_table}
 use Rattle.module_table.proofs.Faultless.{faultless_is_sound}
 use Rattle.module_table.proofs.table.Table.build_or_refused.Goals as goal
+use Rattle.module_table.proofs.table.Table.build_or_refused.Goals.{in-Some, in-None}
+
+-- the key that was passed covers the table, and its own key is made of all that it holds
+pub check_all-checked-requires-clause-key : goal.check_all-checked-requires-clause-key
+check_all-checked-requires-clause-key c =
+    let given = same_table _ _ _ _ c.as_slice-2.ensures.value c.as_slice-3.ensures.value in
+    subst (λ (t : TableValue). Covers c.match-key.key (table_entries t)) (sym given)
+    elim c.match-key.branch [
+      | in-Some w ↦ subst (λ key. Covers key (table_entries (table_with c.args.objects.items c.args.infos.items))) (sym w.key-is) (c.requires w.in-Some.key w.in-Some.is)
+      | in-None w ↦
+          let own = subst (λ (t : TableValue). IsKeyOf w.table_key-key.result (table_entries t)) (same_table _ _ _ _ w.as_slice.ensures.value w.as_slice-in-None.ensures.value) w.table_key-key.ensures in
+          subst (λ key. Covers key (table_entries (table_with c.args.objects.items c.args.infos.items))) (sym w.key-is) (_, own, All-contains_itself _)
+    ]
 
 pub new-requires-clause-sound : goal.new-requires-clause-sound
 new-requires-clause-sound c =
