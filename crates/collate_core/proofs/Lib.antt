@@ -9,3 +9,4 @@ pub mod Gains
 pub mod Parts
 pub mod Linked
 pub mod Examples
+mod ReadTargetLemmas

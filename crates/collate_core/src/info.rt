@@ -1,5 +1,5 @@
 //! The info file of a target: its modules, for the targets that link it.
-ghost use Rattle.std.specs.Prelude.{◌≡◌, ◌++◌, IfOk, OnOk, IfSome};
+ghost use Rattle.std.specs.Prelude.{◌≡◌, ◌++◌, IfOk, OnOk, IfSome, IsTrue};
 ghost use Rattle.indexmap.specs.IndexSet.{hasher_of};
 ghost use Rattle.table_keys.specs.Keys.{IsKeyOf};
 ghost use Rattle.ninja_text.specs.Bytes.{Name};
@@ -29,7 +29,8 @@ pub(crate) fn info_again(
 ) -> Result<Option<Info>, AllocError>
     requires table { IsTableText table.now }
     requires text { ReadsBack (info_of_table name.now kept.now table.now) text.now }
-    ensures { IfOk result (λ info. IfSome info (IsReadAs text.now)) }
+    ensures { IfOk result (λ info. IfSome info
+        (λ info. IsTrue is_read × IsReadAs text.now info)) }
 {
     added_files();
     value_of_bytes();

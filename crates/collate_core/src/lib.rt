@@ -54,6 +54,7 @@ mod laws;
 mod linking;
 mod object_maps;
 mod projects;
+mod reading;
 mod rehearsal;
 mod statements;
 mod table;

@@ -1,5 +1,5 @@
 //! Collating a target of a project, which links earlier targets.
-ghost use Rattle.std.specs.Prelude.{◌≡◌, ◌<◌, MatchOption, IfOk, IfErr, IfSome, All, map, length};
+ghost use Rattle.std.specs.Prelude.{◌≡◌, ◌<◌, MatchOption, IfOk, IfErr, IfSome, IsTrue, All, map, length};
 ghost use Rattle.std.specs.Option.{option_copied, option_map};
 ghost use Rattle.ninja_text.specs.Failure.{ForFault};
 ghost use Rattle.module_table.specs.TableValue.{table_with};
@@ -9,36 +9,44 @@ ghost use Rattle.collate_core.specs.Projects.{IsLinkedRefusal, target_of, linked
 ghost use Rattle.collate_core.specs.inner.Parts.{CollatesLinked};
 ghost use Rattle.collate_core.specs.inner.PartTables.{IsEnoughFor};
 ghost use Rattle.collate_core.specs.inner.ReadInfos.{IsReadAs, AreKnown, AreLinkedInfos, CollatesAndReads};
+ghost use Rattle.collate_core.specs.inner.ReadTargets.{AreRulesOf, CoversLinked};
 
 use crate::collated::Collated;
 use crate::collating::{Target, collate_or_refused, written_of};
 use crate::fault::{Refusal, RefusedTarget, unless_faulty, without_table};
 use crate::info::info_again;
 use crate::projects::ProjectTarget;
-use crate::table::rules_of_all;
-use document_values::Info;
+use document_values::{Info, Rule};
 use info_pool::{Pool, Scratch};
 use module_maps::MapStyle;
 use module_table::{Table, parts, sound_tables};
 use ninja_text::Failure;
 use scan_docs::info_read;
 use std::alloc::{AllocError, Global};
+use table_keys::TableKey;
 
 /// Collates a target with the info files of the targets that it links, all of which have to be
-/// earlier. Also returns its own info file as it is read, if it `is_read` later and it is known.
+/// earlier. `rules` has its rules, unless its scan documents are rejected. Also returns its own info
+/// file as it is read, if it `is_read` later and it is known.
 pub(crate) fn collate_linked<M: MapStyle>(
     alloc: Global,
     target: &ProjectTarget<'_>,
+    rules: Option<Vec<Rule>>,
+    key: TableKey,
     is_read: bool,
     outs: &[Collated],
     pool: &Pool,
     scratch: &mut Scratch,
     style: Option<&M>,
 ) -> Result<(Collated, Option<Info>), Failure<RefusedTarget>>
-    requires { AreKnown outs.now pool.now }
+    requires known { AreKnown outs.now pool.now }
+    requires rules { IfSome rules
+        (λ rules. AreRulesOf target.now.setting target.now.scans rules.items) }
+    requires key { IfSome rules (λ rules. CoversLinked key pool.now rules.items) }
     ensures collated { IfOk result (λ found. CollatesLinked
         (option_map M.written (option_copied style.entry)) outs.now target.now found.0) }
-    ensures known { IfOk result (λ found. IfSome found.1 (IsReadAs found.0.info)) }
+    ensures known { IfOk result (λ found. IfSome found.1
+        (λ info. IsTrue is_read × IsReadAs found.0.info info)) }
     ensures refused { IfErr result (ForFault (λ refused. IsLinkedRefusal
         (option_map M.written (option_copied style.entry))
         outs.now (length outs.now) target.now refused.refusal)) }
@@ -57,13 +65,35 @@ pub(crate) fn collate_linked<M: MapStyle>(
         kept: target.kept,
     };
     let linked = target.linked;
-    let found = collate_by_part(alloc, &with_infos, linked, is_read, pool, scratch, style)?;
+    let found = collate_by_part(
+        alloc,
+        &with_infos,
+        rules,
+        linked,
+        key,
+        is_read,
+        pool,
+        scratch,
+        style,
+    )?;
     if let Some(found) = found {
         return Ok(found);
     }
     let out = collate_or_refused(alloc, &with_infos, style)?;
-    let info = unless_faulty(info_read(alloc, out.info()))?;
+    let info = info_if_read(alloc, out.info(), is_read)?;
     Ok((out, info))
+}
+
+/// Returns the info file that the text is read as, or `None` if it is not to be read or is rejected.
+fn info_if_read(alloc: Global, text: &[u8], is_read: bool) -> Result<Option<Info>, AllocError>
+    ensures { IfOk result (λ found. IfSome found
+        (λ info. IsTrue is_read × IsReadAs text.now info)) }
+{
+    if !is_read {
+        return Ok(None);
+    }
+    let info = unless_faulty(info_read(alloc, text))?;
+    Ok(info)
 }
 
 /// Returns the info files that the targets of these indexes wrote, or `None` if one of them is not
@@ -88,28 +118,34 @@ fn infos_of<'a>(
     Ok(Some(infos))
 }
 
-/// Collates a target by a table of few of the modules that it links. Returns `None` if the table of
-/// all has to be built, because the target may have a fault.
+/// Collates a target, which has these rules, by a table of few of the modules that it links. Returns
+/// `None` if there are no rules, or if the table of all has to be built, because the target may have
+/// a fault.
 fn collate_by_part<M: MapStyle>(
     alloc: Global,
     target: &Target<'_>,
+    rules: Option<Vec<Rule>>,
     linked: &[usize],
+    key: TableKey,
     is_read: bool,
     pool: &Pool,
     scratch: &mut Scratch,
     style: Option<&M>,
 ) -> Result<Option<(Collated, Option<Info>)>, AllocError>
-    requires { AreLinkedInfos pool.now linked.now target.now.infos }
+    requires infos { AreLinkedInfos pool.now linked.now target.now.infos }
+    requires rules { IfSome rules
+        (λ rules. AreRulesOf target.now.setting target.now.scans rules.items) }
+    requires key { IfSome rules (λ rules. CoversLinked key pool.now rules.items) }
     ensures { IfOk result (λ found. IfSome found
-        (CollatesAndReads target.now (option_map M.written (option_copied style.entry)))) }
+        (CollatesAndReads target.now (option_map M.written (option_copied style.entry)) is_read)) }
 {
-    let Some(objects) = unless_faulty(rules_of_all(alloc, target.setting, target.scans))? else {
+    let Some(objects) = rules else {
         return Ok(None);
     };
     let Some(part) = pool.part(alloc, &objects, linked, style.is_some(), scratch)? else {
         return Ok(None);
     };
-    let built = Table::build_or_refused(alloc, objects, part, target.kept, None);
+    let built = Table::build_or_refused(alloc, objects, part, target.kept, Some(key));
     let Some(table) = unless_faulty(built)? else {
         return Ok(None);
     };
@@ -129,7 +165,7 @@ fn part_collated<M: MapStyle>(
     requires sound { IsSound table.now }
     requires kept { PrivateAreProvided table.now target.now.kept }
     ensures { IfOk result (λ found. IfSome found
-        (CollatesAndReads target.now (option_map M.written (option_copied style.entry)))) }
+        (CollatesAndReads target.now (option_map M.written (option_copied style.entry)) is_read)) }
 {
     sound_tables();
     parts();

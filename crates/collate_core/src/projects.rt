@@ -11,14 +11,15 @@ use crate::collated::Collated;
 use crate::fault::{Refusal, RefusedTarget};
 use crate::laws::{project_maps, project_orders};
 use crate::linking::collate_linked;
+use crate::reading::read_targets;
 use document_values::{Name, TargetName};
 use info_pool::{Pool, Scratch};
 use module_maps::MapStyle;
 use ninja_text::Failure;
 use scan_docs::Setting;
+use scan_docs::laws::value_of_bytes;
 use std::alloc::{AllocError, Global};
 use std::marker::Model;
-use table_keys::{KeyDigest, TableKey};
 
 /// A target of a project to collate: a [`Target`](crate::Target) that links earlier ones by index in
 /// place of the info files, which the project writes. It borrows all its parts.
@@ -121,15 +122,22 @@ pub fn project_or_refused<M: MapStyle>(
 {
     project_orders();
     project_maps();
+    value_of_bytes();
     let linked = linked_targets(alloc, targets)?;
     let mut outs = Vec::new(alloc);
-    let mut pool = Pool::new(alloc, project_key(targets));
+    let read = read_targets(alloc, targets)?;
+    let key = read.key;
+    let mut rules = read.rules.into_iter();
+    let mut pool = Pool::new(alloc, key);
     let mut scratch = Scratch::new(alloc);
     for (index, target) in targets.iter().enumerate() {
-        let is_read = linked.get(index) == Some(&true);
+        let own = rules.next();
+        let is_read = own.is_some() && linked.get(index) == Some(&true);
         match collate_linked(
             alloc,
             target,
+            own,
+            key,
             is_read,
             outs.as_slice(),
             &pool,
@@ -157,23 +165,4 @@ fn linked_targets(alloc: Global, targets: &[ProjectTarget<'_>]) -> Result<Vec<bo
         }
     }
     Ok(is_linked)
-}
-
-/// Returns the key of the tables that all these targets share. It is made of all that their names and
-/// paths come from, so whoever chooses these cannot choose the key as well.
-fn project_key(targets: &[ProjectTarget<'_>]) -> TableKey {
-    let mut digest = KeyDigest::new();
-    for target in targets {
-        let setting = target.setting;
-        digest.add(target.name.text().as_bytes());
-        digest.add(setting.module_dir.as_bytes());
-        digest.add(setting.module_ext.as_bytes());
-        if let Some(build_dir) = &setting.build_dir {
-            digest.add(build_dir.bytes());
-        }
-        for scan in target.scans {
-            digest.add(scan);
-        }
-    }
-    digest.key()
 }

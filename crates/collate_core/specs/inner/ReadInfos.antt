@@ -1,5 +1,5 @@
 -- What the info files that a project wrote are read as: definitions for private clauses.
-use Rattle.std.specs.Prelude.{◌≡◌, ◌<◌, ℕ, List, length, map, slice_get, Option, Some, All, IfSome}
+use Rattle.std.specs.Prelude.{◌≡◌, ◌<◌, ℕ, List, length, map, slice_get, Option, Some, All, IfSome, Bool, IsTrue}
 use Rattle.ninja_text.specs.Bytes.{Text}
 use Rattle.dep_order.specs.Numbers.{Numbers}
 use Rattle.document_values.specs.Info.{InfoValue}
@@ -35,7 +35,8 @@ AreLinkedInfos known linked infos =
     (outs : List CollatedValue) × AreKnown outs known × All (λ k. k < length outs) linked
     × (infos ≡ linked_infos outs linked)
 
--- the target collates to this, and this is what its info is read as, or nothing
-abbrev pub CollatesAndReads : TargetValue → Option Written → CollatedValue × Option InfoValue → Type 0
-CollatesAndReads target style found =
-    Collates target style found.0 × IfSome found.1 (IsReadAs found.0.info)
+-- the target collates to this, and this is what its info is read as, if it is read, or nothing
+abbrev pub CollatesAndReads : TargetValue → Option Written → Bool →
+    CollatedValue × Option InfoValue → Type 0
+CollatesAndReads target style is_read found = Collates target style found.0
+    × IfSome found.1 (λ info. IsTrue is_read × IsReadAs found.0.info info)

@@ -1,14 +1,8 @@
-use Rattle.std.proofs.Common.{◌≡◌, ◌∙◌, ◌⊎◌, List, ℕ, map, ap, subst, inl, inr, Option, Some, None, IfSome, MatchOption, Result, Ok, IfOk}
+use Rattle.std.proofs.Common.{◌≡◌, ◌∙◌, ◌⊎◌, List, ℕ, map, ap, subst, inl, inr, Option, Some, None, IfSome, IsTrue, MatchOption}
 use Rattle.std.proofs.lemmas.Result.{err_from_is_err_and}
 use Rattle.ninja_text.specs.Failure.{ForFault}
 use Rattle.ninja_text.specs.declared.failure.Failure.{Failure}
 use Rattle.ninja_text.specs.declared.failure.Failure.TheVariants.{Memory, Fault}
-use Rattle.scan_docs.specs.Document.{IsAccepted}
-use Rattle.scan_docs.specs.Info.{IsInfo}
-use Rattle.scan_docs.specs.InfoChecks.{info_checks}
-use Rattle.scan_docs.specs.InfoText.{IsInfoText}
-use Rattle.scan_docs.specs.Values.{info_of}
-use Rattle.document_values.specs.Info.{InfoValue}
 use Rattle.collate_core.specs.Projects.{linked_infos}
 use Rattle.collate_core.specs.inner.ReadInfos.{IsReadAs}
 use Rattle.collate_core.proofs.linking.collate_linked.Goals as goal
@@ -24,23 +18,11 @@ refused_linked : {F : Type 0} (Later : F → Type 0) (Earlier : Type 0) (P : F �
 refused_linked Later Earlier P earlier Memory h = tt
 refused_linked Later Earlier P earlier (Fault fault) h = inr (earlier, h)
 
--- the info in the result of reading a text, if there is one, is what the text is read as
-read_as : {E : Type 0} (text : List ℕ) (result : Result InfoValue E) (found : Option InfoValue) → IfSome found (λ info. result ≡ Ok info) → IfOk result (IsAccepted info_checks IsInfo text) → IfOk result (λ info. info ≡ info_of text) → IfOk result IsInfoText →
-    IfSome found (IsReadAs text)
-read_as text result None same accepted value is = tt
-read_as text result (Some found) same accepted value is =
-    let here : found ≡ info_of text = subst (λ r. IfOk r (λ info. info ≡ info_of text)) same value in
-    record {
-      accepted = subst (IsAccepted info_checks IsInfo text) here (subst (λ r. IfOk r (IsAccepted info_checks IsInfo text)) same accepted);
-      value = here;
-      text = subst (λ r. IfOk r IsInfoText) same is;
-    }
-
-pub collate_by_part-requires : goal.collate_by_part-requires
-collate_by_part-requires g c =
+pub collate_by_part-requires-clause-infos : goal.collate_by_part-requires-clause-infos
+collate_by_part-requires-clause-infos g c =
     let wrote = of_some _ _ _ _ c.in-Some.is c.in_ok-infos.ensures in
     let infos : map (λ info. info.now) c.deref.result.now ≡ linked_infos c.args.outs.now c.target.inside.linked.now = ap (map (λ info. info.now)) c.deref.ensures.value ∙ wrote.1 in
-    (c.args.outs.now, c.requires, wrote.0, infos)
+    (c.args.outs.now, c.requires.known, wrote.0, infos)
 
 pub returns-in-Some-found-clause-collated : goal.returns-in-Some-found-clause-collated
 returns-in-Some-found-clause-collated g c =
@@ -73,9 +55,7 @@ returns-clause-collated g c =
     rw (← c.target.view_is, ← infos) (wrote.0, c.in_ok-out.ensures.collated)
 
 pub returns-clause-known : goal.returns-clause-known
-returns-clause-known g c =
-    let read = c.info_read.ensures in
-    rw (← c.info.ensures) (read_as c.info.result.now c.info_read.result c.in_ok-info.info c.in_ok-info.ensures read.accepted read.value read.text)
+returns-clause-known g c = subst (λ (text : List ℕ). IfSome c.in_ok-info.info (λ info. IsTrue c.args.is_read × IsReadAs text info)) c.info.ensures c.in_ok-info.ensures
 
 pub returns-in_default-clause-refused : goal.returns-in_default-clause-refused
 returns-in_default-clause-refused g c =

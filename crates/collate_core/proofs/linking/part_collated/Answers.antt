@@ -1,4 +1,4 @@
-use Rattle.std.proofs.Common.{List, ℕ, Option, subst, sym, IfSome, option_copied, option_map}
+use Rattle.std.proofs.Common.{List, ℕ, Option, subst, sym, IfSome, IsTrue, option_copied, option_map}
 use Rattle.scan_docs.specs.InfoText.{ReadsBack}
 use Rattle.module_maps.specs.Maps.{Written}
 use Rattle.collate_core.specs.Values.{TargetValue}
@@ -20,5 +20,5 @@ returns g c =
     let written = without_fault (IsWrittenOf target style c.args.table.now) _ _ _ c.in-Some.is c.in_ok-out.ensures c.written_of.ensures.written in
     let laws : PartLaws = record { sound = c.parts.ensures.sound; tasks = c.parts.ensures.tasks; needed = c.parts.ensures.needed; no_fault = c.sound_tables.ensures.no_fault } in (
       table_collates target style c.args.table.now laws c.requires.enough c.requires.sound c.requires.kept c.in-Some.out written,
-      subst (λ (text : List ℕ). IfSome c.in_ok-info.info (IsReadAs text)) c.info.ensures c.in_ok-info.ensures,
+      subst (λ (text : List ℕ). IfSome c.in_ok-info.info (λ info. IsTrue c.args.is_read × IsReadAs text info)) c.info.ensures c.in_ok-info.ensures,
     )

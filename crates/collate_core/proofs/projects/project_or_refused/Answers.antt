@@ -1,5 +1,5 @@
 use Rattle.ninja_text.proofs.ForCallers.{take_next}
-use Rattle.std.proofs.Common.{rules, ◌≡◌, ℕ, List, take, length, Option, Some, refl, subst, sym, slice_get, option_copied, option_map}
+use Rattle.std.proofs.Common.{rules, ◌≡◌, ℕ, List, take, length, Option, Some, None, Vec, Global, IsTrue, MatchOption, ◌∙◌, is_some, true, refl, subst, sym, slice_get, option_copied, option_map}
 use Rattle.std.proofs.lemmas.List.{take_all}
 use Rattle.std.proofs.lemmas.Option.{slice_get_read}
 use Rattle.ninja_text.specs.Failure.{ForFault}
@@ -14,13 +14,22 @@ use Rattle.collate_core.specs.inner.ReadInfos.{AreKnown}
 use Rattle.collate_core.proofs.Lists.{known_added}
 use Rattle.collate_core.proofs.Outcomes.{maps_of_style, project_push, refused_here}
 use Rattle.collate_core.proofs.Parts.{turned, turns_weaker}
+use Rattle.std.specs.Vec.Iter.{into_iter_items}
+use Rattle.table_keys.specs.Keys.{IsKeyOf}
+use Rattle.document_values.specs.Rule.{RuleValue}
+use Rattle.collate_core.specs.Documents.{table_of}
+use Rattle.collate_core.specs.inner.ReadTargets.{AreRulesOfEach, project_entries}
+use Rattle.collate_core.proofs.ReadTargetLemmas.{own_rules, own_covered, own_held, taken_next, held_added, known_held, known_read}
 use Rattle.collate_core.proofs.projects.project_or_refused.Goals as goal
+use Rattle.collate_core.proofs.projects.project_or_refused.Goals.{then-is_some, else-is_some}
 
 pub loop-index-init : goal.loop-index-init
 loop-index-init g c =
     record {
       collated = rw c.new-outs.ensures.items (record { count = refl; earlier = λ n p at. absurd (cc); each = λ n p out at also. absurd (cc) });
       known = rw (c.new-outs.ensures.items, c.new-pool.ensures) (record { count = refl; each = λ n out info at also. absurd (cc) });
+      rules = refl;
+      held = rw c.new-pool.ensures (λ k info at. absurd (cc));
     }
 
 pub returns-in-Err-clause-refused : goal.returns-in-Err-clause-refused
@@ -48,6 +57,30 @@ returns-in-Err-clause-read g c =
     (λ refused found same h. subst (λ (f : ℕ × RefusedTarget). WasReadAt style targets f.0 f.1.refusal (read f.1)) (sym same) (outs, p, c.loop-index.invariant.collated, here, h))
     c.in-Err.failure c.map.result (turns_weaker _ (λ refused (found : ℕ × RefusedTarget). found ≡ (n, refused)) (λ refused found post. search rules) c.in-Err.failure c.map.result c.map.ensures) (subst (λ os. ForFault (λ (refused : RefusedTarget). WasRead (target_of os p) refused.refusal (read refused)) c.in-Err.failure) c.as_slice.ensures.value c.in-Err.ensures.read)
 
+pub collate_linked-requires-clause-rules : goal.collate_linked-requires-clause-rules
+collate_linked-requires-clause-rules g c =
+    let targets : List ProjectTargetValue = c.args.targets.now in
+    let n : ℕ = c.loop-index.index-counter in
+    let p : ProjectTargetValue = c.index-targets-index.result in
+    let here : slice_get targets n ≡ Some p = slice_get_read targets _ n _ refl c.loop-index-test.true c.index-targets-index.is in
+    let all = into_iter_items c.into_iter-rules.result in
+    let each = subst (AreRulesOfEach targets) (sym c.into_iter-rules.ensures.rest) c.in_ok-read.ensures.rules in
+    own_rules targets all each n p here _ _ c.loop-index.invariant.rules c.next-own.result c.next-own.ensures.items
+
+pub collate_linked-requires-clause-key : goal.collate_linked-requires-clause-key
+collate_linked-requires-clause-key g c =
+    let targets : List ProjectTargetValue = c.args.targets.now in
+    let n : ℕ = c.loop-index.index-counter in
+    let p : ProjectTargetValue = c.index-targets-index.result in
+    let here : slice_get targets n ≡ Some p = slice_get_read targets _ n _ refl c.loop-index-test.true c.index-targets-index.is in
+    let all = into_iter_items c.into_iter-rules.result in
+    let each = subst (AreRulesOfEach targets) (sym c.into_iter-rules.ensures.rest) c.in_ok-read.ensures.rules in
+    let made = subst (λ (rs : List (Vec RuleValue Global)). IsKeyOf c.in_ok-read.read.key (project_entries (take (length rs) targets))) (sym c.into_iter-rules.ensures.rest) c.in_ok-read.ensures.key in
+    own_covered targets all each n p here _ _ c.loop-index.invariant.rules c.in_ok-read.read.key c.loop-index.pool made c.loop-index.invariant.held c.next-own.result c.next-own.ensures.items
+
+of_none : {T : Type 0} (No : Type 0) (P : T → Type 0) (found : Option T) → found ≡ None → MatchOption found No P → No
+of_none No P found is h = subst (λ o. MatchOption o No P) is h
+
 pub loop-index-preserved : goal.loop-index-preserved
 loop-index-preserved g c =
     let style : Option Written = option_map g.M.MapStyle.written (option_copied c.args.style) in
@@ -57,10 +90,17 @@ loop-index-preserved g c =
     let here : slice_get targets n ≡ Some p = slice_get_read targets _ n _ refl c.loop-index-test.true c.index-targets-index.is in
     let outs : List CollatedValue = c.loop-index.outs.items in
     let linked : CollatesLinked style outs p c.in-Ok.out = subst (λ (os : List CollatedValue). CollatesLinked style os p c.in-Ok.out) c.as_slice.ensures.value c.in-Ok.ensures.collated in
+    let all = into_iter_items c.into_iter-rules.result in
+    let each = subst (AreRulesOfEach targets) (sym c.into_iter-rules.ensures.rest) c.in_ok-read.ensures.rules in
+    let none : c.next-own.result ≡ None → length (into_iter_items c.loop-index.rules) ≡ 0 = λ is. sym c.loop-index.rules.rest.ok.0 ∙ (of_none _ _ _ is c.next-own.ensures.cases).0 in
+    let read : IsTrue c.if-is_some.is_read → is_some c.next-own.result ≡ true = λ is. elim c.if-is_some.branch [ then-is_some w ↦ sym c.is_some.ensures ∙ w.if-is_some.true | else-is_some w ↦ absurd (cc (is, w.is_read-is)) ] in
+    let own_info = known_held (project_entries (take (length all) targets)) c.if-is_some.is_read p.name p.kept (table_of (target_of outs p)) c.in-Ok.out.info c.in-Ok.info c.value_of_bytes.ensures.info linked.1.info_reads (λ is. own_held targets all each n p here _ _ c.loop-index.invariant.rules c.next-own.result c.next-own.ensures.items (read is)) c.in-Ok.ensures.known in
     record {
       collated = rw (take_next targets n p here, c.in_ok-push-in-Ok.ensures.items) (project_push style (take n targets) outs c.loop-index.invariant.collated p c.in-Ok.out linked.0 linked.1);
+      rules = taken_next all _ _ n c.next-own.result c.loop-index.invariant.rules c.next-own.ensures.items none;
+      held = held_added _ c.loop-index.pool c.in-Ok.info c.in_ok-pool-in-Ok.pool c.loop-index.invariant.held own_info c.in_ok-pool-in-Ok.ensures;
       known = subst (λ (os : List CollatedValue). AreKnown os c.in_ok-pool-in-Ok.pool) (sym c.in_ok-push-in-Ok.ensures.items)
-          (known_added outs c.loop-index.pool c.loop-index.invariant.known c.in-Ok.out c.in-Ok.info c.in-Ok.ensures.known c.in_ok-pool-in-Ok.pool c.in_ok-pool-in-Ok.ensures);
+          (known_added outs c.loop-index.pool c.loop-index.invariant.known c.in-Ok.out c.in-Ok.info (known_read _ _ c.in-Ok.info c.in-Ok.ensures.known) c.in_ok-pool-in-Ok.pool c.in_ok-pool-in-Ok.ensures);
     }
 
 pub returns-clause-collated : goal.returns-clause-collated
