@@ -1,6 +1,6 @@
 -- The info files that the targets of a project link.
 use Rattle.ninja_text.proofs.ForCallers.{element_at, placed as index_of, from_map, to_map, same_some}
-use Rattle.std.proofs.Common.{◌≡◌, ℕ, ◌<◌, List, [], length, map, Option, Some, refl, ap, subst, sym, ◌∙◌, arith, slice_get, Contains, suc, ◌∷◌, None, get_or, ap₂, Bool, IsTrue, All, IfSome, option_map, option_copied, is_some, Bor}
+use Rattle.std.proofs.Common.{◌≡◌, ℕ, ◌<◌, List, [], length, map, Option, Some, refl, ap, subst, sym, ◌∙◌, arith, slice_get, Contains, suc, ◌∷◌, None, get_or, ap₂, All, IfSome, option_map, option_copied, Bor}
 use Rattle.std.specs.Option.{option_map_or}
 use Rattle.std.proofs.lemmas.List.Elements.{All-cons}
 use Rattle.std.proofs.lemmas.Option.{slice_get_within, get_or_from_slice_get}
@@ -160,6 +160,6 @@ enough_for_target style target outs known linked objects part infos are earlier 
     }
 
 -- a part keeps what its modules require if there is a style
-pub keeps_for_style : {S : Type 0} (style : Option (Bor S)) (written : S → Written) (keeps : Bool) (part infos : List InfoValue) → keeps ≡ is_some style → (IsTrue keeps → KeepsRequired part infos) → IfSome (option_map written (option_copied style)) (λ _. KeepsRequired part infos)
-keeps_for_style None written keeps part infos is h = tt
-keeps_for_style (Some s) written keeps part infos is h = h (subst IsTrue (sym is) refl)
+pub keeps_for_style : {S : Type 0} (style : Option (Bor S)) (written : S → Written) (is_kept : Type 0) (part infos : List InfoValue) → ((s : Bor S) → style ≡ Some s → is_kept) → (is_kept → KeepsRequired part infos) → IfSome (option_map written (option_copied style)) (λ _. KeepsRequired part infos)
+keeps_for_style None written is_kept part infos is h = tt
+keeps_for_style (Some s) written is_kept part infos is h = h (is s refl)

@@ -17,7 +17,7 @@ use crate::fault::{Refusal, RefusedTarget, unless_faulty, without_table};
 use crate::info::info_again;
 use crate::projects::ProjectTarget;
 use document_values::{Info, Rule};
-use info_pool::{Pool, Scratch};
+use info_pool::{Pool, Requirements, Scratch};
 use module_maps::MapStyle;
 use module_table::{Table, parts, sound_tables};
 use ninja_text::Failure;
@@ -142,7 +142,12 @@ fn collate_by_part<M: MapStyle>(
     let Some(objects) = rules else {
         return Ok(None);
     };
-    let Some(part) = pool.part(alloc, &objects, linked, style.is_some(), scratch)? else {
+    // only maps list what linked modules require
+    let requirements = match style {
+        Some(_) => Requirements::Kept,
+        None => Requirements::Omitted,
+    };
+    let Some(part) = pool.part(alloc, &objects, linked, requirements, scratch)? else {
         return Ok(None);
     };
     let built = Table::build_or_refused(alloc, objects, part, target.kept, Some(key));

@@ -1,28 +1,31 @@
 //! The part of the linked info files that a target's table is built of.
-ghost use Rattle.std.specs.Prelude.{◌≡◌, List, IfOk, IfSome, IsTrue};
+ghost use Rattle.std.specs.Prelude.{◌≡◌, List, IfOk, IfSome};
 ghost use Rattle.document_values.specs.Info.{InfoValue};
-ghost use Rattle.info_pool.specs.Pool.{AreLinked};
 ghost use Rattle.document_values.specs.Parts.{IsAlike, IsPartOf, KeepsRequired};
+ghost use Rattle.info_pool.specs.Pool.{AreLinked};
+ghost use Rattle.info_pool.specs.declared.requirements.Requirements.TheVariants.{Kept};
 
+use crate::links::Links;
+use crate::requirements::Requirements;
+use crate::rows::ModuleAt;
 use document_values::{Info, InfoModule};
 use std::alloc::{AllocError, Global};
 
-/// Returns the linked info files with only the modules of the picked entries. Each module has what it
-/// requires if the part `keeps` it. Returns `None` if a linked info file is not known.
+/// Returns the linked info files with only the picked modules. Each module has what it requires if
+/// that is kept. Returns `None` if a linked info file is not known.
 pub(crate) fn part_of(
     alloc: Global,
     infos: &[Option<Info>],
-    linked: &[usize],
-    places: &[usize],
-    picked: &[(usize, usize)],
-    keeps: bool,
+    links: &Links<'_>,
+    picked: &[ModuleAt],
+    requirements: Requirements,
 ) -> Result<Option<Vec<Info>>, AllocError>
     ensures { IfOk result (λ found. IfSome found (λ part. (known : List InfoValue)
-        × AreLinked infos.now linked.now known × IsPartOf part.items known
-        × (IsTrue keeps → KeepsRequired part.items known))) }
+        × AreLinked infos.now links.now.linked.now known × IsPartOf part.items known
+        × (requirements ≡ Kept → KeepsRequired part.items known))) }
 {
-    let mut part = Vec::with_capacity(alloc, linked.len())?;
-    for number in linked {
+    let mut part = Vec::with_capacity(alloc, links.linked.len())?;
+    for number in links.linked {
         let Some(Some(info)) = infos.get(*number) else {
             return Ok(None);
         };
@@ -31,26 +34,30 @@ pub(crate) fn part_of(
             modules: Vec::new(alloc),
         })?;
     }
-    for (number, index) in picked {
-        if let Some(place) = places.get(*number)
-            && linked.get(*place) == Some(number)
-            && let Some(Some(info)) = infos.get(*number)
-            && let Some(module) = info.modules.get(*index)
+    for at in picked {
+        if let Some(index) = links.indexes.get(at.info)
+            && links.linked.get(*index) == Some(&at.info)
+            && let Some(Some(info)) = infos.get(at.info)
+            && let Some(module) = info.modules.get(at.module)
         {
-            let copy = copy_module(alloc, module, keeps)?;
-            part[*place].modules.push(copy)?;
+            let copy = copy_module(alloc, module, requirements)?;
+            part[*index].modules.push(copy)?;
         }
     }
     Ok(Some(part))
 }
 
 /// Returns a copy of the module, with what it requires or without.
-fn copy_module(alloc: Global, source: &InfoModule, keeps: bool) -> Result<InfoModule, AllocError>
+fn copy_module(
+    alloc: Global,
+    source: &InfoModule,
+    requirements: Requirements,
+) -> Result<InfoModule, AllocError>
     ensures alike { IfOk result (λ copy. IsAlike copy source.now) }
-    ensures keeps { IsTrue keeps → IfOk result (λ copy. copy ≡ source.now) }
+    ensures kept { requirements ≡ Kept → IfOk result (λ copy. copy ≡ source.now) }
 {
     let mut required = Vec::new(alloc);
-    if keeps {
+    if requirements == Requirements::Kept {
         for pair in &source.required {
             required.push((pair.0.copy(alloc)?, pair.1.copy(alloc)?))?;
         }

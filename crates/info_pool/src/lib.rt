@@ -1,27 +1,31 @@
 //! The info files of a project, and the part of the linked ones that a target's table needs.
 //!
 //! A [`Pool`] has the info files of a project's targets. [`Pool::part`] returns the part of the
-//! linked modules that a target's table needs (`specs/Pool.antt`), so that the work for a target does
-//! not grow with all that it links. A law of `module_table` says what a table of such a part tells.
+//! linked modules that a target's table needs (`specs/Pool.antt`), so that the work for a target
+//! does not grow with all that it links. A law of `module_table` says what a table of such a part
+//! tells.
 //!
 //! # How it works
 //!
-//! A pool lists the modules of its info files by name and by file, and for each info file the others
-//! that it requires modules of or shares names and files with (`related.rt`). By these numbers it
-//! finds out whether a part of the linked modules is enough (`fit.rt`), picks the part
-//! (`picking.rt`) and copies it (`copies.rt`).
+//! A pool lists the modules of its info files by name and by file (`rows.rt`). A name or a file
+//! with several modules gets a number. For each info file the pool lists the others that it
+//! requires modules of, and the numbers of what it shares (`related.rt`). For the links of a
+//! target, one stamp for each number tells which linked module has it, and so whether a part of the
+//! linked modules is enough (`links.rt`). Then the pool picks the part (`picking.rt`) and copies it
+//! (`copies.rt`).
 //!
 //! `must-fail/` has a wrong body for each public function with these exceptions. [`Pool::new`] and
-//! [`Scratch::new`] return empty values, [`Pool::key`] a value that no clause mentions, and
-//! [`Pool::known`] an entry of a field, which its clauses name. `private_source_of_another_target`
-//! shows the invariant that [`Pool::push`] keeps.
+//! [`Scratch::new`] return empty values, and [`Pool::key`] a value that no clause mentions.
 #![tactic(auto)]
 
 mod copies;
-mod fit;
+mod links;
 mod picking;
 mod pool;
 mod related;
+mod requirements;
+mod rows;
 
 pub use picking::Scratch;
 pub use pool::Pool;
+pub use requirements::Requirements;

@@ -1,93 +1,106 @@
 //! Picks the linked modules that a target's table needs. Nothing is proved of the choice: if a part
-//! lacks a module, its table has a fault, and the table of all linked modules is built instead.
+//! lacks a module, its table has an error, and the table of all linked modules is built instead.
 
-use crate::fit::is_linked;
-use crate::pool::Pool;
-use document_values::Rule;
+use crate::links::Links;
+use crate::related::Related;
+use crate::rows::{Listed, ModuleAt};
+use document_values::{Info, Rule};
 use std::alloc::{AllocError, Global};
 
-/// What [`Pool::part`] keeps from one target to the next, so that its work for a target does not grow
-/// with the project.
+/// What [`crate::Pool::part`] keeps from one target to the next, so that its work for a target does
+/// not grow with the project.
 ///
-/// Nothing in it is cleared. A place is only believed if it leads back to the info file or to the
-/// module.
+/// It is never cleared. An index counts only if the entry at that index is the one that was looked
+/// up, and a stamp counts only if its info file is linked.
 #[derive(Drop)]
 pub struct Scratch {
-    /// The place of an info file in the list of links.
-    pub(crate) places: Vec<usize>,
-    /// The place of a module in the list of picked ones, by info file and by module.
-    picked: Vec<Vec<usize>>,
+    /// The index of an info file in the list of links.
+    pub(crate) indexes: Vec<usize>,
+    /// The linked module of each shared name or file, by its number.
+    pub(crate) stamps: Vec<ModuleAt>,
+    pub(crate) picked: Picked,
 }
 
 impl Scratch {
     /// Returns an empty scratch.
     pub fn new(alloc: Global) -> Scratch {
         Scratch {
-            places: Vec::new(alloc),
-            picked: Vec::new(alloc),
+            indexes: Vec::new(alloc),
+            stamps: Vec::new(alloc),
+            picked: Picked::new(alloc),
         }
     }
 }
 
-impl Pool {
-    /// Returns the entries of the modules that the objects require, each once. If the part `keeps`
-    /// what modules require, these modules are picked also.
-    pub(crate) fn pick(
-        &self,
-        alloc: Global,
-        objects: &[Rule],
-        linked: &[usize],
-        keeps: bool,
-        scratch: &mut Scratch,
-    ) -> Result<Vec<(usize, usize)>, AllocError> {
-        scratch
-            .picked
-            .resize_with(self.infos.len(), || Vec::new(alloc))?;
-        let mut entries = Vec::new(alloc);
-        for rule in objects {
-            for name in &rule.required {
-                let Some(row) = self.listed.names.get(name) else {
-                    continue;
-                };
-                let mut row = row.as_slice().iter();
-                if let Some(entry) = row.find(|entry| is_linked(linked, &scratch.places, entry.0)) {
-                    self.add(*entry, scratch, &mut entries)?;
-                }
-            }
+/// The modules that are picked for a target, each once.
+#[derive(Drop)]
+pub(crate) struct Picked {
+    pub(crate) modules: Vec<ModuleAt>,
+    /// The index of a module in `modules`, by info file and by module.
+    indexes: Vec<Vec<usize>>,
+}
+
+impl Picked {
+    /// Returns no modules.
+    fn new(alloc: Global) -> Picked {
+        Picked {
+            modules: Vec::new(alloc),
+            indexes: Vec::new(alloc),
         }
-        if keeps {
-            // what the picked modules require, directly or through others
-            for next in 0..usize::MAX {
-                let Some((info, index)) = entries.get(next).copied() else {
-                    break;
-                };
-                if let Some(Some(related)) = self.related.get(info)
-                    && let Some(required) = related.required.get(index)
-                {
-                    for entry in required {
-                        self.add(*entry, scratch, &mut entries)?;
-                    }
-                }
-            }
-        }
-        Ok(entries)
     }
 
-    /// Adds a module of a known info file to the picked ones, if it is not among them.
-    fn add(
-        &self,
-        entry: (usize, usize),
-        scratch: &mut Scratch,
-        entries: &mut Vec<(usize, usize)>,
+    /// Picks the linked modules that the objects require, in place of what was picked before.
+    pub(crate) fn pick_required(
+        &mut self,
+        alloc: Global,
+        objects: &[Rule],
+        links: &Links<'_>,
+        listed: &Listed,
+        infos: &[Option<Info>],
     ) -> Result<(), AllocError> {
-        if let Some(info) = self.known(entry.0)
-            && entry.0 < scratch.picked.len()
+        self.modules.clear();
+        self.indexes.resize_with(infos.len(), || Vec::new(alloc))?;
+        for rule in objects {
+            for name in &rule.required {
+                if let Some(at) = links.module_of(listed.names.get(name)) {
+                    self.add(at, infos)?;
+                }
+            }
+        }
+        Ok(())
+    }
+
+    /// Also picks the modules that the picked ones require, directly or through others.
+    pub(crate) fn pick_their_required(
+        &mut self,
+        infos: &[Option<Info>],
+        related: &[Option<Related>],
+    ) -> Result<(), AllocError> {
+        for next in 0..usize::MAX {
+            let Some(at) = self.modules.get(next).copied() else {
+                break;
+            };
+            if let Some(Some(relations)) = related.get(at.info)
+                && let Some(required) = relations.required.get(at.module)
+            {
+                for other in required {
+                    self.add(*other, infos)?;
+                }
+            }
+        }
+        Ok(())
+    }
+
+    /// Adds a module of a known info file, if it is not picked.
+    fn add(&mut self, at: ModuleAt, infos: &[Option<Info>]) -> Result<(), AllocError> {
+        if let Some(Some(info)) = infos.get(at.info)
+            && at.info < self.indexes.len()
         {
-            let places = &mut scratch.picked[entry.0];
-            places.resize(info.modules.len(), 0)?;
-            if entry.1 < places.len() && entries.get(places[entry.1]) != Some(&entry) {
-                places[entry.1] = entries.len();
-                entries.push(entry)?;
+            let indexes = &mut self.indexes[at.info];
+            indexes.resize(info.modules.len(), 0)?;
+            if at.module < indexes.len() && self.modules.get(indexes[at.module]) != Some(&at) {
+                indexes[at.module] = self.modules.len();
+                self.modules.push(at)?;
             }
         }
         Ok(())

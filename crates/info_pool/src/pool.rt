@@ -1,15 +1,17 @@
 //! The info files of a project, and the part of the linked ones that a target's table needs.
-ghost use Rattle.std.specs.Prelude.{◌≡◌, [], List, IfOk, IfSome, IfNone, IsTrue, None, Some, get_or};
+ghost use Rattle.std.specs.Prelude.{◌≡◌, [], List, IfOk, IfSome, IfNone, None, Some, get_or};
 ghost use Rattle.document_values.specs.Info.{InfoValue};
-ghost use Rattle.info_pool.specs.Pool.{AreLinked, IsAdded};
 ghost use Rattle.document_values.specs.Parts.{IsEnough, KeepsRequired};
+ghost use Rattle.info_pool.specs.Pool.{AreLinked, IsAdded};
+ghost use Rattle.info_pool.specs.declared.requirements.Requirements.TheVariants.{Kept};
 
 use crate::copies::part_of;
-use crate::fit::{are_apart, are_fit, put_places};
+use crate::links::{Links, put_indexes, put_stamps};
 use crate::picking::Scratch;
-use crate::related::{Listed, Related};
+use crate::related::Related;
+use crate::requirements::Requirements;
+use crate::rows::{Listed, ModuleAt};
 use document_values::{Info, Rule};
-use indexmap::IndexMap;
 use std::alloc::{AllocError, Global};
 use std::marker::Model;
 use table_keys::TableKey;
@@ -21,14 +23,14 @@ use table_keys::TableKey;
 /// modules, so the work for a target grows with its own rules and with the number of its links. It
 /// does not grow with the modules of the linked targets.
 pub struct Pool {
-    pub(crate) infos: Vec<Option<Info>>,
-    pub(crate) listed: Listed,
+    infos: Vec<Option<Info>>,
+    listed: Listed,
     /// The relations of each known info file to those before it.
-    pub(crate) related: Vec<Option<Related>>,
+    related: Vec<Option<Related>>,
     key: TableKey,
 }
 
-// Not derived: a derived drop is written out, field by field, wherever a value goes.
+// Not derived, because the prover expands a derived `Drop` at every return.
 impl Drop for Pool {
     fn drop(self) {
         let Pool {
@@ -59,18 +61,14 @@ impl Pool {
     {
         Pool {
             infos: Vec::new(alloc),
-            listed: Listed {
-                names: IndexMap::with_hasher(alloc, key),
-                files: IndexMap::with_hasher(alloc, key),
-            },
+            listed: Listed::new(alloc, key),
             related: Vec::new(alloc),
             key,
         }
     }
 
-    /// Adds the info file of the next target. `None` is added in its place if the pool has 64
-    /// modules of one of its names or files, or if it has no module that a module of the info file
-    /// requires.
+    /// Adds the info file of the next target. `None` is added in its place if one of its modules
+    /// requires a module that the pool does not have.
     pub fn push(self, alloc: Global, info: Option<Info>) -> Result<Pool, AllocError>
         ensures { IfOk result (λ pool. IsAdded self info pool) }
     {
@@ -111,33 +109,49 @@ impl Pool {
     }
 
     /// Returns a part of the linked info files that is enough for a table of these objects: all of
-    /// the files, each with only the modules that the objects require. If the part `keeps` what
-    /// modules require, it also has the modules that its own modules require.
+    /// the files, each with only the modules that the objects require. If `requirements` are kept,
+    /// the part also has the modules that its own modules require.
     ///
     /// Returns `None` if an info file is not known or linked twice, if two linked modules have one
     /// name or one file, if an object provides a name or is a file of a linked module, or if a
-    /// linked module requires a module that is not linked. Then the table of all linked modules
-    /// tells more. The scratch may have been used for other parts before.
+    /// linked module requires a module that is not linked. The caller then builds the table of all
+    /// linked modules, which reports the error. The scratch may have been used for other parts
+    /// before.
     pub fn part(
         &self,
         alloc: Global,
         objects: &[Rule],
         linked: &[usize],
-        keeps: bool,
+        requirements: Requirements,
         scratch: &mut Scratch,
     ) -> Result<Option<Vec<Info>>, AllocError>
         ensures { IfOk result (λ found. IfSome found (λ part. (infos : List InfoValue)
             × AreLinked self.now linked.now infos × IsEnough objects.now part.items infos
-            × (IsTrue keeps → KeepsRequired part.items infos))) }
+            × (requirements ≡ Kept → KeepsRequired part.items infos))) }
     {
-        scratch.places.resize(self.infos.len(), 0)?;
-        if !put_places(linked, &mut scratch.places)
-            || !are_fit(linked, &scratch.places, &self.related)
-            || !are_apart(linked, &scratch.places, &self.listed, objects)
-        {
+        let Scratch {
+            indexes,
+            stamps,
+            picked,
+        } = scratch;
+        indexes.resize(self.infos.len(), 0)?;
+        stamps.resize(self.listed.numbers, ModuleAt { info: 0, module: 0 })?;
+        if !put_indexes(linked, indexes) {
             return Ok(None);
         }
-        let picked = self.pick(alloc, objects, linked, keeps, scratch)?;
-        part_of(alloc, &self.infos, linked, &scratch.places, &picked, keeps)
+        put_stamps(linked, &self.related, stamps);
+        let links = Links {
+            linked,
+            indexes,
+            stamps,
+        };
+        if !links.are_fit(&self.related) || !links.are_apart(&self.listed, objects) {
+            return Ok(None);
+        }
+        picked.pick_required(alloc, objects, &links, &self.listed, &self.infos)?;
+        if requirements == Requirements::Kept {
+            picked.pick_their_required(&self.infos, &self.related)?;
+        }
+        part_of(alloc, &self.infos, &links, &picked.modules, requirements)
     }
 }

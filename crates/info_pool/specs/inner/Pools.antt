@@ -1,11 +1,13 @@
 -- What a pool lists of the info files that are known, and what it looks at when some are linked.
 use Rattle.std.specs.Prelude.{◌≡◌, ◌⊎◌, ◌++◌, ◌∷◌, ◌<◌, [], ℕ, Bool, true, if◌then◌else◌, List, length, slice_get, get_or, bytes_eq, Option, Some, None}
-use Rattle.indexmap.specs.IndexMap.{IndexMap, get}
-use Rattle.smallvec.specs.SmallVec.{SmallVec}
+use Rattle.indexmap.specs.IndexMap.{get}
 use Rattle.ninja_text.specs.Bytes.{PathText, Name}
 use Rattle.document_values.specs.Rule.{RuleValue}
 use Rattle.document_values.specs.Info.{InfoValue, ModuleValue}
-use Rattle.info_pool.specs.declared.related.Listed.{Listed}
+use Rattle.info_pool.specs.declared.rows.ModuleAt.{ModuleAt}
+use Rattle.info_pool.specs.declared.rows.Row.{Row}
+use Rattle.info_pool.specs.declared.rows.Shared.{Shared}
+use Rattle.info_pool.specs.declared.rows.Listed.{Listed}
 use Rattle.info_pool.specs.declared.related.Related.{Related}
 use Rattle.document_values.specs.Parts.{IsAlike}
 use Rattle.info_pool.specs.Indexes.{Indexes}
@@ -13,15 +15,6 @@ use Rattle.info_pool.specs.Indexes.{Indexes}
 -- x is at some index of the list
 abbrev pub Has : {X : Type 0} → List X → X → Type 0
 Has xs x = (k : ℕ) × (slice_get xs k ≡ Some x)
-
--- what is listed by a key: the index of an info, and that of a module in it
-abbrev pub Listing : Type 1
-Listing = Name → ℕ × ℕ → Type 0
-
--- the entry is in the row of the key
-abbrev pub InRow : {S : Type 0} → IndexMap Name (SmallVec (ℕ × ℕ)) S → Listing
-InRow rows key entry =
-    (row : SmallVec (ℕ × ℕ)) × (get bytes_eq rows key ≡ Some row) × Has row.items entry
 
 -- modules are listed by name and by file
 pub data By : Type 0 where
@@ -32,38 +25,47 @@ abbrev pub key_of : By → ModuleValue → Name
 key_of by_name m = m.name
 key_of by_file m = m.file
 
-abbrev pub Lists : Listed → By → Listing
-Lists listed by_name = InRow listed.names
-Lists listed by_file = InRow listed.files
+-- the row of each key
+abbrev pub Rows : Type 0
+Rows = Name → Option Row
 
--- What becomes of the rows at the key: the row keeps what it has. If the entry is added, it comes
--- after entries whose info files are among the clashes.
-pub record IsPut {K S : Type 0} (eq : K → K → Bool) (old new : IndexMap K (SmallVec (ℕ × ℕ)) S)
-    (key : K) (entry : ℕ × ℕ) (clashes : Indexes) (is_added : Bool) : Type 0 where
-  pub row : SmallVec (ℕ × ℕ)
-  pub updates : (q : K) → get eq new q ≡ (if eq key q then Some row else get eq old q)
-  pub kept : (r : SmallVec (ℕ × ℕ)) (e : ℕ × ℕ) → get eq old key ≡ Some r → Has r.items e
-      → Has row.items e
-  pub added : is_added ≡ true → Has row.items entry
-  pub only : is_added ≡ true → (e : ℕ × ℕ) → Has row.items e → (e ≡ entry) ⊎ Has clashes e.0
-  pub clash : is_added ≡ true → (r : SmallVec (ℕ × ℕ)) (e : ℕ × ℕ) → get eq old key ≡ Some r
-      → Has r.items e → Has clashes e.0
+abbrev pub rows_of : Listed → By → Rows
+rows_of listed by_name = get bytes_eq listed.names
+rows_of listed by_file = get bytes_eq listed.files
 
--- all that the first lists the second lists
-abbrev pub Keeps : Listing → Listing → Type 0
-Keeps old new = (key : Name) (entry : ℕ × ℕ) → old key entry → new key entry
+-- the module at index j of info i
+abbrev pub module_at : ℕ → ℕ → ModuleAt
+module_at i j = record { info = i; «module» = j }
 
--- what was listed still is
+-- A module is listed in the row that was found: it is the first, or its info shares the number of
+-- the row with the info of the first.
+abbrev pub InRow : (Shared → Type 0) → Option Row → ModuleAt → Type 0
+InRow Shares found at = (row : Row) × (found ≡ Some row) × ((row.first ≡ at) ⊎ ((s : Shared)
+    × Shares s × (row.number ≡ Some s.number) × (s.module ≡ at.module)
+    × (s.first ≡ row.first.info)))
+
+-- the row keeps its first module, and its number if it has one
+abbrev pub IsSameRow : Row → Row → Type 0
+IsSameRow old new = (new.first ≡ old.first)
+    × ((x : ℕ) → old.number ≡ Some x → new.number ≡ Some x)
+
+-- What becomes of the rows at the key: its row stays the same, and the module is listed in it.
+pub record IsPut {K : Type 0} (eq : K → K → Bool) (old new : K → Option Row) (key : K)
+    (at : ModuleAt) (shared : List Shared) : Type 0 where
+  pub row : Row
+  pub updates : (q : K) → new q ≡ (if eq key q then Some row else old q)
+  pub kept : (r : Row) → old key ≡ Some r → IsSameRow r row
+  pub listed : InRow (Has shared) (Some row) at
+
+-- the rows that were there still are
 abbrev pub StillListed : Listed → Listed → Type 0
-StillListed old new = (by : By) → Keeps (Lists old by) (Lists new by)
+StillListed old new = (by : By) (key : Name) (r : Row) → rows_of old by key ≡ Some r
+    → (row : Row) × (rows_of new by key ≡ Some row) × IsSameRow r row
 
--- The modules of info `number` are listed by their keys. If another module is listed by the key of
--- one, its info is among the clashes.
-pub record AreListed (key : ModuleValue → Name) (number : ℕ) (modules : List ModuleValue)
-    (lists : Listing) (clashes : Indexes) : Type 0 where
-  pub listed : (j : ℕ) (m : ModuleValue) → slice_get modules j ≡ Some m → lists (key m) (number, j)
-  pub others : (j : ℕ) (m : ModuleValue) (entry : ℕ × ℕ) → slice_get modules j ≡ Some m
-      → lists (key m) entry → (entry ≡ (number, j)) ⊎ Has clashes entry.0
+-- the modules of info `number` are listed in the rows of their keys
+abbrev pub AreListed : (ModuleValue → Name) → ℕ → List ModuleValue → Rows → List Shared → Type 0
+AreListed key number modules rows shared = (j : ℕ) (m : ModuleValue) → slice_get modules j ≡ Some m
+    → InRow (Has shared) (rows (key m)) (module_at number j)
 
 -- the known info i has the module m at index j
 abbrev pub IsKnownModule : List (Option InfoValue) → ℕ → ℕ → ModuleValue → Type 0
@@ -80,8 +82,8 @@ IsSource known i pair k = (l : ℕ) × (w : ModuleValue) × IsKnownModule known 
 -- that have what its modules require, and to those that have a name or a file of it.
 pub record IsRelated (known : List (Option InfoValue)) (info : InfoValue) (listed : Listed)
     (r : Related) : Type 0 where
-  pub are_listed : (by : By) → AreListed (key_of by) (length known) info.modules (Lists listed by)
-      r.clashes.items
+  pub are_listed : (by : By) → AreListed (key_of by) (length known) info.modules
+      (rows_of listed by) r.shared.items
   pub sources : (j : ℕ) (m : ModuleValue) (pair : Name × PathText)
       → slice_get info.modules j ≡ Some m → Has m.required pair
       → (k : ℕ) × Has r.sources.items k
@@ -92,45 +94,53 @@ abbrev pub HasSource : List (Option Related) → ℕ → ℕ → Type 0
 HasSource related i k =
     (r : Related) × (slice_get related i ≡ Some (Some r)) × Has r.sources.items k
 
--- info k is among the clashes of info i
-abbrev pub HasClash : List (Option Related) → ℕ → ℕ → Type 0
-HasClash related i k =
-    (r : Related) × (slice_get related i ≡ Some (Some r)) × Has r.clashes.items k
+-- info i shares this with an earlier module
+abbrev pub HasShared : List (Option Related) → ℕ → Shared → Type 0
+HasShared related i s =
+    (r : Related) × (slice_get related i ≡ Some (Some r)) × Has r.shared.items s
 
--- What a pool keeps of the known info files. Each module is listed under its name and its file. What
--- a module requires is in a source of its info file. If two modules have one name or one file, the
--- info file of one is among the clashes of the other's.
+-- What a pool keeps of the known info files. Each module is listed in the rows of its name and its
+-- file. What a module requires is in a source of its info file.
 pub record IsPool (known : List (Option InfoValue)) (listed : Listed)
     (related : List (Option Related)) : Type 0 where
   pub are_listed : (by : By) (i j : ℕ) (m : ModuleValue) → IsKnownModule known i j m
-      → Lists listed by (key_of by m) (i, j)
+      → InRow (HasShared related i) (rows_of listed by (key_of by m)) (module_at i j)
   pub sources : (i j : ℕ) (m : ModuleValue) (pair : Name × PathText) → IsKnownModule known i j m
       → Has m.required pair → (k : ℕ) × HasSource related i k × IsSource known i pair k
-  pub clashes : (by : By) (i j k l : ℕ) (a b : ModuleValue) → IsKnownModule known i j a
-      → IsKnownModule known k l b → key_of by a ≡ key_of by b
-      → ((i ≡ k) × (j ≡ l)) ⊎ (HasClash related k i ⊎ HasClash related i k)
   pub many : length related ≡ length known
 
 -- the index in `linked` of each linked info, by the index of the info: no info is linked twice
-abbrev pub ArePlaces : Indexes → Indexes → Type 0
-ArePlaces linked places =
-    (i n : ℕ) → slice_get linked i ≡ Some n → slice_get places n ≡ Some i
+abbrev pub AreIndexes : Indexes → Indexes → Type 0
+AreIndexes linked indexes =
+    (i n : ℕ) → slice_get linked i ≡ Some n → slice_get indexes n ≡ Some i
 
--- The sources of linked info files are linked, and their clashes are not.
-pub record AreFit (linked : Indexes) (related : List (Option Related)) : Type 0 where
-  pub closed : (n s : ℕ) → Has linked n → HasSource related n s → Has linked s
-  pub apart : (n c : ℕ) → Has linked n → HasClash related n c → Has linked c → ⊥
+-- The sources of linked info files are linked. No linked info has the first module of what a linked
+-- info shares, and each number of that is stamped with the linked module that has it.
+pub record AreFit (linked : Indexes) (related : List (Option Related)) (stamps : List ModuleAt)
+    : Type 0 where
+  pub closed : (n k : ℕ) → Has linked n → HasSource related n k → Has linked k
+  pub first : (n : ℕ) (s : Shared) → Has linked n → HasShared related n s → Has linked s.first → ⊥
+  pub stamped : (n : ℕ) (s : Shared) → Has linked n → HasShared related n s
+      → slice_get stamps s.number ≡ Some (module_at n s.module)
 
--- no linked info is listed by the key
-abbrev pub IsUnlinked : Indexes → Listing → Name → Type 0
-IsUnlinked linked lists key = (entry : ℕ × ℕ) → lists key entry → Has linked entry.0 → ⊥
+-- no module of the row is of a linked info: the first is not, and the one of the stamp is not
+pub record IsRowUnlinked (linked : Indexes) (stamps : List ModuleAt) (row : Row) : Type 0 where
+  pub first : Has linked row.first.info → ⊥
+  pub stamped : (x : ℕ) (at : ModuleAt) → row.number ≡ Some x → slice_get stamps x ≡ Some at
+      → Has linked at.info → ⊥
+
+-- no linked info has a module in the row of the key
+abbrev pub IsUnlinked : Indexes → List ModuleAt → Rows → Name → Type 0
+IsUnlinked linked stamps rows key =
+    (row : Row) → rows key ≡ Some row → IsRowUnlinked linked stamps row
 
 -- no linked info has the path, a name or a file of the object
-pub record IsApart (linked : Indexes) (listed : Listed) (rule : RuleValue) : Type 0 where
-  pub path : IsUnlinked linked (Lists listed by_file) rule.object
+pub record IsApart (linked : Indexes) (stamps : List ModuleAt) (listed : Listed)
+    (rule : RuleValue) : Type 0 where
+  pub path : IsUnlinked linked stamps (rows_of listed by_file) rule.object
   pub provided : (pair : Name × PathText) → Has rule.provided pair
-      → IsUnlinked linked (Lists listed by_name) pair.0
-      × IsUnlinked linked (Lists listed by_file) pair.1
+      → IsUnlinked linked stamps (rows_of listed by_name) pair.0
+      × IsUnlinked linked stamps (rows_of listed by_file) pair.1
 
 -- m is a copy of a module of the info file, with what that requires or without
 abbrev pub IsCopied : Type 0 → InfoValue → ModuleValue → Type 0
@@ -146,11 +156,17 @@ IsPicked keeps info part = (part.target ≡ info.target)
 abbrev pub Below : {X : Type 0} → (X → Type 0) → List X → ℕ → Type 0
 Below {X} P xs i = (k : ℕ) (x : X) → k < i → slice_get xs k ≡ Some x → P x
 
+-- No other linked info has what info n shares: the one with the first module is not linked, and the
+-- stamp is that of n.
+abbrev pub IsAlone : Indexes → List ModuleAt → ℕ → Shared → Type 0
+IsAlone linked stamps n s = (Has linked s.first → ⊥)
+    × (slice_get stamps s.number ≡ Some (module_at n s.module))
+
 -- what is looked at of one linked info
-abbrev pub IsFitAt : Indexes → List (Option Related) → ℕ → Type 0
-IsFitAt linked related n = (r : Related) × (slice_get related n ≡ Some (Some r))
-    × ((s : ℕ) → Has r.sources.items s → Has linked s)
-    × ((c : ℕ) → Has r.clashes.items c → Has linked c → ⊥)
+abbrev pub IsFitAt : Indexes → List (Option Related) → List ModuleAt → ℕ → Type 0
+IsFitAt linked related stamps n = (r : Related) × (slice_get related n ≡ Some (Some r))
+    × ((k : ℕ) → Has r.sources.items k → Has linked k)
+    × ((s : Shared) → Has r.shared.items s → IsAlone linked stamps n s)
 
 -- the picked modules of the info that is known at this index
 abbrev pub IsPickedOf : Type 0 → List (Option InfoValue) → ℕ → InfoValue → Type 0

@@ -1,6 +1,6 @@
 //! An object requires one of the modules of a linked target.
 use document_values::{Info, Rule};
-use info_pool::{Pool, Scratch};
+use info_pool::{Pool, Requirements, Scratch};
 use scan_docs::{Setting, info_read, scan};
 use std::alloc::Global;
 use std::test::Fail;
@@ -33,7 +33,8 @@ fn pool(alloc: Global) -> Result<Pool, Fail> {
 
 /// The part of the pool's first info file that the objects require.
 fn part(alloc: Global, pool: &Pool, objects: &[Rule]) -> Result<Vec<Info>, Fail> {
-    match pool.part(alloc, objects, &[0], false, &mut Scratch::new(alloc))? {
+    let mut scratch = Scratch::new(alloc);
+    match pool.part(alloc, objects, &[0], Requirements::Omitted, &mut scratch)? {
         Some(part) => Ok(part),
         None => Err(Fail::new("the pool has no part for these objects")),
     }

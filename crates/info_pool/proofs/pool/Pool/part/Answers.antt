@@ -1,10 +1,11 @@
-use Rattle.std.proofs.Common.{◌≡◌, List, ℕ, Option, Some, subst, sym, slice_get, IsTrue, IfOk, IfSome}
+use Rattle.std.proofs.Common.{◌≡◌, List, ℕ, Option, Some, subst, sym, slice_get, IfOk, IfSome}
 use Rattle.std.proofs.lemmas.Result.{IfOk-weaker}
 use Rattle.document_values.specs.Rule.{RuleValue}
 use Rattle.document_values.specs.Info.{InfoValue}
-use Rattle.info_pool.specs.Pool.{AreLinked}
 use Rattle.document_values.specs.Parts.{IsEnough, IsPartOf, KeepsRequired}
-use Rattle.info_pool.specs.inner.Pools.{ArePlaces, AreFit, IsApart}
+use Rattle.info_pool.specs.Pool.{AreLinked}
+use Rattle.info_pool.specs.declared.requirements.Requirements.TheVariants.{Kept}
+use Rattle.info_pool.specs.inner.Pools.{AreIndexes, AreFit, IsApart}
 use Rattle.info_pool.proofs.PoolLemmas.{some_weaker, enough}
 use Rattle.info_pool.proofs.pool.Pool.part.Goals as goal
 
@@ -13,13 +14,22 @@ returns c =
     let linked = c.args.linked.now in
     let objects = c.args.objects.now in
     let pool = c.self.inside in
-    let are : ArePlaces linked c.put_places.new.places.items = c.put_places.ensures c.if-not-put_places.false in
-    let fit : AreFit linked pool.related.items = rw (sym c.deref-else-not-put_places.ensures.value) (c.are_fit.ensures c.if-not-are_fit.false) in
-    let apart : (o : ℕ) (rule : RuleValue) → slice_get objects o ≡ Some rule → IsApart linked pool.listed rule = c.are_apart.ensures c.if-not-are_apart.false in
-    let Found : List (Option InfoValue) → List InfoValue → Type 0 = λ known part. (infos : List InfoValue) × AreLinked known linked infos × IsEnough objects part infos × (IsTrue c.args.keeps → KeepsRequired part infos) in
-    let Copied : List InfoValue → Type 0 = λ part. (infos : List InfoValue) × AreLinked c.deref-2.result.now linked infos × IsPartOf part infos × (IsTrue c.args.keeps → KeepsRequired part infos) in
+    let stamps = c.deref-3.result.now in
+    let are : AreIndexes linked c.put_indexes.new.indexes.items = c.put_indexes.ensures c.if-not-put_indexes.false in
+    let fit : AreFit linked pool.related.items stamps = rw (sym c.deref-4.ensures.value) (c.are_fit.ensures c.if-not-are_fit.false) in
+    let apart : (o : ℕ) (rule : RuleValue) → slice_get objects o ≡ Some rule
+    → IsApart linked stamps pool.listed rule = c.are_apart.ensures c.if-not-are_apart.false in
+    let Found : List (Option InfoValue) → List InfoValue → Type 0 = λ known part.
+    (infos : List InfoValue) × AreLinked known linked infos × IsEnough objects part infos × (c.args.requirements ≡ Kept → KeepsRequired part infos) in
+    let Copied : List InfoValue → Type 0 = λ part. (infos : List InfoValue) × AreLinked c.deref-6.result.now linked infos × IsPartOf part infos ×
+    (c.args.requirements ≡ Kept → KeepsRequired part infos) in
     let each : (part : List InfoValue) → Copied part → Found pool.infos.items part = λ part h.
-    let linked_infos = subst (λ known. AreLinked known linked h.0) c.deref-2.ensures.value h.1 in
-    (h.0, linked_infos, enough pool.infos.items linked h.0 linked_infos pool.listed pool.related.items c.self.invariant _ are fit objects apart part h.2, h.3) in
+    let linked_infos = subst (λ known. AreLinked known linked h.0) c.deref-6.ensures.value h.1 in (
+      h.0,
+      linked_infos,
+      enough pool.infos.items linked h.0 linked_infos pool.listed pool.related.items c.self.invariant _ are stamps fit objects apart part h.2,
+      h.3,
+    ) in
     subst (λ known. IfOk c.part_of.result (λ found. IfSome found (λ part. Found known part.items))) c.self.view_is
-    (IfOk-weaker c.part_of.result (λ found. IfSome found (λ part. Copied part.items)) (λ found. IfSome found (λ part. Found pool.infos.items part.items)) (λ found. some_weaker (λ part. Copied part.items) (λ part. Found pool.infos.items part.items) (λ part. each part.items) found) c.part_of.ensures)
+    (IfOk-weaker c.part_of.result (λ found. IfSome found (λ part. Copied part.items)) (λ found. IfSome found (λ part. Found pool.infos.items part.items))
+    (λ found. some_weaker (λ part. Copied part.items) (λ part. Found pool.infos.items part.items) (λ part. each part.items) found) c.part_of.ensures)

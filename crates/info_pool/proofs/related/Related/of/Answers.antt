@@ -2,6 +2,6 @@ use Rattle.info_pool.proofs.related.Related.of.Goals as goal
 
 pub returns-clause-related : goal.returns-clause-related
 returns-clause-related c = record {
-  are_listed = rw c.in-Some.is at c.in_ok-clashes.ensures.listed;
-  sources = rw c.in-Some-2.is at c.in_ok-required.ensures;
+  are_listed = c.in_ok-shared.ensures.listed;
+  sources = rw c.in-Some.is at c.in_ok-modules.ensures;
 }
