@@ -4,7 +4,7 @@ use info_pool::{Pool, Requirements, Scratch};
 use scan_docs::{Setting, info_read, scan};
 use std::alloc::Global;
 use std::test::Fail;
-use table_keys::KeyDigest;
+use table_keys::TableKey;
 
 const DOCUMENT: &[u8] = br#"{"version":1,"rules":[
     {"primary-output":"main.o","requires":[{"logical-name":"B"}]}]}"#;
@@ -25,10 +25,9 @@ fn objects(alloc: Global) -> Result<Vec<Rule>, Fail> {
 
 /// A pool with one info file.
 fn pool(alloc: Global) -> Result<Pool, Fail> {
-    let mut digest = KeyDigest::new();
-    digest.update(INFO);
+    let key = TableKey::of(&[b"A".as_slice(), b"mod/A.pcm", b"B", b"mod/B.pcm"]);
     let info = info_read(alloc, INFO)?;
-    Ok(Pool::new(alloc, digest.key()).push(alloc, Some(info))?)
+    Ok(Pool::new(alloc, key).push(alloc, Some(info))?)
 }
 
 /// The part of the pool's first info file that the objects require.
