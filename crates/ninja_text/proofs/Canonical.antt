@@ -105,15 +105,15 @@ clean-text true list a = (refl, clean-list list a)
 clean-text false list a = clean-list list a
 
 -- the first unwritable byte, or none
-abbrev run_of : List ℕ → ℕ
+abbrev pub run_of : List ℕ → ℕ
 run_of text = prefix_len (λ b. not (is_unwritable b)) text
 
 -- a clean byte makes the run before the first unwritable byte longer by one
-run-step : (b : ℕ) (bs : List ℕ) → is_unwritable b ≡ false → run_of (b ∷ bs) ≡ run_of bs + 1
+pub run-step : (b : ℕ) (bs : List ℕ) → is_unwritable b ≡ false → run_of (b ∷ bs) ≡ run_of bs + 1
 run-step b bs h = ap (λ t. cond (not t) (1 + run_of bs) 0) h ∙ omega arith
 
 -- an unwritable byte ends it
-run-stop : (b : ℕ) (bs : List ℕ) → is_unwritable b ≡ true → run_of (b ∷ bs) ≡ 0
+pub run-stop : (b : ℕ) (bs : List ℕ) → is_unwritable b ≡ true → run_of (b ∷ bs) ≡ 0
 run-stop b bs h = ap (λ t. cond (not t) (1 + run_of bs) 0) h
 
 -- the run of a clean text is all of it
@@ -342,3 +342,10 @@ nothing-is ([] ∷ []) f = cc
 nothing-is ([] ∷ y ∷ ys) f = let g = f.0 in cc
 nothing-is ((b ∷ bs) ∷ []) f = grind arith
 nothing-is ((b ∷ bs) ∷ y ∷ ys) f = grind arith
+
+-- a path has at most 4,096 bytes
+pub path-short : (bytes path : List ℕ) → canonical_of None bytes ≡ Ok path → bytes ≡ path → length bytes ≤ 4096
+path-short bytes path h e = let f = facts None bytes path h in let le = short-of (length path) f.short in subst (λ l. length l ≤ 4096) (sym e) le
+  where
+    short-of : (n : ℕ) → nat_lt 4096 n ≡ false → n ≤ 4096
+    short-of n k = grind arith

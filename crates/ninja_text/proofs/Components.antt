@@ -88,7 +88,7 @@ components-behind x (y ∷ ys) r e =
     ap components (append_assoc x (47 ∷ list_text (y ∷ ys)) (47 ∷ r)) ∙ components-at x (list_text (y ∷ ys) ++ 47 ∷ r) e.0 ∙ ap (λ l. x ∷ l) (components-behind y ys r e.1)
 
 -- each text has a component
-components-some : (r : List ℕ) → (p : List ℕ) × (ps : List (List ℕ)) × (components r ≡ p ∷ ps)
+pub components-some : (r : List ℕ) → (p : List ℕ) × (ps : List (List ℕ)) × (components r ≡ p ∷ ps)
 components-some r = go (components r) refl
   where
     onto-some : (b : ℕ) (parts : List (List ℕ)) → (p : List ℕ) × (ps : List (List ℕ)) × (onto_first b parts ≡ p ∷ ps)

@@ -3,6 +3,8 @@ pub mod Shape
 pub mod Canonical
 pub mod Components
 pub mod ListText
+pub mod Joins
+pub mod Directories
 pub mod ForCallers
 pub mod Lists
 pub mod Scans

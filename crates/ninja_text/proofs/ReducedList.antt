@@ -93,7 +93,7 @@ names-fixed (c ∷ d ∷ ds) none =
 -- ---- a step leaves what the list reduces to
 
 -- a name is not empty and no `.`
-current-not-name : (i u : Bool) → not (i || u) ≡ true → i ≡ false
+pub current-not-name : (i u : Bool) → not (i || u) ≡ true → i ≡ false
 current-not-name true u h = cc
 current-not-name false u h = refl
 
@@ -103,7 +103,7 @@ parent-not-name true u h = refl
 parent-not-name false u h = ap not h
 
 -- two tests, the second of which fails
-and-false : (b : Bool) → (b && false) ≡ false
+pub and-false : (b : Bool) → (b && false) ≡ false
 and-false true = refl
 and-false false = refl
 
@@ -162,12 +162,12 @@ step-current : (c : List ℕ) (cs : List (List ℕ)) → is_current c ≡ true �
 step-current c cs h = record { front = []; gone = c ∷ []; back = cs; deletable = is_true _ h; before = refl; after = refl }
 
 -- the first of two tests that hold
-and-left : (a b : Bool) → (a && b) ≡ true → a ≡ true
+pub and-left : (a b : Bool) → (a && b) ≡ true → a ≡ true
 and-left true b h = refl
 and-left false b h = cc
 
 -- the second of two tests that hold
-and-right : (a b : Bool) → (a && b) ≡ true → b ≡ true
+pub and-right : (a b : Bool) → (a && b) ≡ true → b ≡ true
 and-right true b h = h
 and-right false b h = cc
 

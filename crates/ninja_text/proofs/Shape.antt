@@ -1,12 +1,15 @@
 -- What a canonical path is made of, and that a text stays one.
-use Rattle.std.proofs.Common.{◌≡◌, ◌≢◌, ℕ, zero, suc, ◌+◌, ◌<◌, ◌≤◌, Bool, true, false, ◌&&◌, ◌||◌, cond, nat_lt, inl, inr, List, [], ◌∷◌, ◌++◌, length, drop, get_or, Option, Some, None, Ok, Err, refl, sym, ◌∙◌, ap, subst, arith, IsUtf8, length-append, lit<}
+use Rattle.std.proofs.Common.{◌≡◌, ◌≢◌, ℕ, zero, suc, ◌+◌, ◌<◌, ◌≤◌, Bool, true, false, ◌&&◌, ◌||◌, cond, nat_lt, inl, inr, List, [], ◌∷◌, ◌++◌, length, drop, get_or, Option, Some, None, Result, Ok, Err, IfOk, refl, sym, ◌∙◌, ap, subst, arith, IsUtf8, length-append, lit<}
 use Rattle.std.specs.List.{AllByRecursion, list_any, prefix_len}
 use Rattle.std.proofs.lemmas.List.Elements.{All-from_recursion}
 use Rattle.std.proofs.lemmas.List.{get_or-append-add}
 use Rattle.std.proofs.lemmas.List.Splits.{join_with_byte-slice_split}
 use Rattle.std.proofs.lemmas.Str.{IsUtf8-append, IsUtf8-take, IsUtf8-drop, IsUtf8-nil, IsUtf8-from_ascii, IsCharBoundary-before_ascii, IsCharBoundary-after_ascii}
 use Rattle.std.proofs.Math.Seq.{take-append_seam, drop-append-add}
+use Rattle.ninja_text.specs.declared.failure.Failure.{Failure}
+use Rattle.ninja_text.specs.declared.fault.PathFault.{PathFault}
 use Rattle.ninja_text.specs.declared.fault.PathFault.TheVariants.{Empty}
+use Rattle.ninja_text.specs.Failure.{Gives}
 use Rattle.ninja_text.specs.Escapes.{is_unwritable, IsWritable}
 use Rattle.ninja_text.specs.Reduction.{is_current, is_parent, is_named_component, reduced, ReducesTo, components}
 use Rattle.ninja_text.specs.Paths.{path_text, below, relative_or, seen_from, is_empty, is_rooted, canonical_of, path_of, IsPath}
@@ -19,18 +22,18 @@ use Rattle.ninja_text.proofs.Canonical.{facts, none-clean, whole-list, rooted-te
 -- ---- the names are after the `..`
 
 -- the second of two tests fails if the first holds and not both do
-and-other : (n u : Bool) → n ≡ true → (n && u) ≡ false → u ≡ false
+pub and-other : (n u : Bool) → n ≡ true → (n && u) ≡ false → u ≡ false
 and-other n u h k = sym (ap (λ b. b && u) h) ∙ k
 
 -- after a name there are only names
-all-names : (c : List ℕ) (cs : List (List ℕ)) → IsFixed (c ∷ cs) → is_parent c ≡ false → AllByRecursion (λ n. is_named_component n ≡ true) (c ∷ cs)
+pub all-names : (c : List ℕ) (cs : List (List ℕ)) → IsFixed (c ∷ cs) → is_parent c ≡ false → AllByRecursion (λ n. is_named_component n ≡ true) (c ∷ cs)
 all-names c [] f h = (name-of (is_current c) (is_parent c) f h, tt)
 all-names c (d ∷ ds) f h =
     let n = name-of (is_current c) (is_parent c) f.0 h in
     (n, all-names d ds f.2 (and-other (is_named_component c) (is_parent d) n f.1))
 
 -- after the `..` in front there are only names
-behind-parents : (l : List (List ℕ)) → IsFixed l → AllByRecursion (λ n. is_named_component n ≡ true) (drop (prefix_len is_parent l) l)
+pub behind-parents : (l : List (List ℕ)) → IsFixed l → AllByRecursion (λ n. is_named_component n ≡ true) (drop (prefix_len is_parent l) l)
 behind-parents [] f = tt
 behind-parents (c ∷ cs) f = elim (either_way (is_parent c)) [
   | inl h ↦
@@ -58,11 +61,11 @@ empty-not [] h e = cc
 empty-not (c ∷ cs) h e = cc
 
 -- a number that is not found greater
-at-most : (m n : ℕ) → nat_lt m n ≡ false → n ≤ m
+pub at-most : (m n : ℕ) → nat_lt m n ≡ false → n ≤ m
 at-most m n h = grind arith
 
 -- a path has a byte
-path-some : (rooted : Bool) (l : List (List ℕ)) → IsFixed l → is_empty l ≡ false → path_text rooted l ≢ []
+pub path-some : (rooted : Bool) (l : List (List ℕ)) → IsFixed l → is_empty l ≡ false → path_text rooted l ≢ []
 path-some true l f h e = cc
 path-some false [] f h e = cc
 path-some false ([] ∷ []) f h e = cc
@@ -175,3 +178,8 @@ canonical-text build text p h u =
 -- a relative path after its work directory
 pub joined-text : (w p t : List ℕ) → IsUtf8 w → IsUtf8 p → t ≡ w ++ 47 ∷ p → IsUtf8 t
 joined-text w p t u v e = subst IsUtf8 (sym e) (IsUtf8-append w (47 ∷ p) u (slash-text p v))
+
+-- a path that is returned for a text in UTF-8 is one in UTF-8
+pub result-text : (build : Option (List ℕ)) (text : List ℕ) (result : Result (List ℕ) (Failure PathFault)) → Gives (λ path. path) result (canonical_of build text) → IsUtf8 text → IfOk result IsUtf8
+result-text build text (Ok path) h u = canonical-text build text path h u
+result-text build text (Err e) h u = tt

@@ -6,6 +6,7 @@ pub mod Escapes
 pub mod Reduction
 pub mod Paths
 pub mod PathShape
+pub mod NameBeginnings
 pub mod Units
 pub mod Lines
 pub mod Lexical

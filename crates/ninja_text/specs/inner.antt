@@ -1,5 +1,6 @@
 -- Definitions that private clauses alone speak of.
 pub mod ComponentLists
+pub mod Joins
 pub mod TokenStarts
 pub mod Runs
 pub mod PlainTexts

@@ -5,6 +5,9 @@
 //! - [`Path`] is a canonical path. [`Path::of`] and [`place`] return the path that a string means, or
 //!   the first error (`specs/Paths.antt`). The path is what rewriting steps leave of the string
 //!   (`specs/Reduction.antt`); by [`laws::one_canonical_list`] their order does not matter.
+//! - [`WorkDirectory`] is a work directory, and [`NameEnding`] the end of file names, each reduced
+//!   once for all paths that are made of it. The list of two texts with a slash between them is that
+//!   of their lists, one after the other (`proofs/Joins.antt`).
 //! - [`escape_into`] writes a path as Ninja reads it (`specs/Escapes.antt`). By [`laws::one_meaning`]
 //!   an escaped path stands for one value.
 //! - [`LineCutter`] divides bytes that arrive in pieces into logical lines, which are those of the
@@ -47,6 +50,7 @@ mod reduction;
 mod scan;
 mod token;
 mod unit;
+mod work_directory;
 
 pub use assigning::assignment;
 pub use assignments::Assignment;
@@ -60,3 +64,4 @@ pub use line::{LINE_LIMIT, Line};
 pub use line_reader::{LineReader, LineState};
 pub use paths::{PATH_LIMIT, Path, place};
 pub use token::{Token, TokenKind, Words};
+pub use work_directory::{NameEnding, WorkDirectory};

@@ -14,6 +14,7 @@ ghost use Rattle.ninja_text.specs.Escapes.{IsWritable};
 ghost use Rattle.ninja_text.specs.Paths.{path_of, is_rooted, below, seen_from, canonical_of, placed};
 ghost use Rattle.ninja_text.specs.PathShape.{parts};
 ghost use Rattle.ninja_text.specs.inner.ComponentLists.{list_text, reduced_text};
+ghost use Rattle.ninja_text.specs.inner.Joins.{IsListOf};
 
 use crate::failure::Failure;
 use crate::fault::PathFault;
@@ -146,26 +147,50 @@ pub fn place(
     }
 }
 
-fn canonical(alloc: Global, build: Option<&Path>, text: &[u8]) -> Result<Path, Failure<PathFault>>
+/// Returns the canonical path of a string, as seen from a build directory.
+pub(crate) fn canonical(
+    alloc: Global,
+    build: Option<&Path>,
+    text: &[u8],
+) -> Result<Path, Failure<PathFault>>
     requires { ForSome (option_copied build) (λ b. is_rooted b ≡ true) }
     ensures meaning { Gives (λ path. path) result
         (canonical_of (option_copied build.entry) text.now) }
     ensures text { IsUtf8 text.now → IfOk result IsUtf8 }
 {
     let list = reduction::reduce(alloc, text)?;
+    let unwritable = reduction::first_unwritable(text);
+    finished(alloc, build, reduction::is_rooted(text), unwritable, list)
+}
+
+/// Returns the path of a string that is absolute or not, has its first unwritable byte at this offset,
+/// and has this canonical list.
+pub(crate) fn finished(
+    alloc: Global,
+    build: Option<&Path>,
+    rooted: bool,
+    unwritable: Option<usize>,
+    list: Vec<u8>,
+) -> Result<Path, Failure<PathFault>>
+    requires build { ForSome (option_copied build) (λ b. is_rooted b ≡ true) }
+    requires some { (text : Text) × IsListOf text rooted unwritable list.items }
+    ensures { (text : Text) → IsListOf text rooted unwritable list.items
+        → Gives (λ path. path) result (canonical_of (option_copied build.entry) text) }
+{
     if list.is_empty() {
         return Err(Failure::Fault(PathFault::Empty));
     }
-    if reduction::is_above_root(text, &list) {
+    if reduction::is_above_root(rooted, &list) {
         return Err(Failure::Fault(PathFault::AboveRoot));
     }
-    if let Some(place) = reduction::first_unwritable(text) {
+    if let Some(place) = unwritable {
         return Err(Failure::Fault(PathFault::Unwritable { place }));
     }
-    let text = seen(alloc, build, reduction::is_rooted(text), list)?;
+    let mut text = seen(alloc, build, rooted, list)?;
     if text.len() > PATH_LIMIT {
         return Err(Failure::Fault(PathFault::TooLong));
     }
+    text.shrink_to_fit();
     let text = RcSlice::from_vec(text)?;
     Ok(Path { text })
 }
@@ -189,6 +214,7 @@ fn seen(
             return Vec::from_slice(alloc, rest);
         }
     }
+    list.reserve_exact(1)?;
     list.insert(0, b'/')?;
     Ok(list)
 }

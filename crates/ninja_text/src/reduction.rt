@@ -2,14 +2,14 @@
 //!
 //! The list is kept as a string: the components joined by slashes, without the first slash of an
 //! absolute path. It is never longer than the path that is read.
-ghost use Rattle.std.specs.Prelude.{◌≡◌, ◌≢◌, ℕ, ◌+◌, ◌-◌, ◌<◌, ◌≤◌, ◌==◌, ◌&&◌, ◌||◌, List, [], ◌∷◌, ◌++◌, length, slice_index, take, MatchOption, IfOk, OnOk, true, false, position};
-ghost use Rattle.std.specs.List.{list_any};
+ghost use Rattle.std.specs.Prelude.{◌≡◌, ◌≢◌, ℕ, ◌+◌, ◌-◌, ◌<◌, ◌≤◌, ◌==◌, ◌&&◌, ◌||◌, List, [], ◌∷◌, ◌++◌, length, slice_index, take, drop, ◌*◌, not, MatchOption, IfOk, OnOk, true, false, position};
+ghost use Rattle.std.specs.List.{list_any, prefix_len};
 ghost use Rattle.ninja_text.specs.Bytes.{Component, slash};
 ghost use Rattle.ninja_text.specs.Escapes.{is_unwritable};
 ghost use Rattle.ninja_text.specs.Reduction.{components, is_current, is_parent, reduced};
 ghost use Rattle.ninja_text.specs.PathShape.{parts};
 ghost use Rattle.ninja_text.specs.Paths.{is_empty, is_rooted};
-ghost use Rattle.ninja_text.specs.inner.ComponentLists.{list_text, reduced_text, LacksSlash, EachLacksSlash, appended};
+ghost use Rattle.ninja_text.specs.inner.ComponentLists.{list_text, reduced_text, LacksSlash, EachLacksSlash, appended, leads_up, slashes_from};
 
 use std::alloc::{AllocError, Global};
 
@@ -18,7 +18,7 @@ pub(crate) fn reduce(alloc: Global, text: &[u8]) -> Result<Vec<u8>, AllocError>
     ensures { IfOk result (λ list. list.items ≡ reduced_text text.now) }
 {
     // Nearly every path has only names, and then no component is removed.
-    if !text.split(is_slash).any(is_no_name) {
+    if has_only_names(text) {
         return Vec::from_slice(alloc, text);
     }
     let mut list = Vec::with_capacity(alloc, text.len())?;
@@ -28,12 +28,66 @@ pub(crate) fn reduce(alloc: Global, text: &[u8]) -> Result<Vec<u8>, AllocError>
     Ok(list)
 }
 
-/// Returns whether a path is absolute and its canonical list leads above the root.
-pub(crate) fn is_above_root(text: &[u8], list: &[u8]) -> bool
-    requires { list.now ≡ reduced_text text.now }
-    ensures { result ≡ (is_rooted text.now && list_any is_parent (parts text.now)) }
+/// Returns whether a path that is absolute or not leads above the root. Its canonical list has a `..`
+/// only if it begins with one.
+pub(crate) fn is_above_root(rooted: bool, list: &[u8]) -> bool
+    ensures { result ≡ (rooted && leads_up list.now) }
 {
-    is_rooted(text) && list.split(is_slash).any(is_parent)
+    rooted && matches!(list, [b'.', b'.'] | [b'.', b'.', b'/', ..])
+}
+
+/// Returns how many `..` a canonical list begins with.
+pub(crate) fn parents(list: &[u8]) -> usize
+    ensures { result ≡ prefix_len is_parent (components list.now) }
+{
+    let mut count = 0;
+    for component in list.split(is_slash) {
+        if !is_parent(component) {
+            return count;
+        }
+        count += 1;
+    }
+    count
+}
+
+/// Returns a canonical list without this many `..` at its beginning.
+pub(crate) fn without_parents(list: &[u8], count: usize) -> &[u8]
+    ensures { result.now ≡ drop (3 * count) list.now }
+{
+    list.get(count.saturating_mul(3)..).unwrap_or(&[])
+}
+
+/// Returns the offsets of the slashes in a list.
+pub(crate) fn slashes(alloc: Global, list: &[u8]) -> Result<Vec<usize>, AllocError>
+    ensures { IfOk result (λ slashes. slashes.items ≡ slashes_from 0 list.now) }
+{
+    let mut slashes = Vec::new(alloc);
+    for (index, byte) in list.iter().enumerate() {
+        if is_slash(byte) {
+            slashes.push(index)?;
+        }
+    }
+    Ok(slashes)
+}
+
+/// Returns whether all components of a path are names.
+pub(crate) fn has_only_names(text: &[u8]) -> bool
+    ensures { result ≡ not (list_any (λ c. is_current c || is_parent c) (components text.now)) }
+{
+    !text.split(is_slash).any(is_no_name)
+}
+
+/// Returns the length of a path's first component, and what follows the slash after it.
+pub(crate) fn first_component(text: &[u8]) -> (usize, Option<&[u8]>)
+    ensures bound { result.0 ≤ length text.now }
+    ensures lacks { LacksSlash (take result.0 text.now) }
+    ensures rest { MatchOption result.1 (result.0 ≡ length text.now)
+        (λ rest. text.now ≡ take result.0 text.now ++ slash ∷ rest.now) }
+{
+    match text.iter().position(is_slash) {
+        Some(len) => (len, Some(&text[len + 1..])),
+        None => (text.len(), None),
+    }
 }
 
 /// Returns the offset of the first byte that cannot be escaped in a Ninja file.

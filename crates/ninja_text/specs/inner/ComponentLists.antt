@@ -1,8 +1,8 @@
 -- Lists of components and the texts that they are written as, for the functions that make a text
 -- canonical.
-use Rattle.std.specs.Prelude.{◌≡◌, ℕ, false, ◌==◌, List, [], ◌∷◌, ◌++◌}
+use Rattle.std.specs.Prelude.{◌≡◌, ℕ, ◌+◌, Bool, false, ◌&&◌, ◌==◌, if◌then◌else◌, List, [], ◌∷◌, ◌++◌}
 use Rattle.std.specs.List.{join_with_byte, AllByRecursion}
-use Rattle.ninja_text.specs.Bytes.{slash}
+use Rattle.ninja_text.specs.Bytes.{slash, dot}
 use Rattle.ninja_text.specs.PathShape.{parts}
 
 -- no slash
@@ -25,3 +25,16 @@ reduced_text text = list_text (parts text)
 abbrev pub appended : List ℕ → List ℕ → List ℕ
 appended [] component = component
 appended (b ∷ bs) component = (b ∷ bs) ++ slash ∷ component
+
+-- the first component is `..`
+abbrev pub leads_up : List ℕ → Bool
+leads_up [] = false
+leads_up (a ∷ []) = false
+leads_up (a ∷ b ∷ []) = a == dot && b == dot
+leads_up (a ∷ b ∷ c ∷ bytes) = a == dot && (b == dot && c == slash)
+
+-- the offsets of the slashes of a text that begins at this offset
+abbrev pub slashes_from : ℕ → List ℕ → List ℕ
+slashes_from start [] = []
+slashes_from start (b ∷ bytes) =
+    if b == slash then start ∷ slashes_from (start + 1) bytes else slashes_from (start + 1) bytes

@@ -1,23 +1,19 @@
-use Rattle.std.proofs.Common.{rules, ◌≡◌, ◌||◌, [], ◌∷◌, IfOk, map, ap, sym, subst, ◌∙◌, eqb}
+use Rattle.std.proofs.Common.{rules, ◌≡◌, [], ◌∷◌, IfOk, map, ap, sym, subst, ◌∙◌, eqb}
 use borrow.Author.Tests.{tests}
-use Rattle.std.specs.List.{list_any}
-use Rattle.std.proofs.lemmas.Iterator.Search.{any_from_yields_List}
 use Rattle.std.proofs.lemmas.Iterator.Splits.{YieldsList-from_slice_split}
 use Rattle.std.proofs.lemmas.Iterator.Consumers.{YieldsList-at, YieldsList-end, YieldsList-so_far}
 use Rattle.std.proofs.lemmas.List.{map-append}
-use Rattle.std.proofs.lemmas.List.Splits.{join_with_byte-slice_split}
-use Rattle.ninja_text.specs.Reduction.{reduced, components, is_current, is_parent}
+use Rattle.ninja_text.specs.Reduction.{reduced, components}
 use Rattle.ninja_text.specs.inner.ComponentLists.{list_text, LacksSlash, EachLacksSlash}
 use Rattle.ninja_text.proofs.Components.{components-lack, each-take}
-use Rattle.ninja_text.proofs.ReducedList.{fixed-reduced, names-fixed}
+use Rattle.std.proofs.lemmas.Bool.{not-true}
+use Rattle.ninja_text.proofs.Joins.{only-names}
 use Rattle.ninja_text.proofs.reduction.reduce.Goals as goal
 
-pub returns-then-not-any : goal.returns-then-not-any
-returns-then-not-any c =
-    let found : c.any.result ≡ list_any (λ part. is_current part || is_parent part) (components c.args.text.now) = any_from_yields_List (λ part. is_current part || is_parent part) _ _ c.any.result c.any.ensures.ran (YieldsList-from_slice_split _ (λ b. eqb b 47) c.args.text.now c.split.ensures.rest c.split.ensures.done c.split.ensures.closure (λ x r q k. search (rules, tests))) (λ x b q k. search (rules, tests)) in
-    let fixed = fixed-reduced (components c.args.text.now) (names-fixed (components c.args.text.now) (sym found ∙ c.if-not-any.true)) in
-    let same : list_text (reduced (components c.args.text.now)) ≡ c.args.text.now = ap list_text fixed ∙ join_with_byte-slice_split 47 c.args.text.now in
-    subst (λ text. IfOk c.from_slice.result (λ list. list.items ≡ text)) (sym same) (search rules)
+pub returns-then-has_only_names : goal.returns-then-has_only_names
+returns-then-has_only_names c =
+    let none = not-true _ (sym c.has_only_names.ensures ∙ c.if-has_only_names.true) in
+    subst (λ text. IfOk c.from_slice.result (λ list. list.items ≡ text)) (sym (only-names c.args.text.now none)) (search rules)
 
 pub returns : goal.returns
 returns c =
