@@ -1,12 +1,19 @@
 -- The name of a file that is made of a module's name.
-use Rattle.std.proofs.Common.{◌≡◌, ℕ, ◌<◌, ◌≤◌, ◌==◌, if◌then◌else◌, List, [], ◌∷◌, ◌++◌, map, Bool, true, false, IsUtf8, refl, sym, ap, ap₂, ◌∙◌, ◌⊎◌, inl, inr, ◌&&◌, arith, rules, length}
+use Rattle.std.proofs.Common.{◌≡◌, ℕ, suc, ◌<◌, ◌≤◌, ◌==◌, if◌then◌else◌, List, [], ◌∷◌, ◌++◌, map, Bool, true, false, IsUtf8, refl, sym, ap, ap₂, ◌∙◌, ◌⊎◌, inl, inr, ◌&&◌, ◌||◌, not, nat_le, append_assoc, Option, Some, None, arith, rules, length}
 use Rattle.std.proofs.lemmas.List.{map-append}
 use Rattle.std.specs.Char.{encode_utf8}
 use Rattle.std.proofs.lemmas.Bool.{cases_lt}
 use lib.Utf8.{scalar, scalars, encodes}
 use Rattle.std.proofs.lemmas.Bool.Decides.{nat_tests}
 use Rattle.std.proofs.lemmas.Str.{IsUtf8-append, IsUtf8-nil, IsUtf8-from_ascii}
-use Rattle.scan_docs.specs.Scan.{dashed, joined_file}
+use Rattle.std.specs.List.{list_all, list_any, slice_split, count_by}
+use Rattle.std.proofs.lemmas.Bool.{cases_Bool, or_parts}
+use Rattle.std.proofs.lemmas.List.Splits.{slice_split-cons_yes}
+use Rattle.ninja_text.specs.Escapes.{is_unwritable}
+use Rattle.ninja_text.specs.Paths.{placed, canonical_of, is_rooted}
+use Rattle.ninja_text.specs.NameBeginnings.{begins_component}
+use Rattle.document_values.specs.Name.{is_name, is_name_byte, is_separator, is_not_empty}
+use Rattle.scan_docs.specs.Scan.{SettingValue, dashed, joined_file, made_file}
 
 -- ---- UTF-8 stays UTF-8 if each colon becomes a dash
 
@@ -60,3 +67,73 @@ pub joined_text : (dir name ext : List ℕ) → IsUtf8 dir → IsUtf8 name → I
 joined_text dir name ext d n e =
     IsUtf8-append ((if length dir == 0 then [] else dir ++ 47 ∷ []) ++ map dashed name) ext
     (IsUtf8-append (if length dir == 0 then [] else dir ++ 47 ∷ []) (map dashed name) (either (length dir == 0) (dir ++ 47 ∷ []) (IsUtf8-append dir (47 ∷ []) d slash)) (dashed_text name n)) e
+
+-- ---- a module's name begins the name of its file
+
+-- the first byte of a name separates nothing
+first_part : (b : ℕ) (bs : List ℕ) → list_all is_not_empty (slice_split is_separator (b ∷ bs)) ≡ true → is_separator b ≡ false
+first_part b bs h = elim (cases_Bool (is_separator b)) [
+  | inl s ↦ let k : list_all is_not_empty ([] ∷ slice_split is_separator bs) ≡ true = ap (list_all is_not_empty) (sym (slice_split-cons_yes is_separator b bs s)) ∙ h in cc
+  | inr n ↦ n
+]
+
+-- a byte of a name, with `-` for `:`, ends no component and can be escaped
+plain_byte : (b : ℕ) → is_name_byte b ≡ true → ((dashed b == 47) || is_unwritable (dashed b)) ≡ false
+plain_byte b h = grind (arith, nat_tests)
+
+plain_bytes : (bs : List ℕ) → list_all is_name_byte bs ≡ true → list_any (λ b. b == 47 || is_unwritable b) (map dashed bs) ≡ false
+plain_bytes [] h = refl
+plain_bytes (b ∷ bs) h =
+    let both = both_true (is_name_byte b) (list_all is_name_byte bs) h in
+    ap₂ (λ x y. x || y) (plain_byte b both.0) (plain_bytes bs both.1)
+
+-- what separates nothing is no dot, also with `-` for `:`
+no_dot : (b : ℕ) → is_separator b ≡ false → (dashed b == 46) ≡ false
+no_dot b h = grind (arith, nat_tests)
+
+-- the tests of a name: of its parts and of its bytes
+name_tests : (name : List ℕ) → is_name name ≡ true → (list_all is_not_empty (slice_split is_separator name) ≡ true) × (list_all is_name_byte name ≡ true)
+unfolding is_name
+name_tests name h =
+    let both = both_true (nat_le 1 (length name) && nat_le (length name) 1024 && nat_le (count_by (λ b. b == 58) name) 1 && list_all is_not_empty (slice_split is_separator name)) (list_all is_name_byte name) h in
+    let parts = both_true (nat_le 1 (length name) && nat_le (length name) 1024 && nat_le (count_by (λ b. b == 58) name) 1) (list_all is_not_empty (slice_split is_separator name)) both.0 in
+    (parts.1, both.1)
+
+-- no name is empty
+no_name : is_name [] ≡ true → ⊥
+unfolding is_name
+no_name h = cc
+
+pub name_begins : (name : List ℕ) → is_name name ≡ true → begins_component (map dashed name) ≡ true
+name_begins [] h = absurd (no_name h)
+name_begins (b ∷ bs) h =
+    let tests = name_tests (b ∷ bs) h in
+    ap₂ (λ x y. not x && not y) (no_dot b (first_part b bs tests.0)) (plain_bytes (b ∷ bs) tests.1)
+
+-- a path begins at no root, also in a directory
+relative : (dir : Bool) (root : Bool) → root ≡ false → dir ≡ false → (dir || root) ≡ false
+relative dir root h k = ap₂ (λ x y. x || y) k h
+
+-- a list with an element is not empty
+some_length : (n : ℕ) → (suc n == 0) ≡ false
+some_length n = grind arith
+
+-- the file of a module by its name is read in the directory
+pub made_in : (build : Option (List ℕ)) (dir name ext : List ℕ) → is_name name ≡ true → placed (Some dir) build (map dashed name ++ ext) ≡ placed None build (joined_file dir name ext)
+unfolding placed
+made_in build dir [] ext h = absurd (no_name h)
+made_in build [] (b ∷ bs) ext h = refl
+made_in build (d ∷ ds) (b ∷ bs) ext h =
+    let path = map dashed (b ∷ bs) ++ ext in
+    let rooted : is_rooted path ≡ false = (or_parts (dashed b == 47) (is_unwritable (dashed b)) (or_parts (dashed b == 47 || is_unwritable (dashed b)) (list_any (λ b. b == 47 || is_unwritable b) (map dashed bs)) (plain_bytes (b ∷ bs) (name_tests (b ∷ bs) h).1)).0).0 in
+    ap (λ t. canonical_of build (if t then path else (d ∷ ds) ++ 47 ∷ path)) (relative false (is_rooted path) rooted refl)
+    ∙ ap (canonical_of build) (sym (append_assoc (d ∷ ds) (47 ∷ []) path) ∙ sym (append_assoc ((d ∷ ds) ++ 47 ∷ []) (map dashed (b ∷ bs)) ext))
+    ∙ ap (λ t. placed None build (((if t then [] else (d ∷ ds) ++ 47 ∷ []) ++ map dashed (b ∷ bs)) ++ ext)) (sym (some_length (length ds)))
+
+-- so it is in the directory of a setting
+pub made_by : (s : SettingValue) (build : Option (List ℕ)) (dir own ext name : List ℕ) → dir ≡ s.module_dir → own ≡ map dashed name → ext ≡ s.module_ext → build ≡ s.build_dir → is_name name ≡ true
+    → placed (Some dir) build (own ++ ext) ≡ placed None s.build_dir (made_file s name)
+made_by s build dir own ext name d o e b h =
+    ap (λ dir. placed (Some dir) build (own ++ ext)) d ∙ ap (λ own. placed (Some s.module_dir) build (own ++ ext)) o
+    ∙ ap (λ ext. placed (Some s.module_dir) build (map dashed name ++ ext)) e ∙ ap (λ build. placed (Some s.module_dir) build (map dashed name ++ s.module_ext)) b
+    ∙ made_in s.build_dir s.module_dir name s.module_ext h

@@ -8,6 +8,9 @@
 //!   on; the meanings are in `specs/Scan.antt` and so on. `specs/Document.antt` puts them together,
 //!   and `specs/Values.antt` gives the meaning as a function of the bytes. The types of rules,
 //!   of what an info file has, and of names are those of the crate `document_values`.
+//! - [`scan_with`] does what [`scan`] does for a [`ReducedSetting`], which reduces the directory and
+//!   the ending of module files once for all scan documents of a target. `placing` reduces the work
+//!   directory of a rule once for all paths of the rule.
 //! - `document` makes a tree of a document's bytes by `serde_json` and reads its version, and
 //!   `shape` returns members of the tree that have a type. The names of a scan document or an info
 //!   document share one string (`SharedNames`), which is collected from the tree first.
@@ -24,6 +27,7 @@
 //! `must-fail/` has a wrong body for each public function with these exceptions. Laws have no body.
 //! [`LentInfo::to_info`] returns its view, which its clause names. [`Member::key`] and the texts of
 //! [`DocFault`], [`Place`] and [`Member`] have an equation for each variant, which names the text.
+//! `scan` calls `scan_with`, so one edit stands for both.
 //! `first_module_written_for_each` shows the clauses of both functions that write an info file.
 #![tactic(auto)]
 
@@ -34,15 +38,18 @@ mod info_text;
 pub mod laws;
 mod map_form;
 mod member;
+mod placing;
 mod scan_document;
 mod shape;
 mod target_document;
 
 pub use document::DOCUMENT_LIMIT;
+pub use document_values::{Info, InfoModule, Name, Rule, TargetName};
 pub use fault::{DocFault, Place};
 pub use info::info_read;
 pub use info_text::{LentInfo, LentModule, info_write, lent_info_write};
 pub use map_form::MapForm;
 pub use member::Member;
-pub use scan_document::{COUNT_LIMIT, scan};
+pub use placing::ReducedSetting;
+pub use scan_document::{COUNT_LIMIT, scan, scan_with};
 pub use target_document::{ProjectSpec, Setting, TargetSpec, project_read, spec_read};

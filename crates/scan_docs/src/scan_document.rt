@@ -12,12 +12,13 @@ ghost use Rattle.scan_docs.specs.ScanChecks.{scan_checks, provided_checks, all_p
 ghost use Rattle.scan_docs.specs.Values.{rules_of};
 
 use crate::document::{read_tree, read_version};
-use crate::fault::{DocFault, Place, bad_shape, path_at, read_name};
+use crate::fault::{DocFault, Place, bad_shape, read_name};
 use crate::member::Member;
+use crate::placing::{ReducedSetting, RuleDirectory};
 use crate::shape;
 use crate::target_document::Setting;
 use document_values::{Name, Rule, SharedNames};
-use ninja_text::{Failure, Path, place};
+use ninja_text::{Failure, Path};
 use serde_json::Value;
 use std::alloc::{AllocError, Global};
 
@@ -43,6 +44,28 @@ pub fn scan(alloc: Global, bytes: &[u8], setting: &Setting) -> Result<Vec<Rule>,
     ensures text { IfOk result (λ rules. All IsRuleText rules.items) }
     ensures one_answer { HasOneAnswer (scan_checks setting.now) (AreRules setting.now) bytes.now }
 {
+    let setting = ReducedSetting::of(alloc, setting)?;
+    scan_with(alloc, bytes, &setting)
+}
+
+/// Does what [`scan`] does, for a setting that is reduced once for all scan documents of a target.
+///
+/// # Errors
+///
+/// Those of [`scan`].
+pub fn scan_with(
+    alloc: Global,
+    bytes: &[u8],
+    setting: &ReducedSetting,
+) -> Result<Vec<Rule>, Failure<DocFault>>
+    ensures accepted { IfOk result
+        (λ rules.
+        IsAccepted (scan_checks setting.now) (AreRules setting.now) bytes.now rules.items) }
+    ensures refused { IfErr result (ForFault (IsRefused (scan_checks setting.now) bytes.now)) }
+    ensures value { IfOk result (λ rules. rules.items ≡ rules_of setting.now bytes.now) }
+    ensures text { IfOk result (λ rules. All IsRuleText rules.items) }
+    ensures one_answer { HasOneAnswer (scan_checks setting.now) (AreRules setting.now) bytes.now }
+{
     let tree = read_tree(alloc, bytes)?;
     read_rules(alloc, setting, &tree)
 }
@@ -50,7 +73,7 @@ pub fn scan(alloc: Global, bytes: &[u8], setting: &Setting) -> Result<Vec<Rule>,
 #[tactic(auto, unfolding(crate::specs::ScanChecks::scan_checks), using(crate::proofs::Each::failure_of_both, crate::proofs::Exact::scan_head))]
 fn read_rules(
     alloc: Global,
-    setting: &Setting,
+    setting: &ReducedSetting,
     tree: &Value,
 ) -> Result<Vec<Rule>, Failure<DocFault>>
     ensures { Answers (scan_checks setting.now (view tree.now))
@@ -85,7 +108,7 @@ fn names_of_rules(alloc: Global, rules: &[Value]) -> Result<Vec<u8>, AllocError>
 fn read_rule(
     alloc: Global,
     names: &mut SharedNames,
-    setting: &Setting,
+    setting: &ReducedSetting,
     index: usize,
     rule: &Value,
 ) -> Result<Rule, Failure<DocFault>>
@@ -101,11 +124,12 @@ fn read_rule(
     let Some(output) = primary_output else {
         return Err(Failure::Fault(DocFault::NoPrimaryOutput { place }));
     };
-    let object = read_path(alloc, setting, work, output.as_bytes(), place)?;
+    let directory = RuleDirectory::of(alloc, work)?;
+    let object = directory.place(alloc, setting, output, place)?;
     if provides.len() > COUNT_LIMIT || requirements.len() > COUNT_LIMIT {
         return Err(Failure::Fault(DocFault::TooLarge { place }));
     }
-    let provided = read_all_provided(alloc, names, setting, work, index, provides)?;
+    let provided = read_all_provided(alloc, names, setting, &directory, index, provides)?;
     let required = read_all_required(alloc, names, index, requirements)?;
     Ok(Rule {
         object,
@@ -118,14 +142,14 @@ fn read_rule(
 fn read_all_provided(
     alloc: Global,
     names: &mut SharedNames,
-    setting: &Setting,
-    work: Option<&str>,
+    setting: &ReducedSetting,
+    work: &RuleDirectory,
     rule: usize,
     entries: &[Value],
 ) -> Result<Vec<(Name, Path)>, Failure<DocFault>>
     ensures { Answers
-        (all_provided_checks setting.now (option_copied work.entry) rule (map view entries.now))
-        (λ found. AllZip (IsProvidedModule setting.now (option_copied work.entry))
+        (all_provided_checks setting.now work.now rule (map view entries.now))
+        (λ found. AllZip (IsProvidedModule setting.now work.now)
         (map view entries.now) found.items) result }
 {
     let mut found = Vec::with_capacity(alloc, entries.len())?;
@@ -141,14 +165,14 @@ fn read_all_provided(
 fn read_provided(
     alloc: Global,
     names: &mut SharedNames,
-    setting: &Setting,
-    work: Option<&str>,
+    setting: &ReducedSetting,
+    work: &RuleDirectory,
     place: Place,
     entry: &Value,
 ) -> Result<(Name, Path), Failure<DocFault>>
     ensures { Answers
-        (provided_checks setting.now (option_copied work.entry) place (view entry.now))
-        (IsProvidedModule setting.now (option_copied work.entry) (view entry.now)) result }
+        (provided_checks setting.now work.now place (view entry.now))
+        (IsProvidedModule setting.now work.now (view entry.now)) result }
 {
     shape::check_object(entry, Member::Entry, place)?;
     let text = shape::required_text(entry, Member::LogicalName, place)?;
@@ -160,11 +184,10 @@ fn read_provided(
     }
     let name = read_name(alloc, names, text, place)?;
     if let Some(path) = path {
-        let file = read_path(alloc, setting, work, path.as_bytes(), place)?;
+        let file = work.place(alloc, setting, path, place)?;
         return Ok((name, file));
     }
-    let path = made_file(alloc, setting, text)?;
-    let file = read_path(alloc, setting, None, &path, place)?;
+    let file = setting.module_file(alloc, text, place)?;
     Ok((name, file))
 }
 
@@ -212,43 +235,4 @@ fn read_required(
         return Err(Failure::Fault(DocFault::HeaderUnit { place }));
     }
     read_name(alloc, names, name, place)
-}
-
-/// Returns the canonical path of a path of the document.
-fn read_path(
-    alloc: Global,
-    setting: &Setting,
-    work: Option<&str>,
-    path: &[u8],
-    at: Place,
-) -> Result<Path, Failure<DocFault>>
-    requires { IsUtf8 path.now }
-    ensures { AnswersPath at
-        (placed (option_copied work.entry) setting.now.build_dir path.now) result }
-{
-    let work = work.map(str::as_bytes);
-    path_at(at, place(alloc, work, setting.build_dir.as_ref(), path))
-}
-
-/// Returns the name of a module's BMI if the document names none.
-fn made_file(alloc: Global, setting: &Setting, name: &str) -> Result<Vec<u8>, AllocError>
-    ensures path { IfOk result (λ path. path.items ≡ made_file setting.now name.now) }
-    ensures text { IfOk result (λ path. IsUtf8 path.items) }
-{
-    let module_dir = setting.module_dir.as_str();
-    let module_ext = setting.module_ext.as_str();
-    let room = module_dir
-        .len()
-        .saturating_add(name.len())
-        .saturating_add(module_ext.len());
-    let mut path = Vec::with_capacity(alloc, room.saturating_add(1))?;
-    if !module_dir.is_empty() {
-        path.extend_from_slice(module_dir.as_bytes())?;
-        path.push(b'/')?;
-    }
-    for byte in name.as_bytes() {
-        path.push(if *byte == b':' { b'-' } else { *byte })?;
-    }
-    path.extend_from_slice(module_ext.as_bytes())?;
-    Ok(path)
 }

@@ -1,18 +1,16 @@
 //! The rules of a scan document are read.
-use document_values::Rule;
-use ninja_text::Failure;
-use scan_docs::{DocFault, Setting, scan};
+use scan_docs::{Rule, Setting, scan};
 use std::alloc::Global;
 use std::test::Fail;
 
 /// The rules of a document. Module files are in `mod` and end in `.pcm`.
-fn rules(alloc: Global, document: &[u8]) -> Result<Vec<Rule>, Failure<DocFault>> {
+fn rules(alloc: Global, document: &[u8]) -> Result<Vec<Rule>, Fail> {
     let setting = Setting {
         module_dir: String::from_str(alloc, "mod")?,
         module_ext: String::from_str(alloc, ".pcm")?,
         build_dir: None,
     };
-    scan(alloc, document, &setting)
+    Ok(scan(alloc, document, &setting)?)
 }
 
 #[test]

@@ -1,10 +1,9 @@
-//! An info that is read and written, and names, while `tests/growths.py` fails each allocation in
+//! An info that is read and written, a scan document, and names, while `tests/growths.py` fails each allocation in
 //! turn. A test returns `AllocError` or `Failure::Memory` if and only if a call did. Every other
 //! result has to be the example's.
 
-use crate::common::{name, target_name};
-use document_values::{Name, TargetName};
-use scan_docs::{info_read, info_write};
+use crate::common::{name, setting, target_name};
+use scan_docs::{Name, ReducedSetting, TargetName, info_read, info_write, scan_with};
 use std::alloc::Global;
 use std::test::Fail;
 
@@ -22,6 +21,19 @@ fn an_info_that_is_written(rt: HostRuntime) -> Result<(), Fail> {
         br#"{"modules":[{"bmi":"lib/A.bmi","name":"A","requires":[{"bmi":"b","name":"B"}],"visibility":"public"},{"bmi":"b","name":"B","requires":[],"visibility":"private"}],"target":"t","version":2}"#;
     let found = written_again(rt.alloc(), document)?;
     assert!(rt; found.as_slice() == wanted.as_slice());
+    Ok(())
+}
+
+#[test]
+fn a_document_for_a_reduced_setting(rt: HostRuntime) -> Result<(), Fail> {
+    let setting = setting(rt.alloc())?;
+    let reduced = ReducedSetting::of(rt.alloc(), &setting)?;
+    let document = br#"{"version":1,"rules":[{"primary-output":"../b/a.o","work-directory":"/p/c/.",
+        "provides":[{"logical-name":"M:x"}]}]}"#;
+    let rules = scan_with(rt.alloc(), document, &reduced)?;
+    assert!(rt; rules.len() == 1 && rules[0].object.bytes() == b"/p/b/a.o".as_slice());
+    let provided = &rules[0].provided;
+    assert!(rt; provided.len() == 1 && provided[0].1.bytes() == b"mod/M-x.bmi".as_slice());
     Ok(())
 }
 

@@ -1,4 +1,4 @@
-use Rattle.std.proofs.Common.{map, option_copied}
+use Rattle.std.proofs.Common.{map}
 use Rattle.serde_json.specs.View.{view}
 use Rattle.scan_docs.specs.Scan.{IsProvidedModule}
 use Rattle.scan_docs.specs.ScanChecks.{provided_checks}
@@ -7,4 +7,4 @@ use Rattle.scan_docs.proofs.Each.{SoFar}
 use Rattle.scan_docs.proofs.scan_document.read_all_provided.Given as goal
 
 abbrev pub invariant-loop-entry : goal.invariant-loop-entry
-invariant-loop-entry l = SoFar (λ entry d. provided_checks l.setting (option_copied l.work) (place.Provides l.rule entry) d) (IsProvidedModule l.setting (option_copied l.work)) (map view l.entries) l.entry l.found.items
+invariant-loop-entry l = SoFar (λ entry d. provided_checks l.setting l.work (place.Provides l.rule entry) d) (IsProvidedModule l.setting l.work) (map view l.entries) l.entry l.found.items

@@ -47,12 +47,12 @@ unfolding rule_checks rule_shape_checks
 parts s i d = rw (failure_of_both, failure_of_both, failure_of_both, failure_of_both) refl
 
 -- what is left to check once the object file is accepted
-left : (c : In_ok-object) → first_failure (rule_checks c.args.setting.now c.args.index (view c.args.rule.now)) ≡ option_or (first_failure (count_checks (place.Rule c.args.index) (map view c.in_ok-provides.provides.now) (map view c.in_ok-requirements.requirements.now))) (option_or (first_failure (all_provided_checks c.args.setting.now (option_copied c.in_ok-work.work) c.args.index (map view c.in_ok-provides.provides.now))) (first_failure (all_required_checks c.args.index (map view c.in_ok-requirements.requirements.now))))
-left c = rw (parts, c.in_ok-check_object.ensures.0, c.in_ok-primary_output.ensures.0, c.in_ok-work.ensures.0, c.in_ok-provides.ensures.0, c.in_ok-requirements.ensures.0, object_checked c.args.setting.now (place.Rule c.args.index) (view c.args.rule.now) c.as_bytes.result.now (option_copied c.in_ok-work.work) (ap Some c.as_bytes.ensures.value ∙ ap option_copied (sym c.in-Some.is) ∙ c.in_ok-primary_output.ensures.1) c.in_ok-work.ensures.1 ∙ c.in_ok-object.ensures.0, ← c.in_ok-provides.ensures.1, ← c.in_ok-requirements.ensures.1, ← c.in_ok-work.ensures.1) refl
+left : (c : In_ok-object) → first_failure (rule_checks c.args.setting.now c.args.index (view c.args.rule.now)) ≡ option_or (first_failure (count_checks (place.Rule c.args.index) (map view c.in_ok-provides.provides.now) (map view c.in_ok-requirements.requirements.now))) (option_or (first_failure (all_provided_checks c.args.setting.now c.in_ok-directory.directory c.args.index (map view c.in_ok-provides.provides.now))) (first_failure (all_required_checks c.args.index (map view c.in_ok-requirements.requirements.now))))
+left c = rw (parts, c.in_ok-check_object.ensures.0, c.in_ok-primary_output.ensures.0, c.in_ok-work.ensures.0, c.in_ok-provides.ensures.0, c.in_ok-requirements.ensures.0, object_checked c.args.setting.now (place.Rule c.args.index) (view c.args.rule.now) c.in-Some.output.now c.in_ok-directory.directory (ap option_copied (sym c.in-Some.is) ∙ c.in_ok-primary_output.ensures.1) (c.in_ok-directory.ensures ∙ c.in_ok-work.ensures.1) ∙ c.in_ok-object.ensures.0, ← c.in_ok-provides.ensures.1, ← c.in_ok-requirements.ensures.1, ← (c.in_ok-directory.ensures ∙ c.in_ok-work.ensures.1)) refl
 
 pub returns-in_err-object : goal.returns-in_err-object
 returns-in_err-object c =
-    stopped (rule_checks c.args.setting.now c.args.index (view c.args.rule.now)) _ c.from_residual-in_err-object.result _ c.from_residual-in_err-object.ensures.1 (λ ne. rw (parts, c.in_ok-check_object.ensures.0, c.in_ok-primary_output.ensures.0, c.in_ok-work.ensures.0, c.in_ok-provides.ensures.0, c.in_ok-requirements.ensures.0, object_checked c.args.setting.now (place.Rule c.args.index) (view c.args.rule.now) c.as_bytes.result.now (option_copied c.in_ok-work.work) (ap Some c.as_bytes.ensures.value ∙ ap option_copied (sym c.in-Some.is) ∙ c.in_ok-primary_output.ensures.1) c.in_ok-work.ensures.1, c.in_err-object.ensures ne) refl)
+    stopped (rule_checks c.args.setting.now c.args.index (view c.args.rule.now)) _ c.from_residual-in_err-object.result _ c.from_residual-in_err-object.ensures.1 (λ ne. rw (parts, c.in_ok-check_object.ensures.0, c.in_ok-primary_output.ensures.0, c.in_ok-work.ensures.0, c.in_ok-provides.ensures.0, c.in_ok-requirements.ensures.0, object_checked c.args.setting.now (place.Rule c.args.index) (view c.args.rule.now) c.in-Some.output.now c.in_ok-directory.directory (ap option_copied (sym c.in-Some.is) ∙ c.in_ok-primary_output.ensures.1) (c.in_ok-directory.ensures ∙ c.in_ok-work.ensures.1), c.in_err-object.ensures ne) refl)
 
 pub returns-then-provides-gt-COUNT_LIMIT : goal.returns-then-provides-gt-COUNT_LIMIT
 returns-then-provides-gt-COUNT_LIMIT c = λ ne.
@@ -71,13 +71,13 @@ returns-in_err-required c =
 
 pub returns : goal.returns
 returns c =
-    let has = ap Some c.as_bytes.ensures.value ∙ ap option_copied (sym c.in-Some.is) ∙ c.in_ok-primary_output.ensures.1 in
+    let has = ap option_copied (sym c.in-Some.is) ∙ c.in_ok-primary_output.ensures.1 in
     let counts = count_passes (place.Rule c.args.index) (map view c.in_ok-provides.provides.now) (map view c.in_ok-requirements.requirements.now) (rw length-map c.if-provides-gt-COUNT_LIMIT.false) (rw length-map c.if-requirements-gt-COUNT_LIMIT.false) in (
       rw (left (goal.at.returns c).In_ok-object, counts, c.in_ok-provided.ensures.0) c.in_ok-required.ensures.0,
       record {
-        object = object_is c.args.setting.now (place.Rule c.args.index) (view c.args.rule.now) c.as_bytes.result.now (option_copied c.in_ok-work.work) has c.in_ok-work.ensures.1 ∙ c.in_ok-object.ensures.1.0;
+        object = object_is c.args.setting.now (place.Rule c.args.index) (view c.args.rule.now) c.in-Some.output.now c.in_ok-directory.directory has (c.in_ok-directory.ensures ∙ c.in_ok-work.ensures.1) ∙ c.in_ok-object.ensures.1.0;
         is_text = c.in_ok-object.ensures.1.1;
-        provided = rw (← c.in_ok-provides.ensures.1, ← c.in_ok-work.ensures.1) c.in_ok-provided.ensures.1;
+        provided = rw (← c.in_ok-provides.ensures.1, ← (c.in_ok-directory.ensures ∙ c.in_ok-work.ensures.1)) c.in_ok-provided.ensures.1;
         required = rw (← c.in_ok-requirements.ensures.1) c.in_ok-required.ensures.1;
       },
     )
