@@ -48,7 +48,8 @@ map_form_of text =
 abbrev pub map_form : Data → Option MapForm
 map_form d = option_and_then map_form_of (text m.Map d)
 
--- whether files that already have their bytes are left alone
+-- whether files that already have their bytes are left alone: if the member is true; any other value
+-- counts as absent
 abbrev pub restat : Data → Bool
 restat d = unwrap_or (flag m.Restat d) false
 

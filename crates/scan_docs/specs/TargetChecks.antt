@@ -7,7 +7,7 @@ use Rattle.scan_docs.specs.declared.fault.DocFault.TheVariants.{BadVersion, BadN
 use Rattle.scan_docs.specs.declared.fault.Place.TheVariants as place
 use Rattle.scan_docs.specs.declared.member.Member.TheVariants as m
 use Rattle.scan_docs.specs.Check.{Check, ◌otherwise◌, shape_check, path_checks}
-use Rattle.scan_docs.specs.Shape.{is_object, given, text, text_of, flag, texts, texts_of, whole_number, fits}
+use Rattle.scan_docs.specs.Shape.{is_object, given, text, text_of, texts, texts_of, whole_number, fits}
 use Rattle.document_values.specs.Name.{is_name, is_target_name}
 use Rattle.scan_docs.specs.Target.{build_dir, map_form}
 
@@ -71,13 +71,12 @@ abbrev pub map_check : Data → Check
 map_check d =
     shape_check place.Document m.Map (is_none (given m.Map d) || is_some (map_form d))
 
--- the other files, the form of the module maps, and whether unchanged files are left alone
+-- the other files, and the form of the module maps
 unfoldable pub file_checks : Data → List Check
 file_checks d =
     info_check d
     ∷ map_check d
     ∷ shape_check place.Document m.Edges (fits text m.Edges d)
-    ∷ shape_check place.Document m.Restat (fits flag m.Restat d)
     ∷ []
 
 -- all checks of a target document's tree

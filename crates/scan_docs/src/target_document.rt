@@ -254,8 +254,8 @@ fn read_outputs(
         Some(edges) => Some(String::from_str(alloc, edges)?),
         None => None,
     };
-    let restat = shape::flag(tree, Member::Restat, Place::Document)?;
-    Ok((info, map, edges, restat.unwrap_or(false)))
+    let restat = shape::is_true(tree, Member::Restat);
+    Ok((info, map, edges, restat))
 }
 
 /// The member of a project document. Strings are as in the document.
