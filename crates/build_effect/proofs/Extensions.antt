@@ -1,12 +1,15 @@
 -- The edges with what statements add are the effect.
-use Rattle.std.proofs.Common.{◌≡◌, ◌≢◌, ◌⊎◌, ℕ, ◌+◌, List, [], ◌∷◌, ◌++◌, length, take, Option, Some, None, refl, ap, sym, subst, ◌∙◌, inl, inr, arith, slice_get, length-append}
-use Rattle.std.proofs.lemmas.Option.{slice_get_within}
+use Rattle.std.proofs.Common.{◌≡◌, ◌≢◌, ◌⊎◌, ℕ, ◌+◌, List, [], ◌∷◌, ◌++◌, length, take, get_or, Option, Some, None, refl, ap, sym, subst, ◌∙◌, inl, inr, arith, slice_get, length-append}
+use Rattle.std.proofs.lemmas.Option.{slice_get_within, slice_get-get_or, get_or_from_slice_get}
 use Rattle.dyndep_file.specs.StatementValue.{StatementValue}
 use Rattle.build_effect.specs.EdgeValue.{EdgeValue}
-use Rattle.build_effect.specs.Graphs.{Names, HasInput, IsGraph}
+use Rattle.build_effect.specs.Graphs.{Names, HasInput, IsGraph, MakesAt, made_by}
 use Rattle.build_effect.specs.Effect.{IsOn, Extends, OnlyEffect, extended}
 use Rattle.build_effect.specs.Checks.{ChecksSuffice}
-use Rattle.build_effect.specs.inner.StatementEdges.{statement_on}
+use Rattle.build_effect.specs.inner.StatementEdges.{AreInverse, statement_on}
+use Rattle.build_effect.specs.inner.Makers.{AreMade, Made}
+use Rattle.build_effect.specs.inner.Added.{added_files}
+use Rattle.build_effect.proofs.MakerTables.{from_numbered, in_numbered}
 use Rattle.build_effect.specs.inner.Checked.{AreChecked}
 use Rattle.build_effect.specs.inner.Extended.{IsEdgeAfter, AreExtended}
 use Rattle.build_effect.proofs.Lists.{same_lists}
@@ -139,3 +142,64 @@ module _ (g : List EdgeValue) (name : List ℕ) (ss additions : List StatementVa
               | inr more ↦ subst (λ (z : EdgeValue). HasInput z file) (sym more.1) (still_reads b.0 more.0 file (graph.dyndep_is_input i b.0 file b.1 (subst (λ (z : EdgeValue). Names file z) more.1 names)))
             ];
       }
+
+  -- the makers with the added outputs are those of the new edges
+  module _ (edge_of : List ℕ) (as_many : length edge_of ≡ length additions) (inverse : AreInverse (length g) edge_of statement_of) (made : Made) (made_are : AreMade g made) where
+    -- a file of the edge, or an added output, is made by the edge after
+    still_made : (i : ℕ) (e : EdgeValue) (file : List ℕ) → slice_get g i ≡ Some e → Has (made_by e) file → (j : ℕ) × MakesAt new i j file
+    still_made i e file at h =
+        elim (on_or_not (statement_on statement_of i)) [
+          | inl none ↦ (h.0, (e, are.plain i e at none, h.1))
+          | inr some ↦
+              let p = checked.matched.on i some.0 some.1 in
+              let outputs = e.implicit_outputs ++ p.0.implicit_outputs in
+              let there : Has (made_by (extended e p.0)) file =
+              elim (in_append e.outputs e.implicit_outputs h.0 file h.1) [
+                | inl q ↦ has_first e.outputs outputs file (h.0, q)
+                | inr q ↦ has_second e.outputs outputs file (has_first e.implicit_outputs p.0.implicit_outputs file (q.0, q.2))
+              ] in
+              (there.0, (extended e p.0, are.more i some.0 e p.0 at some.1 p.1, there.1))
+        ]
+
+    found : (k : ℕ) (file : List ℕ) (i : ℕ) → slice_get (made ++ added_files edge_of additions) k ≡ Some (file, i) → (j : ℕ) × MakesAt new i j file
+    found k file i at =
+        elim (in_append made (added_files edge_of additions) k (file, i) at) [
+          | inl h ↦ let m = made_are.found k file i h in still_made i m.1.0 file m.1.1 (m.0, m.1.2)
+          | inr h ↦
+              let r = from_numbered (λ (a : StatementValue). a.implicit_outputs) (λ n. get_or edge_of n 0) additions h.0 file i h.2 in
+              let within = slice_get_within additions r.0 r.1 r.3 in
+              let edge : slice_get edge_of r.0 ≡ Some i = slice_get-get_or edge_of r.0 0 (omega (arith, within, as_many)) ∙ ap (λ n. Some n) r.4 in
+              let on = inverse.to r.0 i edge in
+              let p = checked.matched.on i r.0 on in
+              let same : p.0 ≡ r.1 = same_some _ _ (sym p.1 ∙ r.3) in
+              let there = has_second p.2.0.outputs (p.2.0.implicit_outputs ++ r.1.implicit_outputs) file (has_second p.2.0.implicit_outputs r.1.implicit_outputs file (r.2, r.5)) in
+              (there.0, (extended p.2.0 r.1, are.more i r.0 p.2.0 r.1 p.2.1 on r.3, there.1))
+        ]
+
+    all : (i j : ℕ) (file : List ℕ) → MakesAt new i j file → (k : ℕ) × (slice_get (made ++ added_files edge_of additions) k ≡ Some (file, i))
+    all i j file (x, at_x, at_j) =
+        let within = slice_get_within new i x at_x in
+        let e : (e : EdgeValue) × (slice_get g i ≡ Some e) = element_at g i (omega (arith, within, are.as_many)) in
+        let old : Has (made_by e.0) file → (k : ℕ) × (slice_get (made ++ added_files edge_of additions) k ≡ Some (file, i)) =
+        λ h. (let k = made_are.all i h.0 file (e.0, e.1, h.1) in (k.0, in_first made (added_files edge_of additions) k.0 (file, i) k.1)) in
+        elim (on_or_not (statement_on statement_of i)) [
+          | inl none ↦
+              let same : x ≡ e.0 = same_some _ _ (sym at_x ∙ are.plain i e.0 e.1 none) in
+              old (j, ap (λ z. slice_get (made_by z) j) (sym same) ∙ at_j)
+          | inr some ↦
+              let p = checked.matched.on i some.0 some.1 in
+              let same : x ≡ extended e.0 p.0 = same_some _ _ (sym at_x ∙ are.more i some.0 e.0 p.0 e.1 some.1 p.1) in
+              elim (in_append e.0.outputs (e.0.implicit_outputs ++ p.0.implicit_outputs) j file (ap (λ z. slice_get (made_by z) j) (sym same) ∙ at_j)) [
+                | inl h ↦ old (has_first e.0.outputs e.0.implicit_outputs file (j, h))
+                | inr h ↦ elim (in_append e.0.implicit_outputs p.0.implicit_outputs h.0 file h.2) [
+                  | inl q ↦ old (has_second e.0.outputs e.0.implicit_outputs file (h.0, q))
+                  | inr q ↦
+                      let r = in_numbered (λ (a : StatementValue). a.implicit_outputs) (λ n. get_or edge_of n 0) additions some.0 q.0 p.0 file p.1 q.2 in
+                      let edge : get_or edge_of some.0 0 ≡ i = get_or_from_slice_get edge_of some.0 i 0 (inverse.from i some.0 some.1) in
+                      (length made + r.0, in_second made (added_files edge_of additions) r.0 (file, i) (r.1 ∙ ap (λ n. Some (file, n)) edge))
+                ]
+              ]
+        ]
+
+    pub new_made : AreMade new (made ++ added_files edge_of additions)
+    new_made = record { found = found; all = all }

@@ -1,15 +1,16 @@
 -- Tables of the edges that make files, and the order of edges that they give.
-use Rattle.std.proofs.Common.{◌≡◌, ℕ, zero, suc, ◌+◌, ◌⊎◌, Bool, true, false, List, [], ◌∷◌, ◌++◌, length, map, take, Option, Some, refl, ap, subst, sym, ◌∙◌, inl, inr, arith, slice_get, bytes_eq, cond, Bor, ◌<◌, get_or, Contains, ⊎_elim}
-use Rattle.std.specs.HashMap as hash
-use Rattle.std.specs.HashMap.{HashMap}
+use Rattle.std.proofs.Common.{◌≡◌, ℕ, zero, suc, ◌+◌, Bool, true, false, List, [], ◌∷◌, ◌++◌, length, map, take, drop, Option, Some, None, refl, ap, ap₂, subst, sym, ◌∙◌, inl, inr, arith, slice_get, bytes_eq, cond, ◌<◌, get_or, Contains, ⊎_elim, append_assoc}
+use Rattle.std.specs.List.{AllZip, filter_map, flat_map}
+use Rattle.std.specs.declared.alloc.Global.{Global}
+use Rattle.std.specs.declared.rc.Rc.{Rc}
 use Rattle.std.specs.Cmp.Lexicographic.{bytes_decides}
-use Rattle.std.proofs.lemmas.List.{map-append, length-map, get_or_past}
-use Rattle.std.proofs.lemmas.Map.Text.{hash_map_updates_str}
+use Rattle.std.proofs.lemmas.List.{map-append, length-map, get_or_past, append-nil, length-take-le, take-append-drop}
+use Rattle.std.proofs.lemmas.List.Concat.{flat_map-append}
 use Rattle.build_effect.specs.EdgeValue.{EdgeValue}
 use Rattle.build_effect.specs.Graphs.{made_by, MakesAt, inputs_of, MadeOnce, EdgeNeeds}
-use Rattle.build_effect.specs.inner.Makers.{maker_in, AreMakers, AreAdded}
-use Rattle.ninja_text.proofs.ForCallers.{same_some, in_append, in_first, in_second, from_push, from_take, in_take, take_next, from_map, to_map, from_filter_map, in_filter_map}
-use Rattle.std.specs.List.{filter_map}
+use Rattle.build_effect.specs.inner.Makers.{Made, Table, files_of, tables_of, entries_of, maker_in, IsMadeTwice, AreMade, numbered}
+use Rattle.ninja_text.specs.Firsts.{IsFirstAt}
+use Rattle.ninja_text.proofs.ForCallers.{same_some, in_append, in_first, in_second, from_take, in_take, take_next, from_map, to_map, from_filter_map, in_filter_map, three_ways}
 use Rattle.std.proofs.lemmas.Option.{slice_get_within, slice_get-get_or, get_or_from_slice_get}
 use Rattle.std.proofs.lemmas.Bool.{cases_lt}
 use Rattle.dep_order.specs.Needs.{NodeNeeds, NeedsAreNodes}
@@ -17,93 +18,177 @@ use Rattle.dep_order.specs.Sortings.{IsSortingOf}
 use Rattle.dep_order.specs.declared.Sorting.{Sorting}
 use Rattle.dep_order.proofs.ForCallers.{sorting_same}
 
--- ---- tables of producers
+-- ---- the edge that a list has for a file
 
--- a table with one more file has the same for other files
-abbrev Updated : List ℕ → ℕ → (List ℕ → Option ℕ) → (List ℕ → Option ℕ) → Type 0
-Updated file edge maker new = (q : List ℕ) → new q ≡ cond (bytes_eq file q) (Some edge) (maker q)
-
-by_test : (b : Bool) (edge i : ℕ) (old : Option ℕ) → cond b (Some edge) old ≡ Some i → ((b ≡ true) × (i ≡ edge)) ⊎ (old ≡ Some i)
-by_test true edge i old e = inl (refl, sym (same_some _ _ e))
-by_test false edge i old e = inr e
-
-still : (b : Bool) (edge i : ℕ) (old : Option ℕ) → old ≡ Some i → (k : ℕ) × (cond b (Some edge) old ≡ Some k)
-still true edge i old e = (edge, refl)
-still false edge i old e = (i, e)
-
-pub one_added : (file : List ℕ) (edge : ℕ) (maker new : List ℕ → Option ℕ) → Updated file edge maker new → AreAdded (file ∷ []) edge maker new
-one_added file edge maker new updated = record { found = found; kept = kept; added = added }
+-- it is in the list with the file
+pub in_list : (made : Made) (file : List ℕ) (edge : ℕ) → maker_in made file ≡ Some edge → (k : ℕ) × (slice_get made k ≡ Some (file, edge))
+in_list [] file edge e = cc
+in_list ((f, n) ∷ made) file edge e = by (bytes_eq file f) refl e (in_list made file edge)
   where
-    found : (q : List ℕ) (i : ℕ) → new q ≡ Some i → ((i ≡ edge) × (j : ℕ) × (slice_get (file ∷ []) j ≡ Some q)) ⊎ (maker q ≡ Some i)
-    found q i e =
-        elim (by_test (bytes_eq file q) edge i (maker q) (sym (updated q) ∙ e)) [
-          | inl h ↦ inl (h.1, 0, ap (λ f. Some f) ((bytes_decides file q).0 h.0))
-          | inr h ↦ inr h
-        ]
+    by : (b : Bool) → bytes_eq file f ≡ b → cond b (Some n) (maker_in made file) ≡ Some edge → (maker_in made file ≡ Some edge → (k : ℕ) × (slice_get made k ≡ Some (file, edge))) → (k : ℕ) × (slice_get ((f, n) ∷ made) k ≡ Some (file, edge))
+    by true same is rest = (0, ap₂ (λ x y. Some (x, y)) (sym ((bytes_decides file f).0 same)) (same_some _ _ is))
+    by false other is rest = let r = rest is in (suc r.0, r.1)
 
-    kept : (q : List ℕ) (i : ℕ) → maker q ≡ Some i → (k : ℕ) × (new q ≡ Some k)
-    kept q i e = let s = still (bytes_eq file q) edge i (maker q) e in (s.0, updated q ∙ s.1)
-
-    added : (j : ℕ) (q : List ℕ) → slice_get (file ∷ []) j ≡ Some q → (k : ℕ) × (new q ≡ Some k)
-    added zero q e =
-        let same : file ≡ q = same_some _ _ e in
-        (edge, updated q ∙ ap (λ b. cond b (Some edge) (maker q)) ((bytes_decides file q).1 same))
-    added (suc j) q e = cc
-
-pub more_added : (xs ys : List (List ℕ)) (edge : ℕ) (a b d : List ℕ → Option ℕ) → AreAdded xs edge a b → AreAdded ys edge b d → AreAdded (xs ++ ys) edge a d
-more_added xs ys edge a b d p q = record { found = found; kept = kept; added = added }
+-- a file of the list has one
+pub has_maker : (made : Made) (k : ℕ) (file : List ℕ) (edge : ℕ) → slice_get made k ≡ Some (file, edge) → (n : ℕ) × (maker_in made file ≡ Some n)
+has_maker [] k file edge at = cc
+has_maker ((f, n) ∷ made) zero file edge at = (n, ap (λ b. cond b (Some n) (maker_in made file)) ((bytes_decides file f).1 (sym (ap (λ m. m.0) (same_some _ _ at)))))
+has_maker ((f, n) ∷ made) (suc k) file edge at = by (bytes_eq file f) (has_maker made k file edge at)
   where
-    found : (file : List ℕ) (i : ℕ) → d file ≡ Some i → ((i ≡ edge) × (j : ℕ) × (slice_get (xs ++ ys) j ≡ Some file)) ⊎ (a file ≡ Some i)
-    found file i e =
-        elim (q.found file i e) [
-          | inl h ↦ inl (h.0, length xs + h.1, in_second xs ys h.1 file h.2)
-          | inr h ↦ elim (p.found file i h) [ inl k ↦ inl (k.0, k.1, in_first xs ys k.1 file k.2) | inr k ↦ inr k ]
+    by : (b : Bool) → (m : ℕ) × (maker_in made file ≡ Some m) → (m : ℕ) × (cond b (Some n) (maker_in made file) ≡ Some m)
+    by true rest = (n, refl)
+    by false rest = rest
+
+-- the first of two lists is searched first
+first_of : (b : Bool) (edge m : ℕ) (old both : Option ℕ) → cond b (Some m) old ≡ Some edge → (old ≡ Some edge → both ≡ Some edge) → cond b (Some m) both ≡ Some edge
+first_of true edge m old both is rest = is
+first_of false edge m old both is rest = rest is
+
+pub in_one : (xs ys : Made) (file : List ℕ) (edge : ℕ) → maker_in xs file ≡ Some edge → maker_in (xs ++ ys) file ≡ Some edge
+in_one [] ys file edge e = cc
+in_one (x ∷ xs) ys file edge e = first_of (bytes_eq file x.0) edge x.1 (maker_in xs file) (maker_in (xs ++ ys) file) e (in_one xs ys file edge)
+
+rest_of : (b : Bool) (m : ℕ) (old both other : Option ℕ) → cond b (Some m) old ≡ None → (old ≡ None → both ≡ other) → cond b (Some m) both ≡ other
+rest_of true m old both other is rest = cc
+rest_of false m old both other is rest = rest is
+
+pub in_other : (xs ys : Made) (file : List ℕ) → maker_in xs file ≡ None → maker_in (xs ++ ys) file ≡ maker_in ys file
+in_other [] ys file e = refl
+in_other (x ∷ xs) ys file e = rest_of (bytes_eq file x.0) x.1 (maker_in xs file) (maker_in (xs ++ ys) file) (maker_in ys file) e (in_other xs ys file)
+
+-- ---- the shared tables
+
+pub entries_push : (tables : List Table) (more : Table) → entries_of (tables ++ more ∷ []) ≡ entries_of tables ++ more.entries
+entries_push tables more = flat_map-append (λ table. table.entries) tables (more ∷ []) ∙ ap (λ last. entries_of tables ++ last) (append-nil more.entries)
+
+-- a clone shares the tables
+pub same_tables : (shared clone : List (Rc Table Global)) → AllZip (λ table copy. copy.value ≡ table.value) shared clone → tables_of clone ≡ tables_of shared
+same_tables [] [] h = refl
+same_tables [] (c ∷ clone) h = absurd h
+same_tables (s ∷ shared) [] h = absurd h
+same_tables (s ∷ shared) (c ∷ clone) h = rw (h.0, same_tables shared clone h.1) refl
+
+-- one more table is searched
+module _ (shared : List (Rc Table Global)) (i : ℕ) (table : Rc Table Global) (at : slice_get shared i ≡ Some table) (file : List ℕ)
+    (before : maker_in (entries_of (tables_of (take i shared))) file ≡ None) where
+  one_more : maker_in (entries_of (tables_of (take (i + 1) shared))) file ≡ maker_in table.value.entries file
+  one_more =
+      ap (λ ts. maker_in (entries_of (tables_of ts)) file) (take_next shared i table at) ∙ ap (λ ts. maker_in (entries_of ts) file) (map-append (λ t. t.value) (take i shared) (table ∷ []))
+      ∙ ap (λ made. maker_in made file) (entries_push (tables_of (take i shared)) table.value)
+      ∙ in_other (entries_of (tables_of (take i shared))) table.value.entries file before
+
+  pub not_yet : maker_in table.value.entries file ≡ None → maker_in (entries_of (tables_of (take (i + 1) shared))) file ≡ None
+  not_yet none = one_more ∙ none
+
+  pub found_here : (edge : ℕ) → maker_in table.value.entries file ≡ Some edge → maker_in (entries_of (tables_of shared)) file ≡ Some edge
+  found_here edge is =
+      let parts : entries_of (tables_of shared) ≡ entries_of (tables_of (take (i + 1) shared)) ++ entries_of (tables_of (drop (i + 1) shared)) =
+      ap (λ ts. entries_of (tables_of ts)) (sym (take-append-drop (i + 1) shared)) ∙ ap entries_of (map-append (λ t. t.value) (take (i + 1) shared) (drop (i + 1) shared))
+      ∙ flat_map-append (λ t. t.entries) (tables_of (take (i + 1) shared)) (tables_of (drop (i + 1) shared)) in
+      ap (λ made. maker_in made file) parts ∙ in_one _ _ file edge (one_more ∙ is)
+
+-- ---- files that are made already or come again
+
+-- no file before index i is made already, or comes again
+abbrev pub OnceBefore : Made → Made → ℕ → Type 0
+OnceBefore made new i = (k : ℕ) (file : List ℕ) → k < i → slice_get (files_of new) k ≡ Some file → IsMadeTwice made (files_of new) k file → ⊥
+
+module _ (made new : Made) (i : ℕ) (file : List ℕ) (edge : ℕ) (at : slice_get new i ≡ Some (file, edge)) (before : OnceBefore made new i) where
+  here : slice_get (files_of new) i ≡ Some file
+  here = to_map (λ m. m.0) new i (file, edge) at
+
+  pub made_twice : (n : ℕ) → maker_in made file ≡ Some n → IsFirstAt (IsMadeTwice made (files_of new)) (files_of new) i file
+  made_twice n is = let there = in_list made file n is in record { here = here; holds = inl (there.0, n, there.1); before = λ k f lt. before k f lt }
+
+  pub comes_twice : (n : ℕ) → maker_in (take i new) file ≡ Some n → IsFirstAt (IsMadeTwice made (files_of new)) (files_of new) i file
+  comes_twice n is =
+      let there = in_list (take i new) file n is in
+      let first = from_take i new there.0 (file, n) there.1 in
+      record { here = here; holds = inr (there.0, first.0, to_map (λ m. m.0) new there.0 (file, n) first.1); before = λ k f lt. before k f lt }
+
+  pub once_more : maker_in made file ≡ None → maker_in (take i new) file ≡ None → OnceBefore made new (i + 1)
+  once_more unmade fresh k f lt at_k twice =
+      elim (three_ways k i) [
+        | inl earlier ↦ before k f earlier at_k twice
+        | inr rest ↦ elim rest [
+          | inr later ↦ absurd (omega (arith, later, lt))
+          | inl same ↦
+              let is : f ≡ file = same_some _ _ (sym at_k ∙ ap (slice_get (files_of new)) same ∙ here) in
+              elim twice [
+                | inl h ↦ let n = has_maker made h.0 f h.1 h.2 in let both : Some n.0 ≡ None = sym n.1 ∙ ap (maker_in made) is ∙ unmade in cc
+                | inr h ↦
+                    let m = from_map (λ m. m.0) new h.0 f h.2 in
+                    let in_new : slice_get (take i new) h.0 ≡ Some (f, m.0.1) = in_take i new h.0 (f, m.0.1) (omega (arith, h.1, same)) (m.1 ∙ ap (λ x. Some (x, m.0.1)) m.2) in
+                    let n = has_maker (take i new) h.0 f m.0.1 in_new in
+                    let both : Some n.0 ≡ None = sym n.1 ∙ ap (maker_in (take i new)) is ∙ fresh in cc
+              ]
         ]
+      ]
 
-    kept : (file : List ℕ) (i : ℕ) → a file ≡ Some i → (k : ℕ) × (d file ≡ Some k)
-    kept file i e = let s = p.kept file i e in q.kept file s.0 s.1
+-- ---- files, each with the edge of its index
 
-    added : (j : ℕ) (file : List ℕ) → slice_get (xs ++ ys) j ≡ Some file → (k : ℕ) × (d file ≡ Some k)
-    added j file e =
-        elim (in_append xs ys j file e) [
-          | inl h ↦ let s = p.added j file h in q.kept file s.0 s.1
-          | inr h ↦ q.added h.0 file h.2
-        ]
+module _ {X : Type 0} (files : X → List (List ℕ)) where
+  numbered_push : (edge_at : ℕ → ℕ) (xs : List X) (x : X) → numbered files edge_at (xs ++ x ∷ []) ≡ numbered files edge_at xs ++ map (λ file. (file, edge_at (length xs))) (files x)
+  numbered_push edge_at [] x = append-nil (map (λ file. (file, edge_at 0)) (files x))
+  numbered_push edge_at (y ∷ xs) x =
+      ap (λ rest. map (λ file. (file, edge_at 0)) (files y) ++ rest) (numbered_push (λ k. edge_at (suc k)) xs x)
+      ∙ sym (append_assoc (map (λ file. (file, edge_at 0)) (files y)) (numbered files (λ k. edge_at (suc k)) xs) (map (λ file. (file, edge_at (suc (length xs)))) (files x)))
 
--- a file is put into the table
-pub put : {S : Type 0} (file : List ℕ) (edge : ℕ) (m n : HashMap (Bor (List ℕ)) ℕ S) → hash.UpdatesBy (λ x y. bytes_eq x.now y.now) (λ k. bytes_eq file k.now) m n (Some edge) → Updated file edge (maker_in m) (maker_in n)
-put file edge m n u q = hash_map_updates_str file m n (Some edge) u q
+  pub numbered_next : (edge_at : ℕ → ℕ) (xs : List X) (i : ℕ) (x : X) → slice_get xs i ≡ Some x → numbered files edge_at (take (i + 1) xs) ≡ numbered files edge_at (take i xs) ++ map (λ file. (file, edge_at i)) (files x)
+  numbered_next edge_at xs i x at =
+      let within = slice_get_within xs i x at in
+      ap (numbered files edge_at) (take_next xs i x at) ∙ numbered_push edge_at (take i xs) x
+      ∙ ap (λ n. numbered files edge_at (take i xs) ++ map (λ file. (file, edge_at n)) (files x)) (length-take-le i xs (omega (arith, within)))
 
-abbrev pub text_of : Bor (List ℕ) → List ℕ
-text_of text = text.now
+  pub numbered_files : (edge_at : ℕ → ℕ) (xs : List X) → files_of (numbered files edge_at xs) ≡ flat_map files xs
+  numbered_files edge_at [] = refl
+  numbered_files edge_at (x ∷ xs) =
+      map-append (λ m. m.0) (map (λ file. (file, edge_at 0)) (files x)) (numbered files (λ k. edge_at (suc k)) xs) ∙ ap₂ (λ a b. a ++ b) (alone (files x)) (numbered_files (λ k. edge_at (suc k)) xs)
+    where
+      alone : (fs : List (List ℕ)) → files_of (map (λ file. (file, edge_at 0)) fs) ≡ fs
+      alone [] = refl
+      alone (f ∷ fs) = ap (λ rest. f ∷ rest) (alone fs)
 
--- one more file in a loop
-pub added_next : {S : Type 0} (files : List (Bor (List ℕ))) (file : Bor (List ℕ)) (edge : ℕ) (start : List ℕ → Option ℕ) (m n : HashMap (Bor (List ℕ)) ℕ S) →
-    AreAdded (map text_of files) edge start (maker_in m) → hash.UpdatesBy (λ x y. bytes_eq x.now y.now) (λ k. bytes_eq file.now k.now) m n (Some edge) → AreAdded (map text_of (files ++ file ∷ [])) edge start (maker_in n)
-added_next files file edge start m n before u =
-    subst (λ fs. AreAdded fs edge start (maker_in n)) (sym (map-append text_of files (file ∷ [])))
-    (more_added (map text_of files) (file.now ∷ []) edge start (maker_in m) (maker_in n) before (one_added file.now edge (maker_in m) (maker_in n) (put file.now edge m n u)))
+  pub from_numbered : (edge_at : ℕ → ℕ) (xs : List X) (k : ℕ) (file : List ℕ) (edge : ℕ) → slice_get (numbered files edge_at xs) k ≡ Some (file, edge) → (i : ℕ) × (x : X) × (j : ℕ) × (slice_get xs i ≡ Some x) × (edge_at i ≡ edge) × (slice_get (files x) j ≡ Some file)
+  from_numbered edge_at [] k file edge at = cc
+  from_numbered edge_at (x ∷ xs) k file edge at =
+      elim (in_append (map (λ file. (file, edge_at 0)) (files x)) (numbered files (λ n. edge_at (suc n)) xs) k (file, edge) at) [
+        | inl h ↦ let f = from_map (λ file. (file, edge_at 0)) (files x) k (file, edge) h in (0, x, k, refl, ap (λ p. p.1) f.2, f.1 ∙ ap (λ p. Some p.0) f.2)
+        | inr h ↦ let r = from_numbered (λ n. edge_at (suc n)) xs h.0 file edge h.2 in (suc r.0, r.1, r.2, r.3, r.4, r.5)
+      ]
 
--- one more edge
-pub makers_next : (g : List EdgeValue) (n : ℕ) (e : EdgeValue) (maker new : List ℕ → Option ℕ) → slice_get g n ≡ Some e → AreMakers (take n g) maker → AreAdded (made_by e) n maker new → AreMakers (take (n + 1) g) new
-makers_next g n e maker new at before more = record { found = found; made = made }
+  pub in_numbered : (edge_at : ℕ → ℕ) (xs : List X) (i j : ℕ) (x : X) (file : List ℕ) → slice_get xs i ≡ Some x → slice_get (files x) j ≡ Some file → (k : ℕ) × (slice_get (numbered files edge_at xs) k ≡ Some (file, edge_at i))
+  in_numbered edge_at [] i j x file at_i at_j = cc
+  in_numbered edge_at (y ∷ xs) zero j x file at_i at_j =
+      let at = to_map (λ file. (file, edge_at 0)) (files y) j file (ap (λ z. slice_get (files z) j) (same_some _ _ at_i) ∙ at_j) in
+      (j, in_first _ (numbered files (λ n. edge_at (suc n)) xs) j (file, edge_at 0) at)
+  in_numbered edge_at (y ∷ xs) (suc i) j x file at_i at_j =
+      let r = in_numbered (λ n. edge_at (suc n)) xs i j x file at_i at_j in
+      (length (map (λ file. (file, edge_at 0)) (files y)) + r.0, in_second (map (λ file. (file, edge_at 0)) (files y)) (numbered files (λ n. edge_at (suc n)) xs) r.0 _ r.1)
+
+-- the files of all edges
+pub are_made : (g : List EdgeValue) → AreMade g (numbered made_by (λ index. index) g)
+are_made g = record { found = found; all = all }
   where
-    found : (file : List ℕ) (i : ℕ) → new file ≡ Some i → (j : ℕ) × MakesAt (take (n + 1) g) i j file
-    found file i eq =
-        elim (more.found file i eq) [
-          | inl h ↦ (h.1, (e, in_take (n + 1) g i e (omega (arith, h.0)) (ap (slice_get g) h.0 ∙ at), h.2))
-          | inr h ↦
-              let b = before.found file i h in
-              let t = from_take n g i b.1.0 b.1.1 in
-              (b.0, (b.1.0, in_take (n + 1) g i b.1.0 (omega (arith, t.0)) t.1, b.1.2))
-        ]
+    found : (k : ℕ) (file : List ℕ) (i : ℕ) → slice_get (numbered made_by (λ index. index) g) k ≡ Some (file, i) → (j : ℕ) × MakesAt g i j file
+    found k file i at = let r = from_numbered made_by (λ index. index) g k file i at in (r.2, (r.1, ap (slice_get g) (sym r.4) ∙ r.3, r.5))
 
-    made : (i j : ℕ) (file : List ℕ) → MakesAt (take (n + 1) g) i j file → (k : ℕ) × (new file ≡ Some k)
-    made i j file h =
-        elim (from_push (take n g) e i h.0 (ap (λ xs. slice_get xs i) (sym (take_next g n e at)) ∙ h.1)) [
-          | inl b ↦ let s = before.made i j file (h.0, b, h.2) in more.kept file s.0 s.1
-          | inr b ↦ more.added j file (ap (λ x. slice_get (made_by x) j) b.1 ∙ h.2)
-        ]
+    all : (i j : ℕ) (file : List ℕ) → MakesAt g i j file → (k : ℕ) × (slice_get (numbered made_by (λ index. index) g) k ≡ Some (file, i))
+    all i j file (e, at, makes) = in_numbered made_by (λ index. index) g i j e file at makes
+
+-- ---- which edge makes a file
+
+-- if an edge makes a file, there is such an edge for the file
+pub record AreMakers (g : List EdgeValue) (maker : List ℕ → Option ℕ) : Type 0 where
+  pub found : (file : List ℕ) (i : ℕ) → maker file ≡ Some i → (j : ℕ) × MakesAt g i j file
+  pub made : (i j : ℕ) (file : List ℕ) → MakesAt g i j file → (k : ℕ) × (maker file ≡ Some k)
+
+pub are_makers : (g : List EdgeValue) (made : Made) → AreMade g made → AreMakers g (maker_in made)
+are_makers g made are =
+    record {
+      found = λ file i is. let k = in_list made file i is in are.found k.0 file i k.1;
+      made = λ i j file makes. let k = are.all i j file makes in has_maker made k.0 file i k.1;
+    }
 
 -- ---- an edge needs another if and only if its row of makers contains it
 

@@ -10,19 +10,20 @@ use Rattle.build_effect.specs.Checks.{ChecksSuffice, FaultsExclude}
 use Rattle.ninja_text.specs.Failure.{ForFault}
 use Rattle.ninja_text.specs.declared.failure.Failure.{Failure}
 use Rattle.ninja_text.specs.declared.failure.Failure.TheVariants.{Memory, Fault}
-use Rattle.build_effect.specs.inner.Makers.{AreMakers}
-use Rattle.ninja_text.specs.Firsts.{AllDiffer, RepeatsFirst}
+use Rattle.build_effect.proofs.MakerTables.{AreMakers}
+use Rattle.ninja_text.specs.Firsts.{AllDiffer, IsFirstAt, RepeatsFirst}
 use Rattle.build_effect.specs.inner.StatementEdges.{IsBoundTo, IsBoundOutput, IsUnboundOutput, AreEdgesOf, IsFirstUnbound, statement_on, AreInverse, IsFirstRepeated, HaveStatements, IsFirstUnmentioned}
 use Rattle.build_effect.specs.declared.fault.EffectFault.TheVariants.{NotBound, BadPath}
 use Rattle.build_effect.proofs.Lists.{nat_decides}
 use Rattle.ninja_text.proofs.ForCallers.{same_some, three_ways, element_at, from_push, from_take, in_take, take_next, differ_push}
-use Rattle.build_effect.specs.Faults.{IsRepeated, NoneRepeated, NoneMadeBefore, IsMentioned, AllMentioned, IsEffectFault}
+use Rattle.build_effect.specs.Faults.{IsMadeBefore, added_outputs, IsRepeated, NoneRepeated, NoneMadeBefore, IsMentioned, AllMentioned, IsEffectFault}
 use Rattle.build_effect.specs.inner.BadPaths.{IsBadStatement}
-use Rattle.build_effect.specs.inner.Added.{IsFirstMade}
+use Rattle.build_effect.specs.inner.Added.{IsFirstAddedTwice, added_files}
+use Rattle.build_effect.specs.inner.Makers.{AreMade, IsMadeTwice, Made, NoneMadeTwice}
 use Rattle.build_effect.specs.inner.Checked.{AreMatched, AreChecked, IsFaultOf}
 use Rattle.build_effect.specs.inner.Extended.{AreExtended}
 use Rattle.build_effect.specs.declared.fault.EffectFault.{EffectFault}
-use Rattle.build_effect.proofs.Extensions.{on_or_not, is_effect, is_graph}
+use Rattle.build_effect.proofs.Extensions.{on_or_not, is_effect, is_graph, new_made}
 
 -- ---- which statement is on which edge
 
@@ -269,16 +270,36 @@ module _ (g : List EdgeValue) (name : List ℕ) (additions : List StatementValue
       let a = statement_at k i (slice_get-get_or edge_of k d lt) in
       slice_get_within g i a.2.0 a.2.1
 
-pub reports_made : (g : List EdgeValue) (name : List ℕ) (additions : List StatementValue) (statement_of : List (Option ℕ)) (fault : EffectFault) → AreMatched g name additions statement_of → IsFirstMade g additions fault → IsFaultOf g name additions fault
-reports_made g name additions statement_of fault are (k, file, first, is) ss canonical =
-    subst (IsEffectFault g name ss) (sym is) (additions, k, canonical, are.bound, are.single, are.mentioned, first)
+-- added outputs are made before if and only if the makers have them or an earlier index does
+module _ (g : List EdgeValue) (made : Made) (are : AreMade g made) (files : List (List ℕ)) (k : ℕ) (file : List ℕ) where
+  is_twice : IsMadeBefore g files k file → IsMadeTwice made files k file
+  is_twice (inl h) = let at = are.all h.0 h.1 file h.2 in inl (at.0, h.0, at.1)
+  is_twice (inr h) = inr h
+
+  is_before : IsMadeTwice made files k file → IsMadeBefore g files k file
+  is_before (inl h) = let at = are.found h.0 file h.1 h.2 in inl (h.1, at.0, at.1)
+  is_before (inr h) = inr h
+
+pub reports_made : (g : List EdgeValue) (name : List ℕ) (additions : List StatementValue) (statement_of : List (Option ℕ)) (made : Made) → AreMade g made → (fault : EffectFault) → AreMatched g name additions statement_of → IsFirstAddedTwice made additions fault → IsFaultOf g name additions fault
+reports_made g name additions statement_of made are fault matched (k, file, first, is) ss canonical =
+    let added = added_outputs additions in
+    let before : IsFirstAt (IsMadeBefore g added) added k file = record { here = first.here; holds = is_before g made are added k file first.holds; before = λ j f less at h. first.before j f less at (is_twice g made are added j f h) } in
+    subst (IsEffectFault g name ss) (sym is) (additions, k, canonical, matched.bound, matched.single, matched.mentioned, before)
+
+pub none_made : (g : List EdgeValue) (additions : List StatementValue) (made : Made) → AreMade g made → NoneMadeTwice made (added_outputs additions) → NoneMadeBefore g additions
+none_made g additions made are once k file at h = once k file at (is_twice g made are (added_outputs additions) k file h)
 
 pub have_outputs : (g : List EdgeValue) → IsGraph g → All (λ e. e.outputs ≢ []) g
 have_outputs g graph k d lt = graph.outputs k (get_or g k d) (slice_get-get_or g k d lt)
 
--- statements that pass all checks have the new edges as their effect
-pub passed : (g : List EdgeValue) (name : List ℕ) (ss additions : List StatementValue) (edge_of : List ℕ) (statement_of : List (Option ℕ)) (new : List EdgeValue) → IsGraph g → ChecksSuffice → AreCanonical ss additions
-    → AreEdgesOf g name additions edge_of → AreInverse (length g) edge_of statement_of → HaveStatements g name statement_of → NoneMadeBefore g additions → AreExtended g additions statement_of new → IsGraph new × OnlyEffect g name ss new
-passed g name ss additions edge_of statement_of new graph suffice canonical are inverse have fresh extended =
-    let checked : AreChecked g name ss additions statement_of = record { canonical = canonical; matched = all_matched g name additions edge_of graph.made_once are statement_of inverse have; fresh = fresh } in
-    (is_graph g name ss additions statement_of new checked extended graph suffice, (is_effect g name ss additions statement_of new checked extended graph suffice).1)
+-- statements that pass all checks have the new edges as their effect, and the makers with the added outputs are theirs
+pub passed : (g : List EdgeValue) (name : List ℕ) (ss additions : List StatementValue) (edge_of : List ℕ) (statement_of : List (Option ℕ)) (made : Made) (new : List EdgeValue) → IsGraph g → AreMade g made → ChecksSuffice → AreCanonical ss additions
+    → AreEdgesOf g name additions edge_of → AreInverse (length g) edge_of statement_of → HaveStatements g name statement_of → NoneMadeTwice made (added_outputs additions) → AreExtended g additions statement_of new
+    → IsGraph new × AreMade new (made ++ added_files edge_of additions) × OnlyEffect g name ss new
+passed g name ss additions edge_of statement_of made new graph made_are suffice canonical are inverse have once extended =
+    let matched = all_matched g name additions edge_of graph.made_once are statement_of inverse have in
+    let checked : AreChecked g name ss additions statement_of = record { canonical = canonical; matched = matched; fresh = none_made g additions made made_are once } in (
+      is_graph g name ss additions statement_of new checked extended graph suffice,
+      new_made g name ss additions statement_of new checked extended edge_of are.count inverse made made_are,
+      (is_effect g name ss additions statement_of new checked extended graph suffice).1,
+    )

@@ -1,22 +1,22 @@
-//! What statements add: their canonical paths (E8), whether the added outputs are new (E7), and the
-//! edges with what is added.
-ghost use Rattle.std.specs.Prelude.{◌≡◌, ◌<◌, ◌+◌, ◌^◌, ℕ, length, Some, Ok, IfOk, IfErr, OnOk};
+//! What statements add: their canonical paths (E8), who makes the added outputs (E7), and the edges
+//! with what is added.
+ghost use Rattle.std.specs.Prelude.{◌≡◌, ◌<◌, ◌+◌, ◌^◌, ◌++◌, ℕ, length, Some, Ok, IfOk, IfErr, OnOk};
 ghost use Rattle.dep_order.specs.Rows.{rows};
 ghost use Rattle.ninja_text.specs.Failure.{ForFault};
 ghost use Rattle.ninja_text.specs.Paths.{path_of};
 ghost use Rattle.dyndep_file.specs.StatementValue.{StatementValue};
 ghost use Rattle.build_effect.specs.Effect.{ArePaths, AreCanonical};
 ghost use Rattle.build_effect.specs.inner.BadPaths.{IsBadText, IsBadTextFrom, IsBadStatement};
-ghost use Rattle.build_effect.specs.inner.Added.{AddsFresh, AddsMade};
+ghost use Rattle.build_effect.specs.Faults.{added_outputs};
+ghost use Rattle.build_effect.specs.inner.Added.{added_files, IsFirstAddedTwice};
 ghost use Rattle.build_effect.specs.inner.Extended.{AreExtended};
-ghost use Rattle.build_effect.specs.inner.Makers.{maker_in};
+ghost use Rattle.build_effect.specs.inner.Makers.{NoneMadeTwice};
 ghost use Rattle.build_effect.specs.inner.StatementEdges.{statement_on};
 
 use crate::fault::EffectFault;
 use crate::graph::Edge;
-use crate::makers::{Makers, SeenFiles, key_of};
+use crate::makers::{MadeFiles, Makers};
 use dyndep_file::Statement;
-use indexmap::IndexSet;
 use ninja_text::{Failure, Path};
 use std::alloc::{AllocError, Global};
 use std::marker::Model;
@@ -106,31 +106,28 @@ fn canonical_path(
     }
 }
 
-/// Checks that no added output is made by an edge of the graph or added before (E7).
-pub(crate) fn check_added(
+/// Returns the makers with the added outputs, each on the edge of its statement, or E7 if an edge
+/// makes one already or it was added before.
+pub(crate) fn added_makers(
     alloc: Global,
-    makers: &Makers<'_>,
+    makers: &Makers,
     additions: &[Addition],
-) -> Result<(), Failure<EffectFault>>
-    ensures ok { OnOk result (AddsFresh (maker_in makers.now.table) additions.now) }
-    ensures fault { IfErr result (ForFault (AddsMade (maker_in makers.now.table) additions.now)) }
+    edge_of: &[usize],
+) -> Result<Makers, Failure<EffectFault>>
+    requires each { length edge_of.now ≡ length additions.now }
+    ensures makers { IfOk result (λ new.
+        new ≡ makers.now ++ added_files edge_of.now additions.now) }
+    ensures once { OnOk result (NoneMadeTwice makers.now (added_outputs additions.now)) }
+    ensures fault { IfErr result (ForFault (IsFirstAddedTwice makers.now additions.now)) }
 {
-    let added = additions
-        .iter()
-        .flat_map(|addition| addition.implicit_outputs.iter());
-    let files: Vec<&Path> = added.collect(alloc)?;
-    let mut seen = SeenFiles {
-        set: IndexSet::with_hasher(alloc, key_of(files.as_slice())),
-    };
-    for file in &files {
-        let is_made = makers.maker_of(*file).is_some();
-        let is_new = seen.set.insert(*file)?;
-        if is_made || !is_new {
-            let path = file.copy(alloc)?;
-            return Err(Failure::Fault(EffectFault::AddedTwice { path }));
-        }
+    let mut files = MadeFiles::new(alloc);
+    for (index, addition) in additions.iter().enumerate() {
+        files.push(&addition.implicit_outputs, edge_of[index])?;
     }
-    Ok(())
+    match makers.with(alloc, files) {
+        Ok(makers) => Ok(makers),
+        Err(failure) => Err(failure.map(|path| EffectFault::AddedTwice { path })),
+    }
 }
 
 /// Returns the edges, each with what the statement on it adds.

@@ -4,11 +4,11 @@ ghost use Rattle.ninja_text.specs.Failure.{ForFault};
 ghost use Rattle.build_effect.specs.Graphs.{MadeOnce, Names};
 ghost use Rattle.build_effect.specs.Effect.{OnlyEffect, HasNoEffect};
 ghost use Rattle.build_effect.specs.Faults.{IsEffectFault};
-ghost use Rattle.build_effect.specs.inner.Makers.{maker_in, AreMakers};
+ghost use Rattle.build_effect.specs.inner.Makers.{AreMade};
 ghost use Rattle.build_effect.specs.inner.StatementEdges.{AreEdgesOf, IsFirstUnbound, AreInverse, IsFirstRepeated, HaveStatements, IsFirstUnmentioned};
 ghost use Rattle.build_effect.specs.declared.fault.EffectFault.{EffectFault};
 
-use crate::addition::{Addition, canonical_statements, check_added, extended_edges};
+use crate::addition::{Addition, added_makers, canonical_statements, extended_edges};
 use crate::fault::EffectFault;
 use crate::graph::{Edge, Graph, first_output};
 use crate::laws::checks;
@@ -48,15 +48,15 @@ pub fn apply(
 {
     checks();
     let old = graph.edges();
+    let makers = graph.makers();
     let canonical = canonical_statements(alloc, &dyndep.statements)?;
     let additions = canonical.as_slice();
-    let makers = Makers::of(alloc, old)?;
-    let edge_of = edges_of_statements(alloc, old, name, &makers, additions)?;
+    let edge_of = edges_of_statements(alloc, old, name, makers, additions)?;
     let statement_of = statements_of_edges(alloc, old.len(), &edge_of, additions)?;
     check_mentioned(alloc, old, name, &statement_of)?;
-    check_added(alloc, &makers, additions)?;
+    let makers = added_makers(alloc, makers, additions, &edge_of)?;
     let edges = extended_edges(alloc, old, additions, &statement_of)?;
-    Ok(Graph { edges })
+    Ok(Graph { edges, makers })
 }
 
 /// Returns the edge of each statement, which makes its output and names the file, or E5. No file is
@@ -65,10 +65,10 @@ fn edges_of_statements(
     alloc: Global,
     edges: &[Edge],
     name: &Path,
-    makers: &Makers<'_>,
+    makers: &Makers,
     additions: &[Addition],
 ) -> Result<Vec<usize>, Failure<EffectFault>>
-    requires makers { AreMakers edges.now (maker_in makers.now.table) }
+    requires makers { AreMade edges.now makers.now }
     requires made_once { MadeOnce edges.now }
     ensures edges { IfOk result (λ edge_of.
         AreEdgesOf edges.now name.now additions.now edge_of.items) }

@@ -5,10 +5,10 @@ ghost use Rattle.build_effect.specs.EdgeValue.{EdgeValue};
 ghost use Rattle.build_effect.specs.Graphs.{IsGraph, MadeOnce, DyndepsAreInputs};
 ghost use Rattle.build_effect.specs.Faults.{IsGraphFault, NamesUnread};
 ghost use Rattle.build_effect.specs.inner.Inputs.{NamesInput};
+ghost use Rattle.build_effect.specs.inner.Makers.{AreMade};
 
 use crate::fault::GraphFault;
-use crate::makers::{SeenFiles, key_of, made_files};
-use indexmap::IndexSet;
+use crate::makers::{MadeFiles, Makers};
 use ninja_text::{Failure, Path};
 use std::alloc::{AllocError, Global};
 use std::marker::Model;
@@ -54,6 +54,7 @@ impl Model for Edge {
 /// names a dyndep file has it among its inputs.
 #[derive(Drop)]
 pub struct Graph {
+    pub(crate) makers: Makers,
     pub(crate) edges: Vec<Edge>,
 }
 
@@ -62,7 +63,7 @@ impl Model for Graph {
 
     ghost view = { λ g. g.edges.items };
 
-    ghost invariant = { λ g. IsGraph g.edges.items };
+    ghost invariant = { λ g. IsGraph g.edges.items × AreMade g.edges.items g.makers };
 }
 
 impl Graph {
@@ -83,9 +84,9 @@ impl Graph {
         ensures graph { IfOk result (λ graph. graph ≡ edges.items) }
         ensures fault { IfErr result (ForFault (IsGraphFault edges.items)) }
     {
-        check_made(alloc, edges.as_slice())?;
+        let makers = makers_of(alloc, edges.as_slice())?;
         check_dyndeps(alloc, edges.as_slice())?;
-        Ok(Graph { edges })
+        Ok(Graph { edges, makers })
     }
 
     /// Returns the edges, by index.
@@ -95,25 +96,31 @@ impl Graph {
     {
         &self.edges
     }
+
+    /// Returns the edge that makes each file.
+    pub(crate) fn makers(&self) -> &Makers
+        ensures { AreMade self.now result.now }
+    {
+        &self.makers
+    }
 }
 
-/// Checks that no file is made twice (E1).
-fn check_made(alloc: Global, edges: &[Edge]) -> Result<(), Failure<GraphFault>>
-    ensures ok { OnOk result (MadeOnce edges.now) }
+/// Returns the edge that makes each file, or E1 if a file is made twice. The files are taken edge
+/// after edge: outputs, then implicit outputs.
+fn makers_of(alloc: Global, edges: &[Edge]) -> Result<Makers, Failure<GraphFault>>
+    ensures makers { IfOk result (AreMade edges.now) }
+    ensures once { OnOk result (MadeOnce edges.now) }
     ensures fault { IfErr result (ForFault (IsGraphFault edges.now)) }
 {
-    let files = made_files(alloc, edges)?;
-    let mut seen = SeenFiles {
-        set: IndexSet::with_hasher(alloc, key_of(files.as_slice())),
-    };
-    for file in &files {
-        let is_new = seen.set.insert(*file)?;
-        if !is_new {
-            let path = file.copy(alloc)?;
-            return Err(Failure::Fault(GraphFault::ProducedTwice { path }));
-        }
+    let mut files = MadeFiles::new(alloc);
+    for (index, edge) in edges.iter().enumerate() {
+        files.push(&edge.outputs, index)?;
+        files.push(&edge.implicit_outputs, index)?;
     }
-    Ok(())
+    match Makers::new(alloc).with(alloc, files) {
+        Ok(makers) => Ok(makers),
+        Err(failure) => Err(failure.map(|path| GraphFault::ProducedTwice { path })),
+    }
 }
 
 /// Checks that each edge that names a dyndep file has it among its inputs (E2).

@@ -18,13 +18,15 @@
 //!
 //! # How it works
 //!
-//! - `makers.rt`: a table has the edge that makes each file. The edge of a statement, the edges that
-//!   produce an input, and an added output that an edge already makes are found in it, so the work is
-//!   linear in the files. Its key is made of these files (`table_keys`), so nobody can choose paths
-//!   that collide. [`edge_order`] gives `dep_order` the edges that produce each edge's inputs.
+//! - `makers.rt`: a table has the edge that makes each file, so the edge of a statement, the edges that
+//!   produce an input and a file that is made twice are found in one step, and the work is linear in the
+//!   files. [`Graph::new`] finds E1 as it fills the table. [`apply`] shares it and fills one more with
+//!   the added outputs, which finds E7. A table's key is made of exactly the files in it (`table_keys`),
+//!   so nobody can choose paths that collide.
+//! - `ordering.rt`: [`edge_order`] gives `dep_order` the edges that produce each edge's inputs.
 //! - `effect.rt`: [`apply`] makes its checks in the order of their errors: `canonical_statements`
 //!   (E8), `edges_of_statements` (E5), `statements_of_edges` (E4), `check_mentioned` (E6),
-//!   `check_added` (E7). `extended_edges` then makes the new edges. The law [`checks`], which
+//!   `added_makers` (E7). `extended_edges` then makes the new edges. The law [`checks`], which
 //!   [`apply`] calls, says that they are the effect.
 //! - The law [`files_order`] combines two numberings by `layered` of `dep_order`: the levels of the
 //!   graph with the added outputs alone, and within one level the order of what is added.
@@ -37,6 +39,7 @@ mod graph;
 mod laws;
 mod listing;
 mod makers;
+mod ordering;
 
 pub use effect::apply;
 pub use fault::{EffectFault, GraphFault, LineCause, LineFault, ListFault, ListingWriteFault};
@@ -46,4 +49,4 @@ pub use laws::{
     listing_or_fault, one_effect, one_listing, one_listing_fault, written_listing,
 };
 pub use listing::{ListingReader, listing_write};
-pub use makers::edge_order;
+pub use ordering::edge_order;

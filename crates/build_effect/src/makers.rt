@@ -1,109 +1,110 @@
-//! Which edge makes which file, and the order of edges.
-ghost use Rattle.std.specs.Prelude.{◌≡◌, length, IfOk};
-ghost use Rattle.dep_order.specs.Rows.{lists};
-ghost use Rattle.dep_order.specs.Sortings.{IsSortingOf};
-ghost use Rattle.build_effect.specs.Faults.{made_files};
-ghost use Rattle.build_effect.specs.Graphs.{EdgeNeeds};
-ghost use Rattle.build_effect.specs.inner.Makers.{maker_in, AreMakers};
-ghost use Rattle.table_keys.specs.Keys.{IsKeyOf};
+//! Which edge makes each file.
+ghost use Rattle.std.specs.Prelude.{◌≡◌, ◌++◌, ℕ, List, [], map, All, IfOk, IfErr, OnOk};
+ghost use Rattle.ninja_text.specs.Failure.{ForFault};
+ghost use Rattle.table_keys.specs.Keys.{HasAdded};
+ghost use Rattle.build_effect.specs.inner.Makers.{Made, maker_in, files_of, seen_files, tables_of, entries_of, HasItsKey, IsFirstTwice, NoneMadeTwice};
 
-use crate::graph::{Edge, Graph};
-use dep_order::{Digraph, Sorting, order};
-use indexmap::{IndexMap, IndexSet};
-use ninja_text::Path;
+use indexmap::IndexMap;
+use ninja_text::{Failure, Path};
 use std::alloc::{AllocError, Global};
+use std::marker::Model;
+use std::rc::Rc;
 use table_keys::{KeyDigest, TableKey};
 
-/// Returns the indexes of all edges in an order in which they can run. Each edge comes after the
-/// edges that produce its inputs of all kinds, and the smallest index that may come next does.
+/// The edge that makes each file, by the edge's index.
 ///
-/// If there is no such order, returns the least cycle: each edge in it needs the next one, and the
-/// last edge needs the first.
-pub fn edge_order(alloc: Global, graph: &Graph) -> Result<Sorting, AllocError>
-    ensures { IfOk result (IsSortingOf (length graph.now) (EdgeNeeds graph.now)) }
-{
-    let edges = graph.edges();
-    let makers = Makers::of(alloc, edges)?;
-    let mut needs = Vec::with_capacity(alloc, edges.len())?;
-    for edge in edges {
-        let inputs = edge
-            .inputs
-            .iter()
-            .chain(edge.implicit_inputs.iter())
-            .chain(edge.order_only.iter());
-        // A source file has no such edge.
-        let row = inputs.filter_map(|file| makers.maker_of(file));
-        needs.push(row.collect(alloc)?)?;
-    }
-    let digraph = Digraph::new(needs);
-    order(alloc, &digraph)
+/// The files of the edges that were listed have a table, and so have the files that each dyndep file
+/// adds. Graphs share the tables. The key of a table is made of exactly the files in it.
+#[derive(Drop)]
+pub(crate) struct Makers {
+    tables: Vec<Rc<IndexMap<Path, usize, TableKey>>>,
 }
 
-/// A table of the edge that makes each file, by the edge's index.
-pub(crate) struct Makers<'t> {
-    table: IndexMap<&'t Path, usize, TableKey>,
+impl Model for Makers {
+    ghost Value = { Made };
+
+    ghost view = { λ m. entries_of (tables_of m.tables.items) };
+
+    ghost invariant = { λ m. All HasItsKey (tables_of m.tables.items) };
 }
 
-// Not derived: a derived drop is written out, field by field, wherever a value goes.
-impl Drop for Makers<'_> {
-    fn drop(self) {
-        let Makers { table: _ } = self;
-    }
-}
-
-impl<'t> Makers<'t> {
-    /// Returns the table of the files that these edges make.
-    pub(crate) fn of(alloc: Global, edges: &'t [Edge]) -> Result<Self, AllocError>
-        ensures { IfOk result (λ makers. AreMakers edges.now (maker_in makers.table)) }
+impl Makers {
+    /// Returns the makers of no files.
+    pub(crate) fn new(alloc: Global) -> Makers
+        ensures { result ≡ [] }
     {
-        let files = made_files(alloc, edges)?;
-        let table = IndexMap::with_hasher(alloc, key_of(files.as_slice()));
-        let mut makers = Makers { table };
-        for (edge_index, edge) in edges.iter().enumerate() {
-            for file in edge.outputs.iter().chain(edge.implicit_outputs.iter()) {
-                makers.table.insert(file, edge_index)?;
-            }
+        Makers {
+            tables: Vec::new(alloc),
         }
-        Ok(makers)
     }
 
     /// Returns the index of the edge that makes the file.
     pub(crate) fn maker_of(&self, file: &Path) -> Option<usize>
-        ensures { result ≡ maker_in self.now.table file.now }
+        ensures { result ≡ maker_in self.now file.now }
     {
-        self.table.get(&file).copied()
+        for table in &self.tables {
+            if let Some(edge) = table.get(file).copied() {
+                return Some(edge);
+            }
+        }
+        None
+    }
+
+    /// Returns the makers with these files, or the first of them that has a maker or comes again.
+    pub(crate) fn with(&self, alloc: Global, files: MadeFiles<'_>) -> Result<Makers, Failure<Path>>
+        ensures makers { IfOk result (λ makers. makers ≡ self.now ++ files.entry) }
+        ensures once { OnOk result (NoneMadeTwice self.now (files_of files.entry)) }
+        ensures twice { IfErr result (ForFault (IsFirstTwice self.now (files_of files.entry))) }
+    {
+        let MadeFiles { files, digest } = files;
+        let mut table = IndexMap::with_capacity_and_hasher(alloc, files.len(), digest.key())?;
+        for (file, edge) in &files {
+            let is_made = self.maker_of(*file).is_some();
+            let earlier = table.insert(file.copy(alloc)?, *edge)?;
+            if is_made || earlier.is_some() {
+                return Err(Failure::Fault(file.copy(alloc)?));
+            }
+        }
+        let mut tables = self.tables.clone()?;
+        tables.push(Rc::new(alloc, table)?)?;
+        Ok(Makers { tables })
     }
 }
 
-/// The files so far, in a search for a file that comes again.
-pub(crate) struct SeenFiles<'t> {
-    pub(crate) set: IndexSet<&'t Path, TableKey>,
+/// Files, each with the index of the edge that makes it, and the digest of exactly these files.
+#[derive(Drop)]
+pub(crate) struct MadeFiles<'t> {
+    files: Vec<(&'t Path, usize)>,
+    digest: KeyDigest,
 }
 
-// Not derived, as for `Makers`.
-impl Drop for SeenFiles<'_> {
-    fn drop(self) {
-        let SeenFiles { set: _ } = self;
+impl<'t> Model for MadeFiles<'t> {
+    ghost Value = { Made };
+
+    ghost view = { λ m. seen_files m.files.items };
+
+    ghost invariant = { λ m. HasAdded m.digest (files_of (seen_files m.files.items)) };
+}
+
+impl<'t> MadeFiles<'t> {
+    /// Returns no files.
+    pub(crate) fn new(alloc: Global) -> MadeFiles<'t>
+        ensures { result ≡ [] }
+    {
+        MadeFiles {
+            files: Vec::new(alloc),
+            digest: KeyDigest::new(),
+        }
     }
-}
 
-/// Returns the files that the edges make, edge after edge: outputs, then implicit outputs.
-pub(crate) fn made_files<'t>(alloc: Global, edges: &'t [Edge]) -> Result<Vec<&'t Path>, AllocError>
-    ensures { IfOk result (λ files. lists files.items ≡ made_files edges.now) }
-{
-    let made = edges
-        .iter()
-        .flat_map(|e| e.outputs.iter().chain(e.implicit_outputs.iter()));
-    made.collect(alloc)
-}
-
-/// Returns the key for a table of these files, which is made of the files themselves.
-pub(crate) fn key_of(files: &[&Path]) -> TableKey
-    ensures { IsKeyOf result (lists files.now) }
-{
-    let mut digest = KeyDigest::new();
-    for file in files {
-        digest.add(file.bytes());
+    /// Appends the files, each with the edge.
+    pub(crate) fn push(&mut self, files: &'t [Path], edge: usize) -> Result<(), AllocError>
+        ensures { OnOk result (self.new ≡ self.old ++ map (λ file. (file, edge)) files.now) }
+    {
+        for file in files {
+            self.files.push((file, edge))?;
+            self.digest.add(file.bytes());
+        }
+        Ok(())
     }
-    digest.key()
 }

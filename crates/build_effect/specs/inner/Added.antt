@@ -1,25 +1,20 @@
 -- Added outputs that an edge makes or that were added before.
-use Rattle.std.specs.Prelude.{◌≡◌, ℕ, List, Option}
+use Rattle.std.specs.Prelude.{◌≡◌, ℕ, List, get_or}
 use Rattle.dyndep_file.specs.StatementValue.{StatementValue}
-use Rattle.build_effect.specs.EdgeValue.{EdgeValue}
-use Rattle.build_effect.specs.Faults.{IsMadeBefore, NoneMadeBefore, added_outputs}
+use Rattle.build_effect.specs.Faults.{added_outputs}
 use Rattle.ninja_text.specs.Firsts.{IsFirstAt}
-use Rattle.build_effect.specs.inner.Makers.{AreMakers}
+use Rattle.build_effect.specs.inner.Makers.{Made, IsMadeTwice, numbered}
 use Rattle.build_effect.specs.declared.fault.EffectFault.{EffectFault}
 use Rattle.build_effect.specs.declared.fault.EffectFault.TheVariants.{AddedTwice}
 
--- in every graph that has these producers, no added output is made by an edge or added twice
-abbrev pub AddsFresh : (List ℕ → Option ℕ) → List StatementValue → Type 0
-AddsFresh maker additions = (g : List EdgeValue) → AreMakers g maker → NoneMadeBefore g additions
+-- the added outputs, statement after statement, each with the edge of its statement
+abbrev pub added_files : List ℕ → List StatementValue → Made
+added_files edge_of additions =
+    numbered (λ a. a.implicit_outputs) (λ k. get_or edge_of k 0) additions
 
--- the fault reports the first such added output
-abbrev pub IsFirstMade : List EdgeValue → List StatementValue → EffectFault → Type 0
-IsFirstMade g additions fault =
+-- the fault reports the first added output that is made already or was added before
+abbrev pub IsFirstAddedTwice : Made → List StatementValue → EffectFault → Type 0
+IsFirstAddedTwice made additions fault =
     (k : ℕ) × (file : List ℕ)
-    × IsFirstAt (IsMadeBefore g (added_outputs additions)) (added_outputs additions) k file
+    × IsFirstAt (IsMadeTwice made (added_outputs additions)) (added_outputs additions) k file
     × (fault ≡ AddedTwice file)
-
--- the same in every graph that has these producers
-abbrev pub AddsMade : (List ℕ → Option ℕ) → List StatementValue → EffectFault → Type 0
-AddsMade maker additions fault =
-    (g : List EdgeValue) → AreMakers g maker → IsFirstMade g additions fault

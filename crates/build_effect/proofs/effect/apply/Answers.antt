@@ -1,4 +1,4 @@
-use Rattle.std.proofs.Common.{◌≡◌, ◌∙◌, ◌<◌, ℕ, List, All, Option, Some, length, ap, sym, subst, arith}
+use Rattle.std.proofs.Common.{◌≡◌, ◌∙◌, ◌<◌, ◌++◌, ℕ, List, All, Option, Some, length, ap, sym, subst, arith}
 use Rattle.std.proofs.lemmas.Option.{slice_get_within}
 use Rattle.std.proofs.lemmas.Result.{err_from_is_err_and}
 use Rattle.dyndep_file.specs.StatementValue.{StatementValue}
@@ -6,8 +6,8 @@ use Rattle.build_effect.specs.EdgeValue.{EdgeValue}
 use Rattle.build_effect.specs.Graphs.{MadeOnce, IsGraph}
 use Rattle.build_effect.specs.Effect.{AreCanonical, OnlyEffect}
 use Rattle.build_effect.specs.inner.BadPaths.{IsBadStatement}
-use Rattle.build_effect.specs.inner.Makers.{maker_in}
-use Rattle.build_effect.specs.inner.Added.{AddsMade}
+use Rattle.build_effect.specs.inner.Makers.{AreMade}
+use Rattle.build_effect.specs.inner.Added.{IsFirstAddedTwice, added_files}
 use Rattle.build_effect.specs.inner.StatementEdges.{statement_on, IsFirstUnbound, AreInverse, IsFirstRepeated, HaveStatements, IsFirstUnmentioned}
 use Rattle.build_effect.specs.inner.Checked.{AreMatched}
 use Rattle.build_effect.specs.inner.Extended.{AreExtended}
@@ -76,8 +76,8 @@ returns-in_err-check_mentioned c =
     (λ fault h. reports_unmentioned old name additions edge_of once c.in_ok-edge_of.ensures.edges statement_of inverse fault (subst (λ o. IsFirstUnmentioned old name o fault) c.deref-3.ensures.value h)) _ c.in_err-check_mentioned.ensures.fault in
     rw (p.1, p.2) (record { effect = tt; fault = r.0; no_effect = r.1 })
 
-pub returns-in_err-check_added : goal.returns-in_err-check_added
-returns-in_err-check_added c =
+pub returns-in_err-makers : goal.returns-in_err-makers
+returns-in_err-makers c =
     let old : List EdgeValue = c.edges-old.result.now in
     let name : List ℕ = c.args.name.now in
     let ss : List StatementValue = c.args.dyndep.now in
@@ -89,14 +89,15 @@ returns-in_err-check_added c =
     let inverse : AreInverse (length old) edge_of statement_of = subst (λ ps. AreInverse (length old) ps statement_of) c.deref-2.ensures.value c.in_ok-statement_of.ensures.statements in
     let have : HaveStatements old name statement_of = subst (HaveStatements old name) c.deref-3.ensures.value c.in_ok-check_mentioned.ensures.ok in
     let matched : AreMatched old name additions statement_of = all_matched old name additions edge_of once c.in_ok-edge_of.ensures.edges statement_of inverse have in
-    let p = err_from_is_err_and c.from_residual-in_err-check_added.result c.from_residual-in_err-check_added.ensures.1 in
-    let r = reported_of c.args.graph.now old c.edges-old.ensures.edges name ss additions canonical c.edges-old.ensures.graph.made_once c.checks.ensures.exclude (AddsMade (maker_in c.in_ok-makers.makers.table) additions)
-    (λ fault h. reports_made old name additions statement_of fault matched (h old c.in_ok-makers.ensures)) _ c.in_err-check_added.ensures.fault in
+    let made : AreMade old c.makers-makers.result.now = subst (λ g. AreMade g c.makers-makers.result.now) (sym c.edges-old.ensures.edges) c.makers-makers.ensures in
+    let p = err_from_is_err_and c.from_residual-in_err-makers.result c.from_residual-in_err-makers.ensures.1 in
+    let r = reported_of c.args.graph.now old c.edges-old.ensures.edges name ss additions canonical c.edges-old.ensures.graph.made_once c.checks.ensures.exclude (IsFirstAddedTwice c.makers-makers.result.now additions)
+    (λ fault h. reports_made old name additions statement_of c.makers-makers.result.now made fault matched h) _ c.in_err-makers.ensures.fault in
     rw (p.1, p.2) (record { effect = tt; fault = r.0; no_effect = r.1 })
 
 pub extended_edges-requires-clause-within : goal.extended_edges-requires-clause-within
 extended_edges-requires-clause-within c = λ i k is.
-    let from = c.in_ok-statement_of.ensures.statements.from i k (subst (λ o. statement_on o i ≡ Some k) c.deref-4.ensures.value is) in
+    let from = c.in_ok-statement_of.ensures.statements.from i k (subst (λ o. statement_on o i ≡ Some k) c.deref-5.ensures.value is) in
     let within = slice_get_within c.deref-2.result.now k i from in
     omega (arith, within, c.in_ok-edge_of.ensures.edges.count, ap length c.deref-2.ensures.value)
 
@@ -111,8 +112,11 @@ invariant_of-result c =
     let statement_of : List (Option ℕ) = c.in_ok-statement_of.statement_of.items in
     let inverse : AreInverse (length old) edge_of statement_of = subst (λ ps. AreInverse (length old) ps statement_of) c.deref-2.ensures.value c.in_ok-statement_of.ensures.statements in
     let have : HaveStatements old name statement_of = subst (HaveStatements old name) c.deref-3.ensures.value c.in_ok-check_mentioned.ensures.ok in
-    (passed old name ss additions edge_of statement_of c.in_ok-edges.edges.items (subst IsGraph (sym c.edges-old.ensures.edges) c.edges-old.ensures.graph) c.checks.ensures.suffice canonical c.in_ok-edge_of.ensures.edges inverse have
-    (c.in_ok-check_added.ensures.ok old c.in_ok-makers.ensures) (subst (λ o. AreExtended old additions o c.in_ok-edges.edges.items) c.deref-4.ensures.value c.in_ok-edges.ensures)).0
+    let made : AreMade old c.makers-makers.result.now = subst (λ g. AreMade g c.makers-makers.result.now) (sym c.edges-old.ensures.edges) c.makers-makers.ensures in
+    let all = passed old name ss additions edge_of statement_of c.makers-makers.result.now c.in_ok-edges.edges.items (subst IsGraph (sym c.edges-old.ensures.edges) c.edges-old.ensures.graph) made c.checks.ensures.suffice canonical c.in_ok-edge_of.ensures.edges inverse have
+    c.in_ok-makers.ensures.once (subst (λ o. AreExtended old additions o c.in_ok-edges.edges.items) c.deref-5.ensures.value c.in_ok-edges.ensures) in
+    let makers : c.in_ok-makers.makers ≡ c.makers-makers.result.now ++ added_files edge_of additions = c.in_ok-makers.ensures.makers ∙ ap (λ es. c.makers-makers.result.now ++ added_files es additions) c.deref-4.ensures.value in
+    (all.0, subst (AreMade c.in_ok-edges.edges.items) (sym makers) all.1)
 
 pub returns-clause-effect : goal.returns-clause-effect
 returns-clause-effect c =
@@ -125,6 +129,7 @@ returns-clause-effect c =
     let statement_of : List (Option ℕ) = c.in_ok-statement_of.statement_of.items in
     let inverse : AreInverse (length old) edge_of statement_of = subst (λ ps. AreInverse (length old) ps statement_of) c.deref-2.ensures.value c.in_ok-statement_of.ensures.statements in
     let have : HaveStatements old name statement_of = subst (HaveStatements old name) c.deref-3.ensures.value c.in_ok-check_mentioned.ensures.ok in
+    let made : AreMade old c.makers-makers.result.now = subst (λ g. AreMade g c.makers-makers.result.now) (sym c.edges-old.ensures.edges) c.makers-makers.ensures in
     subst (λ es. OnlyEffect es name ss c.in_ok-edges.edges.items) c.edges-old.ensures.edges
-    (passed old name ss additions edge_of statement_of c.in_ok-edges.edges.items (subst IsGraph (sym c.edges-old.ensures.edges) c.edges-old.ensures.graph) c.checks.ensures.suffice canonical c.in_ok-edge_of.ensures.edges inverse have
-    (c.in_ok-check_added.ensures.ok old c.in_ok-makers.ensures) (subst (λ o. AreExtended old additions o c.in_ok-edges.edges.items) c.deref-4.ensures.value c.in_ok-edges.ensures)).1
+    (passed old name ss additions edge_of statement_of c.makers-makers.result.now c.in_ok-edges.edges.items (subst IsGraph (sym c.edges-old.ensures.edges) c.edges-old.ensures.graph) made c.checks.ensures.suffice canonical c.in_ok-edge_of.ensures.edges inverse have
+    c.in_ok-makers.ensures.once (subst (λ o. AreExtended old additions o c.in_ok-edges.edges.items) c.deref-5.ensures.value c.in_ok-edges.ensures)).2

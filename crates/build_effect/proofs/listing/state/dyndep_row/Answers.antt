@@ -1,4 +1,4 @@
-use Rattle.std.proofs.Common.{◌≡◌, ◌∙◌, ◌<◌, ◌-◌, length, sym, ap, subst, refl, true, false, Some, slice_index_or, arith}
+use Rattle.std.proofs.Common.{◌≡◌, ◌∙◌, ◌<◌, ◌-◌, sym, ap, subst, refl, true, false, Some, slice_index_or, arith}
 use Rattle.std.specs.Option.{is_some}
 use Rattle.std.specs.Vec.{vec_len}
 use Rattle.ninja_text.specs.Paths.{path_of}

@@ -11,16 +11,16 @@ use Rattle.dep_order.specs.Rows.{rows}
 use Rattle.dep_order.specs.Sortings.{IsSortingOf}
 use Rattle.build_effect.specs.EdgeValue.{EdgeValue}
 use Rattle.build_effect.specs.Graphs.{EdgeNeeds}
-use Rattle.build_effect.specs.inner.Makers.{maker_in, makers_row, AreMakers}
-use Rattle.build_effect.proofs.MakerTables.{mapped_next, sorting_of, are_nodes}
-use Rattle.build_effect.proofs.makers.edge_order.Goals as goal
+use Rattle.build_effect.specs.inner.Makers.{maker_in, makers_row}
+use Rattle.build_effect.proofs.MakerTables.{are_makers, are_nodes, mapped_next, sorting_of}
+use Rattle.build_effect.proofs.ordering.edge_order.Goals as goal
 
 pub loop-edge-preserved : goal.loop-edge-preserved
 loop-edge-preserved c =
     let edges = c.edges-edges.result.now in
     let i = c.loop-edge.edge-index in
     let edge : EdgeValue = c.edge-item.result in
-    let maker : List ℕ → Option ℕ = maker_in c.in_ok-makers.makers.table in
+    let maker : List ℕ → Option ℕ = maker_in c.makers-makers.result.now in
     let at = slice_get_read edges _ i edge refl c.loop-edge-test.true c.edge-item.is in
     let inputs = c.iter.ensures.rest ∙ c.deref.ensures.value ∙ ap (λ (x : EdgeValue). x.inputs) c.edge.view_is in
     let implicit_inputs = c.iter-in-loop-edge.ensures.rest ∙ c.deref-in-loop-edge.ensures.value ∙ ap (λ (x : EdgeValue). x.implicit_inputs) c.edge.view_is in
@@ -40,16 +40,16 @@ loop-edge-preserved c =
 pub new-digraph-requires : goal.new-digraph-requires
 new-digraph-requires c =
     let g : List EdgeValue = c.args.graph.now in
-    let maker = maker_in c.in_ok-makers.makers.table in
-    let are : AreMakers g maker = subst (λ es. AreMakers es maker) c.edges-edges.ensures.edges c.in_ok-makers.ensures in
+    let maker = maker_in c.makers-makers.result.now in
+    let are = are_makers g c.makers-makers.result.now c.makers-makers.ensures in
     let needs : rows c.loop-edge.needs.items ≡ map (makers_row maker) g = c.loop-edge.invariant ∙ ap (map (makers_row maker)) (take_all c.loop-edge.edge-index c.edges-edges.result.now c.loop-edge-test.false ∙ c.edges-edges.ensures.edges) in
     subst NeedsAreNodes (sym needs) (are_nodes g maker c.edges-edges.ensures.graph.made_once are)
 
 pub returns : goal.returns
 returns c =
     let g : List EdgeValue = c.args.graph.now in
-    let maker = maker_in c.in_ok-makers.makers.table in
-    let are : AreMakers g maker = subst (λ es. AreMakers es maker) c.edges-edges.ensures.edges c.in_ok-makers.ensures in
+    let maker = maker_in c.makers-makers.result.now in
+    let are = are_makers g c.makers-makers.result.now c.makers-makers.ensures in
     let needs : rows c.loop-edge.needs.items ≡ map (makers_row maker) g = c.loop-edge.invariant ∙ ap (map (makers_row maker)) (take_all c.loop-edge.edge-index c.edges-edges.result.now c.loop-edge-test.false ∙ c.edges-edges.ensures.edges) in
     let digraph : List (List ℕ) = c.new-digraph.result in
     IfOk-weaker c.order.result (IsSortingOf (length digraph) (NodeNeeds digraph)) (IsSortingOf (length g) (EdgeNeeds g))

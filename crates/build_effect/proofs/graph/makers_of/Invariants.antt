@@ -1,0 +1,7 @@
+use Rattle.std.proofs.Common.{◌≡◌, take}
+use Rattle.build_effect.specs.Graphs.{made_by}
+use Rattle.build_effect.specs.inner.Makers.{numbered}
+use Rattle.build_effect.proofs.graph.makers_of.Given as goal
+
+abbrev pub invariant-loop-index : goal.invariant-loop-index
+invariant-loop-index l = l.files ≡ numbered made_by (λ index. index) (take l.index l.edges)

@@ -1,0 +1,10 @@
+use Rattle.std.proofs.Common.{◌≡◌, ◌++◌, map, take}
+use Rattle.table_keys.specs.Keys.{HasAdded}
+use Rattle.build_effect.specs.inner.Makers.{files_of, seen_files}
+use Rattle.build_effect.proofs.makers.MadeFiles.push.Given as goal
+
+abbrev pub invariant-loop-file : goal.invariant-loop-file
+invariant-loop-file l = record {
+  digest : HasAdded l.self-inside.digest (files_of (seen_files l.self-inside.files.items));
+  made : seen_files l.self-inside.files.items ≡ l.fn.self ++ map (λ file. (file, l.edge)) (take l.file-index l.files);
+}
