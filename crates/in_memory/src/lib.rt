@@ -19,6 +19,7 @@ mod reply;
 mod runs;
 mod statements;
 
+pub use commands::Answer;
 pub use files::File;
 pub use into::{collate_into, effect_into, one_into, order_into, project_into, show_into};
 pub use reply::Outcome;

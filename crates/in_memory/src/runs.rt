@@ -60,7 +60,8 @@ pub fn order_run(alloc: Global, edges: &[u8]) -> Result<Answer, AllocError>
 pub fn collate_run(alloc: Global, document: &[u8], files: &[File<'_>]) -> Result<Answer, AllocError>
     ensures { Answers (Over files.now (CollateRun document.now)) result }
 {
-    let outcome = commands::collate_target(alloc, document, &mut Files::new(alloc, files));
+    let mut folder = Files::new(alloc, files)?;
+    let outcome = commands::collate_target(alloc, document, &mut folder);
     Answer::of(alloc, outcome)
 }
 
@@ -69,7 +70,8 @@ pub fn collate_run(alloc: Global, document: &[u8], files: &[File<'_>]) -> Result
 pub fn project_run(alloc: Global, document: &[u8], files: &[File<'_>]) -> Result<Answer, AllocError>
     ensures { Answers (Over files.now (ProjectRun document.now)) result }
 {
-    let outcome = commands::collate_project(alloc, document, &mut Files::new(alloc, files));
+    let mut folder = Files::new(alloc, files)?;
+    let outcome = commands::collate_project(alloc, document, &mut folder);
     Answer::of(alloc, outcome)
 }
 

@@ -3,9 +3,8 @@
 mod growths;
 
 use crate::common::push_line;
-use commands::Answer;
 use in_memory::{
-    File, collate_run, effect_run, one_run, order_run, project_names, project_run, show_run,
+    Answer, File, collate_run, effect_run, one_run, order_run, project_names, project_run, show_run,
 };
 use std::alloc::{AllocError, Global};
 use std::test::Fail;

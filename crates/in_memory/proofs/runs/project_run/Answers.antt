@@ -1,11 +1,21 @@
+use Rattle.std.proofs.Common.{rules, [], refl}
+use Rattle.std.proofs.lemmas.List.Elements.{All-nil}
+use Rattle.ninja_text.specs.declared.failure.Failure.TheVariants.{Memory}
+use Rattle.std.specs.Prelude.{Err}
 use Rattle.commands.specs.ProjectCommand.{ProjectRun}
+use Rattle.commands.specs.Outcomes.{stops}
+use Rattle.in_memory.specs.Given.{IsCallOf}
 use Rattle.in_memory.proofs.Folders.{run_over}
 use Rattle.in_memory.proofs.runs.project_run.Goals as goal
 
 pub returns : goal.returns
 returns c =
-    let old = c.new.result in
+    let old = c.in_ok-folder.folder in
     let new = c.collate_project-outcome.new.folder in
     let over = run_over c.args.files.now old.files.now new.files.now old.history.calls new.history.calls
-    (ProjectRun c.args.document.now) c.collate_project-outcome.result c.new.ensures.files c.new.ensures.calls new.got c.collate_project-outcome.ensures in
+    (ProjectRun c.args.document.now) c.collate_project-outcome.result c.in_ok-folder.ensures.files c.in_ok-folder.ensures.calls new.got c.collate_project-outcome.ensures in
     (c.collate_project-outcome.result, over, c.of.ensures)
+
+-- there was no memory for the folder, so no call was made
+pub returns-in_err-folder : goal.returns-in_err-folder
+returns-in_err-folder c = (Err Memory, ([], All-nil (IsCallOf c.args.files.now), stops Memory refl refl), search rules)
