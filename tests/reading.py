@@ -24,7 +24,9 @@ PAGE = TOP.parent / "docs/PROVED.md"
 CRATES = [re.split("[ :]", line)[0] for line in (TOP.parent / "crates.txt").read_text().splitlines()]
 COMMANDS = ("collate_scan", "collate_target", "collate_project", "apply_dyndep", "order_edges", "show_dyndep")
 # How the table calls a theorem; its crate, its call, and its clause, or "" for the whole contract.
-THEOREMS = [(f"`{call}`", "commands", call, "") for call in COMMANDS] + [("the headline", "collate_core", "collate", "headline")]
+LAWS = ["no_race", "no_false_rebuild", "no_false_cycle"]
+THEOREMS = ([(f"`{call}`", "commands", call, "") for call in COMMANDS] + [("the headline", "collate_core", "collate", "headline")]
+            + [(f"`{law}`", "collate_core", law, "") for law in LAWS])
 HEAD = [f"| file in `crates/*/specs/` | its lines | to read for {' | '.join(theorem[0] for theorem in THEOREMS)} | names |",
         "|---" * (len(THEOREMS) + 3) + "|"]
 BEGINNING = re.compile(r"^(?:abbrev|unfoldable|pub record|pub data) (?:pub )?(\S+)", re.M)

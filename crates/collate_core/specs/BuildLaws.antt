@@ -17,7 +17,7 @@ use Rattle.collate_core.specs.Statements.{statements_of}
 use Rattle.collate_core.specs.Headline.{IsHeadline}
 use Rattle.collate_core.specs.Rehearsal.{HasEffect}
 use Rattle.collate_core.specs.Projects.{CollatesProject, project_tables}
-use Rattle.collate_core.specs.ProjectOrders.{dyndep_files}
+use Rattle.collate_core.specs.ProjectOrders.{dyndep_files, Sees}
 use Rattle.collate_core.specs.Builds.{IsMaker, RequiresFile, IsRunOrder, HasNoRace, HasNoFalseWait, HasNoFalseRebuild, HasNoFalseCycle}
 
 -- ---- after a target
@@ -81,12 +81,13 @@ ProjectHasNoRace =
     (g new : List EdgeValue) → IsAfterProject targets outs applied g new →
     HasNoRace (tables_of targets outs applied) g new
 
--- After the files of all its targets, the file of each module that an object requires is produced.
+-- After the files of targets and of those that these link, the file of each module that an object of
+-- them requires is produced.
 abbrev pub ProjectMakesAll : Type 0
 ProjectMakesAll =
     (targets : List ProjectTargetValue) (outs : List CollatedValue) (applied : Numbers)
     (g new : List EdgeValue) → IsAfterProject targets outs applied g new →
-    ((n : ℕ) → n < length targets → Contains applied n) →
+    ((n m : ℕ) → Contains applied n → Sees targets n m → Contains applied m) →
     (i : ℕ) (file : PathText) → RequiresFile (tables_of targets outs applied) g i file →
     (maker : ℕ) × IsMaker new maker file
 
