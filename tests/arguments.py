@@ -17,7 +17,7 @@ class Script(Case):
     @unittest.skipIf("DYNCOLLATE" in os.environ, "another program is to be tested than the one that is built here")
     def test_dyncollate_at_the_top(self):
         """The script at the top calls the program, which has to be current: the script would build it else."""
-        current = subprocess.run(["bash", "-c", f"source {TOP}/build && is_current"], check=False)
+        current = subprocess.run([f"{TOP}/build", "--is-current"], check=False)
         self.assertEqual(current.returncode, 0, "the program is not current; ./build makes it")
         ran = subprocess.run([f"{TOP}/dyncollate"], stdin=subprocess.DEVNULL, capture_output=True, check=False)
         self.same((ran.returncode, ran.stdout, ran.stderr), USAGE)

@@ -24,7 +24,7 @@ NAME = f"dyncollate-{VERSION}-linux-x86_64"
 # what ./release takes from the commit, and what it needs itself
 SOURCES = ["CHANGELOG.md", "VERSION", "cmake", "docs/GUIDE.md", "docs/FORMATS.md", "docs/dyncollate.1", "docs/project.schema.json",
            "docs/target.schema.json", "examples", "include", "install"]
-TOOLS = [".gitignore", "ARCHIVE.md", "build", "crates.txt", "release"]
+TOOLS = [".gitignore", "ARCHIVE.md", "build", "building", "cross", "crates.txt", "release"]
 # what ./build and ./build library make, by the directory where they leave it
 BUILT = {"dyncollate": {"dyncollate": program.PROGRAM},
          "c_library": {"libdyncollate.a": embedded.STATIC, "libdyncollate.so.1": embedded.SHARED}}
