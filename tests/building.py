@@ -403,6 +403,15 @@ class Changes(Made):
                 self.assertEqual(self.build("x", script="dyncollate")[:2], (0, "made of source of dyncollate, called with x\n"))
                 self.assertCountEqual(self.begun(), wanted)
 
+    def test_a_current_program_needs_no_python(self):
+        self.built()
+        self.build("x", script="dyncollate")
+        few = self.room / "few"
+        few.mkdir()
+        for name in "find", "sh":
+            (few / name).symlink_to(shutil.which(name))
+        self.assertEqual(self.build("x", script="dyncollate", PATH=str(few)), (0, "made of source of dyncollate, called with x\n", []))
+
     def test_another_toolchain(self):
         """What it has to prove is proved when something has changed."""
         self.built()
@@ -553,6 +562,28 @@ class Policy(unittest.TestCase):
     def test_those_whose_time_is_far_off_fill_what_is_idle(self):
         self.assertEqual(self.jobs([30], [(100, 3)]), (1, 19))
         self.assertEqual(self.jobs([30], [(100, 4)])[0], 0)
+
+    def progress(self, passed, finished, left, running=()):
+        """What is said after these seconds, when crates of these seconds are proved in this run, and others are left, of which some
+        run: how many jobs, for how long, and the seconds of the crate."""
+        made = {it: self.crates["Crate"](f"c{it}", [], []) for it in [*left, *(it for _, _, it in running)]}
+        for seconds, crate in made.items():
+            crate.seconds = seconds
+        run = self.build["Run"].__new__(self.build["Run"])
+        now = time.monotonic()
+        run.began, run.left, run.whole = now - passed, list(made.values()), finished + sum(made)
+        run.todo = run.whole
+        run.running = [type("Job", (), {"crate": made[it], "jobs": jobs, "began": now - ago}) for jobs, ago, it in running]
+        return run.progress()
+
+    def test_progress(self):
+        self.assertEqual(self.progress(30.5, 100, [300]), "25 % after 0:30")
+        self.assertEqual(self.progress(100.5, 100, [300]), "25 % after 1:40, about 6 min left")
+        # half of what is left has been done by two jobs that run
+        self.assertEqual(self.progress(100.5, 100, [], [(2, 75, 300)]), "25 % after 1:40, about 2 min left")
+        # one that takes longer than expected is not yet done
+        self.assertEqual(self.progress(3600.5, 100, [], [(2, 3600, 300)]), "25 % after 60:00, about 5 min left")
+        self.assertEqual(self.progress(100.5, 100, []), "100 % after 1:40")
 
     def test_the_seconds(self):
         """Each crate that ./build proves has its seconds."""

@@ -115,21 +115,23 @@ class Archive(unittest.TestCase):
                 tar.extractall(cls.room)
 
     @staticmethod
-    def build(clone):
+    def build(clone, built=None, below=""):
         """The program and the library are there as ./build leaves them."""
-        for crate, files in BUILT.items():
-            out = clone / f"crates/{crate}/out"
+        toolchain = call("rt", "version")[1]
+        outs = {clone / f"crates/{crate}/out{below}": files for crate, files in (built or BUILT).items()}
+        for out, files in outs.items():
             out.mkdir(parents=True)
             for name, file in files.items():
                 shutil.copy2(file, out / name)
         time.sleep(0.02)
-        for crate in BUILT:
-            (clone / f"crates/{crate}/out/built").write_bytes(b"crates.txt\0")
+        for out in outs:
+            (out / "built").write_bytes(b"crates.txt\0")
+            (out / "digest").write_text(toolchain)
 
     @classmethod
-    def release(cls, *words, clone=None, **environment):
+    def release(cls, *words, clone=None, processor="x86_64", **environment):
         clone = clone or cls.clone
-        return call("./release", *words, cwd=clone, env=ENVIRONMENT | environment)
+        return call("./release", *[processor] * bool(processor), *words, cwd=clone, env=ENVIRONMENT | environment)
 
     def test_made(self):
         self.assertEqual(self.made, (0, f"{NAME}.tar.gz\n", ""))
@@ -190,6 +192,41 @@ class Archive(unittest.TestCase):
         self.assertIn("No log of ./test was given", text)
         self.assertNotIn("passed", text)
 
+    def test_sums(self):
+        """PROVED.txt has the sums of what ./build makes, which is not yet without symbols."""
+        text = (self.home / "PROVED.txt").read_text()
+        self.assertIn("\n./build and ./build library made files of these sums", text)
+        found = re.findall(r"^([0-9a-f]{64})  (\S+)$", text, re.M)
+        self.assertEqual(found, [(hashlib.sha256(Path(file).read_bytes()).hexdigest(), f"crates/{crate}/out/{name}")
+                                 for crate, files in BUILT.items() for name, file in files.items()])
+
+    @embedded.needs_tools("aarch64-linux-gnu-gcc", "aarch64-linux-gnu-strip")
+    def test_for_arm(self):
+        """Without a processor, there is an archive for each. Here a program that does nothing is in place of the one for ARM."""
+        clone, made = self.room / "both", self.room / "of arm"
+        made.mkdir()
+        (made / "dyncollate.c").write_text("int main(void) { return 0; }\n")
+        cc = "aarch64-linux-gnu-gcc"
+        for name, words in {"dyncollate": [], "libdyncollate.so.1": ["-shared", "-fPIC"], "libdyncollate.a": ["-c"]}.items():
+            self.assertEqual(call(cc, *words, made / "dyncollate.c", "-o", made / name), (0, "", ""))
+        git("clone", "-q", self.clone, clone)
+        self.build(clone)
+        built = {crate: {name: made / name for name in files} for crate, files in BUILT.items()}
+        self.build(clone, built, "/aarch64")
+        name = f"dyncollate-{VERSION}-linux-aarch64"
+        self.assertEqual(self.release(clone=clone, processor=""), (0, f"{NAME}.tar.gz\n{name}.tar.gz\n", ""))
+        self.assertEqual((clone / f"{NAME}.tar.gz").read_bytes(), self.archive.read_bytes())
+        with tarfile.open(clone / f"{name}.tar.gz") as tar, tarfile.open(self.archive) as other:
+            self.assertEqual([it.replace(name, NAME) for it in tar.getnames()], other.getnames())
+            for file in "dyncollate", "libdyncollate.so.1":
+                # (of an ELF file, the processor: 183 is ARM64)
+                self.assertEqual(tar.extractfile(f"{name}/{file}").read()[18:20], bytes([183, 0]), file)
+            text = tar.extractfile(f"{name}/PROVED.txt").read().decode()
+        self.assertIn("\n./build aarch64 and ./build library aarch64 made files of these sums", text)
+        for crate, files in built.items():
+            for file, path in files.items():
+                self.assertIn(f"\n{hashlib.sha256(path.read_bytes()).hexdigest()}  crates/{crate}/out/aarch64/{file}\n", text)
+
     def test_log(self):
         """The lines of a log are quoted where it is of this commit, and all passed."""
         commit = git("rev-parse", "HEAD", cwd=self.clone)
@@ -204,7 +241,7 @@ class Archive(unittest.TestCase):
         (self.room / "log").write_text(good)
         folder = self.room / "logged"
         folder.mkdir()
-        self.assertEqual(call(self.clone / "release", self.room / "log", cwd=folder), (0, f"{NAME}.tar.gz\n", ""))
+        self.assertEqual(call(self.clone / "release", "x86_64", self.room / "log", cwd=folder), (0, f"{NAME}.tar.gz\n", ""))
         with tarfile.open(folder / f"{NAME}.tar.gz") as tar:
             text = tar.extractfile(f"{NAME}/PROVED.txt").read().decode()
         lines = [line.strip() for line in text.splitlines()]
@@ -233,19 +270,17 @@ class Archive(unittest.TestCase):
         status, out, err = self.release(clone=clone, PATH=f"{self.room}/bin:{ENVIRONMENT['PATH']}")
         self.assertEqual((status, out, err.splitlines()[-1]), (3, "", "release: the program is not built, so there is nothing to be released"))
 
-    def test_a_toolchain_that_came_after_the_program(self):
+    def test_another_toolchain_than_that_of_the_program(self):
         """It is not the one that proved it."""
         clone, kit = self.room / "older", self.room / "kit"
         git("clone", "-q", self.clone, clone)
         self.build(clone)
         (kit / "bin").mkdir(parents=True)
-        time.sleep(0.02)
-        (kit / "KIT-ID").write_text("")
         (kit / "bin/rt").write_text("#!/bin/sh\necho another kit\n")
         (kit / "bin/rt").chmod(0o755)
         status, out, err = self.release(clone=clone, PATH=f"{kit}/bin:{ENVIRONMENT['PATH']}")
         self.assertEqual((status, out), (1, ""))
-        self.assertRegex(err, r"\Arelease: the toolchain is newer than what it built")
+        self.assertRegex(err, r"\Arelease: another toolchain has proved what is in crates/dyncollate/out: ")
 
     def test_in_an_empty_root(self):
         """With nothing but the C library, the program does what README shows, and collates."""
