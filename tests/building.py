@@ -31,6 +31,7 @@ NAMES = [*PROVED, "dyncollate"]
 # `changes` a source of the crate. It fails if a crate below is not proved.
 PROVER = r"""#!/bin/sh
 echo "$*" >> "$CONTROL/calls"
+echo "$MIMALLOC_PURGE_DELAY" >> "$CONTROL/delay"
 shift
 jobs='' out='' name=''
 while [ $# -gt 0 ]; do
@@ -210,6 +211,7 @@ class Order(Made):
         self.assertEqual([name for name in NAMES if "--statements" in words[name]], PROVED)
         self.assertEqual([name for name in NAMES if "--backend" in words[name]], ["dyncollate"])
         self.assertEqual([it for name in NAMES for it in words[name] if it in ("--target", "--cpu")], [])
+        self.assertEqual(set(self.taken("delay")), {"-1"})
 
 
 class Failures(Made):

@@ -47,6 +47,7 @@ def prove(policy, names, room):
     loader = importlib.machinery.SourceFileLoader("build", os.path.abspath("build"))
     build = importlib.util.module_from_spec(importlib.util.spec_from_loader("build", loader))
     loader.exec_module(build)
+    os.environ.setdefault("MIMALLOC_PURGE_DELAY", "-1")
     build.PINNED = policy.endswith("-pinned")
     if policy.startswith("one"):
         build.jobs_and_nice = lambda crate, waiting, running, longest, processors: (1 if len(running) < processors else 0, 0)
