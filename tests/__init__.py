@@ -3,8 +3,8 @@ SUBJECTS = ["arguments", "scan_documents", "infos", "targets", "projects", "modu
             "tables", "files", "earlier_files", "restat", "whole_files", "devices", "growths", "damage", "random_documents",
             "broken_programs", "manual", "reading", "words", "crates", "pictures", "lemmas", "callers", "builds", "cmake", "cmake_builds",
             "generator", "traps", "library", "library_files", "fuzzing", "broken_libraries", "schemas", "releases", "building", "crossing"]
-# Those that need libdyncollate, which ./build library makes.
-OF_LIBRARY = ["library", "library_files", "fuzzing", "broken_libraries", "releases"]
+# Those that need libdyncollate, which ./build library makes, or what ./build aarch64 makes.
+OF_LIBRARY = ["library", "library_files", "fuzzing", "broken_libraries", "releases", "crossing"]
 
 
 def load_tests(loader, *_):
