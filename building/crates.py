@@ -13,7 +13,7 @@ from pathlib import Path
 # the progress.
 SECONDS = {"ninja_text": 121, "dep_order": 98, "dyndep_file": 89, "table_keys": 4, "document_values": 56, "scan_docs": 208,
            "module_maps": 72, "module_table": 191, "info_pool": 106, "build_effect": 204, "collate_core": 175, "command_line": 46,
-           "system_files": 4, "commands": 234, "dyncollate": 101, "in_memory": 93, "c_library": 112}
+           "system_files": 4, "commands": 234, "dyncollate": 112, "in_memory": 118, "c_library": 94}
 
 
 @dataclass(eq=False)
