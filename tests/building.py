@@ -338,16 +338,15 @@ class Locks(Made):
         self.assertCountEqual(self.begun(), NAMES)
 
     def test_rt_in_a_crate(self):
-        """A crate is not proved while rt works in its directory, and rt waits for a proof."""
+        """A crate is not proved while rt works in its directory, but others are. And rt waits for a proof."""
         with Directory(self.top / "crates/left") as held:
             self.control_file("right.waits")
             fcntl.flock(held, fcntl.LOCK_EX)
             child = self.begin()
-            self.wait_for("right") if (self.control / "right.process").exists() else time.sleep(1)
+            self.wait_for("right")
             self.assertFalse((self.control / "left.process").exists())
             fcntl.flock(held, fcntl.LOCK_UN)
             self.wait_for("left")
-            self.wait_for("right")
             with Directory(self.top / "crates/right") as other:
                 with self.assertRaises(BlockingIOError):
                     fcntl.flock(other, fcntl.LOCK_EX | fcntl.LOCK_NB)
