@@ -113,7 +113,7 @@ class Made(unittest.TestCase):
         return child
 
     def finish(self, child):
-        out, err = child.communicate(timeout=60)
+        out, err = child.communicate(timeout=300)
         return child.returncode, out, err.splitlines()
 
     def build(self, *words, **given):
@@ -135,7 +135,7 @@ class Made(unittest.TestCase):
 
     def wait_for(self, name):
         """Waits until the prover is at this crate."""
-        limit = time.monotonic() + 30
+        limit = time.monotonic() + 120
         while not (self.control / f"{name}.process").exists():
             self.assertLess(time.monotonic(), limit, f"the proof of {name} did not begin")
             time.sleep(0.01)
