@@ -61,13 +61,13 @@ class Header(unittest.TestCase):
         self.assertIn("#[repr(C)]", OUTCOME.read_text())
 
     def test_module(self):
-        """The Python module has each function, and passes what the header declares."""
-        module = embedded.module()
-        self.assertEqual({f"dyncollate_{command}" for command in module.COMMANDS}, set(declared()))
-        kinds = {"const uint8_t *": "STRING", "const size_t *": "NUMBERS"}
-        for command, parameters in module.COMMANDS.items():
-            wanted = [kinds[kind] for kind, _ in declared()[f"dyncollate_{command}"][:-4:2]]
-            self.assertEqual(parameters, [it for kind in wanted for it in getattr(module, kind)], command)
+        """The Python package has each function, and passes what the header declares."""
+        calls = embedded.calls()
+        self.assertEqual({f"dyncollate_{command}" for command in calls.COMMANDS}, set(declared()))
+        kinds = {"const uint8_t *": calls.STRING, "const size_t *": calls.NUMBERS}
+        for command, parameters in calls.COMMANDS.items():
+            wanted = [it for kind, _ in declared()[f"dyncollate_{command}"][:-4:2] for it in kinds[kind]]
+            self.assertEqual([it for kind in parameters for it in calls.PARAMETERS[kind]], wanted, command)
 
 
 @embedded.needs_tools("gcc", "g++")

@@ -12,6 +12,7 @@ import tarfile
 import tempfile
 import time
 import unittest
+import zipfile
 from pathlib import Path
 
 from tests import embedded, program
@@ -21,9 +22,10 @@ from tests.tools import tool
 TOP = Path(program.TOP)
 VERSION = (TOP / "VERSION").read_text().strip()
 NAME = f"dyncollate-{VERSION}-linux-x86_64"
+WHEEL = f"dyncollate-{VERSION}-py3-none-manylinux_2_17_x86_64.manylinux2014_x86_64.whl"
 # what ./release takes from the commit, and what it needs itself
 SOURCES = ["CHANGELOG.md", "VERSION", "cmake", "docs/GUIDE.md", "docs/FORMATS.md", "docs/dyncollate.1", "docs/project.schema.json",
-           "docs/target.schema.json", "examples", "include", "install"]
+           "docs/target.schema.json", "examples", "include", "install", "python"]
 TOOLS = [".gitignore", "ARCHIVE.md", "build", "crates.txt", "release"]
 # what ./build and ./build library make, by the directory where they leave it
 BUILT = {"dyncollate": {"dyncollate": program.PROGRAM},
@@ -76,6 +78,9 @@ class Version(unittest.TestCase):
 
     def test_manual(self):
         self.assertIn(f"\n.Os dyncollate {VERSION}\n", (TOP / "docs/dyncollate.1").read_text())
+
+    def test_package(self):
+        self.assertIn(f'\n__version__ = "{VERSION}"\n', (TOP / "python/dyncollate/__init__.py").read_text())
 
     def test_tag(self):
         if not is_clone():
@@ -132,7 +137,7 @@ class Archive(unittest.TestCase):
         return call("./release", *words, cwd=clone, env=ENVIRONMENT | environment)
 
     def test_made(self):
-        self.assertEqual(self.made, (0, f"{NAME}.tar.gz\n", ""))
+        self.assertEqual(self.made, (0, f"{NAME}.tar.gz\n{WHEEL}\n", ""))
 
     def test_twice_it_has_the_same_bytes(self):
         """Also from another clone of the commit, in another place, whose files are of other times and rights."""
@@ -160,6 +165,11 @@ class Archive(unittest.TestCase):
         with open(self.archive, "rb") as file:
             self.assertEqual(file.read(8)[3:], bytes(5), "neither a name nor a time in the head of gzip")
         self.assertNotIn(os.fsencode(self.room), gzip.decompress(self.archive.read_bytes()))
+
+    def test_wheel(self):
+        """It has the library of the archive."""
+        with zipfile.ZipFile(self.clone / WHEEL) as wheel:
+            self.assertEqual(wheel.read("dyncollate/libdyncollate.so.1"), (self.home / "libdyncollate.so.1").read_bytes())
 
     def test_readme(self):
         """It has the example as the program prints it, and a user of the archive proves nothing."""
@@ -204,7 +214,7 @@ class Archive(unittest.TestCase):
         (self.room / "log").write_text(good)
         folder = self.room / "logged"
         folder.mkdir()
-        self.assertEqual(call(self.clone / "release", self.room / "log", cwd=folder), (0, f"{NAME}.tar.gz\n", ""))
+        self.assertEqual(call(self.clone / "release", self.room / "log", cwd=folder), (0, f"{NAME}.tar.gz\n{WHEEL}\n", ""))
         with tarfile.open(folder / f"{NAME}.tar.gz") as tar:
             text = tar.extractfile(f"{NAME}/PROVED.txt").read().decode()
         lines = [line.strip() for line in text.splitlines()]
@@ -343,7 +353,7 @@ class Archive(unittest.TestCase):
         """A C program that pkg-config finds the library for makes of each target what the program wrote, and so does the Python module
         with the shared object that is installed."""
         environment = ENVIRONMENT | {"PKG_CONFIG_PATH": f"{prefix}/lib/pkgconfig", "LD_LIBRARY_PATH": f"{prefix}/lib",
-                                     "PYTHONPATH": str(self.home / "examples/embed")}
+                                     "PYTHONPATH": str(self.home / "python")}
         self.assertEqual(call("pkg-config", "--modversion", "dyncollate", env=environment), (0, f"{VERSION}\n", ""))
         flags = shlex.split(call("pkg-config", "--cflags", "--libs", "dyncollate", env=environment)[1])
         collate = self.room / f"collate of {folder.name}"
