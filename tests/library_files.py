@@ -29,15 +29,17 @@ def without_comments(text):
 
 
 def declared():
-    """The functions of the header: the type and the name of each parameter."""
+    """The functions of the header that return an outcome: the type and the name of each parameter."""
     found = re.findall(r"dyncollate_outcome (dyncollate_\w+)\((.*?)\);", without_comments(HEADER.read_text()), re.S)
     return {name: [tuple(re.fullmatch(r"(.*?)(\w+)", it.strip()).groups()) for it in parameters.split(",")] for name, parameters in found}
 
 
 def exported():
-    """The same by the exports. What has no bytes, such as the allocator, is no parameter in C."""
+    """The same by the exports, except for the version. What has no bytes, such as the allocator, is no parameter in C."""
     functions = {}
     for name, parameters, returned in re.findall(r'extern "C" fn (\w+)\((.*?)\) -> (\w+)', EXPORTS.read_text(), re.S):
+        if (name, parameters, returned) == ("dyncollate_version", "", "u32"):
+            continue
         functions[name] = []
         for parameter, kind in re.findall(r"(\w+): ([^,\n]+)", parameters):
             if kind != "Global":
@@ -90,9 +92,20 @@ class Linked(unittest.TestCase):
         return {line.split()[-1] for line in printed("nm", "-g", "--defined-only", *words).splitlines() if len(line.split()) == 3}
 
     def test_symbols(self):
-        """The functions of the header, and nothing else."""
-        self.assertEqual(self.defined(embedded.STATIC), set(declared()))
-        self.assertEqual({it.split("@")[0] for it in self.defined("-D", embedded.SHARED)}, set(declared()))
+        """The functions of the header, and nothing else. In the shared object they have the version DYNCOLLATE_1."""
+        functions = {*declared(), "dyncollate_version"}
+        self.assertEqual(self.defined(embedded.STATIC), functions)
+        self.assertEqual(self.defined("-D", embedded.SHARED), {"DYNCOLLATE_1", *(f"{it}@@DYNCOLLATE_1" for it in functions)})
+
+    @embedded.needs_tools("gcc")
+    def test_version(self):
+        """DYNCOLLATE_VERSION is that of VERSION, and the library returns it."""
+        major, minor, patch = map(int, Path(TOP, "VERSION").read_text().split("."))
+        with tempfile.TemporaryDirectory() as folder:
+            Path(folder, "v.c").write_text("#include <dyncollate.h>\n#include <stdio.h>\n"
+                                           'int main(void) { printf("%u %u\\n", (unsigned)DYNCOLLATE_VERSION, dyncollate_version()); }\n')
+            built = embedded.compiled("gcc", f"{folder}/v.c", embedded.STATIC, to=f"{folder}/v")
+            self.assertEqual(printed(built).split(), [str(10000 * major + 100 * minor + patch)] * 2)
 
     def test_calls(self):
         """Neither a file nor a socket nor a clock: nothing but the heap."""
