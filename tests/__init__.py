@@ -3,9 +3,9 @@ SUBJECTS = ["arguments", "scan_documents", "infos", "targets", "projects", "modu
             "tables", "files", "earlier_files", "restat", "whole_files", "devices", "growths", "damage", "random_documents",
             "broken_programs", "manual", "reading", "words", "crates", "pictures", "lemmas", "callers", "builds", "cmake", "cmake_builds",
             "generator", "traps", "library", "library_files", "fuzzing", "broken_libraries", "python_package", "schemas",
-            "releases"]
+            "releases", "installs"]
 # Those that need libdyncollate, which ./build library makes.
-OF_LIBRARY = ["library", "library_files", "fuzzing", "broken_libraries", "python_package", "releases"]
+OF_LIBRARY = ["library", "library_files", "fuzzing", "broken_libraries", "python_package", "releases", "installs"]
 
 
 def load_tests(loader, *_):
