@@ -73,6 +73,13 @@ class Install(releases.Released):
         self.assertGreater(len(names), 10)
         self.assertEqual([name for name in names if not (prefix / name).exists()], [])
 
+    def test_everyone_may_read_what_is_installed(self):
+        """Also if the files of the user are private."""
+        prefix = self.room / "for everyone"
+        self.assertEqual(call("sh", "-c", 'umask 077; exec "$@"', "sh", self.home / "install", prefix)[0], 0)
+        modes = {it.relative_to(prefix).as_posix(): it.stat().st_mode & 0o777 for it in [prefix, *prefix.rglob("*")]}
+        self.assertEqual({name: mode for name, mode in modes.items() if mode not in (0o644, 0o755)}, {})
+
     def test_install_keeps_what_others_put_there(self):
         prefix = self.room / "shared"
         self.assertEqual(call(self.home / "install", prefix)[0], 0)
@@ -167,7 +174,7 @@ class Install(releases.Released):
 
     def test_two_installations_at_once(self):
         """Both succeed, and what they leave is removed completely."""
-        for number in range(5):
+        for number in range(2):
             prefix = self.room / f"at once {number}"
             runs = [subprocess.Popen([self.home / "install", prefix], env=ENVIRONMENT, stdout=subprocess.DEVNULL, stderr=subprocess.PIPE)
                     for _ in range(3)]
@@ -217,12 +224,12 @@ class Install(releases.Released):
         self.assertEqual(list(prefix.iterdir()), [])
 
     def test_a_stopped_installation_leaves_nothing(self):
-        """The signal comes while files are copied: the first of them waits in a pipe."""
+        """The signal comes while files are copied."""
         prefix, home = self.room / "stopped", self.room / "slow"
         shutil.copytree(self.home, home)
         (home / "bin").mkdir()
-        (home / "bin/cat").write_text("#!/bin/sh\ncase $1 in *GUIDE*|*dyncollate.3) kill -TERM $PPID; sleep 0.2 ;; esac\nexec /bin/cat \"$@\"\n")
-        (home / "bin/cat").chmod(0o755)
+        (home / "bin/cp").write_text("#!/bin/sh\ncase $1 in *dyncollate.3) kill -TERM $PPID; sleep 0.2 ;; esac\nexec /bin/cp \"$@\"\n")
+        (home / "bin/cp").chmod(0o755)
         status, out, err = call(home / "install", prefix, env=ENVIRONMENT | {"PATH": f"{home}/bin:{ENVIRONMENT['PATH']}"})
         self.assertEqual((status, out, err, prefix.exists()), (130, "", "", False))
 

@@ -182,6 +182,19 @@ class Examples(unittest.TestCase):
             "==> app.dd <==\nninja_dyndep_version = 1\nbuild main.o: dyndep | bmi/greet.pcm\n"
             "build greet.o | bmi/greet.pcm: dyndep\n  restat = 1\n"), ""))
 
+    @embedded.needs_tools("g++")
+    def test_wrapper(self):
+        """dyncollate.hpp: statements, files and errors."""
+        program = embedded.compiled("g++", "-std=c++17", "-pedantic", "-Wconversion", *SANITIZED, f"{TOP}/tests/wrapper.cpp", embedded.STATIC,
+                                    to=f"{self.folder}/wrapper")
+        info = '{"modules":[],"target":"t","version":2}'
+        dyndep = "ninja_dyndep_version = 1\nbuild b.o: dyndep\n"
+        self.assertEqual(self.ran(program), (0, (
+            "a restat: b c | d e f\ng: |\n3000 object2999.o m2999\n" + dyndep +
+            f"i {len(info)} restat\nd {len(dyndep)}\n2\n"
+            "3 dyncollate: cannot read s\n1 dyncollate: target: S2 BadVersion document\ndyncollate: a name is not UTF-8\n"
+            "1 dyncollate: scan 0: S1 NotJson document\n1 line 2: Y9 NoOutput\n0\n"), ""))
+
     @embedded.needs_tools("gcc")
     def test_header(self):
         """The program in the comment of the header."""

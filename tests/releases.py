@@ -167,6 +167,7 @@ class Archive(Released):
         self.build(other)
         self.assertEqual(self.release(clone=other, LANG="tr_TR.UTF-8", TZ="Asia/Kolkata")[0], 0)
         self.assertEqual((other / f"{NAME}.tar.gz").read_bytes(), before)
+        self.assertEqual((other / WHEEL).read_bytes(), (self.clone / WHEEL).read_bytes())
 
     def test_members(self):
         """What is in it: nothing of the machine, the user or the time when it was made."""
