@@ -241,6 +241,17 @@ class Installed(unittest.TestCase):
         self.assertEqual(self.says(python, expression, LD_LIBRARY_PATH=str(self.room / "lib")), (0, DYNDEP.decode() + "\n", ""))
         self.assertEqual(self.says(python, expression, DYNCOLLATE_LIBRARY=embedded.SHARED)[0], 0)
 
+    @embedded.needs_tools("aarch64-linux-gnu-gcc", "readelf")
+    def test_another_processor(self):
+        (self.room / "a.c").write_text("int a(void) { return 0; }\n")
+        self.assertEqual(self.call("aarch64-linux-gnu-gcc", "-shared", "-nostdlib", "a.c", "-o", "a.so"), (0, "", ""))
+        status, name, err = self.wheel("a.so", "aarch64")
+        self.assertEqual((status, name.split("-py3-none-")[1:], err), (0, ["manylinux_2_17_aarch64.manylinux2014_aarch64.whl\n"], ""))
+        with zipfile.ZipFile(self.room / name.strip()) as wheel:
+            self.assertEqual(wheel.read("dyncollate/libdyncollate.so.1"), (self.room / "a.so").read_bytes())
+            tags = re.findall("^Tag: (.*)$", wheel.read(next(it for it in wheel.namelist() if it.endswith("/WHEEL"))).decode(), re.M)
+        self.assertEqual(tags, ["py3-none-manylinux_2_17_aarch64", "py3-none-manylinux2014_aarch64"])
+
     @embedded.needs_tools("gcc", "readelf")
     def test_libraries_that_get_no_wheel(self):
         (self.room / "libc.c").write_text("void of_newer(void) {}\n")

@@ -74,7 +74,15 @@ class Version(unittest.TestCase):
         self.assertRegex(day, r"\A - \d{4}-\d\d-\d\d\Z")
 
     def test_manual(self):
-        self.assertIn(f"\n.Os dyncollate {VERSION}\n", (TOP / "docs/dyncollate.1").read_text())
+        for chapter in 1, 3:
+            self.assertIn(f"\n.Os dyncollate {VERSION}\n", (TOP / f"docs/dyncollate.{chapter}").read_text())
+
+    def test_library(self):
+        """The number in the header and in the export is that of the version."""
+        major, minor, patch = map(int, VERSION.split("."))
+        number = 10000 * major + 100 * minor + patch
+        self.assertIn(f"\n#define DYNCOLLATE_VERSION {number}\n", (TOP / "include/dyncollate.h").read_text())
+        self.assertRegex((TOP / "crates/c_library/src/lib.rt").read_text(), rf"dyncollate_version\(\) -> u32\n.*\n{{\n    {number}\n}}")
 
     def test_package(self):
         self.assertIn(f'\n__version__ = "{VERSION}"\n', (TOP / "python/dyncollate/__init__.py").read_text())
