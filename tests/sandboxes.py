@@ -68,6 +68,8 @@ class Sandboxed(Folder):
         return [it for it in files if it in self.outputs[name]], [it for it in files if it not in self.outputs[name]]
 
     def step(self, kind, output, command, source):
+        if kind in ("archive", "link"):
+            return Step(kind, command, set(re.findall(r"^    (?!\|)(.*)$", self.asked("query", output).split("  outputs:")[0], re.M)), {output})
         if kind == "scan":
             return Step(kind, command, {source, *self.below(output)}, {output, f"{output}.d"})
         if kind == "collate":
@@ -79,10 +81,10 @@ class Sandboxed(Folder):
         return Step(kind, command, {source, f"{output}.modmap", *self.below(output), *needed}, {output, f"{output}.d", *provided})
 
     def steps(self):
-        """All scans, collations and compilations of the build."""
+        """All steps of the build, by their kinds."""
         statements = re.findall(r"^build (\S+)(?: \| (.*))?: dyndep", "".join(it.read_text() for it in Path("dd").glob("*.dd")), re.M)
         self.outputs = {name: outputs.split(" ") for name, outputs in statements}
-        for kind in "scan", "collate", "compile":
+        for kind in "scan", "collate", "compile", "archive", "link":
             for it in json.loads(self.asked("compdb", kind)):
                 yield self.step(kind, os.path.normpath(it["output"]), it["command"], os.path.normpath(it["file"]))
 
@@ -125,9 +127,10 @@ class Sandboxed(Folder):
 
     def test_each_step(self):
         kinds = [(step.kind, self.same(step)) for step in self.steps()]
-        sources = len(list(Path("obj").rglob("*.o")))
-        collations = 1 if self.form == "project" else len(list(Path("dd").glob("*.target.json")))
-        self.assertEqual([kind for kind, _ in kinds], ["scan"] * sources + ["collate"] * collations + ["compile"] * sources)
+        sources, targets = len(list(Path("obj").rglob("*.o"))), len(list(Path("dd").glob("*.target.json")))
+        collations = 1 if self.form == "project" else targets
+        wanted = ["scan"] * sources + ["collate"] * collations + ["compile"] * sources + ["archive"] * (targets - 1) + ["link"]
+        self.assertEqual([kind for kind, _ in kinds], wanted)
 
     def test_a_file_of_a_map_that_is_missing(self):
         """The compilation fails, and names the file. GCC does not read a partition that the source does not import itself."""
