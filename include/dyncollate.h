@@ -23,8 +23,13 @@
        }
 
        cc b.c $(pkg-config --cflags --libs dyncollate) && ./a.out
+       cc -static b.c $(pkg-config --static --cflags --libs dyncollate) && ./a.out
 
-   docs/FORMATS.md of dyncollate describes the formats, and which error is reported.
+   With CMake, find_package(dyncollate) defines the targets dyncollate::dyncollate, the shared
+   object, and dyncollate::static. For C++ there is dyncollate.hpp.
+
+   FORMATS.md, which ./install puts into share/doc/dyncollate, describes the formats, and which
+   error is reported.
 
    WHAT YOU PASS
      A string is a pointer to bytes and their count. It needs no zero at its end. No pointer may be
@@ -67,6 +72,15 @@
 #ifdef __cplusplus
 extern "C" {
 #endif
+
+/* The version of this header: 10000 times the major version, 100 times the minor one, and the patch,
+   so that 1.2.3 is 10203. */
+#define DYNCOLLATE_VERSION 10100
+
+/* Returns the version of the library that the program runs with. It is at least that of the header
+   if the library is newer. All libraries with the major version 1 have the name libdyncollate.so.1,
+   and a newer one has all functions of an older one. */
+uint32_t dyncollate_version(void);
 
 /* The status of an outcome. For each but DYNCOLLATE_DONE no file is to be written. */
 enum {

@@ -2,9 +2,10 @@
 SUBJECTS = ["arguments", "scan_documents", "infos", "targets", "projects", "modules", "dyndep_files", "listings", "effects",
             "tables", "files", "earlier_files", "restat", "whole_files", "devices", "growths", "damage", "random_documents",
             "broken_programs", "manual", "reading", "words", "crates", "pictures", "lemmas", "callers", "builds", "cmake", "cmake_builds",
-            "generator", "traps", "library", "library_files", "fuzzing", "broken_libraries", "schemas", "releases", "building", "crossing"]
+            "generator", "traps", "sandboxes", "library", "library_files", "fuzzing", "broken_libraries", "python_package", "schemas",
+            "releases", "installs", "building", "crossing"]
 # Those that need libdyncollate, which ./build library makes, or what ./build aarch64 makes.
-OF_LIBRARY = ["library", "library_files", "fuzzing", "broken_libraries", "releases", "crossing"]
+OF_LIBRARY = ["library", "library_files", "fuzzing", "broken_libraries", "python_package", "releases", "installs", "crossing"]
 
 
 def load_tests(loader, *_):

@@ -1,15 +1,17 @@
 """libdyncollate, which `./build library` leaves in crates/c_library/out, or in the directory that the environment names as LIBRARY; and
 what a function of it is given for a row."""
 import functools
-import importlib.util
+import importlib
 import os
 import shutil
 import subprocess
+import sys
 import unittest
 
 from tests.program import TOP
 
 EXAMPLES = f"{TOP}/examples/embed"
+PACKAGE = f"{TOP}/python"
 FOLDER = os.path.abspath(os.environ.get("LIBRARY", f"{TOP}/crates/c_library/out"))
 SHARED, STATIC = f"{FOLDER}/libdyncollate.so.1", f"{FOLDER}/libdyncollate.a"
 
@@ -22,13 +24,19 @@ def needs_tools(*names):
 
 
 @functools.lru_cache(None)
-def module():
-    """The module of examples/embed, with the library that is tested."""
+def module(name="dyncollate"):
+    """The Python package, or a module of it, with the library that is tested."""
     os.environ["DYNCOLLATE_LIBRARY"] = SHARED
-    spec = importlib.util.spec_from_file_location("dyncollate", f"{EXAMPLES}/dyncollate.py")
-    loaded = importlib.util.module_from_spec(spec)
-    spec.loader.exec_module(loaded)
-    return loaded
+    sys.path.insert(0, PACKAGE)
+    try:
+        return importlib.import_module(name)
+    finally:
+        sys.path.remove(PACKAGE)
+
+
+def calls():
+    """What the package calls the library by."""
+    return module("dyncollate._library")
 
 
 def is_opened(row, index):

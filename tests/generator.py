@@ -343,3 +343,47 @@ class Repository(Folder):
             self.assertEqual(self.ninja()[0], 0, self.log)
             os.chdir(top)
         self.assertEqual(git("status", "--porcelain"), (0, ""))
+
+
+class Scans(Folder):
+    """The command of a scan, with a scanner that takes its time."""
+    tools = ["ninja"]
+    seconds = 2
+
+    def setUp(self):
+        super().setUp()
+        Path("scanner").write_text("#!/bin/sh\nprintf '{\"version\":1,'; sleep 0.5; printf '\"rules\":[]}'\nexit ${STATUS:-0}\n")
+        Path("scanner").chmod(0o755)
+        Path("a b.cpp").write_text("")
+        Path("targets").write_text("program app 'a b.cpp'\n")
+        self.environment |= {"CLANG": "true", "GCC": "true", "SCANNER": "./scanner"}
+        self.generate("clang")
+        self.document = Path("scan/app/a b.cpp.ddi")
+        self.document.parent.mkdir(parents=True)
+        self.command = output_of(tool("ninja"), "-t", "commands", "-s", self.document)[1]
+
+    def scans(self, *seconds, **more):
+        """The statuses of scans that begin after that much time each."""
+        runs = [subprocess.Popen(["sh", "-c", f"sleep {it}; {self.command}"], env=self.environment | more) for it in seconds]
+        return [it.wait() for it in runs]
+
+    def files(self):
+        return sorted(it.name for it in self.document.parent.iterdir())
+
+    def test_two_at_once(self):
+        self.assertEqual(self.scans(0, 0.25), [0, 0])
+        self.assertEqual((self.files(), self.document.read_text()), ([self.document.name], '{"version":1,"rules":[]}'))
+
+    def test_a_failure(self):
+        """It leaves the document as it was, and no other file."""
+        self.assertEqual(self.scans(0, STATUS="3"), [3])
+        self.assertEqual(self.files(), [])
+        self.document.write_text("old")
+        self.assertEqual(self.scans(0, STATUS="3"), [3])
+        self.assertEqual((self.files(), self.document.read_text()), ([self.document.name], "old"))
+
+    def test_the_same_document(self):
+        self.assertEqual(self.scans(0), [0])
+        os.utime(self.document, ns=(1, 1))
+        self.assertEqual(self.scans(0), [0])
+        self.assertEqual((self.files(), self.document.stat().st_mtime_ns), ([self.document.name], 1))

@@ -1,4 +1,4 @@
-"""libdyncollate against the program: each row is asked of the shared object, by the Python module of examples/embed. And what a call
+"""libdyncollate against the program: each row is asked of the shared object, by the Python package. And what a call
 does if there is too little room, if an allocation fails, if it is misused, and on several threads."""
 import ctypes
 import os
@@ -41,8 +41,10 @@ class Restat(unittest.TestCase):
         rows = {row.why: row for row in ASKED}
         for why, flags in ("* an info and GCC's map that may be left alone", [1, 1, 0]), ("GCC's map", [0, 0, 0]):
             row = rows[why]
-            status, numbers, _ = embedded.module().call("collate", *embedded.given(row))
+            status, numbers, _ = embedded.calls().call("collate", embedded.given(row))
             self.assertEqual((status, numbers[4::3]), (0, flags), why)
+            result = embedded.module().run("collate", *embedded.given(row))
+            self.assertEqual([name in result.restat for name in result.files], list(map(bool, flags)), why)
 
 
 class Asked(unittest.TestCase):
@@ -50,7 +52,7 @@ class Asked(unittest.TestCase):
         for row in all_rows():
             if not embedded.is_asked(row):
                 self.assertRegex(row.line, rb"\A(usage\Z|cannot (read|write) )", row.name)
-        self.assertEqual({row.words[0] for row in WORKED}, set(embedded.module().COMMANDS) - {"statements"})
+        self.assertEqual({row.words[0] for row in WORKED}, set(embedded.calls().COMMANDS) - {"statements"})
 
 
 @embedded.needs_library
@@ -79,11 +81,10 @@ def statement_line(it):
 
 def outcome(command, given, numbers_room, text_room, spare=8):
     """An outcome in this room, as the fields of the struct, and whether what follows the result is unchanged, also after the room."""
-    module = embedded.module()
     numbers = (ctypes.c_size_t * (numbers_room + spare))(*[77] * (numbers_room + spare))
     text = (ctypes.c_char * (text_room + spare))(*b"\x4d" * (text_room + spare))
     pointer = ctypes.cast(text, ctypes.c_char_p)
-    got = getattr(module.library(), f"dyncollate_{command}")(*given, numbers, numbers_room, pointer, text_room)
+    got = getattr(embedded.calls().library(), f"dyncollate_{command}")(*given, numbers, numbers_room, pointer, text_room)
     after = numbers[got.numbers * got.written:], text[got.text * got.written:]
     unchanged = all(it == 77 for it in after[0]) and not after[1].strip(b"\x4d")
     return (got.status, got.written, got.numbers, got.text), unchanged
@@ -95,16 +96,16 @@ class Rooms(unittest.TestCase):
     """With too little room for a part nothing is written, and the outcome says how much is needed."""
 
     def check(self, row):
-        module = embedded.module()
-        passed = list(module.arguments(embedded.given(row)))
-        status, numbers, text = module.call(row.words[0], *embedded.given(row))
+        calls, command = embedded.calls(), row.words[0]
+        passed = list(calls.arguments(calls.COMMANDS[command], embedded.given(row)))
+        status, numbers, text = calls.call(command, embedded.given(row))
         ends = [sum(numbers[:2] + [it for index, it in enumerate(numbers[2:count]) if index % 3 < 2]) for count in range(len(numbers))]
         for numbers_room in range(len(numbers)):
-            self.assertEqual(outcome(row.words[0], passed, numbers_room, len(text)), ((status, 0, len(numbers), len(text)), True))
+            self.assertEqual(outcome(command, passed, numbers_room, len(text)), ((status, 0, len(numbers), len(text)), True))
         for text_room in {max(0, end - 1) for end in [*ends, len(text)]} - {len(text)}:
-            self.assertEqual(outcome(row.words[0], passed, len(numbers), text_room), ((status, 0, len(numbers), len(text)), True))
+            self.assertEqual(outcome(command, passed, len(numbers), text_room), ((status, 0, len(numbers), len(text)), True))
         for spare in 0, 1:
-            found = outcome(row.words[0], passed, len(numbers) + spare, len(text) + spare)
+            found = outcome(command, passed, len(numbers) + spare, len(text) + spare)
             self.assertEqual(found, ((status, 1, len(numbers), len(text)), True))
 
 

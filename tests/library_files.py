@@ -29,15 +29,17 @@ def without_comments(text):
 
 
 def declared():
-    """The functions of the header: the type and the name of each parameter."""
+    """The functions of the header that return an outcome: the type and the name of each parameter."""
     found = re.findall(r"dyncollate_outcome (dyncollate_\w+)\((.*?)\);", without_comments(HEADER.read_text()), re.S)
     return {name: [tuple(re.fullmatch(r"(.*?)(\w+)", it.strip()).groups()) for it in parameters.split(",")] for name, parameters in found}
 
 
 def exported():
-    """The same by the exports. What has no bytes, such as the allocator, is no parameter in C."""
+    """The same by the exports, except for the version. What has no bytes, such as the allocator, is no parameter in C."""
     functions = {}
     for name, parameters, returned in re.findall(r'extern "C" fn (\w+)\((.*?)\) -> (\w+)', EXPORTS.read_text(), re.S):
+        if (name, parameters, returned) == ("dyncollate_version", "", "u32"):
+            continue
         functions[name] = []
         for parameter, kind in re.findall(r"(\w+): ([^,\n]+)", parameters):
             if kind != "Global":
@@ -61,13 +63,13 @@ class Header(unittest.TestCase):
         self.assertIn("#[repr(C)]", OUTCOME.read_text())
 
     def test_module(self):
-        """The Python module has each function, and passes what the header declares."""
-        module = embedded.module()
-        self.assertEqual({f"dyncollate_{command}" for command in module.COMMANDS}, set(declared()))
-        kinds = {"const uint8_t *": "STRING", "const size_t *": "NUMBERS"}
-        for command, parameters in module.COMMANDS.items():
-            wanted = [kinds[kind] for kind, _ in declared()[f"dyncollate_{command}"][:-4:2]]
-            self.assertEqual(parameters, [it for kind in wanted for it in getattr(module, kind)], command)
+        """The Python package has each function, and passes what the header declares."""
+        calls = embedded.calls()
+        self.assertEqual({f"dyncollate_{command}" for command in calls.COMMANDS}, set(declared()))
+        kinds = {"const uint8_t *": calls.STRING, "const size_t *": calls.NUMBERS}
+        for command, parameters in calls.COMMANDS.items():
+            wanted = [it for kind, _ in declared()[f"dyncollate_{command}"][:-4:2] for it in kinds[kind]]
+            self.assertEqual([it for kind in parameters for it in calls.PARAMETERS[kind]], wanted, command)
 
 
 @embedded.needs_tools("gcc", "g++")
@@ -90,9 +92,20 @@ class Linked(unittest.TestCase):
         return {line.split()[-1] for line in printed("nm", "-g", "--defined-only", *words).splitlines() if len(line.split()) == 3}
 
     def test_symbols(self):
-        """The functions of the header, and nothing else."""
-        self.assertEqual(self.defined(embedded.STATIC), set(declared()))
-        self.assertEqual({it.split("@")[0] for it in self.defined("-D", embedded.SHARED)}, set(declared()))
+        """The functions of the header, and nothing else. In the shared object they have the version DYNCOLLATE_1."""
+        functions = {*declared(), "dyncollate_version"}
+        self.assertEqual(self.defined(embedded.STATIC), functions)
+        self.assertEqual(self.defined("-D", embedded.SHARED), {"DYNCOLLATE_1", *(f"{it}@@DYNCOLLATE_1" for it in functions)})
+
+    @embedded.needs_tools("gcc")
+    def test_version(self):
+        """DYNCOLLATE_VERSION is that of VERSION, and the library returns it."""
+        major, minor, patch = map(int, Path(TOP, "VERSION").read_text().split("."))
+        with tempfile.TemporaryDirectory() as folder:
+            Path(folder, "v.c").write_text("#include <dyncollate.h>\n#include <stdio.h>\n"
+                                           'int main(void) { printf("%u %u\\n", (unsigned)DYNCOLLATE_VERSION, dyncollate_version()); }\n')
+            built = embedded.compiled("gcc", f"{folder}/v.c", embedded.STATIC, to=f"{folder}/v")
+            self.assertEqual(printed(built).split(), [str(10000 * major + 100 * minor + patch)] * 2)
 
     def test_calls(self):
         """Neither a file nor a socket nor a clock: nothing but the heap."""
@@ -168,6 +181,19 @@ class Examples(unittest.TestCase):
             '"target":"app","version":2}\n'
             "==> app.dd <==\nninja_dyndep_version = 1\nbuild main.o: dyndep | bmi/greet.pcm\n"
             "build greet.o | bmi/greet.pcm: dyndep\n  restat = 1\n"), ""))
+
+    @embedded.needs_tools("g++")
+    def test_wrapper(self):
+        """dyncollate.hpp: statements, files and errors."""
+        program = embedded.compiled("g++", "-std=c++17", "-pedantic", "-Wconversion", *SANITIZED, f"{TOP}/tests/wrapper.cpp", embedded.STATIC,
+                                    to=f"{self.folder}/wrapper")
+        info = '{"modules":[],"target":"t","version":2}'
+        dyndep = "ninja_dyndep_version = 1\nbuild b.o: dyndep\n"
+        self.assertEqual(self.ran(program), (0, (
+            "a restat: b c | d e f\ng: |\n3000 object2999.o m2999\n" + dyndep +
+            f"i {len(info)} restat\nd {len(dyndep)}\n2\n"
+            "3 dyncollate: cannot read s\n1 dyncollate: target: S2 BadVersion document\ndyncollate: a name is not UTF-8\n"
+            "1 dyncollate: scan 0: S1 NotJson document\n1 line 2: Y9 NoOutput\n0\n"), ""))
 
     @embedded.needs_tools("gcc")
     def test_header(self):

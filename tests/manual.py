@@ -1,5 +1,5 @@
-"""Compares the fault codes, the commands and the limits of the manual page with those of the program's sources: each of either
-has to be in the other."""
+"""Compares the fault codes, the commands and the limits of the manual page with those of the program's sources, and the functions of
+the library's page with its header: each of either has to be in the other."""
 import re
 import shutil
 import subprocess
@@ -7,7 +7,7 @@ import unittest
 from pathlib import Path
 
 TOP = Path(__file__).resolve().parent.parent
-PAGE = TOP / "docs/dyncollate.1"
+PAGE, LIBRARY_PAGE = TOP / "docs/dyncollate.1", TOP / "docs/dyncollate.3"
 FAULT = r"[NYSMEK][0-9]+ [A-Z][A-Za-z]+"
 
 
@@ -57,7 +57,24 @@ class Manual(unittest.TestCase):
                 self.assertIn(f"{int(number):,}", in_page)
 
     def test_form(self):
-        if shutil.which("mandoc"):
-            linted = subprocess.run(["mandoc", "-T", "lint", "-W", "style", PAGE], capture_output=True, text=True, check=False)
-            self.assertEqual(linted.stdout + linted.stderr, "")
-        self.assertRegex(self.page, r"(?m)^\.Dt DYNCOLLATE 1$")
+        """mandoc reports nothing, except that the pages refer to each other and are not installed."""
+        for page, chapter in (PAGE, 1), (LIBRARY_PAGE, 3):
+            if shutil.which("mandoc"):
+                linted = subprocess.run(["mandoc", "-T", "lint", "-W", "style", page], capture_output=True, text=True, check=False)
+                lines = (linted.stdout + linted.stderr).splitlines()
+                self.assertEqual([it for it in lines if f"manual not found: Xr dyncollate {4 - chapter}" not in it], [])
+            self.assertRegex(page.read_text(), rf"(?m)^\.Dt DYNCOLLATE {chapter}$")
+
+    def test_functions(self):
+        """The library's page has the functions of the header, with their parameters in order."""
+        header = re.sub(r"/\*.*?\*/", "", (TOP / "include/dyncollate.h").read_text(), flags=re.S)
+        found = re.findall(r"^(\w+) (dyncollate_\w+)\(([^)]*)\);", header, re.M)
+        self.assertTrue(found)
+        page = LIBRARY_PAGE.read_text()
+        in_page = re.findall(r'^\.Ft (\w+)\n\.Fo (\w+)\n((?:\.Fa ".*"\n)+)', page, re.M)
+        in_page = [(kind, name, ", ".join(re.findall('"(.*)"', parameters))) for kind, name, parameters in in_page]
+        in_page += re.findall(r"^\.Ft (\w+)\n\.Fn (\w+) (\w+)$", page, re.M)
+        wanted = [(kind, name, re.sub(r"\s+", " ", parameters.strip())) for kind, name, parameters in found]
+        self.assertEqual(sorted(in_page), sorted(wanted))
+        named = re.search(r"^\.Sh NAME\n(.*?)^\.Nd", page, re.M | re.S)[1]
+        self.assertEqual(sorted(re.findall(r"^\.Nm (\w+)", named, re.M)), sorted(name for _, name, _ in found))

@@ -1,4 +1,4 @@
-"""The version, the archive that ./release makes, and what ./install puts where."""
+"""The version, and the archive and the wheel that ./release makes."""
 import gzip
 import hashlib
 import json
@@ -12,6 +12,7 @@ import tarfile
 import tempfile
 import time
 import unittest
+import zipfile
 from pathlib import Path
 
 from tests import embedded, program
@@ -21,16 +22,14 @@ from tests.tools import tool
 TOP = Path(program.TOP)
 VERSION = (TOP / "VERSION").read_text().strip()
 NAME = f"dyncollate-{VERSION}-linux-x86_64"
+WHEEL = f"dyncollate-{VERSION}-py3-none-manylinux_2_17_x86_64.manylinux2014_x86_64.whl"
 # what ./release takes from the commit, and what it needs itself
-SOURCES = ["CHANGELOG.md", "VERSION", "cmake", "docs/GUIDE.md", "docs/FORMATS.md", "docs/dyncollate.1", "docs/project.schema.json",
-           "docs/target.schema.json", "examples", "include", "install"]
+SOURCES = ["CHANGELOG.md", "VERSION", "cmake", "docs/GUIDE.md", "docs/FORMATS.md", "docs/dyncollate.1", "docs/dyncollate.3",
+           "docs/project.schema.json", "docs/target.schema.json", "examples", "include", "install", "python"]
 TOOLS = [".gitignore", "ARCHIVE.md", "build", "building", "cross", "crates.txt", "release"]
 # what ./build and ./build library make, by the directory where they leave it
 BUILT = {"dyncollate": {"dyncollate": program.PROGRAM},
          "c_library": {"libdyncollate.a": embedded.STATIC, "libdyncollate.so.1": embedded.SHARED}}
-# what ./install puts below its prefix, in this order
-INSTALLED = ["share/dyncollate/installed", "bin/dyncollate", "bin/dyncollate-cmake", "share/man/man1/dyncollate.1", "include/dyncollate.h",
-             "lib/libdyncollate.a", "lib/libdyncollate.so.1", "lib/libdyncollate.so", "lib/pkgconfig/dyncollate.pc"]
 EXAMPLE = "ninja_dyndep_version = 1\nbuild obj/b.o | mod/B.bmi: dyndep\n  restat = 1\n"
 # what examples/embed/collate.c does
 BY_MODULE = """
@@ -75,7 +74,18 @@ class Version(unittest.TestCase):
         self.assertRegex(day, r"\A - \d{4}-\d\d-\d\d\Z")
 
     def test_manual(self):
-        self.assertIn(f"\n.Os dyncollate {VERSION}\n", (TOP / "docs/dyncollate.1").read_text())
+        for chapter in 1, 3:
+            self.assertIn(f"\n.Os dyncollate {VERSION}\n", (TOP / f"docs/dyncollate.{chapter}").read_text())
+
+    def test_library(self):
+        """The number in the header and in the export is that of the version."""
+        major, minor, patch = map(int, VERSION.split("."))
+        number = 10000 * major + 100 * minor + patch
+        self.assertIn(f"\n#define DYNCOLLATE_VERSION {number}\n", (TOP / "include/dyncollate.h").read_text())
+        self.assertRegex((TOP / "crates/c_library/src/lib.rt").read_text(), rf"dyncollate_version\(\) -> u32\n.*\n{{\n    {number}\n}}")
+
+    def test_package(self):
+        self.assertIn(f'\n__version__ = "{VERSION}"\n', (TOP / "python/dyncollate/__init__.py").read_text())
 
     def test_tag(self):
         if not is_clone():
@@ -83,9 +93,8 @@ class Version(unittest.TestCase):
         self.assertIn(git("tag", "--points-at", "HEAD", "--list", "v[0-9]*").split(), ([], [f"v{VERSION}"]))
 
 
-@embedded.needs_library
-class Archive(unittest.TestCase):
-    """An archive of a clone that has the files of this one, its program and its library."""
+class Released(unittest.TestCase):
+    """A test of the archive of a clone that has the files of this one, its program and its library."""
     seconds = 5
 
     @classmethod
@@ -133,8 +142,29 @@ class Archive(unittest.TestCase):
         clone = clone or cls.clone
         return call("./release", *[processor] * bool(processor), *words, cwd=clone, env=ENVIRONMENT | environment)
 
+    def in_memory(self, prefix, folder, targets):
+        """A C program that pkg-config finds the library for makes of each target what the program wrote, and so does the Python module
+        with the shared object that is installed."""
+        environment = ENVIRONMENT | {"PKG_CONFIG_PATH": f"{prefix}/lib/pkgconfig", "LD_LIBRARY_PATH": f"{prefix}/lib",
+                                     "PYTHONPATH": str(self.home / "python")}
+        self.assertEqual(call("pkg-config", "--modversion", "dyncollate", env=environment), (0, f"{VERSION}\n", ""))
+        flags = shlex.split(call("pkg-config", "--cflags", "--libs", "dyncollate", env=environment)[1])
+        collate = self.room / f"collate of {folder.name}"
+        self.assertEqual(call("gcc", self.home / "examples/embed/collate.c", *flags, "-o", collate), (0, "", ""))
+        for name in targets:
+            text = json.loads((folder / name).read_text())
+            read = [*text["scans"], *text.get("linked", [])]
+            objects = [rule["primary-output"] for it in text["scans"] for rule in json.loads((folder / it).read_text())["rules"]]
+            made = [*(f"{it}.modmap" for it in objects), text["info"], text["dyndep"]]
+            wanted = "".join(f"==> {it} <==\n{(folder / it).read_text()}" for it in made)
+            self.assertEqual(call(collate, name, *read, cwd=folder, env=environment), (0, wanted, ""), name)
+            self.assertEqual(call(sys.executable, "-c", BY_MODULE, name, *read, cwd=folder, env=environment), (0, wanted, ""), name)
+
+
+@embedded.needs_library
+class Archive(Released):
     def test_made(self):
-        self.assertEqual(self.made, (0, f"{NAME}.tar.gz\n", ""))
+        self.assertEqual(self.made, (0, f"{NAME}.tar.gz\n{WHEEL}\n", ""))
 
     def test_twice_it_has_the_same_bytes(self):
         """Also from another clone of the commit, in another place, whose files are of other times and rights."""
@@ -147,6 +177,7 @@ class Archive(unittest.TestCase):
         self.build(other)
         self.assertEqual(self.release(clone=other, LANG="tr_TR.UTF-8", TZ="Asia/Kolkata")[0], 0)
         self.assertEqual((other / f"{NAME}.tar.gz").read_bytes(), before)
+        self.assertEqual((other / WHEEL).read_bytes(), (self.clone / WHEEL).read_bytes())
 
     def test_members(self):
         """What is in it: nothing of the machine, the user or the time when it was made."""
@@ -162,6 +193,11 @@ class Archive(unittest.TestCase):
         with open(self.archive, "rb") as file:
             self.assertEqual(file.read(8)[3:], bytes(5), "neither a name nor a time in the head of gzip")
         self.assertNotIn(os.fsencode(self.room), gzip.decompress(self.archive.read_bytes()))
+
+    def test_wheel(self):
+        """It has the library of the archive."""
+        with zipfile.ZipFile(self.clone / WHEEL) as wheel:
+            self.assertEqual(wheel.read("dyncollate/libdyncollate.so.1"), (self.home / "libdyncollate.so.1").read_bytes())
 
     def test_readme(self):
         """It has the example as the program prints it, and a user of the archive proves nothing."""
@@ -241,7 +277,7 @@ class Archive(unittest.TestCase):
         (self.room / "log").write_text(good)
         folder = self.room / "logged"
         folder.mkdir()
-        self.assertEqual(call(self.clone / "release", "x86_64", self.room / "log", cwd=folder), (0, f"{NAME}.tar.gz\n", ""))
+        self.assertEqual(call(self.clone / "release", "x86_64", self.room / "log", cwd=folder), (0, f"{NAME}.tar.gz\n{WHEEL}\n", ""))
         with tarfile.open(folder / f"{NAME}.tar.gz") as tar:
             text = tar.extractfile(f"{NAME}/PROVED.txt").read().decode()
         lines = [line.strip() for line in text.splitlines()]
@@ -320,90 +356,3 @@ class Archive(unittest.TestCase):
         if shutil.which("gcc") and shutil.which("pkg-config"):
             self.assertEqual(call(self.home / "install", self.room / "of the build")[0], 0)
             self.in_memory(self.room / "of the build", folder, [f"dd/{name}.target.json" for name in ("base", "math", "app")])
-
-    def test_install(self):
-        """It says what it puts where, also a second time, and takes away exactly that."""
-        prefix = self.room / "a prefix"
-        (prefix / "share/doc").mkdir(parents=True)
-        installed = [prefix / it for it in INSTALLED]
-        said = "".join(f"{it}\n" for it in installed)
-        before = sorted(prefix.rglob("*"))
-        for _ in range(2):
-            self.assertEqual(call(self.home / "install", prefix), (0, said, ""))
-        self.assertEqual(sorted(it for it in prefix.rglob("*") if it.is_file()), sorted(installed))
-        self.assertEqual(call(prefix / "bin/dyncollate", "one", self.home / "examples/b.ddi", "mod", ".bmi"), (0, EXAMPLE, ""))
-        self.assertEqual((prefix / "share/man/man1/dyncollate.1").read_bytes(), (self.home / "docs/dyncollate.1").read_bytes())
-        self.assertEqual(call(prefix / "bin/dyncollate-cmake", "--help"), call(self.home / "cmake/dyncollate-cmake", "--help"))
-        status, out, err = call(self.home / "install", "--uninstall", prefix)
-        self.assertEqual((status, err), (0, ""))
-        self.assertEqual(sorted(prefix.rglob("*")), before)
-        folders = "bin", "include", "lib", "lib/pkgconfig", "share/dyncollate", "share/man", "share/man/man1"
-        removed = [prefix / it for it in folders] + installed
-        self.assertEqual(sorted(out.splitlines()), sorted(f"removed {it}" for it in removed))
-        self.assertEqual(call(self.home / "install", "--uninstall", prefix),
-                         (1, "", f"install: nothing is installed there: there is no {installed[0]}\n"))
-
-    def test_install_keeps_what_others_put_there(self):
-        prefix = self.room / "shared"
-        self.assertEqual(call(self.home / "install", prefix)[0], 0)
-        (prefix / "bin/other").write_text("")
-        self.assertEqual(call(self.home / "install", "--uninstall", prefix)[0], 0)
-        self.assertEqual(sorted(prefix.rglob("*")), [prefix / "bin", prefix / "bin/other"])
-
-    def test_install_words(self):
-        for words in [], ["a", "b"], [""], ["-x"], ["--uninstall"], ["--uninstall", "-x"]:
-            status, out, err = call(self.home / "install", *words, cwd=self.room)
-            self.assertEqual((status, out, err.split(":")[:2]), (2, "", ["install", " usage"]), words)
-
-    def test_install_from_the_sources(self):
-        """The program and the library are not those of the archive, which are at the top there."""
-        prefix = self.room / "of sources"
-        self.assertEqual(call(self.clone / "install", prefix)[0], 0)
-        self.assertEqual((prefix / "bin/dyncollate").read_bytes(), Path(program.PROGRAM).read_bytes())
-        self.assertEqual((prefix / "lib/libdyncollate.so").read_bytes(), Path(embedded.SHARED).read_bytes())
-
-    def test_install_for_another_place(self):
-        """With DESTDIR the files are put below it, and speak of the prefix alone."""
-        staged = self.room / "staged"
-        environment = ENVIRONMENT | {"DESTDIR": str(staged)}
-        said = "".join(f"{staged}/no/such/prefix/{it}\n" for it in INSTALLED)
-        self.assertEqual(call(self.home / "install", "/no/such/prefix", env=environment), (0, said, ""))
-        self.assertTrue((staged / "no/such/prefix/lib/pkgconfig/dyncollate.pc").read_text().startswith("prefix=/no/such/prefix\n"))
-        self.assertFalse(Path("/no/such/prefix").exists())
-        self.assertEqual(call(self.home / "install", "prefix", env=environment, cwd=self.room)[0], 2)
-        self.assertEqual(call(self.home / "install", "--uninstall", "/no/such/prefix", env=environment)[0], 0)
-        self.assertEqual(list((staged / "no/such/prefix").iterdir()), [])
-
-    def in_memory(self, prefix, folder, targets):
-        """A C program that pkg-config finds the library for makes of each target what the program wrote, and so does the Python module
-        with the shared object that is installed."""
-        environment = ENVIRONMENT | {"PKG_CONFIG_PATH": f"{prefix}/lib/pkgconfig", "LD_LIBRARY_PATH": f"{prefix}/lib",
-                                     "PYTHONPATH": str(self.home / "examples/embed")}
-        self.assertEqual(call("pkg-config", "--modversion", "dyncollate", env=environment), (0, f"{VERSION}\n", ""))
-        flags = shlex.split(call("pkg-config", "--cflags", "--libs", "dyncollate", env=environment)[1])
-        collate = self.room / f"collate of {folder.name}"
-        self.assertEqual(call("gcc", self.home / "examples/embed/collate.c", *flags, "-o", collate), (0, "", ""))
-        for name in targets:
-            text = json.loads((folder / name).read_text())
-            read = [*text["scans"], *text.get("linked", [])]
-            objects = [rule["primary-output"] for it in text["scans"] for rule in json.loads((folder / it).read_text())["rules"]]
-            made = [*(f"{it}.modmap" for it in objects), text["info"], text["dyndep"]]
-            wanted = "".join(f"==> {it} <==\n{(folder / it).read_text()}" for it in made)
-            self.assertEqual(call(collate, name, *read, cwd=folder, env=environment), (0, wanted, ""), name)
-            self.assertEqual(call(sys.executable, "-c", BY_MODULE, name, *read, cwd=folder, env=environment), (0, wanted, ""), name)
-
-    @embedded.needs_tools("gcc", "pkg-config")
-    def test_embedded(self):
-        prefix, folder = self.room / "with library", self.room / "libs"
-        self.assertEqual(call(self.home / "install", prefix)[0], 0)
-        shutil.copytree(f"{DATA}/libs", folder)
-        for made in folder.glob("expected/*"):
-            shutil.copytree(made, folder / made.name)
-        for file in [*folder.glob("dd/*"), *folder.glob("obj/**/*.modmap")]:
-            file.unlink()
-        self.assertEqual(call(prefix / "bin/dyncollate", "project", "project.json", cwd=folder), (0, "", ""))
-        self.in_memory(prefix, folder, [f"{name}.target.json" for name in TARGETS["libs"]])
-
-    def test_install_where_no_file_can_be_made(self):
-        (self.room / "file").write_text("")
-        self.assertEqual(call(self.home / "install", self.room / "file"), (1, "", f"install: cannot make the directory {self.room}/file\n"))

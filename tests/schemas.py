@@ -1,5 +1,6 @@
 """Compares docs/target.schema.json and docs/project.schema.json with the rows: a document that is rejected for what it says
-itself is not valid, and one that is accepted is. Python's `jsonschema` is needed, as Debian has it in python3-jsonschema."""
+itself is not valid, and one that is accepted is, unless it has members that the program ignores. Python's `jsonschema` is needed,
+as Debian has it in python3-jsonschema."""
 import json
 import os
 import re
@@ -16,6 +17,11 @@ except ImportError:
 DOCS = Path(__file__).resolve().parent.parent / "docs"
 # What no schema can say: for JSON 1.0 and 1e0 are 1, and which paths are above the root.
 BEYOND = {"S2 BadVersion: version b'1.0'", "S2 BadVersion: version b'1e0'", "S3 BadShape: a build directory above the root"}
+
+# The members that FORMATS has, and `$schema`, which editors read.
+MEMBERS = {"target": {"version", "target", "module-dir", "module-ext", "build-dir", "scans", "linked", "private", "dyndep", "info", "map",
+                      "edges", "restat", "$schema"},
+           "project": {"version", "targets", "$schema"}}
 
 
 def documents(row):
@@ -50,9 +56,25 @@ class Schemas(unittest.TestCase):
         for row in all_rows():
             for kind, text, accepted in documents(row):
                 with self.subTest(row.name, line=row.line):
-                    self.assertEqual(self.valid[kind](json.loads(text)), accepted)
+                    document = json.loads(text)
+                    if isinstance(document, dict) and set(document) - MEMBERS[kind]:
+                        self.assertFalse(self.valid[kind](document), "it has other members")
+                        document = {name: value for name, value in document.items() if name in MEMBERS[kind]}
+                    self.assertEqual(self.valid[kind](document), accepted)
                     counts[kind, accepted] += 1
         self.assertTrue(all(count >= 10 for count in counts.values()), counts)
+
+    def test_misspelt_members(self):
+        """Each member with a letter less, with another one, and in capitals. As it should be, it is valid."""
+        smallest = {"target": {"version": 1, "target": "t", "module-dir": "", "module-ext": "", "dyndep": "d", "info": "i"},
+                    "project": {"version": 1, "targets": []}}
+        for kind, document in smallest.items():
+            for member in MEMBERS[kind]:
+                right = document | {member: document.get(member, "x" if member == "$schema" else None)}
+                self.assertTrue(self.valid[kind](right), member)
+                for wrong in {member[:at] + more + member[at + 1:] for at in range(len(member)) for more in ("", "q")} | {member.upper()}:
+                    if wrong not in MEMBERS[kind]:
+                        self.assertFalse(self.valid[kind](right | {wrong: right[member]}), wrong)
 
     def test_documents_of_the_pages(self):
         """Those that GUIDE and the manual show are valid."""

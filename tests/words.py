@@ -77,7 +77,7 @@ def comments(path):
 
 
 def pages():
-    return sorted([*TOP.glob("*.md"), *TOP.glob("docs/*.[m1]*"), *TOP.glob("crates/*/README.md"), *TOP.glob("tests/*.md")])
+    return sorted([*TOP.glob("*.md"), *TOP.glob("docs/*.[m13]*"), *TOP.glob("crates/*/README.md"), *TOP.glob("python/*.md"), *TOP.glob("tests/*.md")])
 
 
 def sources():

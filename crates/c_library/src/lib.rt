@@ -129,3 +129,12 @@ pub extern "C" fn dyncollate_statements(
 {
     statements_into(alloc, dyndep, numbers, text)
 }
+
+/// Returns the version of the library: 10000 times the major version, 100 times the minor one, and
+/// the patch, as `DYNCOLLATE_VERSION` in the header.
+#[unsafe(no_mangle)]
+pub extern "C" fn dyncollate_version() -> u32
+    ensures { result ≡ 10100 }
+{
+    10100
+}

@@ -1,0 +1,221 @@
+"""Each step of the examples in a sandbox that has the files which docs/GUIDE.md lists for it, the tools, and nothing else, as a remote
+executor runs it: it writes the files that GUIDE lists, with the bytes that they have in an ordinary build. Without one of the files
+of a map, a compilation fails that reads it. Debian's `bubblewrap` makes the sandboxes; a test whose tool is missing is skipped."""
+import json
+import os
+import re
+import shutil
+import tempfile
+import unittest
+from collections import namedtuple
+from pathlib import Path
+
+from tests import program
+from tests.builds import EXAMPLES, Folder, edit, standard_modules
+from tests.side_by_side import side_by_side
+from tests.tools import output_of, tool
+
+load_tests = side_by_side
+# A step: its kind, its command, and the files that it reads and writes.
+Step = namedtuple("Step", "kind command reads writes")
+# Clang 19 writes one of several texts for some module files, so a step is tried some times.
+TRIES = 20
+
+
+class Sandboxed(Folder):
+    """A build of an example, and its steps in sandboxes."""
+    seconds = 60
+    example = form = ""
+
+    def setUp(self):
+        self.tools = ["ninja", "clang", "scanner"] + (["gcc"] if self.form == "gcc" else [])
+        super().setUp()
+        if not shutil.which("bwrap") or output_of("bwrap", "--ro-bind", "/", "/", "true")[0]:
+            self.skipTest("bubblewrap: not there, or not allowed")
+        self.before()
+        self.copy(self.example, self.form)
+        self.assertEqual(self.ninja()[0], 0, self.log)
+
+    def before(self):
+        pass
+
+    # ---- the steps, by the rules of GUIDE
+
+    def asked(self, *words):
+        status, text = output_of(tool("ninja"), "-t", *words, env=self.environment)
+        self.assertEqual(status, 0, text)
+        return text
+
+    def below(self, name):
+        """The files of the project that a depfile named, as Ninja has kept them. Others are the tools' own."""
+        names = re.findall(r"^    (.*)$", self.asked("deps", name), re.M)
+        return [it for it in map(os.path.normpath, names) if not os.path.isabs(it)]
+
+    def of_documents(self, documents):
+        """What a collation reads besides these documents, and what it writes."""
+        targets = [json.loads(Path(it).read_text()) for it in documents]
+        scans = [scan for it in targets for scan in it["scans"]]
+        objects = [rule["primary-output"] for it in scans for rule in json.loads(Path(it).read_text())["rules"]]
+        return targets, scans, [f"{it}.modmap" for it in objects] + [it[key] for it in targets for key in ("info", "dyndep")]
+
+    def provided_and_needed(self, name):
+        """The files in an object's map: those that the compilation writes, and those that it may read."""
+        lines = Path(f"{name}.modmap").read_text().splitlines()
+        if self.form != "gcc":
+            return ([it.split("=", 1)[1] for it in lines if it.startswith("-fmodule-output=")],
+                    [it.split("=", 2)[2] for it in lines if it.startswith("-fmodule-file=")])
+        files = [it.split(" ", 1)[1] for it in lines]
+        return [it for it in files if it in self.outputs[name]], [it for it in files if it not in self.outputs[name]]
+
+    def step(self, kind, output, command, source):
+        if kind in ("archive", "link"):
+            return Step(kind, command, set(re.findall(r"^    (?!\|)(.*)$", self.asked("query", output).split("  outputs:")[0], re.M)), {output})
+        if kind == "scan":
+            return Step(kind, command, {source, *self.below(output)}, {output, f"{output}.d"})
+        if kind == "collate":
+            documents = json.loads(Path(source).read_text()).get("targets", [source])
+            targets, scans, written = self.of_documents(documents)
+            linked = [info for it in targets for info in it["linked"]] if documents == [source] else []
+            return Step(kind, command, {source, *documents, *scans, *linked}, set(written))
+        provided, needed = self.provided_and_needed(output)
+        return Step(kind, command, {source, f"{output}.modmap", *self.below(output), *needed}, {output, f"{output}.d", *provided})
+
+    def steps(self):
+        """All steps of the build, by their kinds."""
+        statements = re.findall(r"^build (\S+)(?: \| (.*))?: dyndep", "".join(it.read_text() for it in Path("dd").glob("*.dd")), re.M)
+        self.outputs = {name: outputs.split(" ") for name, outputs in statements}
+        for kind in "scan", "collate", "compile", "archive", "link":
+            for it in json.loads(self.asked("compdb", kind)):
+                yield self.step(kind, os.path.normpath(it["output"]), it["command"], os.path.normpath(it["file"]))
+
+    # ---- sandboxes
+
+    def sandbox(self, step, without=()):
+        """Runs a step in a folder that has only the files that it reads. Returns its status, what it prints, and the files that it
+        leaves."""
+        room = Path(tempfile.mkdtemp(dir="..", prefix="alone-")).resolve()
+        self.addCleanup(shutil.rmtree, room, ignore_errors=True)
+        for name in step.reads | step.writes:
+            (room / name).parent.mkdir(parents=True, exist_ok=True)
+        reads = [it for it in step.reads if not os.path.isabs(it) and it not in without]
+        for name in reads:
+            shutil.copy(name, room / name)
+            (room / name).chmod(0o444)
+        words = ["bwrap", "--unshare-all", "--die-with-parent", "--ro-bind", "/usr", "/usr", "--proc", "/proc", "--dev", "/dev",
+                 "--tmpfs", "/tmp", "--dir", "/var/tmp"]
+        for name in "bin", "lib", "lib64", "sbin":
+            words += ["--symlink", f"usr/{name}", f"/{name}"] if os.path.islink(f"/{name}") else ["--ro-bind", f"/{name}", f"/{name}"]
+        for name in {program.PROGRAM, *(os.path.realpath(tool(it)) for it in self.tools)}:
+            if not name.startswith("/usr/"):
+                words += ["--ro-bind", name, name]
+        words += ["--bind", room, os.getcwd(), "--chdir", os.getcwd(), "sh", "-c", step.command]
+        status, printed = output_of(*words, env={"PATH": os.environ["PATH"], "SOURCE_DATE_EPOCH": "1"})
+        left = {str(it.relative_to(room)): it.read_bytes() for it in room.rglob("*") if it.is_file()}
+        return status, printed, {name: text for name, text in left.items() if name not in reads}
+
+    def same(self, step):
+        """A step writes what GUIDE lists. Ninja removes depfiles, so they are not compared."""
+        different = set()
+        for _ in range(TRIES):
+            status, printed, left = self.sandbox(step)
+            self.assertEqual((status, printed), (0, ""), step)
+            self.assertEqual(set(left), step.writes, step)
+            different = {name for name, text in left.items() if not name.endswith(".d") and text != Path(name).read_bytes()}
+            if not different:
+                return
+        self.fail(f"{sorted(different)}: other bytes than in the build, by {step}")
+
+    def test_each_step(self):
+        kinds = [(step.kind, self.same(step)) for step in self.steps()]
+        sources, targets = len(list(Path("obj").rglob("*.o"))), len(list(Path("dd").glob("*.target.json")))
+        collations = 1 if self.form == "project" else targets
+        wanted = ["scan"] * sources + ["collate"] * collations + ["compile"] * sources + ["archive"] * (targets - 1) + ["link"]
+        self.assertEqual([kind for kind, _ in kinds], wanted)
+
+    def test_a_file_of_a_map_that_is_missing(self):
+        """The compilation fails, and names the file. GCC does not read a partition that the source does not import itself."""
+        count = 0
+        for step in self.steps():
+            maps = [it for it in step.reads if it.endswith(".modmap")]
+            for name in step.reads & self.modules() if step.kind == "compile" else ():
+                required = self.required(maps[0].removesuffix(".modmap"))
+                status, printed, left = self.sandbox(step, without={name})
+                # (the file of a partition a:b is a-b.gcm)
+                if self.form == "gcc" and name not in required and "-" in os.path.basename(name):
+                    self.assertEqual((status, printed, set(left)), (0, "", step.writes), (step, name))
+                else:
+                    self.assertNotEqual(status, 0, (step, name))
+                    self.assertIn(os.path.basename(name), printed)
+                    count += 1
+        self.assertGreater(count, 2)
+
+    def modules(self):
+        """The module files of the build."""
+        return {name for names in self.outputs.values() for name in names if name}
+
+    def required(self, name):
+        """The module files that an object's source imports itself, as its dyndep file has them."""
+        found = re.search(rf"^build {re.escape(name)}(?: \|[^:]*)?: dyndep(?: \| (.*))?$",
+                          "".join(it.read_text() for it in Path("dd").glob("*.dd")), re.M)
+        return (found[1] or "").split(" ")
+
+    def test_a_file_that_is_not_declared(self):
+        """What a step needs is really missing: without its source or its map it fails."""
+        steps = {it.kind: it for it in self.steps()}
+        for kind, suffix in ("scan", (".cpp", ".cppm")), ("collate", ".json"), ("compile", (".cpp", ".cppm")), ("compile", ".modmap"):
+            for name in steps[kind].reads:
+                if name.endswith(suffix) and not os.path.isabs(name):
+                    self.assertNotEqual(self.sandbox(steps[kind], without={name})[0], 0, name)
+
+
+for one in EXAMPLES:
+    for form_ in "clang", "gcc", "project":
+        title = f"{one.title()}{'InA' if form_ == 'project' else 'With'}{form_.title()}"
+        globals()[title] = type(title, (Sandboxed,), {"example": one, "form": form_})
+
+
+class StdWithClang(Sandboxed):
+    example, form, seconds = "std", "clang", 240
+
+    def before(self):
+        if not standard_modules(tool("clang"), "-stdlib=libc++", "-print-file-name=libc++.modules.json"):
+            self.skipTest("libc++-19-dev: not there")
+
+
+del Sandboxed
+
+
+@unittest.skipUnless(shutil.which("ccache"), "ccache: not there")
+class Ccache(Folder):
+    """ccache with a source that imports a module, which changes."""
+    tools = ["ninja", "clang", "scanner"]
+
+    def setUp(self):
+        super().setUp()
+        if " version 4.7" not in output_of("ccache", "--version")[1]:
+            self.skipTest("ccache 4.7: not there")
+        self.environment |= {"CCACHE_DIR": f"{os.getcwd()}/ccache"}
+        Path("targets").write_text("program app main.cpp a.cppm\n")
+        Path("main.cpp").write_text('import a;\nextern "C" int printf(const char *, ...);\nint main() { printf("%d\\n", number()); }\n')
+        Path("a.cppm").write_text("export module a;\nexport constexpr int number() { return 1; }\n")
+        self.generate("clang", "targets")
+
+    def test_a_stale_object(self):
+        """The object of the importer is the old one."""
+        edit("build.ninja", r"^  command = (\$clang .*@\$out\.modmap)", r"  command = ccache \1")
+        self.makes("1")
+        edit("a.cppm", "return 1", "return 2")
+        self.makes("1")
+
+    def test_the_files_of_the_map_in_the_key(self):
+        """With the command of GUIDE the program is right, and an object that fits is taken from the cache."""
+        command = re.search(r"^  command = CCACHE_EXTRAFILES=.*\n    .*\n", (Path(program.TOP) / "docs/GUIDE.md").read_text(), re.M)[0]
+        edit("build.ninja", r"^  command = \$clang .*@\$out\.modmap.*\n.*\n", command.replace("\\", r"\\"))
+        for number, hits in (1, 0), (2, 0), (1, 1):
+            edit("a.cppm", r"return \d", f"return {number}")
+            self.makes(str(number))
+            counted = output_of("ccache", "--print-stats", env=self.environment)[1]
+            self.assertEqual(int(re.search(r"^direct_cache_hit\t(\d+)$", counted, re.M)[1]), hits)
+
+if __name__ == "__main__":
+    unittest.main()
