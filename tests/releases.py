@@ -35,6 +35,8 @@ EXAMPLE = "ninja_dyndep_version = 1\nbuild obj/b.o | mod/B.bmi: dyndep\n  restat
 # what examples/embed/collate.c does
 BY_MODULE = """
 import dyncollate, sys
+
+NEEDS_LIBRARY = True
 document, *files = [open(name, "rb").read() for name in sys.argv[1:]]
 for name, text in dyncollate.collate(document, dict(zip(sys.argv[2:], files))).items():
     print(f"==> {name} <==\\n{text.decode()}", end="")
