@@ -1,14 +1,30 @@
-"""The tests of the program, in the standard library's `unittest`; README.md says what is where, and how to run one."""
-SUBJECTS = ["arguments", "scan_documents", "infos", "targets", "projects", "modules", "dyndep_files", "listings", "effects",
-            "tables", "files", "earlier_files", "restat", "whole_files", "devices", "growths", "damage", "random_documents",
-            "broken_programs", "manual", "reading", "words", "crates", "pictures", "lemmas", "callers", "builds", "cmake", "cmake_builds",
-            "generator", "traps", "sandboxes", "library", "library_files", "fuzzing", "broken_libraries", "python_package", "schemas",
-            "releases", "installs", "building", "crossing"]
-# Those that need libdyncollate, which ./build library makes, or what ./build aarch64 makes.
-OF_LIBRARY = ["library", "library_files", "fuzzing", "broken_libraries", "python_package", "releases", "installs", "crossing"]
+"""The tests of the program, in the standard library's `unittest`; README.md says what is where, and how to run one.
+
+A module here has tests if it defines a class with some. At its top it may say two things about them:
+- `NEEDS_LIBRARY = True`: they test libdyncollate, which `./build library` makes, or what `./build aarch64` makes.
+- `RUN_BY = "devices"`: they are not among all tests, because another module runs them, or a person.
+"""
+import importlib
+import os
+import pathlib
+import unittest
+
+
+def has_tests(module):
+    """Whether a module defines a class with tests of its own."""
+    classes = [it for it in vars(module).values() if isinstance(it, type) and it.__module__ == module.__name__]
+    return any(issubclass(it, unittest.TestCase) and unittest.defaultTestLoader.getTestCaseNames(it) for it in classes)
+
+
+def modules():
+    """All modules with tests, in the order of their names."""
+    names = sorted(it.stem for it in pathlib.Path(__file__).parent.glob("*.py") if it.stem != "__init__")
+    return [it for it in (importlib.import_module(f"tests.{name}") for name in names) if has_tests(it)]
 
 
 def load_tests(loader, *_):
-    """The tests of all subjects, some at a time."""
+    """The tests of all modules, some at a time: with TESTS=library those of libdyncollate, with TESTS=program all others."""
     from tests.side_by_side import SideBySide
-    return SideBySide(loader.loadTestsFromNames(f"tests.{subject}" for subject in SUBJECTS))
+    wanted = os.environ.get("TESTS")
+    return SideBySide(loader.loadTestsFromModule(it) for it in modules() if not hasattr(it, "RUN_BY")
+                      if wanted not in ("library", "program") or hasattr(it, "NEEDS_LIBRARY") == (wanted == "library"))

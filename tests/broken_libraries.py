@@ -11,6 +11,8 @@ from tests.case import each
 from tests.program import TOP
 from tests.side_by_side import SideBySide
 
+NEEDS_LIBRARY = True
+
 # The tests that a library without a fault passes, though it accepts no input, and how the libraries are broken that they catch. The last
 # three see that it accepts no input.
 BROKEN = {

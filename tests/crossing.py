@@ -15,6 +15,8 @@ from tests import embedded, fuzzing
 from tests.library import WORKED
 from tests.program import TOP
 
+NEEDS_LIBRARY = True
+
 CROSS = [f"{TOP}/cross/heap.c", f"{TOP}/cross/system.c"]
 ROWS = [f"tests.{it}" for it in ("arguments", "scan_documents", "infos", "targets", "projects", "modules", "dyndep_files", "listings",
                                  "effects")]

@@ -7,6 +7,8 @@ from tests.case import Case, cannot, each, read, tree, write
 from tests.devices import UNWRITTEN, WRITTEN, wholly_before
 from tests.rows import V
 
+RUN_BY = "devices"
+
 PAGE, PAGES = resource.getpagesize(), 16
 
 

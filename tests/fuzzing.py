@@ -22,6 +22,8 @@ from tests.program import TOP
 from tests.tables import all_rows
 from tests.tools import tool
 
+NEEDS_LIBRARY = True
+
 FUZZ = f"{TOP}/tests/fuzz"
 TARGETS = "collate", "project", "one", "effect", "order", "show", "statements"
 SECONDS, LONGEST = 4, 1 << 14

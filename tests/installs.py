@@ -12,6 +12,8 @@ from tests import embedded, program, releases
 from tests.files import DATA, TARGETS
 from tests.releases import ENVIRONMENT, EXAMPLE, VERSION, call
 
+NEEDS_LIBRARY = True
+
 REAL = f"libdyncollate.so.{VERSION}"
 # what ./install puts below its prefix, and examples. LIB is the directory of the libraries.
 INSTALLED = ["bin/dyncollate", "bin/dyncollate-cmake", "include/dyncollate.h", "include/dyncollate.hpp",

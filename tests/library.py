@@ -15,6 +15,8 @@ from tests.rows.forms import statement
 from tests.side_by_side import side_by_side
 from tests.tables import all_rows, worked
 
+NEEDS_LIBRARY = True
+
 load_tests = side_by_side
 ASKED = [row for row in all_rows() if embedded.is_asked(row)]
 WORKED = [row for row in worked() if embedded.is_asked(row)]

@@ -12,6 +12,8 @@ from tests.case import each, tree
 from tests.files import DATA, TARGETS, document
 from tests.program import TOP
 
+NEEDS_LIBRARY = True
+
 HEADER = Path(TOP, "include/dyncollate.h")
 EXPORTS = Path(TOP, "crates/c_library/src/lib.rt")
 OUTCOME = Path(TOP, "crates/in_memory/src/reply.rt")

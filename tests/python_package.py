@@ -15,6 +15,8 @@ from tests.case import each
 from tests.program import TOP
 from tests.tables import all_rows
 
+NEEDS_LIBRARY = True
+
 TARGET = (b'{"version":1,"target":"app","module-dir":"bmi","module-ext":".pcm","scans":["main.ddi"],'
           b'"dyndep":"app.dd","info":"app.info.json"}')
 SCAN = b'{"version":1,"rules":[{"primary-output":"main.o"}]}'

@@ -19,6 +19,8 @@ from tests import embedded, program
 from tests.files import DATA, TARGETS
 from tests.tools import tool
 
+NEEDS_LIBRARY = True
+
 TOP = Path(program.TOP)
 VERSION = (TOP / "VERSION").read_text().strip()
 NAME = f"dyncollate-{VERSION}-linux-x86_64"

@@ -15,6 +15,8 @@ from pathlib import Path
 
 from tests.program import TOP
 
+RUN_BY = "a person, for some minutes"
+
 PARTS = ["build", "building", "crates.txt", "cross"]
 
 

@@ -1,5 +1,9 @@
-"""A suite whose tests run in as many processes as there are processors."""
+"""A suite whose tests run in as many processes as there are processors. At its end it prints `N passed, M failed`, and writes the
+same to the file that the environment variable RESULTS names, as JSON, with the tests that were skipped and why."""
+import atexit
+import collections
 import concurrent.futures
+import json
 import multiprocessing
 import os
 import queue
@@ -60,6 +64,17 @@ def report(result, test, found):
     result.stopTest(test)
 
 
+def count(result):
+    """Prints what came of all tests, as the last line of the process, and writes it to the file RESULTS."""
+    failed = len(result.failures) + len(result.errors) + len(result.unexpectedSuccesses)
+    counts = {"passed": result.testsRun - failed - len(result.skipped), "failed": failed,
+              "skipped": {test.id(): reason for test, reason in result.skipped}}
+    atexit.register(lambda: print(f"{counts['passed']} passed, {failed} failed, {len(result.skipped)} skipped", flush=True))
+    if os.environ.get("RESULTS"):
+        with open(os.environ["RESULTS"], "w", encoding="utf-8") as file:
+            json.dump(counts, file)
+
+
 def flat(suite):
     """The tests of a suite and of those in it."""
     for it in suite:
@@ -84,7 +99,7 @@ class SideBySide(unittest.TestSuite):
             number_of = {pool.submit(outcomes_of, number): number for number in range(len(running))}
             for future in number_of:
                 future.add_done_callback(ended.put)
-            for future in in_turn(ended, len(running)):
+            for future in in_turn(ended, number_of):
                 error = future.exception()
                 found = [("addError", f"its process ended: {error!r}")] if error else future.result()
                 report(result, running[number_of[future]], found)
@@ -94,6 +109,7 @@ class SideBySide(unittest.TestSuite):
             pool.shutdown(cancel_futures=True)
         for test, reason in result.skipped:
             print(f"\nskipped: {test.id()}: {reason}", file=sys.stderr, end="")
+        count(result)
         return result
 
 
@@ -102,14 +118,20 @@ def side_by_side(_loader, tests, _pattern):
     return SideBySide(tests)
 
 
-def in_turn(ended, count):
-    """So many that end, with a line every some seconds on how far they are."""
+def what_runs(futures):
+    """The modules whose tests run now, each with how many of them."""
+    counts = collections.Counter(type(running[number]).__module__ for future, number in futures.items() if future.running())
+    return ", ".join(f"{module} ({number})" if number > 1 else module for module, number in sorted(counts.items()))
+
+
+def in_turn(ended, futures):
+    """The futures as they end, with a line every some seconds on how far they are and what runs."""
     began = said = time.monotonic()
-    for number in range(count):
+    for number in range(len(futures)):
         while True:
             if time.monotonic() - said >= SECONDS:
                 said = time.monotonic()
-                print(f"\n{number} of {count} tests, {said - began:.0f} s", file=sys.stderr, flush=True)
+                print(f"\n{number} of {len(futures)} tests, {said - began:.0f} s: {what_runs(futures)}", file=sys.stderr, flush=True)
             try:
                 yield ended.get(timeout=max(0, said + SECONDS - time.monotonic()))
                 break

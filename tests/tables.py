@@ -1,7 +1,11 @@
-"""The tables of rows themselves."""
+"""The tables of rows themselves, and the table of README.md."""
 import hashlib
 import importlib
+import re
 import unittest
+from pathlib import Path
+
+from tests import modules
 
 SUBJECTS = ["arguments", "scan_documents", "infos", "targets", "projects", "modules", "dyndep_files", "listings", "effects"]
 
@@ -26,3 +30,9 @@ class Tables(unittest.TestCase):
             if earlier is not row:
                 twice.append((earlier.name, row.name))
         self.assertEqual(twice, [])
+
+    def test_readme_lists_each_module(self):
+        """The table of README.md has each module with tests, once."""
+        rows = re.findall(r"^\| (`.*?) \|", Path(__file__).with_name("README.md").read_text(encoding="utf-8"), re.M)
+        listed = [name for row in rows for name in re.findall(r"`(\w+)`", row)]
+        self.assertEqual(sorted(listed), [it.__name__.split(".")[-1] for it in modules()])
