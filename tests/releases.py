@@ -29,8 +29,9 @@ TOOLS = [".gitignore", "ARCHIVE.md", "build", "crates.txt", "release"]
 BUILT = {"dyncollate": {"dyncollate": program.PROGRAM},
          "c_library": {"libdyncollate.a": embedded.STATIC, "libdyncollate.so.1": embedded.SHARED}}
 # what ./install puts below its prefix, in this order
-INSTALLED = ["share/dyncollate/installed", "bin/dyncollate", "bin/dyncollate-cmake", "share/man/man1/dyncollate.1", "include/dyncollate.h",
-             "lib/libdyncollate.a", "lib/libdyncollate.so.1", "lib/libdyncollate.so", "lib/pkgconfig/dyncollate.pc"]
+INSTALLED = ["share/dyncollate/installed", "bin/dyncollate", "bin/dyncollate-cmake", "bin/dyncollate-ninja",
+             *(f"share/dyncollate/cmake_{it}.py" for it in ("adopt", "exports", "files", "step")), "share/man/man1/dyncollate.1",
+             "include/dyncollate.h", "lib/libdyncollate.a", "lib/libdyncollate.so.1", "lib/libdyncollate.so", "lib/pkgconfig/dyncollate.pc"]
 EXAMPLE = "ninja_dyndep_version = 1\nbuild obj/b.o | mod/B.bmi: dyndep\n  restat = 1\n"
 # what examples/embed/collate.c does
 BY_MODULE = """
