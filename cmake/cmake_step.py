@@ -5,6 +5,7 @@ that are quick to import.
 """
 import json
 import os
+import sys
 
 from cmake_exports import write_exports
 from cmake_files import Wrong, depend_info, document, escaped, read, write, write_if_changed
@@ -72,7 +73,7 @@ def step(program, name):
     write_if_changed(own, json.dumps({**given, "scans": scans, "private": private}, indent=1))
     status = call([program, "collate", own])
     if status:
-        return explained(program, status, own)
+        return explained(program, status, own) or status
     finish_module_files([it.path for it in objects if it.is_module_file], given["dyndep"])
     write_exports(target, objects, given)
     return 0
@@ -102,25 +103,35 @@ def finish_module_files(paths, dyndep):
 # ---- a step that failed
 
 def why(program, status, name):
-    """Says why the program's step of the target of this document failed, and returns the status. The dyndep file may only have
-    modules where CMake does not allow them, or not have them where CMake needs them."""
+    """Says why the step of the target of this document failed, and returns the status. The program may have failed, or been killed;
+    or its dyndep file has a module where CMake allows none, or none where CMake needs one. Otherwise the step is well, and done."""
     if status <= SIGNAL:
         check_file_sets(objects_of(document(name))[1])
     return explained(program, status, name)
 
 
 def explained(program, status, name):
-    """Says more about a run of the program that failed and has printed its line, and returns the status."""
+    """Says more about a run of the program that failed and has printed its line. Returns the status of another run."""
     import subprocess  # only failures need it
     if status > SIGNAL:
         raise Wrong(f"{program} was killed by signal {status - SIGNAL}", 3)
     again = subprocess.run([program, "collate", name], stderr=subprocess.PIPE, check=False)
-    explainer = program_beside(program, "dyncollate-explain")
-    if explainer and again.returncode:
-        subprocess.run([explainer, name], input=again.stderr, check=False)
-    elif again.returncode:
-        print_document(os.fsdecode(again.stderr), name)
+    if again.returncode:
+        explainer = program_beside(program, "dyncollate-explain")
+        if explainer:
+            subprocess.run([explainer, name], input=again.stderr, check=False)
+        kind, number, named = numbered_document(os.fsdecode(again.stderr), document(name))
+        if kind == "info":
+            # Ninja makes a file again that is not there, but does not know that this one is damaged
+            os.remove(named)
+            say(f"{kind} {number} was {named}, which is removed: the next build makes it again")
+        elif kind and not explainer:
+            say(f"{kind} {number} is {named}")
     return again.returncode
+
+
+def say(line):
+    print(f"dyncollate-cmake: {line}", file=sys.stderr)
 
 
 def program_beside(program, name):
@@ -129,10 +140,11 @@ def program_beside(program, name):
     return next((path for it in folders if os.access(path := os.path.join(it, name), os.X_OK)), None)
 
 
-def print_document(line, name):
-    """Prints the name of the document whose number is in a line of the program."""
+def numbered_document(line, target_document):
+    """Returns the kind, the number and the name of the document that a line of the program is about, such as `dyncollate: scan 3: ..`."""
     member = {"scan": "scans", "info": "linked"}
     words = line.split(" ", 3)
-    if len(words) == 4 and words[1] in member and words[2].endswith(":"):
-        named = document(name)[member[words[1]]][int(words[2][:-1])]
-        raise Wrong(f"{words[1]} {words[2][:-1]} is {named}")
+    if len(words) < 4 or words[1] not in member or not words[2].endswith(":"):
+        return None, None, None
+    number = int(words[2][:-1])
+    return words[1], number, target_document[member[words[1]]][number]

@@ -687,6 +687,17 @@ class Steps(Case):
             self.adopt()
             self.assertEqual(step("t"), (3, f"dyncollate: cannot read {os.getcwd()}/l/CXXModules.json\n"))
 
+    def test_a_damaged_info_file_is_removed(self):
+        """Ninja makes it again then, because it is an output of the step of the linked target."""
+        self.target("l", {})
+        self.scan("l", "a.cpp")
+        for _ in self.both_kinds(linked=["l"]):
+            self.scan("t", "a.cpp")
+            put("l/CXXModules.json", "{")
+            self.fails("dyncollate: info 0: S1 NotJson document", f"dyncollate-cmake: info 0 was {os.getcwd()}/l/CXXModules.json, "
+                       "which is removed: the next build makes it again")
+            self.assertFalse(os.path.exists("l/CXXModules.json"))
+
     def test_two_linked_targets_with_modules_of_one_name(self):
         for name in "x", "y":
             self.target(name, {"d.cppm": {}})

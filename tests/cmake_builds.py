@@ -90,36 +90,34 @@ target_link_libraries(app PRIVATE mid)
     "mid.cppm": "export module mid;\nimport words;\nexport inline int mid() { return part() + words(); }\n",
     "main.cpp": "import mid;\nint main() { return mid() - 3; }\n",
 }
-# A project with each kind of target: a library with a private module, one whose directory has a space in its name, one that is
-# exported, one that uses a package, and a program that has private modules of its own.
+# A project with each kind of target: a library with a private module, a plain one, one that is exported, one that uses a package,
+# and a program that has private modules of its own.
 KINDS = {
     "CMakeLists.txt": HEAD + """find_package(words REQUIRED)
 add_library(hides STATIC hides.cpp)
 target_sources(hides PUBLIC FILE_SET CXX_MODULES FILES hides.cppm PRIVATE FILE_SET own TYPE CXX_MODULES FILES secret.cppm)
-add_subdirectory("a space")
+add_library(plain STATIC)
+target_sources(plain PUBLIC FILE_SET CXX_MODULES FILES plain.cppm)
 add_library(shown STATIC)
 target_sources(shown PUBLIC FILE_SET CXX_MODULES FILES shown.cppm)
 target_link_libraries(shown PUBLIC hides)
 target_compile_features(shown PUBLIC cxx_std_20)
 add_library(user STATIC)
 target_sources(user PUBLIC FILE_SET CXX_MODULES FILES user.cppm)
-target_link_libraries(user PUBLIC w::words shown space)
+target_link_libraries(user PUBLIC w::words shown plain)
 add_executable(app main.cpp)
 target_sources(app PRIVATE FILE_SET own TYPE CXX_MODULES FILES mine.cppm)
 target_link_libraries(app PRIVATE user)
 install(TARGETS shown hides EXPORT shown FILE_SET CXX_MODULES DESTINATION lib/src CXX_MODULES_BMI DESTINATION lib/bmi)
 export(EXPORT shown NAMESPACE s:: CXX_MODULES_DIRECTORY modules FILE ${CMAKE_CURRENT_BINARY_DIR}/shown-config.cmake)
 """,
-    "a space/CMakeLists.txt": """add_library(space STATIC)
-target_sources(space PUBLIC FILE_SET CXX_MODULES FILES space.cppm)
-""",
-    "a space/space.cppm": "export module space;\nexport inline int space() { return 1; }\n",
+    "plain.cppm": "export module plain;\nexport inline int plain() { return 1; }\n",
     "secret.cppm": "export module secret;\nexport inline int secret() { return 2; }\n",
     "hides.cppm": "export module hides;\nexport int hides();\n",
     "hides.cpp": "module hides;\nimport secret;\nint hides() { return secret(); }\n",
     "shown.cppm": "export module shown;\nimport hides;\nexport inline int shown() { return hides(); }\n",
-    "user.cppm": "export module user;\nimport shown;\nimport space;\nimport words;\n"
-                 "export inline int user() { return shown() + space() + part() + words(); }\n",
+    "user.cppm": "export module user;\nimport plain;\nimport shown;\nimport words;\n"
+                 "export inline int user() { return shown() + plain() + part() + words(); }\n",
     "mine.cppm": "export module mine;\nexport inline int mine() { return 6; }\n",
     "main.cpp": "import mine;\nimport user;\nint main() { return user() - mine(); }\n",
 }
@@ -362,8 +360,8 @@ class Edits:
                 self.idle()
 
     def test_lost_info_files(self):
-        """The next build makes an info file again that is gone, and collates nothing else, whoever wrote it. One that was truncated
-        is named until it is made again."""
+        """The next build makes an info file again that is gone, and collates nothing else, whoever wrote it. A build that finds one
+        truncated names it and fails, and the next one is well."""
         ours = self.trees[1]
         for name in "base", "mid", "hidden":
             info = ours.build / f"CMakeFiles/{name}.dir/CXXModules.json"
@@ -373,11 +371,10 @@ class Edits:
             self.assertEqual((ours.status, info.read_text()), (0, before), ours.log)
             self.assertEqual((len(ours.steps("Generating CXX dyndep file")), ours.compiled()), (1, []))
             info.write_text(before[:-9])
-            os.utime(ours.build / "CMakeFiles/far.dir/far.cpp.o.ddi")
-            os.utime(ours.build / "CMakeFiles/app.dir/u1.cpp.o.ddi")
             ours.ninja()
-            self.assertIn(f"/CMakeFiles/{name}.dir/CXXModules.json", ours.log)
-            os.remove(info)
+            self.assertNotEqual(ours.status, 0)
+            self.assertRegex(ours.log, rf"(?m)^dyncollate-cmake: info \d was \S*/CMakeFiles/{name}.dir/CXXModules.json, which is removed: the "
+                             r"next build makes it again$")
             ours.ninja()
             self.assertEqual((ours.status, info.read_text(), ours.compiled()), (0, before, []), ours.log)
             self.idle()
@@ -440,19 +437,15 @@ class Others:
         for tree in self.trees:
             tree.ninja()
             self.assertEqual(output_of(cmake(), "--install", tree.build, "--prefix", tree.top / "installed")[0], 0)
-        tops, files = [it.top for it in self.trees], {**KINDS}
-        if cmake_version(cmake()) < (4, 0):
-            # older versions do not quote such a name in commands
-            files = {name.replace("a space", "space"): text.replace("a space", "space") for name, text in KINDS.items()}
-        self.lay(files, f"-DCMAKE_PREFIX_PATH={tops[1] / 'installed'}", folder="user")
+        installed = self.trees[1].top / "installed"
+        self.lay(KINDS, f"-DCMAKE_PREFIX_PATH={installed}", folder="user")
         rules = (self.trees[1].build / "CMakeFiles/rules.ninja").read_text()
         self.assertEqual([len(re.findall(it, rules)) for it in (" collate .*/CXX.target.json'? && ", " --step .*/CXX.target.json\n")], [3, 4])
         self.run_both()
         for tree in self.trees:
             self.assertEqual((tree.status, output_of(tree.build / "app")), (0, (0, "")), tree.log)
         self.idle()
-        for source, count in ("secret.cppm", 2), ("a space/space.cppm", 3), ("shown.cppm", 3), ("hides.cppm", 5), ("mine.cppm", 2):
-            source = source if source in files else source.replace("a space", "space")
+        for source, count in ("secret.cppm", 2), ("plain.cppm", 3), ("shown.cppm", 3), ("hides.cppm", 5), ("mine.cppm", 2):
             self.touch(source)
             self.run_both()
             self.assertEqual([len(tree.compiled()) for tree in self.trees], [count, count], source)
@@ -463,19 +456,23 @@ class Others:
         """A target in it has another directory for its modules, which only the program's module maps name."""
         if cmake_version(cmake()) < (4, 0):
             self.skipTest("CMake 4, which quotes such names in commands: not there")
-        files = {name: text for name, text in KINDS.items() if name.startswith("a space")}
-        tree = Tree(self.folder / "ours", {"CMakeLists.txt": HEAD + """add_subdirectory("a space")
+        tree = Tree(self.folder / "ours", {
+            "CMakeLists.txt": HEAD + """add_subdirectory("a space")
 add_executable(app main.cpp)
 target_link_libraries(app PRIVATE space)
-""", "main.cpp": "import space;\nint main() { return space() - 1; }\n", **files}, self.compiler(), "Ninja")
+""",
+            "a space/CMakeLists.txt": """add_library(space STATIC)
+target_sources(space PUBLIC FILE_SET CXX_MODULES FILES space.cppm)
+""",
+            "a space/space.cppm": "export module space;\nexport inline int space() { return 1; }\n",
+            "main.cpp": "import space;\nint main() { return space() - 1; }\n"}, self.compiler(), "Ninja")
         self.assertEqual(adapter("adopt", str(tree.build))[0], 0)
-        tree.ninja()
-        self.assertEqual((tree.status, output_of(tree.build / "app")), (0, (0, "")), tree.log)
-        tree.ninja()
-        self.assertIn("ninja: no work to do.", tree.log)
-        os.utime(tree.top / "a space/space.cppm")
-        tree.ninja()
-        self.assertEqual(len(tree.compiled()), 2)
+        for compiled in 2, 0, 2:
+            tree.ninja()
+            self.assertEqual((tree.status, output_of(tree.build / "app")), (0, (0, "")), tree.log)
+            self.assertEqual(len(tree.compiled()), compiled, tree.log)
+            if not compiled:
+                os.utime(tree.top / "a space/space.cppm")
         self.assertEqual(len(list(tree.build.glob("CMakeFiles/dyncollate/*/space.*"))), 1)
 
     def test_adoptions_at_once(self):
