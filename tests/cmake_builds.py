@@ -8,12 +8,14 @@ import json
 import os
 import re
 import shutil
+import subprocess
+import sys
 import tempfile
 import unittest
 from pathlib import Path
 
 from tests import program
-from tests.cmake import adapter, put, statements
+from tests.cmake import ADAPTER, NINJA, adapter, put, statements
 from tests.tools import of_versions, output_of, tool
 
 # The value that CMake asks for before it supports `import std`, by its version.
@@ -88,6 +90,37 @@ target_link_libraries(app PRIVATE mid)
     "mid.cppm": "export module mid;\nimport words;\nexport inline int mid() { return part() + words(); }\n",
     "main.cpp": "import mid;\nint main() { return mid() - 3; }\n",
 }
+# A project with each kind of target: a library with a private module, a plain one, one that is exported, one that uses a package,
+# and a program that has private modules of its own.
+KINDS = {
+    "CMakeLists.txt": HEAD + """find_package(words REQUIRED)
+add_library(hides STATIC hides.cpp)
+target_sources(hides PUBLIC FILE_SET CXX_MODULES FILES hides.cppm PRIVATE FILE_SET own TYPE CXX_MODULES FILES secret.cppm)
+add_library(plain STATIC)
+target_sources(plain PUBLIC FILE_SET CXX_MODULES FILES plain.cppm)
+add_library(shown STATIC)
+target_sources(shown PUBLIC FILE_SET CXX_MODULES FILES shown.cppm)
+target_link_libraries(shown PUBLIC hides)
+target_compile_features(shown PUBLIC cxx_std_20)
+add_library(user STATIC)
+target_sources(user PUBLIC FILE_SET CXX_MODULES FILES user.cppm)
+target_link_libraries(user PUBLIC w::words shown plain)
+add_executable(app main.cpp)
+target_sources(app PRIVATE FILE_SET own TYPE CXX_MODULES FILES mine.cppm)
+target_link_libraries(app PRIVATE user)
+install(TARGETS shown hides EXPORT shown FILE_SET CXX_MODULES DESTINATION lib/src CXX_MODULES_BMI DESTINATION lib/bmi)
+export(EXPORT shown NAMESPACE s:: CXX_MODULES_DIRECTORY modules FILE ${CMAKE_CURRENT_BINARY_DIR}/shown-config.cmake)
+""",
+    "plain.cppm": "export module plain;\nexport inline int plain() { return 1; }\n",
+    "secret.cppm": "export module secret;\nexport inline int secret() { return 2; }\n",
+    "hides.cppm": "export module hides;\nexport int hides();\n",
+    "hides.cpp": "module hides;\nimport secret;\nint hides() { return secret(); }\n",
+    "shown.cppm": "export module shown;\nimport hides;\nexport inline int shown() { return hides(); }\n",
+    "user.cppm": "export module user;\nimport plain;\nimport shown;\nimport words;\n"
+                 "export inline int user() { return shown() + plain() + part() + words(); }\n",
+    "mine.cppm": "export module mine;\nexport inline int mine() { return 6; }\n",
+    "main.cpp": "import mine;\nimport user;\nint main() { return user() - mine(); }\n",
+}
 # A library that imports the standard library, and a program that links only this library.
 STD = {
     "CMakeLists.txt": """cmake_minimum_required(VERSION 3.30)
@@ -130,6 +163,11 @@ def clang():
     return tool("scanner") and tool("clang")
 
 
+def environment(**more):
+    """The variables of a run of CMake, which may call dyncollate-ninja."""
+    return os.environ | {"DYNCOLLATE": program.PROGRAM, "DYNCOLLATE_NINJA": tool("ninja")} | more
+
+
 def without_hashes(text):
     """Removes what differs from build to build: a part of the folder names of imported targets."""
     return re.sub(r"@synth_[0-9a-f]+", "@synth", str(text))
@@ -146,12 +184,17 @@ class Tree:
             put(top / name, text)
         self.configure()
 
-    def configure(self):
-        status, log = output_of(*self.configuring)
+    def configure(self, **more):
+        status, log = output_of(*self.configuring, env=environment(**more))
         assert not status, log
 
+    def adopted(self):
+        """Whether the build calls dyncollate."""
+        files = [*self.build.glob("*.ninja"), *self.build.glob("CMakeFiles/*.ninja")]
+        return any(" collate CMakeFiles/" in it.read_text() for it in files)
+
     def ninja(self, *words):
-        self.status, self.log = output_of(tool("ninja"), "-C", self.build, "-j2", *words)
+        self.status, self.log = output_of(tool("ninja"), "-C", self.build, "-j2", *words, env=environment())
 
     def steps(self, description):
         """What the last run did of a kind of step."""
@@ -302,7 +345,7 @@ class Edits:
         self.each(lambda tree: put(tree.top / "b3.cppm", "export module b3;\nimport b0;\n"))
         self.edit("CMakeLists.txt", r"b2\.cppm", "b2.cppm b3.cppm")
         self.builds("b3.cppm")
-        self.assertIn("--in-place-of", (self.trees[1].build / "CMakeFiles/rules.ninja").read_text())
+        self.assertEqual([tree.adopted() for tree in self.trees], [False, True])
 
     def test_lost_files(self):
         for name, sources in (("base.dir/b2.cppm.o", ["b2.cppm", "base.cpp"]), ("app.dir/u1.cpp.o.modmap", ["u1.cpp"]),
@@ -315,6 +358,26 @@ class Edits:
                 if sources is not None:
                     self.assertEqual(sorted(map(os.path.basename, self.trees[1].compiled())), [f"{it}.o" for it in sources])
                 self.idle()
+
+    def test_lost_info_files(self):
+        """The next build makes an info file again that is gone, and collates nothing else, whoever wrote it. A build that finds one
+        truncated names it and fails, and the next one is well."""
+        ours = self.trees[1]
+        for name in "base", "mid", "hidden":
+            info = ours.build / f"CMakeFiles/{name}.dir/CXXModules.json"
+            before = info.read_text()
+            os.remove(info)
+            ours.ninja()
+            self.assertEqual((ours.status, info.read_text()), (0, before), ours.log)
+            self.assertEqual((len(ours.steps("Generating CXX dyndep file")), ours.compiled()), (1, []))
+            info.write_text(before[:-9])
+            ours.ninja()
+            self.assertNotEqual(ours.status, 0)
+            self.assertRegex(ours.log, rf"(?m)^dyncollate-cmake: info \d was \S*/CMakeFiles/{name}.dir/CXXModules.json, which is removed: the "
+                             r"next build makes it again$")
+            ours.ninja()
+            self.assertEqual((ours.status, info.read_text(), ours.compiled()), (0, before, []), ours.log)
+            self.idle()
 
     def test_restored(self):
         """The Ninja files are CMake's again, and the build is well with either step after the other."""
@@ -367,6 +430,68 @@ class Others:
         self.assertEqual([tree.status for tree in self.trees], [0, 0])
         self.idle()
 
+    def test_each_kind_of_target(self):
+        """Targets that are collated by the program alone, and by the step in Python, in one build. What is compiled after an edit is
+        what CMake's step compiles."""
+        self.lay(PACKAGE, folder="package")
+        for tree in self.trees:
+            tree.ninja()
+            self.assertEqual(output_of(cmake(), "--install", tree.build, "--prefix", tree.top / "installed")[0], 0)
+        installed = self.trees[1].top / "installed"
+        self.lay(KINDS, f"-DCMAKE_PREFIX_PATH={installed}", folder="user")
+        rules = (self.trees[1].build / "CMakeFiles/rules.ninja").read_text()
+        self.assertEqual([len(re.findall(it, rules)) for it in (" collate .*/CXX.target.json'? && ", " --step .*/CXX.target.json\n")], [3, 4])
+        self.run_both()
+        for tree in self.trees:
+            self.assertEqual((tree.status, output_of(tree.build / "app")), (0, (0, "")), tree.log)
+        self.idle()
+        for source, count in ("secret.cppm", 2), ("plain.cppm", 3), ("shown.cppm", 3), ("hides.cppm", 5), ("mine.cppm", 2):
+            self.touch(source)
+            self.run_both()
+            self.assertEqual([len(tree.compiled()) for tree in self.trees], [count, count], source)
+            self.assertEqual(*(tree.compiled() for tree in self.trees))
+            self.idle()
+
+    def test_a_directory_with_a_space(self):
+        """A target in it has another directory for its modules, which only the program's module maps name."""
+        if cmake_version(cmake()) < (4, 0):
+            self.skipTest("CMake 4, which quotes such names in commands: not there")
+        tree = Tree(self.folder / "ours", {
+            "CMakeLists.txt": HEAD + """add_subdirectory("a space")
+add_executable(app main.cpp)
+target_link_libraries(app PRIVATE space)
+""",
+            "a space/CMakeLists.txt": """add_library(space STATIC)
+target_sources(space PUBLIC FILE_SET CXX_MODULES FILES space.cppm)
+""",
+            "a space/space.cppm": "export module space;\nexport inline int space() { return 1; }\n",
+            "main.cpp": "import space;\nint main() { return space() - 1; }\n"}, self.compiler(), "Ninja")
+        self.assertEqual(adapter("adopt", str(tree.build))[0], 0)
+        for compiled in 2, 0, 2:
+            tree.ninja()
+            self.assertEqual((tree.status, output_of(tree.build / "app")), (0, (0, "")), tree.log)
+            self.assertEqual(len(tree.compiled()), compiled, tree.log)
+            if not compiled:
+                os.utime(tree.top / "a space/space.cppm")
+        self.assertEqual(len(list(tree.build.glob("CMakeFiles/dyncollate/*/space.*"))), 1)
+
+    def test_adoptions_at_once(self):
+        """What four of them leave builds, and can be restored."""
+        self.lay(PROJECT)
+        ours = self.trees[1]
+        ours.configure()
+        cmakes = {it: it.read_bytes() for it in ours.build.rglob("*.ninja")}
+        for _ in range(5):
+            command = [sys.executable, ADAPTER, "adopt", ours.build]
+            runs = [subprocess.Popen(command, env=environment(), stdout=subprocess.PIPE, stderr=subprocess.STDOUT) for _ in range(4)]
+            self.assertEqual([it.communicate()[0].count(b"\n") for it in runs], [1] * 4)
+            self.assertEqual([it.returncode for it in runs], [0] * 4)
+            self.assertTrue(ours.adopted())
+            self.assertEqual(adapter("restore", str(ours.build)), (0, ""))
+            self.assertEqual({it: it.read_bytes() for it in cmakes}, cmakes)
+        self.adopt()
+        self.builds(*Edits.base, *Edits.users, *Edits.others)
+
     def test_import_std(self):
         """The target that CMake makes of the standard library's modules is linked through `words`."""
         value = IMPORT_STD.get(cmake_version(cmake()))
@@ -397,6 +522,105 @@ class Others:
         self.builds("b0.cppm", "b1.cppm", *Edits.users)
 
 
+class Hook:
+    """Builds that dyncollate-ninja adopts."""
+    option = f"-DCMAKE_MAKE_PROGRAM={NINJA}"
+
+    def tree(self, *options, files=PROJECT, generator="Ninja", option=option):
+        return Tree(self.folder / "it", files, self.compiler(), generator, *([option] if option else []), *options)
+
+    def is_built(self, tree):
+        """The build is adopted, builds, and is idle then."""
+        self.assertTrue(tree.adopted())
+        tree.ninja()
+        self.assertEqual((tree.status, output_of(tree.build / "app")), (0, (0, "")), tree.log)
+        tree.ninja()
+        self.assertIn("ninja: no work to do.", tree.log)
+
+    def test_it_stays_adopted(self):
+        """After a run of CMake by hand and by Ninja nothing is compiled, and then only a new source."""
+        tree = self.tree()
+        self.is_built(tree)
+        tree.configure()
+        for _ in range(2):
+            tree.ninja()
+            self.assertEqual((tree.status, tree.adopted(), tree.compiled()), (0, True, []), tree.log)
+            self.is_built(tree)
+            os.utime(tree.top / "CMakeLists.txt")
+        put(tree.top / "b3.cppm", "export module b3;\nimport b0;\n")
+        put(tree.top / "CMakeLists.txt", PROJECT["CMakeLists.txt"].replace("b2.cppm", "b2.cppm b3.cppm"))
+        tree.ninja()
+        self.assertEqual([os.path.basename(it) for it in tree.compiled()], ["b3.cppm.o"], tree.log)
+        self.is_built(tree)
+        status, log = output_of(cmake(), "--build", tree.build, env=environment())
+        self.assertEqual((status, "no work to do" in log), (0, True), log)
+
+    def test_several_configurations(self):
+        tree = self.tree(generator="Ninja Multi-Config")
+        self.assertTrue(tree.adopted())
+        for name in "Debug", "Release":
+            tree.ninja("-f", f"build-{name}.ninja")
+            self.assertEqual((tree.status, output_of(tree.build / name / "app")), (0, (0, "")), tree.log)
+        tree.configure()
+        self.assertTrue(tree.adopted())
+        tree.ninja()
+        self.assertEqual((tree.status, tree.compiled()), (0, []), tree.log)
+
+    def test_a_preset_and_a_workflow(self):
+        """As GUIDE says it for CMakePresets.json."""
+        variables = {"CMAKE_CXX_COMPILER": self.compiler(), "CMAKE_MAKE_PROGRAM": NINJA}
+        presets = {"version": 6, "configurePresets": [
+            {"name": "dev", "generator": "Ninja", "binaryDir": "${sourceDir}/build", "cacheVariables": variables}],
+                   "buildPresets": [{"name": "dev", "configurePreset": "dev"}],
+                   "workflowPresets": [{"name": "all", "steps": [{"type": "configure", "name": "dev"}, {"type": "build", "name": "dev"}]}]}
+        for name, text in {**PROJECT, "CMakePresets.json": presets}.items():
+            put(self.folder / "it" / name, text)
+        for built in True, False:
+            status, log = output_of(cmake(), "--workflow", "--preset", "all", cwd=self.folder / "it", env=environment())
+            self.assertEqual((status, "Building CXX object" in log), (0, built), log)
+            rules = (self.folder / "it/build/CMakeFiles/rules.ninja").read_text()
+            self.assertEqual(rules.count(" collate CMakeFiles/"), 4)
+
+    def test_an_initial_cache_and_a_toolchain_file(self):
+        line = f'set(CMAKE_MAKE_PROGRAM "{NINJA}" CACHE FILEPATH "")\n'
+        put(self.folder / "cache.cmake", line)
+        put(self.folder / "toolchain.cmake", line)
+        for option in ["-C", self.folder / "cache.cmake"], [f"-DCMAKE_TOOLCHAIN_FILE={self.folder}/toolchain.cmake"]:
+            tree = self.tree(*option, option="-UCMAKE_MAKE_PROGRAM")
+            self.is_built(tree)
+            shutil.rmtree(tree.top)
+
+    def test_found_in_the_path(self):
+        """As `dyncollate-ninja`, and under the name of Ninja."""
+        for name, option in ("dyncollate-ninja", "-DCMAKE_MAKE_PROGRAM=dyncollate-ninja"), ("ninja", "-UCMAKE_MAKE_PROGRAM"):
+            (self.folder / name).mkdir()
+            os.symlink(NINJA, self.folder / name / name)
+            path = {"PATH": f"{self.folder / name}:{os.environ['PATH']}"}
+            tree = self.tree(option=None)
+            shutil.rmtree(tree.build)
+            tree.configuring += [option]
+            tree.configure(**path)
+            self.is_built(tree)
+            shutil.rmtree(tree.top)
+
+    def test_a_project_without_modules(self):
+        """It is as with Ninja, also if there is no dyncollate."""
+        files = {"CMakeLists.txt": "cmake_minimum_required(VERSION 3.28)\nproject(p CXX)\nadd_executable(app main.cpp)\n",
+                 "main.cpp": "int main() { return 0; }\n"}
+        tree = self.tree(files=files)
+        tree.configure(DYNCOLLATE="none")
+        self.assertFalse(tree.adopted())
+        tree.ninja()
+        self.assertEqual((tree.status, output_of(tree.build / "app")), (0, (0, "")), tree.log)
+
+    def test_what_is_not_handled_is_an_error_of_cmake(self):
+        tree = self.tree()
+        status, log = output_of(*tree.configuring, env=environment(DYNCOLLATE="none"))
+        self.assertEqual(status, 1)
+        self.assertIn("dyncollate-cmake: none: there is no such program\n", log)
+        self.assertIn("CMake Generate step failed.", log)
+
+
 class EditsWithClang(Edits, Builds):
     compiler, package = staticmethod(clang), "clang-19 or clang-tools-19"
 
@@ -410,4 +634,12 @@ class OthersWithClang(Others, Builds):
 
 
 class OthersWithGcc(Others, Builds):
+    compiler, package = staticmethod(gcc), "g++-14"
+
+
+class HookWithClang(Hook, Builds):
+    compiler, package = staticmethod(clang), "clang-19 or clang-tools-19"
+
+
+class HookWithGcc(Hook, Builds):
     compiler, package = staticmethod(gcc), "g++-14"

@@ -68,16 +68,34 @@ class Lists(Folder):
             self.environment |= {name: "true"}
 
     def test_a_compiler_without_the_modules_of_the_standard_library(self):
-        """It prints the name of the list as it is asked, or the list names what is not there."""
+        """It prints the name of the list as it is asked, or the list is not there, or it names what is not there."""
         Path("targets").write_text("standard std\n")
         Path("list.json").write_text('{"modules":[{"logical-name":"std","source-path":"none/std.cppm"}]}')
         top = os.path.realpath(".")
         for printed, said in [("libc++.modules.json", "./compiler has no libc++.modules.json"),
+                              (f"{top}/no.json", f"{top}/no.json is not there"),
                               (f"{top}/list.json", f"{top}/list.json names {top}/none/std.cppm, which is not there")]:
-            Path("compiler").write_text(f"#!/bin/sh\necho {printed}\n")
-            Path("compiler").chmod(0o755)
-            self.environment["CLANG"] = "./compiler"
+            self.compiler(f"echo {printed}")
             self.assertEqual(self.says("clang", "targets"), (1, f"generate: line 1 of the list: {said}\n"))
+
+    def test_a_list_whose_paths_are_only_right_next_to_the_compiler(self):
+        """As with Debian's libc++-21-dev, where the compiler names a link to the list in another folder."""
+        Path("targets").write_text("standard std\n")
+        for name in "lib", "llvm/lib/clang/21", "llvm/share":
+            os.makedirs(name)
+        Path("llvm/lib/libc++.modules.json").write_text('{"modules":[{"logical-name":"std","source-path":"../share/std.cppm"}]}')
+        os.symlink("../llvm/lib/libc++.modules.json", "lib/libc++.modules.json")
+        Path("llvm/share/std.cppm").write_text("export module std;\n")
+        top = os.path.realpath(".")
+        self.compiler(f"case $* in *resource*) echo {top}/llvm/lib/clang/21 ;; *) echo {top}/lib/libc++.modules.json ;; esac")
+        self.assertEqual(self.says("clang", "targets"), (0, ""))
+        self.assertIn(f": scan {top}/llvm/share/std.cppm\n", Path("build.ninja").read_text())
+
+    def compiler(self, prints):
+        """The compiler is a script that prints something."""
+        Path("compiler").write_text(f"#!/bin/sh\n{prints}\n")
+        Path("compiler").chmod(0o755)
+        self.environment["CLANG"] = "./compiler"
 
     def test_words(self):
         self.assertEqual(self.says("--help"), (0, ""))

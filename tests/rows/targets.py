@@ -115,7 +115,6 @@ MEMBERS = [
     ("a faulty name in private", b'"private":["A","a..b"]', b"S6 BadName document"),
     ("another kind of map", b'"map":"msvc"', b"S3 BadShape document member map"),
     ("a number for edges", b'"edges":7', b"S3 BadShape document member edges"),
-    ("a number for restat", b'"restat":1', b"S3 BadShape document member restat"),
     ("a text for restat, after edges", b'"restat":"true","edges":7', b"S3 BadShape document member edges"),
     ("null for the dyndep file, after a text", LINKS[1:] + b',"dyndep":null', b"S3 BadShape document member dyndep"),
 ]
