@@ -2,9 +2,9 @@
 SUBJECTS = ["arguments", "scan_documents", "infos", "targets", "projects", "modules", "dyndep_files", "listings", "effects",
             "tables", "files", "earlier_files", "restat", "whole_files", "devices", "growths", "damage", "random_documents",
             "broken_programs", "manual", "reading", "words", "crates", "pictures", "lemmas", "callers", "builds", "cmake", "cmake_builds",
-            "generator", "traps", "library", "library_files", "fuzzing", "broken_libraries", "schemas", "releases"]
+            "generator", "traps", "explain", "library", "library_files", "fuzzing", "broken_libraries", "schemas", "releases", "web"]
 # Those that need libdyncollate, which ./build library makes.
-OF_LIBRARY = ["library", "library_files", "fuzzing", "broken_libraries", "releases"]
+OF_LIBRARY = ["library", "library_files", "fuzzing", "broken_libraries", "releases", "web"]
 
 
 def load_tests(loader, *_):
