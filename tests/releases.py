@@ -22,15 +22,16 @@ TOP = Path(program.TOP)
 VERSION = (TOP / "VERSION").read_text().strip()
 NAME = f"dyncollate-{VERSION}-linux-x86_64"
 # what ./release takes from the commit, and what it needs itself
-SOURCES = ["CHANGELOG.md", "VERSION", "cmake", "docs/GUIDE.md", "docs/FORMATS.md", "docs/dyncollate.1", "docs/project.schema.json",
+SOURCES = ["CHANGELOG.md", "VERSION", "cmake", "explain", "docs/GUIDE.md", "docs/FORMATS.md", "docs/dyncollate.1", "docs/project.schema.json",
            "docs/target.schema.json", "examples", "include", "install"]
-TOOLS = [".gitignore", "ARCHIVE.md", "build", "crates.txt", "release"]
+TOOLS = [".gitignore", "ARCHIVE.md", "build", "crates.txt", "release", "web"]
 # what ./build and ./build library make, by the directory where they leave it
 BUILT = {"dyncollate": {"dyncollate": program.PROGRAM},
          "c_library": {"libdyncollate.a": embedded.STATIC, "libdyncollate.so.1": embedded.SHARED}}
 # what ./install puts below its prefix, in this order
-INSTALLED = ["share/dyncollate/installed", "bin/dyncollate", "bin/dyncollate-cmake", "share/man/man1/dyncollate.1", "include/dyncollate.h",
-             "lib/libdyncollate.a", "lib/libdyncollate.so.1", "lib/libdyncollate.so", "lib/pkgconfig/dyncollate.pc"]
+INSTALLED = ["share/dyncollate/installed", "bin/dyncollate", "bin/dyncollate-cmake", "bin/dyncollate-explain", "share/man/man1/dyncollate.1", "include/dyncollate.h",
+             "lib/libdyncollate.a", "lib/libdyncollate.so.1", "lib/libdyncollate.so", "lib/pkgconfig/dyncollate.pc", "share/dyncollate/dyncollate.html"]
+PAGE = "the page that web/make makes"
 EXAMPLE = "ninja_dyndep_version = 1\nbuild obj/b.o | mod/B.bmi: dyndep\n  restat = 1\n"
 # what examples/embed/collate.c does
 BY_MODULE = """
@@ -125,6 +126,8 @@ class Archive(unittest.TestCase):
         time.sleep(0.02)
         for crate in BUILT:
             (clone / f"crates/{crate}/out/built").write_bytes(b"crates.txt\0")
+        (clone / "web/out").mkdir()
+        (clone / "web/out/dyncollate.html").write_text(PAGE)
 
     @classmethod
     def release(cls, *words, clone=None, **environment):
@@ -132,7 +135,8 @@ class Archive(unittest.TestCase):
         return call("./release", *words, cwd=clone, env=ENVIRONMENT | environment)
 
     def test_made(self):
-        self.assertEqual(self.made, (0, f"{NAME}.tar.gz\n", ""))
+        self.assertEqual(self.made, (0, f"{NAME}.tar.gz\ndyncollate-{VERSION}.html\n", ""))
+        self.assertEqual((self.clone / f"dyncollate-{VERSION}.html").read_text(), PAGE)
 
     def test_twice_it_has_the_same_bytes(self):
         """Also from another clone of the commit, in another place, whose files are of other times and rights."""
@@ -151,7 +155,7 @@ class Archive(unittest.TestCase):
         committed = int(git("log", "-1", "--format=%ct", cwd=self.clone))
         with tarfile.open(self.archive) as tar:
             members = tar.getmembers()
-        wanted = git("ls-files", *SOURCES, cwd=self.clone).splitlines() + ["PROVED.txt", "README.md", "SHA256SUMS"]
+        wanted = git("ls-files", *SOURCES, cwd=self.clone).splitlines() + ["PROVED.txt", "README.md", "SHA256SUMS", "dyncollate.html"]
         wanted += [name for files in BUILT.values() for name in files]
         self.assertEqual(sorted(it.name for it in members if it.isfile()), sorted(f"{NAME}/{it}" for it in wanted))
         self.assertEqual([it.name for it in members], sorted(it.name for it in members))
@@ -204,7 +208,7 @@ class Archive(unittest.TestCase):
         (self.room / "log").write_text(good)
         folder = self.room / "logged"
         folder.mkdir()
-        self.assertEqual(call(self.clone / "release", self.room / "log", cwd=folder), (0, f"{NAME}.tar.gz\n", ""))
+        self.assertEqual(call(self.clone / "release", self.room / "log", cwd=folder), (0, f"{NAME}.tar.gz\ndyncollate-{VERSION}.html\n", ""))
         with tarfile.open(folder / f"{NAME}.tar.gz") as tar:
             text = tar.extractfile(f"{NAME}/PROVED.txt").read().decode()
         lines = [line.strip() for line in text.splitlines()]
