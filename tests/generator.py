@@ -6,7 +6,10 @@ import shutil
 import subprocess
 import sys
 from pathlib import Path
+from shlex import quote
+from unittest import mock
 
+from tests import program
 from tests.builds import TOP, Folder, edit, touch
 from tests.tools import of_versions, output_of, tool, version
 
@@ -28,6 +31,10 @@ FAULTY = [
      "targets link each other in a cycle: a -> b -> c -> a"),
     ("a target that links itself", "library a a.cpp -- a", "targets link each other in a cycle: a -> a"),
 ]
+
+
+def words(*texts):
+    return " ".join(map(quote, texts))
 
 
 class Lists(Folder):
@@ -112,6 +119,21 @@ class Lists(Folder):
         self.assertEqual(self.says("clang", "targets"), (0, ""))
         document = json.loads(Path("dd/l39.target.json").read_text())
         self.assertEqual(document["linked"], [f"dd/{side}{number}.info.json" for number in range(39) for side in "lr"])
+
+    def test_an_explanation(self):
+        """A failed collation calls dyncollate-explain, if it is next to dyncollate or in the PATH."""
+        Path("targets").write_text("program a a.cpp\n")
+        for folder, names in ("own $1", {"DYNCOLLATE": "'./own $1/dyncollate' -x"}), ("path", {"PATH": f"{os.getcwd()}/path:{os.environ['PATH']}"}):
+            self.assertEqual(self.says("clang", "targets"), (0, ""))
+            self.assertIn("\n  command = $dyncollate collate $in\n", Path("build.ninja").read_text())
+            os.mkdir(folder)
+            for name in "dyncollate", "dyncollate-explain":
+                shutil.copy(shutil.which("true"), f"{folder}/{name}")
+            with mock.patch.dict(self.environment, names):
+                self.assertEqual(self.says("clang", "targets"), (0, ""))
+            given = "'./own $$1/dyncollate' -x" if folder == "own $1" else "true"
+            wanted = words("env", f"DYNCOLLATE={given}") + " " + words(f"{'./own $$1' if folder == 'own $1' else os.getcwd() + '/path'}/dyncollate-explain")
+            self.assertIn(f"\n  command = $dyncollate collate $in || {wanted} $in\n", Path("build.ninja").read_text())
 
     def test_a_list_from_standard_input(self):
         """The manifest does not write itself again then."""
@@ -300,6 +322,25 @@ class WithClang(Folder):
         self.idle()
         touch("my math/m 1.cppm")
         self.compiles("'my math/m 1.cppm'", "'src/a:b c$.cppm'", "'src/main $1 it.cpp'")
+
+    def test_an_error_that_is_explained(self):
+        """The line of dyncollate is the first one, the explanation follows, and the step fails."""
+        os.mkdir("bin")
+        os.symlink(program.PROGRAM, "bin/dyncollate")
+        os.symlink(TOP / "explain/dyncollate-explain", "bin/dyncollate-explain")
+        self.environment["DYNCOLLATE"] = f"{os.getcwd()}/bin/dyncollate"
+        self.copy("libs", self.form)
+        self.makes("42")
+        edit("src/app/main.cpp", r"\A", "import numbers;\n")
+        self.fails()
+        lines = self.log.splitlines()
+        at = lines.index("dyncollate: M5 ModuleUnknown numbers in obj/app/src/app/main.cpp.o")
+        self.assertEqual(lines[at + 1:at + 4], [
+            "M5 ModuleUnknown: obj/app/src/app/main.cpp.o imports numbers, and nothing provides it",
+            "  obj/app/src/app/main.cpp.o is rule 0 of scan/app/src/app/main.cpp.ddi.",
+            "  A like name is number: base provides it, by dd/base.info.json."])
+        edit("src/app/main.cpp", r"\Aimport numbers;\n", "")
+        self.makes("42")
 
     def test_compilation_commands(self):
         """They name the compiler and the map, so that each source can be compiled by itself once all were."""

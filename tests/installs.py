@@ -16,13 +16,14 @@ NEEDS_LIBRARY = True
 
 REAL = f"libdyncollate.so.{VERSION}"
 # what ./install puts below its prefix, and examples. LIB is the directory of the libraries.
-INSTALLED = ["bin/dyncollate", "bin/dyncollate-cmake", "bin/dyncollate-ninja", "include/dyncollate.h", "include/dyncollate.hpp",
+INSTALLED = ["bin/dyncollate", "bin/dyncollate-cmake", "bin/dyncollate-explain", "bin/dyncollate-ninja",
+             "include/dyncollate.h", "include/dyncollate.hpp",
              *(f"LIB/{it}" for it in ("libdyncollate.a", REAL, "libdyncollate.so.1", "libdyncollate.so", "pkgconfig/dyncollate.pc",
                                       "cmake/dyncollate/dyncollate-config.cmake", "cmake/dyncollate/dyncollate-config-version.cmake")),
              "share/man/man1/dyncollate.1", "share/man/man3/dyncollate.3",
              *(f"share/doc/dyncollate/{it}.md" for it in ("CHANGELOG", "FORMATS", "GUIDE")),
              *(f"share/dyncollate/cmake_{it}.py" for it in ("adopt", "exports", "files", "step")),
-             "share/dyncollate/installed", "share/dyncollate/project.schema.json", "share/dyncollate/target.schema.json"]
+             "share/dyncollate/dyncollate.html", "share/dyncollate/installed", "share/dyncollate/project.schema.json", "share/dyncollate/target.schema.json"]
 # what version 1.1.0 installed, and the directories that it recorded
 OF_1_1_0 = ["bin/dyncollate", "bin/dyncollate-cmake", "share/man/man1/dyncollate.1", "include/dyncollate.h", "lib/libdyncollate.a",
             "lib/libdyncollate.so.1", "lib/libdyncollate.so", "lib/pkgconfig/dyncollate.pc"]
@@ -49,7 +50,8 @@ class Install(releases.Released):
         self.assertEqual({it: os.readlink(it) for it in installed if it.is_symlink()},
                          {prefix / "lib/libdyncollate.so": "libdyncollate.so.1", prefix / "lib/libdyncollate.so.1": REAL})
         self.assertEqual({it for it in installed if it.stat().st_mode & 0o777 == 0o755 and not it.is_symlink()},
-                         {prefix / it for it in ("bin/dyncollate", "bin/dyncollate-cmake", "bin/dyncollate-ninja", f"lib/{REAL}", "share/dyncollate/examples/generate")})
+                         {prefix / it for it in ("bin/dyncollate", "bin/dyncollate-cmake", "bin/dyncollate-explain", "bin/dyncollate-ninja", f"lib/{REAL}",
+                                                 "share/dyncollate/examples/generate")})
         self.assertEqual({it.stat().st_mode & 0o777 for it in installed}, {0o644, 0o755})
         self.assertEqual(call(prefix / "bin/dyncollate", "one", prefix / "share/dyncollate/examples/b.ddi", "mod", ".bmi"), (0, EXAMPLE, ""))
         self.assertEqual((prefix / "share/man/man1/dyncollate.1").read_bytes(), (self.home / "docs/dyncollate.1").read_bytes())

@@ -26,12 +26,13 @@ VERSION = (TOP / "VERSION").read_text().strip()
 NAME = f"dyncollate-{VERSION}-linux-x86_64"
 WHEEL = f"dyncollate-{VERSION}-py3-none-manylinux_2_17_x86_64.manylinux2014_x86_64.whl"
 # what ./release takes from the commit, and what it needs itself
-SOURCES = ["CHANGELOG.md", "VERSION", "cmake", "docs/GUIDE.md", "docs/FORMATS.md", "docs/dyncollate.1", "docs/dyncollate.3",
+SOURCES = ["CHANGELOG.md", "VERSION", "cmake", "explain", "docs/GUIDE.md", "docs/FORMATS.md", "docs/dyncollate.1", "docs/dyncollate.3",
            "docs/project.schema.json", "docs/target.schema.json", "examples", "include", "install", "python"]
-TOOLS = [".gitignore", "ARCHIVE.md", "build", "building", "cross", "crates.txt", "release"]
+TOOLS = [".gitignore", "ARCHIVE.md", "build", "building", "cross", "crates.txt", "release", "web"]
 # what ./build and ./build library make, by the directory where they leave it
 BUILT = {"dyncollate": {"dyncollate": program.PROGRAM},
          "c_library": {"libdyncollate.a": embedded.STATIC, "libdyncollate.so.1": embedded.SHARED}}
+PAGE = "the page that web/make makes"
 EXAMPLE = "ninja_dyndep_version = 1\nbuild obj/b.o | mod/B.bmi: dyndep\n  restat = 1\n"
 # what examples/embed/collate.c does
 BY_MODULE = """
@@ -138,6 +139,8 @@ class Released(unittest.TestCase):
         for out in outs:
             (out / "built").write_bytes(b"crates.txt\0")
             (out / "digest").write_text(toolchain)
+        (clone / "web/out").mkdir()
+        (clone / "web/out/dyncollate.html").write_text(PAGE)
 
     @classmethod
     def release(cls, *words, clone=None, processor="x86_64", **environment):
@@ -166,7 +169,8 @@ class Released(unittest.TestCase):
 @embedded.needs_library
 class Archive(Released):
     def test_made(self):
-        self.assertEqual(self.made, (0, f"{NAME}.tar.gz\n{WHEEL}\n", ""))
+        self.assertEqual(self.made, (0, f"{NAME}.tar.gz\n{WHEEL}\ndyncollate-{VERSION}.html\n", ""))
+        self.assertEqual((self.clone / f"dyncollate-{VERSION}.html").read_text(), PAGE)
 
     def test_twice_it_has_the_same_bytes(self):
         """Also from another clone of the commit, in another place, whose files are of other times and rights."""
@@ -186,7 +190,7 @@ class Archive(Released):
         committed = int(git("log", "-1", "--format=%ct", cwd=self.clone))
         with tarfile.open(self.archive) as tar:
             members = tar.getmembers()
-        wanted = git("ls-files", *SOURCES, cwd=self.clone).splitlines() + ["PROVED.txt", "README.md", "SHA256SUMS"]
+        wanted = git("ls-files", *SOURCES, cwd=self.clone).splitlines() + ["PROVED.txt", "README.md", "SHA256SUMS", "dyncollate.html"]
         wanted += [name for files in BUILT.values() for name in files]
         self.assertEqual(sorted(it.name for it in members if it.isfile()), sorted(f"{NAME}/{it}" for it in wanted))
         self.assertEqual([it.name for it in members], sorted(it.name for it in members))
@@ -279,7 +283,8 @@ class Archive(Released):
         (self.room / "log").write_text(good)
         folder = self.room / "logged"
         folder.mkdir()
-        self.assertEqual(call(self.clone / "release", "x86_64", self.room / "log", cwd=folder), (0, f"{NAME}.tar.gz\n{WHEEL}\n", ""))
+        self.assertEqual(call(self.clone / "release", "x86_64", self.room / "log", cwd=folder),
+                         (0, f"{NAME}.tar.gz\n{WHEEL}\ndyncollate-{VERSION}.html\n", ""))
         with tarfile.open(folder / f"{NAME}.tar.gz") as tar:
             text = tar.extractfile(f"{NAME}/PROVED.txt").read().decode()
         lines = [line.strip() for line in text.splitlines()]

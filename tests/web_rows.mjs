@@ -1,0 +1,25 @@
+// What libdyncollate in JavaScript returns for a row: in Node, where it reads rows from standard input, and in a page of tests/web.py.
+
+const bytesOf = (text) => Uint8Array.from(atob(text), (it) => it.charCodeAt(0));
+
+function base64Of(bytes) {
+  let text = "";
+  for (let at = 0; at < bytes.length; at += 32768) text += String.fromCharCode(...bytes.subarray(at, at + 32768));
+  return btoa(text);
+}
+
+/** A row is JSON that is compressed: a command, and what it is given, in base64. The result has the bytes in base64. */
+export async function resultOf(run, packed) {
+  const stream = new Blob([bytesOf(packed)]).stream().pipeThrough(new DecompressionStream("gzip"));
+  const { command, given } = JSON.parse(await new Response(stream).text());
+  const passed = given.map((it) => (typeof it === "string" ? bytesOf(it) : new Map(Object.entries(it).map(([name, text]) => [name, bytesOf(text)]))));
+  const { status, out, err, files } = run(command, ...passed);
+  return JSON.stringify([status, base64Of(out), base64Of(err), [...files].map(([name, text]) => [base64Of(new TextEncoder().encode(name)), base64Of(text)])]);
+}
+
+if (globalThis.process?.argv[2]) {
+  const { readFileSync } = await import("node:fs"), { createInterface } = await import("node:readline");
+  const { load } = await import("../web/dyncollate.mjs");
+  const { run } = await load(readFileSync(process.argv[2]));
+  for await (const line of createInterface({ input: process.stdin })) console.log(await resultOf(run, line));
+}
