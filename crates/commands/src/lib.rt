@@ -31,9 +31,10 @@
 //! `must-fail/` has a wrong body of each public function, with three exceptions. `order_of_no_edges`
 //! of `in_memory` shows the clause of [`order_edges`]. That of [`Answer::of`] names each part of the
 //! answer, and that of [`Folder::feed`], which has a body for files in memory, names its calls.
-//! `usage_with_status_1` shows the clause of each call that makes a [`Stop`],
-//! `every_document_reported_as_no_json` that of the message of a rejection, whatever the command, and
-//! so that of [`collate_scan`], and `file_read_twice` that of what is read, how often and in which
+//! `files_of_a_run_not_written` shows the clause of [`program_run`], `unwritable_output_passed_over`
+//! that of [`print`], `missing_file_reported_as_memory` that of what stops a run at a file,
+//! `error_of_another_document` that of the message of a rejection, whatever the command, and so that
+//! of [`collate_scan`], and `file_read_twice` that of what is read, how often and in which
 //! order.
 #![tactic(auto)]
 
