@@ -41,7 +41,8 @@ pub parents-text : (list : List ℕ) (text : List ℕ) → list ≡ reduced_text
 parents-text list text e = ap (λ l. prefix_len is_parent (components l)) e ∙ up-text (parts text) (parts-lack text)
 
 -- a list is empty if its text is
-pub nothing : (text : List ℕ) (list : Vec ℕ Global) (empty : Bool) → list.items ≡ reduced_text text → empty ≡ (vec_len list == 0) → is_empty (parts text) ≡ empty
+pub nothing : (text : List ℕ) (list : Vec ℕ Global) (empty : Bool) → list.items ≡ reduced_text text → empty ≡ (vec_len list == 0)
+    → is_empty (parts text) ≡ empty
 nothing text list empty same e =
     sym (e ∙ ap (λ n. n == 0) list.ok.0 ∙ ap (λ items. length items == 0) same ∙ nothing-is (parts text) (parts-fixed text))
 
@@ -56,7 +57,8 @@ count-of [] h e = cc
 count-of (x ∷ xs) h e = let k = slashes-count 0 x xs h in omega arith
 
 -- how many slashes there are, and how many components
-pub directory-count : (text list slashes : List ℕ) → list ≡ reduced_text text → slashes ≡ slashes_from 0 list → is_empty (parts text) ≡ false → length slashes + 1 ≡ length (parts text)
+pub directory-count : (text list slashes : List ℕ) → list ≡ reduced_text text → slashes ≡ slashes_from 0 list
+    → is_empty (parts text) ≡ false → length slashes + 1 ≡ length (parts text)
 directory-count text list slashes l s e =
     ap (λ l. length l + 1) (s ∙ ap (slashes_from 0) l) ∙ count-of (parts text) (parts-lack text) e
 
@@ -70,14 +72,16 @@ some-of [] n some le = absurd (some (omega arith))
 some-of (x ∷ xs) n some le = refl
 
 -- the first components of a directory's list, up to a slash
-pub directory-front : (text list slashes : List ℕ) (names : ℕ) (unwritable : Option ℕ) (count index z : ℕ) → IsDirectory text list slashes names unwritable
+pub directory-front : (text list slashes : List ℕ) (names : ℕ) (unwritable : Option ℕ) (count index z : ℕ)
+    → IsDirectory text list slashes names unwritable
     → (count ≡ 0 → ⊥) → count ≤ length (parts text) → count ≤ length slashes → index ≡ length slashes - count
     → (get_or slashes index z ≡ length (list_text (take (length (parts text) - count) (parts text)))) × (take (get_or slashes index z) list ≡ list_text (take (length (parts text) - count) (parts text)))
 directory-front text list slashes names unwritable count index z d some le has e =
     let n = directory-count text list slashes d.list_is d.slashes_are (some-of (parts text) count some le) in
     let kept : suc index ≡ length (parts text) - count = omega arith in
     let same : slashes ≡ slashes_from 0 (list_text (parts text)) = d.slashes_are ∙ ap (slashes_from 0) d.list_is in (
-      ap (λ l. get_or l index z) same ∙ slash-offset (parts text) index z (parts-lack text) (omega arith) ∙ ap (λ m. length (list_text (take m (parts text)))) kept,
+      ap (λ l. get_or l index z) same ∙ slash-offset (parts text) index z (parts-lack text) (omega arith)
+          ∙ ap (λ m. length (list_text (take m (parts text)))) kept,
       ap (λ l. take (get_or l index z) list) same ∙ ap (take (get_or (slashes_from 0 (list_text (parts text))) index z)) d.list_is
           ∙ cut-list (parts text) index z (parts-lack text) (omega arith) ∙ ap (λ m. list_text (take m (parts text))) kept,
     )
@@ -96,14 +100,16 @@ min-way : (a b : ℕ) → (min a b ≡ a) ⊎ (min a b ≡ b)
 min-way a b = elim (either_way (nat_lt b a)) [ inl h ↦ inr (grind arith) | inr h ↦ let k = at-most b a h in inl (omega arith) ]
 
 -- the components that are left of a directory and of what is read in it
-pub lists-left : (list q : List (List ℕ)) (d : ℕ) → IsFixed list → IsFixed q → d ≡ min (up q) (length list - up list) → reduced (list ++ q) ≡ take (length list - d) list ++ drop d q
+pub lists-left : (list q : List (List ℕ)) (d : ℕ) → IsFixed list → IsFixed q → d ≡ min (up q) (length list - up list)
+    → reduced (list ++ q) ≡ take (length list - d) list ++ drop d q
 lists-left list q d f g e =
     let within = up-within list in
     let way = min-way (up q) (length list - up list) in
     lists-joined list q (length list - d) d f g (omega arith) (omega arith) (omega arith) (elim way [ inl h ↦ inl (e ∙ h) | inr h ↦ inr (omega arith) ])
 
 -- the list that is left, written out
-pub text-left : (directory text own front rest : List ℕ) (parents : ℕ) (unwritable : Option ℕ) (d : ℕ) → IsReadIn directory text own parents unwritable
+pub text-left : (directory text own front rest : List ℕ) (parents : ℕ) (unwritable : Option ℕ) (d : ℕ)
+    → IsReadIn directory text own parents unwritable
     → d ≡ min parents (length (parts directory) - up (parts directory))
     → front ≡ list_text (take (length (parts directory) - d) (parts directory)) → rest ≡ drop (3 * d) own
     → glued front rest ≡ reduced_text text
@@ -120,7 +126,8 @@ text-left directory text own front rest parents unwritable d r e f g =
 -- ---- what is read in a directory
 
 -- the text that is read in a directory
-pub read-whole : (directory path : List ℕ) → is_rooted path ≡ false → parts (read_from (Some directory) path) ≡ reduced (parts directory ++ parts path)
+pub read-whole : (directory path : List ℕ) → is_rooted path ≡ false
+    → parts (read_from (Some directory) path) ≡ reduced (parts directory ++ parts path)
 read-whole [] path h = sym (fixed-reduced (parts path) (parts-fixed path))
 read-whole (b ∷ bs) path h =
     ap (λ t. parts (cond t path ((b ∷ bs) ++ 47 ∷ path))) h ∙ ap reduced (components-slash (b ∷ bs) path)
@@ -142,12 +149,14 @@ slash-position a b =
     go None None = refl
     go None (Some j) = ap Some (omega arith)
 
-pub read-position : (directory path : List ℕ) → is_rooted path ≡ false → first_in directory (position is_unwritable path) ≡ position is_unwritable (read_from (Some directory) path)
+pub read-position : (directory path : List ℕ) → is_rooted path ≡ false
+    → first_in directory (position is_unwritable path) ≡ position is_unwritable (read_from (Some directory) path)
 read-position [] path h = refl
 read-position (b ∷ bs) path h = sym (ap (λ t. position is_unwritable (cond t path ((b ∷ bs) ++ 47 ∷ path))) h ∙ slash-position (b ∷ bs) path)
 
 -- a path that is read in a directory, by its canonical list
-pub read-in : (directory path own : List ℕ) (parents : ℕ) (unwritable : Option ℕ) → is_rooted path ≡ false → IsList (parts path) own parents → unwritable ≡ first_in directory (position is_unwritable path)
+pub read-in : (directory path own : List ℕ) (parents : ℕ) (unwritable : Option ℕ) → is_rooted path ≡ false
+    → IsList (parts path) own parents → unwritable ≡ first_in directory (position is_unwritable path)
     → IsReadIn directory (read_from (Some directory) path) own parents unwritable
 read-in directory path own parents unwritable h l e = record {
   list = parts path;
@@ -190,7 +199,8 @@ list-of-names path none = record {
     names-fixed-reduced path none = fixed-reduced (components path) (names-fixed (components path) none)
 
 -- the canonical list of a path
-pub list-of-path : (path own : List ℕ) (parents : ℕ) → own ≡ reduced_text path → parents ≡ prefix_len is_parent (components own) → IsList (parts path) own parents
+pub list-of-path : (path own : List ℕ) (parents : ℕ) → own ≡ reduced_text path → parents ≡ prefix_len is_parent (components own)
+    → IsList (parts path) own parents
 list-of-path path own parents e k = record {
   fixed = fixed-reduced (parts path) (parts-fixed path);
   lacks = parts-lack path;
@@ -201,7 +211,8 @@ list-of-path path own parents e k = record {
 -- ---- a list that is too long
 
 -- what is seen of a list is at most the build directory shorter
-seen-or : (d : List ℕ) (ds list : List (List ℕ)) (o : Option (List (List ℕ))) → below (d ∷ ds) list ≡ o → 4096 + length (list_text (d ∷ ds)) + 1 < length (list_text list) → 4096 < length (relative_or list o)
+seen-or : (d : List ℕ) (ds list : List (List ℕ)) (o : Option (List (List ℕ))) → below (d ∷ ds) list ≡ o
+    → 4096 + length (list_text (d ∷ ds)) + 1 < length (list_text list) → 4096 < length (relative_or list o)
 seen-or d ds list None e lt = omega arith
 seen-or d ds list (Some rest) e lt =
     let whole = text-below d ds list rest e in
@@ -209,7 +220,8 @@ seen-or d ds list (Some rest) e lt =
     omega arith
 
 -- a list that is longer than the limit is longer than a path, from wherever it is seen
-seen-long : (build : Option (List ℕ)) (rooted : Bool) (list : List (List ℕ)) → ForSome build IsPath → ForSome build (λ b. is_rooted b ≡ true) → list_limit build < length (list_text list) → 4096 < length (seen_from build rooted list)
+seen-long : (build : Option (List ℕ)) (rooted : Bool) (list : List (List ℕ)) → ForSome build IsPath
+    → ForSome build (λ b. is_rooted b ≡ true) → list_limit build < length (list_text list) → 4096 < length (seen_from build rooted list)
 seen-long None true list p r lt = omega arith
 seen-long None false list p r lt = lt
 seen-long (Some b) false list p r lt = omega arith
@@ -225,7 +237,8 @@ some-byte [] n lt = absurd (omega arith)
 some-byte (x ∷ xs) n lt = refl
 
 -- the fault of a list that is too long
-pub long-is : (build : Option (List ℕ)) (text list : List ℕ) (above : Bool) (unwritable : Option ℕ) → ForSome build IsPath → ForSome build (λ b. is_rooted b ≡ true)
+pub long-is : (build : Option (List ℕ)) (text list : List ℕ) (above : Bool) (unwritable : Option ℕ) → ForSome build IsPath
+    → ForSome build (λ b. is_rooted b ≡ true)
     → list ≡ reduced_text text → list_limit build < length list → above ≡ (is_rooted text && leads_up list) → unwritable ≡ position is_unwritable text
     → canonical_of build text ≡ Err (long_fault above unwritable)
 long-is build text list above unwritable p r e lt a u =
@@ -265,7 +278,8 @@ begins (b ∷ bs) h =
       relative = each.0.0;
       lacks = each.0;
       clean = clean-none (b ∷ bs) each.1;
-      named = λ first. ap (λ t. not (t || is_parent (b ∷ (bs ++ first)))) (and-left-false (b == 46) (bytes_eq (bs ++ first) []) dotless) ∙ ap not (and-left-false (b == 46) (bytes_eq (bs ++ first) (46 ∷ [])) dotless);
+      named = λ first. ap (λ t. not (t || is_parent (b ∷ (bs ++ first)))) (and-left-false (b == 46) (bytes_eq (bs ++ first) []) dotless)
+          ∙ ap not (and-left-false (b == 46) (bytes_eq (bs ++ first) (46 ∷ [])) dotless);
     }
   where
     none-each : (l : List ℕ) → list_any (λ b. b == 47 || is_unwritable b) l ≡ false → LacksSlash l × IsClean l
@@ -279,7 +293,8 @@ begins (b ∷ bs) h =
 -- ---- what the functions know of a path
 
 -- what is kept of the text that is read
-pub listed : (directory text own front rest list : List ℕ) (parents d : ℕ) (unwritable : Option ℕ) (rooted : Bool) → IsReadIn directory text own parents unwritable
+pub listed : (directory text own front rest list : List ℕ) (parents d : ℕ) (unwritable : Option ℕ) (rooted : Bool)
+    → IsReadIn directory text own parents unwritable
     → d ≡ min parents (length (parts directory) - up (parts directory))
     → front ≡ list_text (take (length (parts directory) - d) (parts directory)) → rest ≡ drop (3 * d) own → list ≡ glued front rest → rooted ≡ is_rooted directory
     → IsListOf text rooted unwritable list
@@ -296,10 +311,12 @@ glued-longer (b ∷ f) [] = omega arith
 glued-longer (b ∷ f) (c ∷ r) = let l = length-append (b ∷ f) (47 ∷ c ∷ r) in omega arith
 
 -- the first of two texts that is not empty decides whether both lead up
-pub first-leads : (front rest first : List ℕ) (empty : Bool) → empty ≡ (length front == 0) → first ≡ cond empty rest front → leads_up first ≡ leads_up (glued front rest)
+pub first-leads : (front rest first : List ℕ) (empty : Bool) → empty ≡ (length front == 0) → first ≡ cond empty rest front
+    → leads_up first ≡ leads_up (glued front rest)
 first-leads [] rest first empty e f = ap leads_up (f ∙ ap (λ t. cond t rest []) e)
 first-leads (b ∷ front) rest first empty e f =
-    ap leads_up (f ∙ ap (λ t. cond t rest (b ∷ front)) (e ∙ no-length (length front))) ∙ sym (leads-glued (b ∷ front) rest (λ h. let k : b ∷ front ≡ [] = h in cc))
+    ap leads_up (f ∙ ap (λ t. cond t rest (b ∷ front)) (e ∙ no-length (length front)))
+    ∙ sym (leads-glued (b ∷ front) rest (λ h. let k : b ∷ front ≡ [] = h in cc))
   where
     no-length : (n : ℕ) → (suc n == 0) ≡ false
     no-length n = grind arith
@@ -321,7 +338,8 @@ read-text [] path h u v = v
 read-text (b ∷ bs) path h u v = joined-text (b ∷ bs) path (read_from (Some (b ∷ bs)) path) u v (ap (λ t. cond t path ((b ∷ bs) ++ 47 ∷ path)) h)
 
 -- what `placed` says of a path that is not empty
-pub placed-is : (build : Option (List ℕ)) (directory path : List ℕ) → is_empty path ≡ false → placed (Some directory) build path ≡ canonical_of build (read_from (Some directory) path)
+pub placed-is : (build : Option (List ℕ)) (directory path : List ℕ) → is_empty path ≡ false
+    → placed (Some directory) build path ≡ canonical_of build (read_from (Some directory) path)
 unfolding placed
 placed-is build directory path h = ap (λ t. cond t (Err Empty) (canonical_of build (read_from (Some directory) path))) h
 
@@ -332,11 +350,13 @@ pub named-parts : (name text : List ℕ) (first : ℕ) (list : List ℕ) (parent
 named-parts name text first list parents unwritable e b = ap reduced (components-front name text (take first text) e.others b.lacks e.divided)
 
 -- no component of a name with an end has a slash
-named-lacks : (name text : List ℕ) (first : ℕ) (list : List ℕ) (parents : ℕ) (unwritable : Option ℕ) → IsEnding text first list parents unwritable → Begins name → LacksSlash (name ++ take first text)
+named-lacks : (name text : List ℕ) (first : ℕ) (list : List ℕ) (parents : ℕ) (unwritable : Option ℕ)
+    → IsEnding text first list parents unwritable → Begins name → LacksSlash (name ++ take first text)
 named-lacks name text first list parents unwritable e b = (subst EachLacksSlash (components-front name text (take first text) e.others b.lacks e.divided) (components-lack (name ++ text))).0
 
 -- an end that removes the name leaves one `..` less
-pub named-up : (name text : List ℕ) (first : ℕ) (list : List ℕ) (parents : ℕ) (unwritable : Option ℕ) → IsEnding text first list parents unwritable → Begins name → 0 < parents → IsList (parts (name ++ text)) (drop 3 list) (parents - 1)
+pub named-up : (name text : List ℕ) (first : ℕ) (list : List ℕ) (parents : ℕ) (unwritable : Option ℕ)
+    → IsEnding text first list parents unwritable → Begins name → 0 < parents → IsList (parts (name ++ text)) (drop 3 list) (parents - 1)
 named-up name text first list parents unwritable e b lt = go (reduced e.others) refl
   where
     go : (others : List (List ℕ)) → reduced e.others ≡ others → IsList (parts (name ++ text)) (drop 3 list) (parents - 1)
@@ -360,7 +380,8 @@ not-leads [] h = refl
 not-leads (c ∷ cs) h = elim (either_way (is_parent c)) [ inl u ↦ let k = up-more c cs u in absurd (omega arith) | inr n ↦ n ]
 
 -- any other end stays after it
-pub named-list : (name text : List ℕ) (first : ℕ) (list : List ℕ) (unwritable : Option ℕ) (e : IsEnding text first list 0 unwritable) → Begins name → IsList (parts (name ++ text)) (glued (name ++ take first text) (list_text (reduced e.others))) 0
+pub named-list : (name text : List ℕ) (first : ℕ) (list : List ℕ) (unwritable : Option ℕ) (e : IsEnding text first list 0 unwritable)
+    → Begins name → IsList (parts (name ++ text)) (glued (name ++ take first text) (list_text (reduced e.others))) 0
 named-list name text first list unwritable e b =
     let x = name ++ take first text in
     let named = b.named (take first text) in
@@ -374,7 +395,8 @@ named-list name text first list unwritable e b =
     }
 
 -- the first byte of a name with an end that cannot be escaped
-pub named-position : (name text : List ℕ) → Begins name → moved None (length name) (position is_unwritable text) ≡ position is_unwritable (name ++ text)
+pub named-position : (name text : List ℕ) → Begins name
+    → moved None (length name) (position is_unwritable text) ≡ position is_unwritable (name ++ text)
 named-position name text b = ap (λ o. moved o (length name) (position is_unwritable text)) (sym b.clean) ∙ sym (position-append name text)
 
 -- a name is not empty, and begins at no root
@@ -387,7 +409,8 @@ take-all : (n : ℕ) (list : List (List ℕ)) → n ≡ length list → take n l
 take-all n list e = ap (λ m. take m list) e ∙ take-length list
 
 -- the fault of a name with an end, if they are too long
-pub long-named : (build : Option (List ℕ)) (directory text own : List ℕ) (unwritable : Option ℕ) → ForSome build IsPath → ForSome build (λ b. is_rooted b ≡ true)
+pub long-named : (build : Option (List ℕ)) (directory text own : List ℕ) (unwritable : Option ℕ) → ForSome build IsPath
+    → ForSome build (λ b. is_rooted b ≡ true)
     → IsReadIn directory text own 0 unwritable → list_limit build < length own
     → canonical_of build text ≡ Err (long_fault (is_rooted directory && leads_up (reduced_text directory)) unwritable)
 long-named build directory text own unwritable p q r lt =
@@ -405,7 +428,9 @@ long-named build directory text own unwritable p q r lt =
     go plain (b ∷ bs) = sym (leads-glued (b ∷ bs) own (λ h. let k : b ∷ bs ≡ [] = h in cc))
 
 -- what is kept of an end with a slash
-pub ending-some : (text rest list : List ℕ) (first parents : ℕ) (unwritable : Option ℕ) → first ≤ length text → LacksSlash (take first text) → text ≡ take first text ++ 47 ∷ rest → list ≡ reduced_text rest → parents ≡ prefix_len is_parent (components list) → unwritable ≡ position is_unwritable text
+pub ending-some : (text rest list : List ℕ) (first parents : ℕ) (unwritable : Option ℕ) → first ≤ length text
+    → LacksSlash (take first text) → text ≡ take first text ++ 47 ∷ rest → list ≡ reduced_text rest
+    → parents ≡ prefix_len is_parent (components list) → unwritable ≡ position is_unwritable text
     → IsEnding text first list parents unwritable
 ending-some text rest list first parents unwritable within lacks e l p u = record {
   others = components rest;
@@ -416,7 +441,8 @@ ending-some text rest list first parents unwritable within lacks e l p u = recor
 }
 
 -- and of one without
-pub ending-none : (text list : List ℕ) (first parents : ℕ) (unwritable : Option ℕ) → first ≤ length text → LacksSlash (take first text) → first ≡ length text → list ≡ [] → parents ≡ prefix_len is_parent (components list) → unwritable ≡ position is_unwritable text
+pub ending-none : (text list : List ℕ) (first parents : ℕ) (unwritable : Option ℕ) → first ≤ length text → LacksSlash (take first text)
+    → first ≡ length text → list ≡ [] → parents ≡ prefix_len is_parent (components list) → unwritable ≡ position is_unwritable text
     → IsEnding text first list parents unwritable
 ending-none text list first parents unwritable within lacks e l p u = record {
   others = [];
@@ -427,7 +453,8 @@ ending-none text list first parents unwritable within lacks e l p u = record {
 }
 
 -- the parts of an end, as its components are given
-pub ending-same : (text list : List ℕ) (k parents : ℕ) (unwritable : Option ℕ) → IsEnding text k list parents unwritable → (first : List ℕ) (others : List (List ℕ)) → components text ≡ first ∷ others → (take k text ≡ first) × (list ≡ list_text (reduced others))
+pub ending-same : (text list : List ℕ) (k parents : ℕ) (unwritable : Option ℕ) → IsEnding text k list parents unwritable
+    → (first : List ℕ) (others : List (List ℕ)) → components text ≡ first ∷ others → (take k text ≡ first) × (list ≡ list_text (reduced others))
 ending-same text list k parents unwritable e first others h =
     let same : take k text ∷ e.others ≡ first ∷ others = sym e.divided ∙ h in
     let heads : take k text ≡ first = cc in
@@ -435,7 +462,9 @@ ending-same text list k parents unwritable e first others h =
     (heads, e.list_is.own_is ∙ ap (λ l. list_text (reduced l)) tails)
 
 -- a name with an end is longer than the limit if its parts are
-pub after-longer : (name text list : List ℕ) (k parents : ℕ) (unwritable : Option ℕ) (limit : ℕ) → IsEnding text k list parents unwritable → limit < length name + length (take k text) + length list → (first : List ℕ) (others : List (List ℕ)) → components text ≡ first ∷ others → limit < length (glued (name ++ first) (list_text (reduced others)))
+pub after-longer : (name text list : List ℕ) (k parents : ℕ) (unwritable : Option ℕ) (limit : ℕ) → IsEnding text k list parents unwritable
+    → limit < length name + length (take k text) + length list → (first : List ℕ) (others : List (List ℕ))
+    → components text ≡ first ∷ others → limit < length (glued (name ++ first) (list_text (reduced others)))
 after-longer name text list k parents unwritable limit e lt first others h =
     let same = ending-same text list k parents unwritable e first others h in
     let longer = glued-longer (name ++ first) (list_text (reduced others)) in
@@ -454,7 +483,8 @@ pub same-parents : (a b : List ℕ) → a ≡ b → prefix_len is_parent (compon
 same-parents a b e = ap (λ l. prefix_len is_parent (components l)) e
 
 -- a name with an end that removes it, as it is read in a directory
-pub read-named-up : (directory name text list own : List ℕ) (k parents : ℕ) (u unwritable : Option ℕ) → IsEnding text k list parents u → begins_component name ≡ true → 0 < parents → own ≡ drop 3 list
+pub read-named-up : (directory name text list own : List ℕ) (k parents : ℕ) (u unwritable : Option ℕ) → IsEnding text k list parents u
+    → begins_component name ≡ true → 0 < parents → own ≡ drop 3 list
     → unwritable ≡ first_in directory (moved None (length name) u) → IsReadIn directory (read_from (Some directory) (name ++ text)) own (parents - 1) unwritable
 read-named-up directory name text list own k parents u unwritable e h lt o w =
     let b = begins name h in
@@ -463,7 +493,8 @@ read-named-up directory name text list own k parents u unwritable e h lt o w =
     (w ∙ ap (λ o. first_in directory (moved None (length name) o)) e.unwritable_is ∙ ap (first_in directory) (named-position name text b)))
 
 -- and one with an end that does not
-pub read-named : (directory name text list own : List ℕ) (k : ℕ) (u unwritable : Option ℕ) (e : IsEnding text k list 0 u) → begins_component name ≡ true → own ≡ glued (name ++ take k text) (list_text (reduced e.others))
+pub read-named : (directory name text list own : List ℕ) (k : ℕ) (u unwritable : Option ℕ) (e : IsEnding text k list 0 u)
+    → begins_component name ≡ true → own ≡ glued (name ++ take k text) (list_text (reduced e.others))
     → unwritable ≡ first_in directory (moved None (length name) u) → IsReadIn directory (read_from (Some directory) (name ++ text)) own 0 unwritable
 read-named directory name text list own k u unwritable e h o w =
     let b = begins name h in
@@ -472,7 +503,9 @@ read-named directory name text list own k u unwritable e h o w =
     (w ∙ ap (λ o. first_in directory (moved None (length name) o)) e.unwritable_is ∙ ap (first_in directory) (named-position name text b)))
 
 -- what is read in a directory, as `placed` says it
-pub placed-read : (build : Option (List ℕ)) (directory path : List ℕ) (result : Result (List ℕ) (Failure PathFault)) → is_empty path ≡ false → Gives (λ path. path) result (canonical_of build (read_from (Some directory) path)) → Gives (λ path. path) result (placed (Some directory) build path)
+pub placed-read : (build : Option (List ℕ)) (directory path : List ℕ) (result : Result (List ℕ) (Failure PathFault))
+    → is_empty path ≡ false → Gives (λ path. path) result (canonical_of build (read_from (Some directory) path))
+    → Gives (λ path. path) result (placed (Some directory) build path)
 placed-read build directory path result h g = subst (λ r. Gives (λ path. path) result r) (sym (placed-is build directory path h)) g
 
 -- a list after another that is written out, by the test of its length
@@ -489,5 +522,6 @@ glued-alone front (c ∷ cs) empty e h = let k : true ≡ false = sym h ∙ e �
     no-length n = grind arith
 
 -- how many components are dropped
-pub dropped : (parents names : ℕ) (list : List (List ℕ)) (d : ℕ) → d ≡ min parents names → names ≡ length list - up list → d ≡ min parents (length list - up list)
+pub dropped : (parents names : ℕ) (list : List (List ℕ)) (d : ℕ) → d ≡ min parents names → names ≡ length list - up list
+    → d ≡ min parents (length list - up list)
 dropped parents names list d e n = e ∙ ap (min parents) n

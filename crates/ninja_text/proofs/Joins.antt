@@ -23,7 +23,8 @@ only-names text none = ap list_text (fixed-reduced (components text) (names-fixe
 -- ---- the slashes of a list
 
 -- the slashes of a text and one byte more
-slashes-behind : (start : ℕ) (a : List ℕ) (b : ℕ) → slashes_from start (a ++ b ∷ []) ≡ slashes_from start a ++ cond (b == 47) ((start + length a) ∷ []) []
+slashes-behind : (start : ℕ) (a : List ℕ) (b : ℕ)
+    → slashes_from start (a ++ b ∷ []) ≡ slashes_from start a ++ cond (b == 47) ((start + length a) ∷ []) []
 slashes-behind start [] b = ap (λ n. cond (b == 47) (n ∷ []) []) {x = start} {y = start + 0} (omega arith)
 slashes-behind start (x ∷ xs) b = go (x == 47) (slashes-behind (start + 1) xs b ∙ ap (λ n. slashes_from (start + 1) xs ++ cond (b == 47) (n ∷ []) []) {x = start + 1 + length xs} {y = start + suc (length xs)} (omega arith))
   where
@@ -33,7 +34,8 @@ slashes-behind start (x ∷ xs) b = go (x == 47) (slashes-behind (start + 1) xs 
     go false e = e
 
 -- the slashes of the first bytes of a list and one more
-pub slashes-step : (list : List ℕ) (i : ℕ) → i < length list → slashes_from 0 (take (i + 1) list) ≡ slashes_from 0 (take i list) ++ cond (get_or list i 0 == 47) (i ∷ []) []
+pub slashes-step : (list : List ℕ) (i : ℕ) → i < length list
+    → slashes_from 0 (take (i + 1) list) ≡ slashes_from 0 (take i list) ++ cond (get_or list i 0 == 47) (i ∷ []) []
 slashes-step list i lt =
     ap (slashes_from 0) (take_more list i 0 lt) ∙ slashes-behind 0 (take i list) (get_or list i 0)
     ∙ ap (λ n. slashes_from 0 (take i list) ++ cond (get_or list i 0 == 47) (n ∷ []) []) {x = 0 + length (take i list)} {y = i} (omega (arith, length-take-le i list (omega arith)))
@@ -51,7 +53,8 @@ slashes-at start (b ∷ bs) t h =
     ∙ slashes-at (start + 1) bs t h.1 ∙ ap (λ n. n ∷ slashes_from (n + 1) t) {x = start + 1 + length bs} {y = start + suc (length bs)} (omega arith)
 
 -- a list has a slash between each two components
-pub slashes-count : (start : ℕ) (x : List ℕ) (xs : List (List ℕ)) → EachLacksSlash (x ∷ xs) → length (slashes_from start (list_text (x ∷ xs))) ≡ length xs
+pub slashes-count : (start : ℕ) (x : List ℕ) (xs : List (List ℕ)) → EachLacksSlash (x ∷ xs)
+    → length (slashes_from start (list_text (x ∷ xs))) ≡ length xs
 slashes-count start x [] h = ap length (slashes-none start x h.0)
 slashes-count start x (y ∷ ys) h =
     ap length (slashes-at start x (list_text (y ∷ ys)) h.0) ∙ ap suc (slashes-count (start + length x + 1) y ys h.1)
@@ -68,7 +71,8 @@ slashes-end start x (y ∷ ys) (suc m) z h lt =
     ∙ slashes-end (start + length x + 1) y ys m z h.1 (omega arith) ∙ omega arith
 
 -- the text up to there is that of the first components
-cut-text : (m : ℕ) (x : List ℕ) (xs : List (List ℕ)) → take (length (list_text (take (suc m) (x ∷ xs)))) (list_text (x ∷ xs)) ≡ list_text (take (suc m) (x ∷ xs))
+cut-text : (m : ℕ) (x : List ℕ) (xs : List (List ℕ))
+    → take (length (list_text (take (suc m) (x ∷ xs)))) (list_text (x ∷ xs)) ≡ list_text (take (suc m) (x ∷ xs))
 cut-text zero x [] = ap (λ l. take (length x) l) (sym (append-nil x)) ∙ take-append_seam x []
 cut-text (suc m) x [] = ap (λ l. take (length x) l) (sym (append-nil x)) ∙ take-append_seam x []
 cut-text zero x (y ∷ ys) = take-append_seam x (47 ∷ list_text (y ∷ ys))
@@ -147,7 +151,8 @@ next-parent (c ∷ cs) zero lt = elim (either_way (is_parent c)) [ inl h ↦ (c,
 next-parent (c ∷ cs) (suc d) lt = elim (either_way (is_parent c)) [ inl h ↦ let k = up-more c cs h in next-parent cs d (omega arith) | inr h ↦ let k = up-none c cs h in absurd (omega arith) ]
 
 -- names in front of a list: each `..` that it begins with removes one
-names-joined : (ns q : List (List ℕ)) (m d : ℕ) → AreNames ns → IsFixed q → m + d ≡ length ns → d ≤ up q → (d ≡ up q) ⊎ (m ≡ 0) → reduced (ns ++ q) ≡ take m ns ++ drop d q
+names-joined : (ns q : List (List ℕ)) (m d : ℕ) → AreNames ns → IsFixed q → m + d ≡ length ns → d ≤ up q → (d ≡ up q) ⊎ (m ≡ 0)
+    → reduced (ns ++ q) ≡ take m ns ++ drop d q
 names-joined [] q zero zero names f e le way = fixed-reduced q f
 names-joined [] q zero (suc d) names f e le way = absurd (omega arith)
 names-joined [] q (suc m) d names f e le way = absurd (omega arith)
@@ -158,10 +163,12 @@ names-joined (n ∷ ns) q zero (suc d) names f e le way =
     ap (in_front n) (rest ∙ first.1) ∙ in_front-up n first.0 (drop (suc d) q) names.0 first.2
 names-joined (n ∷ ns) q (suc m) d names f e le way =
     let all : d ≡ up q = elim way [ inl h ↦ h | inr h ↦ absurd (omega arith) ] in
-    ap (in_front n) (names-joined ns q m d names.1 f (omega arith) le (inl all)) ∙ in_front-plain n (take m ns ++ drop d q) names.0 (plain-joined m ns q d names.1 all)
+    ap (in_front n) (names-joined ns q m d names.1 f (omega arith) le (inl all))
+    ∙ in_front-plain n (take m ns ++ drop d q) names.0 (plain-joined m ns q d names.1 all)
 
 -- a canonical list in front of another: each `..` that the other begins with removes a name
-pub lists-joined : (list q : List (List ℕ)) (m d : ℕ) → IsFixed list → IsFixed q → m + d ≡ length list → up list ≤ m → d ≤ up q → (d ≡ up q) ⊎ (m ≡ up list) → reduced (list ++ q) ≡ take m list ++ drop d q
+pub lists-joined : (list q : List (List ℕ)) (m d : ℕ) → IsFixed list → IsFixed q → m + d ≡ length list → up list ≤ m → d ≤ up q
+    → (d ≡ up q) ⊎ (m ≡ up list) → reduced (list ++ q) ≡ take m list ++ drop d q
 lists-joined [] q m d fixed f e low le way = names-joined [] q m d tt f e le (elim way [ inl h ↦ inl h | inr h ↦ inr h ])
 lists-joined (c ∷ cs) q zero d fixed f e low le way =
     elim (either_way (is_parent c)) [
@@ -221,7 +228,8 @@ none-behind zero = refl
 none-behind (suc d) = refl
 
 -- two dots and the slash after them are three bytes
-past-two : (d n : ℕ) (cs : List (List ℕ)) → drop n (list_text cs) ≡ list_text (drop d cs) → drop (suc (suc (suc n))) (list_text ((46 ∷ 46 ∷ []) ∷ cs)) ≡ list_text (drop d cs)
+past-two : (d n : ℕ) (cs : List (List ℕ)) → drop n (list_text cs) ≡ list_text (drop d cs)
+    → drop (suc (suc (suc n))) (list_text ((46 ∷ 46 ∷ []) ∷ cs)) ≡ list_text (drop d cs)
 past-two d n [] e = sym (none-behind d)
 past-two d n (y ∷ ys) e = e
 
@@ -298,7 +306,8 @@ leads-glued (a ∷ b ∷ d ∷ t) (c ∷ u) n = refl
 -- ---- the first byte that cannot be escaped
 
 -- the first byte, or one after it
-position-cons : (b : ℕ) (bs : List ℕ) → position is_unwritable (b ∷ bs) ≡ cond (is_unwritable b) (Some 0) (option_map (λ n. n + 1) (position is_unwritable bs))
+position-cons : (b : ℕ) (bs : List ℕ)
+    → position is_unwritable (b ∷ bs) ≡ cond (is_unwritable b) (Some 0) (option_map (λ n. n + 1) (position is_unwritable bs))
 position-cons b bs = elim (either_way (is_unwritable b)) [
   | inl h ↦ ap (λ n. cond (nat_lt n (suc (length bs))) (Some n) None) (run-stop b bs h) ∙ ap (λ t. cond t (Some 0) None) (lt-ltb 0 (suc (length bs)) (omega arith)) ∙ ap (λ t. cond t (Some 0) (option_map (λ n. n + 1) (position is_unwritable bs))) (sym h)
   | inr h ↦ ap (λ n. cond (nat_lt n (suc (length bs))) (Some n) None) (run-step b bs h) ∙ go (run_of bs) (length bs)
@@ -349,7 +358,8 @@ not-none : (r : List ℕ) → components r ≢ []
 not-none r e = let p = components-some r in let k : p.0 ∷ p.1 ≡ [] = sym p.2 ∙ e in cc
 
 -- a byte, which is a slash or not, in front of two lists
-slash-cond : (t : Bool) (x : ℕ) (xs ys all : List (List ℕ)) → xs ≢ [] → all ≡ xs ++ ys → cond t ([] ∷ all) (onto_first x all) ≡ cond t ([] ∷ xs) (onto_first x xs) ++ ys
+slash-cond : (t : Bool) (x : ℕ) (xs ys all : List (List ℕ)) → xs ≢ [] → all ≡ xs ++ ys
+    → cond t ([] ∷ all) (onto_first x all) ≡ cond t ([] ∷ xs) (onto_first x xs) ++ ys
 slash-cond true x xs ys all n e = ap (λ l. [] ∷ l) e
 slash-cond false x xs ys all n e = ap (onto_first x) e ∙ onto-append x xs ys n
 
@@ -359,7 +369,8 @@ components-slash [] b = refl
 components-slash (x ∷ a) b = slash-cond (x == 47) x (components a) (components b) (components (a ++ 47 ∷ b)) (not-none a) (components-slash a b)
 
 -- a text without a slash in front of the first component
-pub components-front : (a t first : List ℕ) (others : List (List ℕ)) → LacksSlash a → components t ≡ first ∷ others → components (a ++ t) ≡ (a ++ first) ∷ others
+pub components-front : (a t first : List ℕ) (others : List (List ℕ)) → LacksSlash a → components t ≡ first ∷ others
+    → components (a ++ t) ≡ (a ++ first) ∷ others
 components-front [] t first others h e = e
 components-front (b ∷ bs) t first others h e = slice_split-cons_no (λ b. b == 47) b (bs ++ t) h.0 ∙ ap (onto_first b) (components-front bs t first others h.1 e)
 

@@ -92,7 +92,8 @@ no_dot : (b : ℕ) → is_separator b ≡ false → (dashed b == 46) ≡ false
 no_dot b h = grind (arith, nat_tests)
 
 -- the tests of a name: of its parts and of its bytes
-name_tests : (name : List ℕ) → is_name name ≡ true → (list_all is_not_empty (slice_split is_separator name) ≡ true) × (list_all is_name_byte name ≡ true)
+name_tests : (name : List ℕ) → is_name name ≡ true
+    → (list_all is_not_empty (slice_split is_separator name) ≡ true) × (list_all is_name_byte name ≡ true)
 unfolding is_name
 name_tests name h =
     let both = both_true (nat_le 1 (length name) && nat_le (length name) 1024 && nat_le (count_by (λ b. b == 58) name) 1 && list_all is_not_empty (slice_split is_separator name)) (list_all is_name_byte name) h in
@@ -119,7 +120,8 @@ some_length : (n : ℕ) → (suc n == 0) ≡ false
 some_length n = grind arith
 
 -- the file of a module by its name is read in the directory
-pub made_in : (build : Option (List ℕ)) (dir name ext : List ℕ) → is_name name ≡ true → placed (Some dir) build (map dashed name ++ ext) ≡ placed None build (joined_file dir name ext)
+pub made_in : (build : Option (List ℕ)) (dir name ext : List ℕ) → is_name name ≡ true
+    → placed (Some dir) build (map dashed name ++ ext) ≡ placed None build (joined_file dir name ext)
 unfolding placed
 made_in build dir [] ext h = absurd (no_name h)
 made_in build [] (b ∷ bs) ext h = refl
@@ -131,9 +133,11 @@ made_in build (d ∷ ds) (b ∷ bs) ext h =
     ∙ ap (λ t. placed None build (((if t then [] else (d ∷ ds) ++ 47 ∷ []) ++ map dashed (b ∷ bs)) ++ ext)) (sym (some_length (length ds)))
 
 -- so it is in the directory of a setting
-pub made_by : (s : SettingValue) (build : Option (List ℕ)) (dir own ext name : List ℕ) → dir ≡ s.module_dir → own ≡ map dashed name → ext ≡ s.module_ext → build ≡ s.build_dir → is_name name ≡ true
+pub made_by : (s : SettingValue) (build : Option (List ℕ)) (dir own ext name : List ℕ) → dir ≡ s.module_dir → own ≡ map dashed name
+    → ext ≡ s.module_ext → build ≡ s.build_dir → is_name name ≡ true
     → placed (Some dir) build (own ++ ext) ≡ placed None s.build_dir (made_file s name)
 made_by s build dir own ext name d o e b h =
     ap (λ dir. placed (Some dir) build (own ++ ext)) d ∙ ap (λ own. placed (Some s.module_dir) build (own ++ ext)) o
-    ∙ ap (λ ext. placed (Some s.module_dir) build (map dashed name ++ ext)) e ∙ ap (λ build. placed (Some s.module_dir) build (map dashed name ++ s.module_ext)) b
+    ∙ ap (λ ext. placed (Some s.module_dir) build (map dashed name ++ ext)) e
+    ∙ ap (λ build. placed (Some s.module_dir) build (map dashed name ++ s.module_ext)) b
     ∙ made_in s.build_dir s.module_dir name s.module_ext h

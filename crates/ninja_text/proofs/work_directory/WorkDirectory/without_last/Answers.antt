@@ -8,7 +8,8 @@ slice_bounds-result-end c =
     let d = subst (λ t. IsDirectory t c.self.inside.list.items c.self.inside.slashes.items c.self.inside.names c.self.inside.unwritable) c.self.view_is c.self.invariant in
     let front = directory-front c.args.self.now c.self.inside.list.items c.self.inside.slashes.items c.self.inside.names c.self.inside.unwritable c.args.count c.in-Some.index c.index.result.now d
     c.if-count-eq0.false c.requires (omega (arith, c.in-Some.ensures.0, c.len.ensures, c.self.inside.slashes.ok.0)) (omega (arith, c.in-Some.ensures.1, c.len.ensures, c.self.inside.slashes.ok.0)) in
-    c.index.ensures ∙ front.0 ∙ ap length (sym front.1) ∙ ap (λ n. length (take n c.self.inside.list.items)) (sym c.index.ensures) ∙ ap (λ l. length (take c.index.result.now l)) (sym c.deref-in-Some.ensures.value)
+    c.index.ensures ∙ front.0 ∙ ap length (sym front.1) ∙ ap (λ n. length (take n c.self.inside.list.items)) (sym c.index.ensures)
+    ∙ ap (λ l. length (take c.index.result.now l)) (sym c.deref-in-Some.ensures.value)
 
 pub returns-in-Some : goal.returns-in-Some
 returns-in-Some c =
