@@ -13,7 +13,8 @@ import unittest
 def has_tests(module):
     """Whether a module defines a class with tests of its own."""
     classes = [it for it in vars(module).values() if isinstance(it, type) and it.__module__ == module.__name__]
-    return any(issubclass(it, unittest.TestCase) and unittest.defaultTestLoader.getTestCaseNames(it) for it in classes)
+    # (not the default loader, which finds only those that -k selects)
+    return any(issubclass(it, unittest.TestCase) and unittest.TestLoader().getTestCaseNames(it) for it in classes)
 
 
 def modules():

@@ -7,7 +7,7 @@ use Rattle.std.proofs.lemmas.List.{drop-drop, nil_from_length}
 use Rattle.std.proofs.lemmas.Option.{slice_get_within}
 use Rattle.std.proofs.lemmas.Grind.{flat_map-append}
 use Rattle.std.proofs.lemmas.List.Elements.{All-append, All-cons, All-head, All-tail, All-contains_itself}
-use Rattle.table_keys.specs.Entries.{Entries}
+use Rattle.table_keys.specs.Entries.{TableEntries}
 use Rattle.table_keys.specs.Keys.{Covers, IsKeyOf}
 use Rattle.table_keys.specs.declared.TableKey.{TableKey}
 use Rattle.document_values.specs.Rule.{RuleValue}
@@ -66,10 +66,10 @@ all_of_part P f (y ∷ xs) (suc k) x at h = all_of_part P f xs k x at (all_secon
 
 -- ---- what a table holds of a part is among what it holds of the info files
 
-abbrev entries_of_module : ModuleValue → Entries
+abbrev entries_of_module : ModuleValue → TableEntries
 entries_of_module m = m.name ∷ m.file ∷ []
 
-module _ (known : List (Option InfoValue)) (linked : List ℕ) (part infos : List InfoValue) (links : AreLinked known linked infos) (is : IsPartOf part infos) (all : Entries) (held : AreInfosHeld all known) where
+module _ (known : List (Option InfoValue)) (linked : List ℕ) (part infos : List InfoValue) (links : AreLinked known linked infos) (is : IsPartOf part infos) (all : TableEntries) (held : AreInfosHeld all known) where
   -- of a linked info file
   held_info : (i : ℕ) (w : InfoValue) → slice_get infos i ≡ Some w → AreHeld all (info_entries w)
   held_info i w at =
@@ -100,7 +100,7 @@ covers_part key known linked objects part infos covers links is = (covers.all, c
 
 modules_of_pairs : (kept : List (List ℕ)) (required : List (List ℕ × List ℕ)) (pairs : List (List ℕ × List ℕ)) → flat_map entries_of_module (map (module_of kept required) pairs) ≡ flat_map (λ pair. pair.0 ∷ pair.1 ∷ []) pairs
 modules_of_pairs kept required [] = refl
-modules_of_pairs kept required (p ∷ ps) = ap (λ (es : Entries). p.0 ∷ p.1 ∷ es) (modules_of_pairs kept required ps)
+modules_of_pairs kept required (p ∷ ps) = ap (λ (es : TableEntries). p.0 ∷ p.1 ∷ es) (modules_of_pairs kept required ps)
 
 held_modules : (P : List ℕ → Type 0) (kept : List (List ℕ)) (required : RuleValue → List (List ℕ × List ℕ)) (rules : List RuleValue) → All P (flat_map object_entries rules) → All P (flat_map entries_of_module (flat_map (modules_of kept) (map (λ rule. (rule, required rule)) rules)))
 held_modules P kept required [] h = all_none P
@@ -111,7 +111,7 @@ held_modules P kept required (r ∷ rs) h =
     (held_modules P kept required rs (all_second P (object_entries r) (flat_map object_entries rs) h)))
 
 -- what the info file of a target is read as
-pub held_read : (all : Entries) (name : List ℕ) (kept : List (List ℕ)) (t : TableValue) (document : List ℕ) (info : InfoValue) → InfoIs → ReadsBack (info_of_table name kept t) document → IsReadAs document info → AreHeld all (name ∷ flat_map object_entries t.objects) → AreHeld all (info_entries info)
+pub held_read : (all : TableEntries) (name : List ℕ) (kept : List (List ℕ)) (t : TableValue) (document : List ℕ) (info : InfoValue) → InfoIs → ReadsBack (info_of_table name kept t) document → IsReadAs document info → AreHeld all (name ∷ flat_map object_entries t.objects) → AreHeld all (info_entries info)
 held_read all name kept t document info info_is back read held =
     let same : info_of_table name kept t ≡ info = info_is document (info_of_table name kept t) (back.same read.accepted.small) ∙ sym read.value in
     subst (λ (i : InfoValue). AreHeld all (info_entries i)) same
@@ -122,7 +122,7 @@ pub held_target : (targets : List ProjectTargetValue) (n count : ℕ) (p : Proje
 held_target targets n count p lt at = all_of_part (Contains (project_entries (take count targets))) target_entries (take count targets) n p (in_take count targets n p lt at) (All-contains_itself (project_entries (take count targets)))
 
 -- one more info file is added to a pool
-pub held_added : (all : Entries) (known : List (Option InfoValue)) (info : Option InfoValue) (new : List (Option InfoValue)) → AreInfosHeld all known → IfSome info (λ i. AreHeld all (info_entries i)) → IsAdded known info new → AreInfosHeld all new
+pub held_added : (all : TableEntries) (known : List (Option InfoValue)) (info : Option InfoValue) (new : List (Option InfoValue)) → AreInfosHeld all known → IfSome info (λ i. AreHeld all (info_entries i)) → IsAdded known info new → AreInfosHeld all new
 held_added all known info new held own added k i at =
     ⊎_elim
     (λ same. ⊎_elim (λ before. held k i before) (λ last. subst (λ (o : Option InfoValue). IfSome o (λ i. AreHeld all (info_entries i))) last.1 own) (from_push known info k (Some i) (subst (λ (os : List (Option InfoValue)). slice_get os k ≡ Some (Some i)) same at)))
@@ -145,7 +145,7 @@ pub taken_next : {X : Type 0} (all old new : List X) (n : ℕ) (own : Option X) 
 taken_next all old new n own was is none = one_less own old new is none ∙ ap (drop 1) was ∙ drop-drop 1 n all
 
 module _ (targets : List ProjectTargetValue) (rules : List (Vec RuleValue Global)) (each : AreRulesOfEach targets rules) (n : ℕ) (p : ProjectTargetValue) (at : slice_get targets n ≡ Some p) (old new : List (Vec RuleValue Global)) (was : old ≡ drop n rules) where
-  abbrev all : Entries
+  abbrev all : TableEntries
   all = project_entries (take (length rules) targets)
 
   held_here : (r : Vec RuleValue Global) → old ≡ r ∷ new → AreHeld all (target_entries p)
@@ -171,7 +171,7 @@ module _ (targets : List ProjectTargetValue) (rules : List (Vec RuleValue Global
   own_held (Some r) is h = held_here r is
 
 -- what is known of a target's info file, if it is read
-pub known_held : (entries : Entries) (is_read : Bool) (name : List ℕ) (kept : List (List ℕ)) (t : TableValue) (document : List ℕ) (info : Option InfoValue) → InfoIs → ReadsBack (info_of_table name kept t) document → (IsTrue is_read → AreHeld entries (name ∷ flat_map object_entries t.objects)) → IfSome info (λ i. IsTrue is_read × IsReadAs document i) → IfSome info (λ i. AreHeld entries (info_entries i))
+pub known_held : (entries : TableEntries) (is_read : Bool) (name : List ℕ) (kept : List (List ℕ)) (t : TableValue) (document : List ℕ) (info : Option InfoValue) → InfoIs → ReadsBack (info_of_table name kept t) document → (IsTrue is_read → AreHeld entries (name ∷ flat_map object_entries t.objects)) → IfSome info (λ i. IsTrue is_read × IsReadAs document i) → IfSome info (λ i. AreHeld entries (info_entries i))
 known_held entries is_read name kept t document None info_is back held read = tt
 known_held entries is_read name kept t document (Some i) info_is back held read = held_read entries name kept t document i info_is back read.1 (held read.0)
 

@@ -2,7 +2,7 @@
 //! whoever chooses names and paths cannot choose the key as well.
 ghost use Rattle.std.specs.Prelude.{◌++◌};
 ghost use Rattle.std.specs.List.{flat_map};
-ghost use Rattle.table_keys.specs.Entries.{Entries};
+ghost use Rattle.table_keys.specs.Entries.{TableEntries};
 ghost use Rattle.table_keys.specs.Keys.{HasAdded, IsKeyOf};
 ghost use Rattle.module_table.specs.TableValue.{table_with};
 ghost use Rattle.module_table.specs.Entries.{object_entries, info_entries, table_entries};
@@ -25,7 +25,7 @@ pub(crate) fn table_key(objects: &[Rule], infos: &[Info]) -> TableKey
 /// Adds to a digest what a table of these objects holds of them: their paths, and the names and files
 /// of the modules that they provide. A project makes the key of all its tables with this.
 pub fn add_objects(digest: &mut KeyDigest, objects: &[Rule])
-    ensures { (entries : Entries) → HasAdded digest.old entries
+    ensures { (entries : TableEntries) → HasAdded digest.old entries
         → HasAdded digest.new (entries ++ flat_map object_entries objects.now) }
 {
     for rule in objects {
@@ -35,7 +35,7 @@ pub fn add_objects(digest: &mut KeyDigest, objects: &[Rule])
 
 /// Adds the entries of an object.
 fn add_object(digest: &mut KeyDigest, rule: &Rule)
-    ensures { (entries : Entries) → HasAdded digest.old entries
+    ensures { (entries : TableEntries) → HasAdded digest.old entries
         → HasAdded digest.new (entries ++ object_entries rule.now) }
 {
     digest.add(rule.object.bytes());
@@ -47,7 +47,7 @@ fn add_object(digest: &mut KeyDigest, rule: &Rule)
 
 /// Adds the entries of an info file.
 fn add_info(digest: &mut KeyDigest, info: &Info)
-    ensures { (entries : Entries) → HasAdded digest.old entries
+    ensures { (entries : TableEntries) → HasAdded digest.old entries
         → HasAdded digest.new (entries ++ info_entries info.now) }
 {
     digest.add(info.target.text().as_bytes());

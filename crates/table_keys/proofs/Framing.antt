@@ -6,10 +6,10 @@ use Rattle.std.proofs.lemmas.List.Elements.{All-head, All-tail}
 use Rattle.std.proofs.lemmas.Nat.{from_le_bytes-to_le_bytes_8}
 use Rattle.std.proofs.Math.Seq.{take-append_seam, drop-append_seam}
 use Rattle.std.specs.Int.{w64, to_le_bytes, from_le_bytes}
-use Rattle.table_keys.specs.Entries.{Entries, framed, digested}
+use Rattle.table_keys.specs.Entries.{TableEntries, framed, digested}
 
 -- what is digested of one more entry
-pub one_more : (entries : Entries) (entry : List ℕ) → digested entries ++ to_le_bytes w64 (length entry) ++ entry ≡ digested (entries ++ entry ∷ [])
+pub one_more : (entries : TableEntries) (entry : List ℕ) → digested entries ++ to_le_bytes w64 (length entry) ++ entry ≡ digested (entries ++ entry ∷ [])
 one_more entries entry =
     append_assoc (digested entries) (to_le_bytes w64 (length entry)) entry
     ∙ ap (λ last. digested entries ++ last) (sym (append-nil (framed entry)))
@@ -26,7 +26,7 @@ same_rest : (x y s t : List ℕ) → length x ≡ length y → x ++ s ≡ y ++ t
 same_rest x y s t n same = sym (drop-append_seam x s) ∙ ap (drop (length x)) same ∙ rw n (drop-append_seam y t)
 
 -- the digested bytes are those of one list of entries
-pub one_list : (a b : Entries) → All short a → All short b → digested a ≡ digested b → a ≡ b
+pub one_list : (a b : TableEntries) → All short a → All short b → digested a ≡ digested b → a ≡ b
 one_list [] [] p q same = refl
 one_list [] (y ∷ ys) p q same = grind arith
 one_list (x ∷ xs) [] p q same = grind arith

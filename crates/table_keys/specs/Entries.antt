@@ -1,16 +1,17 @@
 -- What a digest is made of.
-use Rattle.std.specs.Prelude.{ℕ, List, ◌++◌, length}
+use Rattle.std.specs.Prelude.{List, ◌++◌, length}
 use Rattle.std.specs.List.{flat_map}
 use Rattle.std.specs.Int.{w64, to_le_bytes}
+use Rattle.table_keys.specs.Hashed.{Entry, Digested}
 
--- the entries of a table, such as names and paths
-abbrev pub Entries : Type 0
-Entries = List (List ℕ)
+-- the entries of a table
+abbrev pub TableEntries : Type 0
+TableEntries = List Entry
 
 -- the bytes that are digested for an entry: its length, in eight bytes, and the entry
-abbrev pub framed : List ℕ → List ℕ
+abbrev pub framed : Entry → Digested
 framed entry = to_le_bytes w64 (length entry) ++ entry
 
 -- the bytes that are digested for all entries
-abbrev pub digested : Entries → List ℕ
+abbrev pub digested : TableEntries → Digested
 digested entries = flat_map framed entries

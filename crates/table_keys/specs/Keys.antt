@@ -3,18 +3,18 @@ use Rattle.std.specs.Prelude.{◌≡◌, All, Contains}
 use Rattle.std.specs.Hash.DefaultHasher as sip
 use Rattle.sha2.specs.Hashers.{Holds512}
 use Rattle.sha2.specs.Sha512.{sha512}
-use Rattle.table_keys.specs.Entries.{Entries, digested}
+use Rattle.table_keys.specs.Entries.{TableEntries, digested}
 use Rattle.table_keys.specs.declared.KeyDigest.{KeyDigest}
 use Rattle.table_keys.specs.declared.TableKey.{TableKey}
 
 -- these entries were added to the digest, in this order, and no others
-abbrev pub HasAdded : KeyDigest → Entries → Type 0
+abbrev pub HasAdded : KeyDigest → TableEntries → Type 0
 HasAdded digest entries = Holds512 digest.digest (digested entries)
 
 -- each hasher under the key has hashed the SHA-512 digest of these entries, and nothing else
-abbrev pub IsKeyOf : TableKey → Entries → Type 0
+abbrev pub IsKeyOf : TableKey → TableEntries → Type 0
 IsKeyOf key entries = key.start ≡ sip.write sip.initial (sha512 (digested entries))
 
 -- the key is made of a list in which each of these entries is, so they cannot be chosen to fit the key
-abbrev pub Covers : TableKey → Entries → Type 0
-Covers key entries = (all : Entries) × IsKeyOf key all × All (Contains all) entries
+abbrev pub Covers : TableKey → TableEntries → Type 0
+Covers key entries = (all : TableEntries) × IsKeyOf key all × All (Contains all) entries

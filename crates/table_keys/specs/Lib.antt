@@ -1,2 +1,3 @@
+pub mod Hashed
 pub mod Entries
 pub mod Keys

@@ -16,7 +16,7 @@
 #![tactic(auto)]
 
 ghost use Rattle.std.specs.Prelude.{◌++◌, ◌∷◌, [], map};
-ghost use Rattle.table_keys.specs.Entries.{Entries};
+ghost use Rattle.table_keys.specs.Entries.{TableEntries};
 ghost use Rattle.table_keys.specs.Keys.{HasAdded, IsKeyOf};
 
 use sha2::{Digest, Sha512};
@@ -74,7 +74,7 @@ impl KeyDigest {
     /// Adds an entry, with its length, to the digest.
     #[tactic(auto, using(crate::proofs::Framing::one_more))]
     pub fn add(&mut self, entry: &[u8])
-        ensures { (entries : Entries) → HasAdded self.old entries
+        ensures { (entries : TableEntries) → HasAdded self.old entries
             → HasAdded self.new (entries ++ entry.now ∷ []) }
     {
         self.digest.update(&entry.len().to_le_bytes());
@@ -83,7 +83,7 @@ impl KeyDigest {
 
     /// Returns the key for the table of the entries so far.
     pub fn key(self) -> TableKey
-        ensures { (entries : Entries) → HasAdded self entries → IsKeyOf result entries }
+        ensures { (entries : TableEntries) → HasAdded self entries → IsKeyOf result entries }
     {
         let mut start = DefaultHasher::new();
         start.write(&self.digest.finalize());

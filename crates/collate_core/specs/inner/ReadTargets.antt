@@ -4,7 +4,7 @@ use Rattle.std.specs.Prelude.{◌≡◌, ℕ, List, ◌∷◌, All, Contains, sl
 use Rattle.std.specs.List.{flat_map}
 use Rattle.std.specs.declared.alloc.Global.{Global}
 use Rattle.ninja_text.specs.Bytes.{Text}
-use Rattle.table_keys.specs.Entries.{Entries}
+use Rattle.table_keys.specs.Entries.{TableEntries}
 use Rattle.table_keys.specs.Keys.{IsKeyOf}
 use Rattle.table_keys.specs.declared.TableKey.{TableKey}
 use Rattle.document_values.specs.Rule.{RuleValue}
@@ -16,11 +16,11 @@ use Rattle.collate_core.specs.Documents.{all_rules, AreScansAccepted}
 
 -- what the tables of a project hold of a target: its name, the paths of its objects, and the names
 -- and files of the modules that these provide
-abbrev pub target_entries : ProjectTargetValue → Entries
+abbrev pub target_entries : ProjectTargetValue → TableEntries
 target_entries p = p.name ∷ flat_map object_entries (all_rules p.setting p.scans)
 
 -- what they hold of these targets
-abbrev pub project_entries : List ProjectTargetValue → Entries
+abbrev pub project_entries : List ProjectTargetValue → TableEntries
 project_entries targets = flat_map target_entries targets
 
 -- The scan documents are accepted, and these are their rules.
@@ -36,11 +36,11 @@ AreRulesOfEach targets all = (k : ℕ) (p : ProjectTargetValue) (rules : Vec Rul
     AreRulesOf p.setting p.scans rules.items
 
 -- these entries are among all
-abbrev pub AreHeld : Entries → Entries → Type 0
+abbrev pub AreHeld : TableEntries → TableEntries → Type 0
 AreHeld all entries = All (Contains all) entries
 
 -- what a table holds of each known info file is among these entries
-abbrev pub AreInfosHeld : Entries → List (Option InfoValue) → Type 0
+abbrev pub AreInfosHeld : TableEntries → List (Option InfoValue) → Type 0
 AreInfosHeld all known = (k : ℕ) (info : InfoValue) → slice_get known k ≡ Some (Some info) →
     AreHeld all (info_entries info)
 
@@ -48,7 +48,7 @@ AreInfosHeld all known = (k : ℕ) (info : InfoValue) → slice_get known k ≡ 
 -- objects.
 pub record CoversLinked (key : TableKey) (known : List (Option InfoValue))
     (objects : List RuleValue) : Type 0 where
-  pub all : Entries
+  pub all : TableEntries
   pub made_of : IsKeyOf key all
   pub infos : AreInfosHeld all known
   pub own : AreHeld all (flat_map object_entries objects)

@@ -1,0 +1,10 @@
+-- Words for what is digested.
+use Rattle.std.specs.Prelude.{ℕ, List}
+
+-- an entry of a table, such as a name or a path
+abbrev pub Entry : Type 0
+Entry = List ℕ
+
+-- the bytes that are digested
+abbrev pub Digested : Type 0
+Digested = List ℕ
