@@ -1,5 +1,5 @@
 -- Lemmas on lists: of any elements, of numbers, of what info files are read as, and of the names of private modules.
-use Rattle.std.proofs.Common.{◌≢◌, true≢false, ◌≡◌, ℕ, zero, suc, ◌<◌, ◌≤◌, List, [], ◌∷◌, ◌++◌, map, take, Some, refl, ap, ap₂, subst, ◌∙◌, arith, append-nil, slice_get, All, flat_map, ◌+◌, ◌*◌, ◌⊎◌, inl, inr, length, Option, None, IfSome, sym, length-append, ◌||◌, Bool, true, false, cond, bytes_eq}
+use Rattle.std.proofs.Common.{◌≢◌, true≢false, ◌≡◌, ℕ, zero, suc, ◌<◌, ◌≤◌, List, [], ◌∷◌, ◌++◌, map, take, Some, refl, ap, ap₂, subst, ◌∙◌, arith, append-nil, slice_get, All, flat_map, ◌+◌, ◌*◌, ◌⊎◌, inl, inr, length, Option, None, IfSome, MatchOption, sym, length-append, ◌||◌, Bool, true, false, cond, bytes_eq}
 use Rattle.std.specs.List.{AllByRecursion, list_any}
 use Rattle.std.proofs.lemmas.List.Elements.{All-get_or, All-nil, All-cons, All-head, All-tail, All-append}
 use Rattle.std.proofs.lemmas.Grind.{flat_map-append}
@@ -144,3 +144,7 @@ pub modules_same : (kept other : List (List ℕ)) → ((name : List ℕ) → is_
 modules_same kept other same required [] = refl
 modules_same kept other same required (pair ∷ pairs) =
     ap₂ (λ (b : Bool) (ms : List ModuleValue). record { name = pair.0; file = pair.1; required = required; is_private = b } ∷ ms) (same pair.0) (modules_same kept other same required pairs)
+
+-- what holds where there is no value
+pub of_none : {T : Type 0} (No : Type 0) (P : T → Type 0) (found : Option T) → found ≡ None → MatchOption found No P → No
+of_none No P found is h = subst (λ o. MatchOption o No P) is h

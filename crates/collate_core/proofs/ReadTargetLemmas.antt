@@ -25,6 +25,7 @@ use Rattle.collate_core.specs.Infos.{module_of, modules_of, info_of_table}
 use Rattle.collate_core.specs.inner.ReadInfos.{IsReadAs}
 use Rattle.collate_core.specs.inner.ReadTargets.{target_entries, project_entries, AreRulesOf, AreRulesOfEach, AreHeld, AreInfosHeld, CoversLinked}
 use Rattle.collate_core.proofs.Linked.{InfoIs}
+use Rattle.collate_core.proofs.Lists.{all_front, all_back}
 
 -- one more target was read
 pub one_more_target : (targets : List ProjectTargetValue) (n : ℕ) (p : ProjectTargetValue) (rules : List RuleValue) → slice_get targets n ≡ Some p → rules ≡ all_rules p.setting p.scans → (project_entries (take n targets) ++ p.name ∷ []) ++ flat_map object_entries rules ≡ project_entries (take (n + 1) targets)
@@ -47,22 +48,14 @@ rules_of_one_more targets all n p rules count here is before k q found at_q at =
 all_none : {X : Type 0} (P : X → Type 0) → All P []
 all_none P k d lt = absurd (omega (arith, lt))
 
-all_first : {X : Type 0} (P : X → Type 0) (xs ys : List X) → All P (xs ++ ys) → All P xs
-all_first P [] ys h = all_none P
-all_first P (x ∷ xs) ys h = All-cons P x xs (All-head P x (xs ++ ys) h) (all_first P xs ys (All-tail P x (xs ++ ys) h))
-
-all_second : {X : Type 0} (P : X → Type 0) (xs ys : List X) → All P (xs ++ ys) → All P ys
-all_second P [] ys h = h
-all_second P (x ∷ xs) ys h = all_second P xs ys (All-tail P x (xs ++ ys) h)
-
 all_of_parts : {A B : Type 0} (P : B → Type 0) (f : A → List B) (xs : List A) → ((k : ℕ) (x : A) → slice_get xs k ≡ Some x → All P (f x)) → All P (flat_map f xs)
 all_of_parts P f [] h = all_none P
 all_of_parts P f (x ∷ xs) h = All-append P (f x) (flat_map f xs) (h 0 x refl) (all_of_parts P f xs (λ k y at. h (suc k) y at))
 
 all_of_part : {A B : Type 0} (P : B → Type 0) (f : A → List B) (xs : List A) (k : ℕ) (x : A) → slice_get xs k ≡ Some x → All P (flat_map f xs) → All P (f x)
 all_of_part P f [] k x at h = cc
-all_of_part P f (y ∷ xs) zero x at h = subst (λ z. All P (f z)) (same_some _ _ at) (all_first P (f y) (flat_map f xs) h)
-all_of_part P f (y ∷ xs) (suc k) x at h = all_of_part P f xs k x at (all_second P (f y) (flat_map f xs) h)
+all_of_part P f (y ∷ xs) zero x at h = subst (λ z. All P (f z)) (same_some _ _ at) (all_front P (f y) (flat_map f xs) h)
+all_of_part P f (y ∷ xs) (suc k) x at h = all_of_part P f xs k x at (all_back P (f y) (flat_map f xs) h)
 
 -- ---- what a table holds of a part is among what it holds of the info files
 
@@ -107,8 +100,8 @@ held_modules P kept required [] h = all_none P
 held_modules P kept required (r ∷ rs) h =
     subst (All P) (sym (flat_map-append entries_of_module (modules_of kept (r, required r)) (flat_map (modules_of kept) (map (λ rule. (rule, required rule)) rs))))
     (All-append P _ _
-    (subst (All P) (sym (modules_of_pairs kept (required r) r.provided)) (All-tail P r.object _ (all_first P (object_entries r) (flat_map object_entries rs) h)))
-    (held_modules P kept required rs (all_second P (object_entries r) (flat_map object_entries rs) h)))
+    (subst (All P) (sym (modules_of_pairs kept (required r) r.provided)) (All-tail P r.object _ (all_front P (object_entries r) (flat_map object_entries rs) h)))
+    (held_modules P kept required rs (all_back P (object_entries r) (flat_map object_entries rs) h)))
 
 -- what the info file of a target is read as
 pub held_read : (all : TableEntries) (name : List ℕ) (kept : List (List ℕ)) (t : TableValue) (document : List ℕ) (info : InfoValue) → InfoIs → ReadsBack (info_of_table name kept t) document → IsReadAs document info → AreHeld all (name ∷ flat_map object_entries t.objects) → AreHeld all (info_entries info)

@@ -67,28 +67,22 @@ pub(crate) fn lent_info<'t>(
     })
 }
 
-/// Returns the set of these names, under a key that is made of them.
+/// Returns the set of these names. Its key is made of the names, so whoever chooses them cannot
+/// choose the key as well.
 fn set_of(alloc: Global, names: &[Name]) -> Result<IndexSet<Name, TableKey>, AllocError>
     ensures names { IfOk result (λ set. (name : Name) →
         is_private_name set.keys name ≡ is_private_name names.now name) }
     ensures key { IfOk result (λ set. IsKeyOf (hasher_of set) names.now) }
 {
-    let mut set = IndexSet::with_hasher(alloc, key_of(names));
+    let mut digest = KeyDigest::new();
+    for entry in names {
+        digest.add(entry.bytes());
+    }
+    let mut set = IndexSet::with_hasher(alloc, digest.key());
     for name in names {
         set.insert(name.copy(alloc)?)?;
     }
     Ok(set)
-}
-
-/// Returns the key of a set of these names, so whoever chooses them cannot choose the key as well.
-fn key_of(names: &[Name]) -> TableKey
-    ensures { IsKeyOf result names.now }
-{
-    let mut digest = KeyDigest::new();
-    for name in names {
-        digest.add(name.bytes());
-    }
-    digest.key()
 }
 
 /// Appends the modules that an object provides. The object requires these modules.

@@ -28,6 +28,8 @@
 //! of what it links, if that is enough (`src/linking.rt`). Definitions that only private clauses
 //! use are in `specs/inner/`.
 //!
+//! The styles of maps are those of `module_maps`, which this crate offers by its own name also.
+//!
 //! It uses `scan_docs` for documents, `module_table` for modules by name, `module_maps` for their
 //! maps, `dyndep_file` for the texts, `build_effect` and `dep_order` for builds, `ninja_text` for
 //! paths, `indexmap` and `table_keys` for the set of the names of private modules, and `thiserror`
@@ -68,6 +70,7 @@ pub use laws::{
     headline, no_false_cycle, no_false_rebuild, no_false_wait, no_race, one_outcome, project_maps,
     project_orders,
 };
+pub use module_maps::{Clang, Gcc, MapEntry, MapFault, MapStyle, ModuleMap};
 pub use projects::{ProjectOut, ProjectTarget, project, project_or_refused};
 pub use rehearsal::{check_edges, rehearse};
 pub use table::RULE_LIMIT;

@@ -1,8 +1,11 @@
 use Rattle.std.proofs.Common.{◌≡◌, ℕ, List, take}
 use Rattle.indexmap.specs.IndexSet.{hasher_of}
-use Rattle.table_keys.specs.Keys.{IsKeyOf}
+use Rattle.table_keys.specs.Keys.{HasAdded, IsKeyOf}
 use Rattle.collate_core.specs.Infos.{is_private_name}
 use Rattle.collate_core.proofs.info.set_of.Given as goal
+
+abbrev pub invariant-loop-entry : goal.invariant-loop-entry
+invariant-loop-entry l = HasAdded l.digest (take l.entry-index l.names)
 
 -- the set has the names so far, under the key of all
 abbrev pub invariant-loop-name : goal.invariant-loop-name

@@ -1,17 +1,15 @@
-use Rattle.std.proofs.Common.{◌≡◌, ◌∙◌, ◌⊎◌, List, ℕ, map, ap, subst, inl, inr, Option, Some, None, IfSome, IsTrue, MatchOption}
+use Rattle.std.proofs.Common.{◌≡◌, ◌∙◌, ◌⊎◌, List, ℕ, map, ap, subst, inl, inr, Option, Some, IfSome, IsTrue, MatchOption}
 use Rattle.std.proofs.lemmas.Result.{err_from_is_err_and}
 use Rattle.ninja_text.specs.Failure.{ForFault}
 use Rattle.ninja_text.specs.declared.failure.Failure.{Failure}
 use Rattle.ninja_text.specs.declared.failure.Failure.TheVariants.{Memory, Fault}
 use Rattle.collate_core.specs.Projects.{linked_infos}
 use Rattle.collate_core.specs.inner.ReadInfos.{IsReadAs}
+use Rattle.collate_core.proofs.Lists.{of_none}
 use Rattle.collate_core.proofs.linking.collate_linked.Goals as goal
 
 of_some : {T : Type 0} (No : Type 0) (P : T → Type 0) (found : Option T) (value : T) → found ≡ Some value → MatchOption found No P → P value
 of_some No P found value is h = subst (λ o. MatchOption o No P) is h
-
-of_none : {T : Type 0} (No : Type 0) (P : T → Type 0) (found : Option T) → found ≡ None → MatchOption found No P → No
-of_none No P found is h = subst (λ o. MatchOption o No P) is h
 
 -- what holds of the fault, and that all linked targets are earlier
 refused_linked : {F : Type 0} (Later : F → Type 0) (Earlier : Type 0) (P : F → Type 0) → Earlier → (failure : Failure F) → ForFault P failure → ForFault (λ fault. Later fault ⊎ (Earlier × P fault)) failure

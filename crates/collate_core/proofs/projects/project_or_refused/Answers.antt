@@ -1,5 +1,5 @@
 use Rattle.ninja_text.proofs.ForCallers.{take_next}
-use Rattle.std.proofs.Common.{rules, ◌≡◌, ℕ, List, take, length, Option, Some, None, Vec, Global, IsTrue, MatchOption, ◌∙◌, is_some, true, refl, subst, sym, slice_get, option_copied, option_map}
+use Rattle.std.proofs.Common.{rules, ◌≡◌, ℕ, List, take, length, Option, Some, None, Vec, Global, IsTrue, ◌∙◌, is_some, true, refl, subst, sym, slice_get, option_copied, option_map}
 use Rattle.std.proofs.lemmas.List.{take_all}
 use Rattle.std.proofs.lemmas.Option.{slice_get_read}
 use Rattle.ninja_text.specs.Failure.{ForFault}
@@ -11,7 +11,7 @@ use Rattle.collate_core.specs.Projects.{CollatesProject, IsLinkedRefusal, IsProj
 use Rattle.collate_core.specs.declared.fault.RefusedTarget.{RefusedTarget}
 use Rattle.collate_core.specs.inner.Parts.{CollatesLinked}
 use Rattle.collate_core.specs.inner.ReadInfos.{AreKnown}
-use Rattle.collate_core.proofs.Lists.{known_added}
+use Rattle.collate_core.proofs.Lists.{known_added, of_none}
 use Rattle.collate_core.proofs.Outcomes.{maps_of_style, project_push, refused_here}
 use Rattle.collate_core.proofs.Parts.{turned, turns_weaker}
 use Rattle.std.specs.Vec.Iter.{into_iter_items}
@@ -77,9 +77,6 @@ collate_linked-requires-clause-key g c =
     let each = subst (AreRulesOfEach targets) (sym c.into_iter-rules.ensures.rest) c.in_ok-read.ensures.rules in
     let made = subst (λ (rs : List (Vec RuleValue Global)). IsKeyOf c.in_ok-read.read.key (project_entries (take (length rs) targets))) (sym c.into_iter-rules.ensures.rest) c.in_ok-read.ensures.key in
     own_covered targets all each n p here _ _ c.loop-index.invariant.rules c.in_ok-read.read.key c.loop-index.pool made c.loop-index.invariant.held c.next-own.result c.next-own.ensures.items
-
-of_none : {T : Type 0} (No : Type 0) (P : T → Type 0) (found : Option T) → found ≡ None → MatchOption found No P → No
-of_none No P found is h = subst (λ o. MatchOption o No P) is h
 
 pub loop-index-preserved : goal.loop-index-preserved
 loop-index-preserved g c =
