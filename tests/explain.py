@@ -1,5 +1,7 @@
 """dyncollate-explain: for each error of a document, of modules, edges, maps and files, which file it names and what it says."""
+import contextlib
 import gzip
+import io
 import os
 import pty
 import re
@@ -7,10 +9,15 @@ import shutil
 import subprocess
 import sys
 from pathlib import Path
+from unittest import mock
 
-from tests import program
+from tests import embedded, program
 from tests.case import Case, each, lay, tree, write
 from tests.rows.forms import edge, info, module, sources, target
+from tests.side_by_side import side_by_side
+from tests.tables import all_rows
+
+load_tests = side_by_side
 
 TOP = Path(program.TOP)
 EXPLAIN = TOP / "explain/dyncollate-explain"
@@ -51,7 +58,8 @@ PRIVATE = module(b"P", b"lib/P.pcm", visibility=b"private")
 # Why, the files, the error, and the lines that explain it, without the manual's. The document is t.json or project.json.
 CASES = [
     ("an empty scan", of(b""), "scan 1: S1 NotJson document", ["S1 NotJson: b.ddi (scan 1)", "The file is empty."]),
-    ("a scan of spaces", of(b" \n"), "scan 1: S1 NotJson document", ["S1 NotJson: b.ddi (scan 1)", "The file is empty, except for white space."]),
+    ("a scan of spaces", of(b" \n"), "scan 1: S1 NotJson document",
+     ["S1 NotJson: b.ddi (scan 1)", "The file is empty, except for white space."]),
     ("a scan of zeros", of(bytes(5)), "scan 1: S1 NotJson document",
      ["S1 NotJson: b.ddi (scan 1)", "The file has only zero bytes, as after a crash of the system."]),
     ("a byte-order mark", of(b"\xef\xbb\xbf" + B), "scan 1: S1 NotJson document",
@@ -86,7 +94,8 @@ CASES = [
      ["S7 BadPath: b.ddi (scan 1)", 'It has rule 0 (a/..): {"primary-output": "a/.."}.']),
     ("too many rules", of(b'{"version":1,"rules":[' + b"7," * 65536 + b"7]}"), "scan 1: S8 TooLarge document",
      ["S8 TooLarge: b.ddi (scan 1)", "It has 131,097 bytes and 65,537 rules."]),
-    ("an info file", linking(b'{"version":7}', L_INFO), "info 0: S2 BadVersion document", ["S2 BadVersion: l.json (info 0)", "Its version is 7."]),
+    ("an info file", linking(b'{"version":7}', L_INFO), "info 0: S2 BadVersion document",
+     ["S2 BadVersion: l.json (info 0)", "Its version is 7."]),
     ("a module of an info file", linking(L_INFO, info(module(b"K", b"a/.."))), "info 1: S7 BadPath module 0 N1 Empty",
      ["S7 BadPath: k.json (info 1)", 'It has module 0 (K): {"bmi": "a/..", "name": "K", "requires": []}.']),
     ("the target document", {"t.json": b'{"version":1,"target":"t"'}, "target: S1 NotJson document",
@@ -133,10 +142,12 @@ CASES = [
      "target 1: M5 ModuleUnknown base in app.o",
      ["M5 ModuleUnknown of target app (1.json): app.o imports base, and nothing provides it", "app.o is rule 0 of 1.ddi.",
       "the target base provides it, and base.json is not in linked of 1.json."]),
-    ("a module of a linked target", linking(info(module(b"L", b"lib/L.pcm", (b"lib/X.pcm", b"X"))), more=LINKS.replace(b',"k.json"', b"")),
+    ("a module of a linked target",
+     linking(info(module(b"L", b"lib/L.pcm", (b"lib/X.pcm", b"X"))), more=LINKS.replace(b',"k.json"', b"")),
      "M6 InfoUnknown l L X", ["M6 InfoUnknown: the module L of the target l requires X, and no linked target provides it",
                               "l.json says that L requires it."]),
-    ("a module with two files", linking(info(module(b"L", b"lib/L.pcm", (b"old/K.pcm", b"K"))), info(module(b"K", b"new/K.pcm"), target=b"k")),
+    ("a module with two files",
+     linking(info(module(b"L", b"lib/L.pcm", (b"old/K.pcm", b"K"))), info(module(b"K", b"new/K.pcm"), target=b"k")),
      "M7 InfoDisagrees l L K", ["M7 InfoDisagrees: two info files have different BMIs of the module K",
                                 "l.json (target l, module L) has old/K.pcm.", "k.json (target k) has new/K.pcm."]),
     ("a cycle", of(sources(b"obj/b.o|B|C", b"obj/c.o|C D|A")), "M8 ImportCycle obj/a.o -> obj/b.o -> obj/c.o",
@@ -166,9 +177,10 @@ CASES = [
     ("a statement that is too long", of(sources(b"obj/b.o|B|", b"obj/c.o||" + b" ".join(b"A" * 900 + b"%d" % it for it in range(1300)),
                                                 *(b"%d.o|%s%d|" % (it, b"A" * 900, it) for it in range(1300)))),
      "Y2 StatementTooLong statement 2",
-     ["Y2 StatementTooLong: the statement of obj/c.o", "It provides 0 modules and imports 1,300.", "obj/c.o is rule 1 of b.ddi."]),
+     ["Y2 StatementTooLong: the statement of obj/c.o", "obj/c.o is rule 1 of b.ddi.", "It provides 0 modules and imports 1,300."]),
 
-    ("a line of the edge list", edged(EDGES + b"rule cc\n"), "edges: line 5: E3 Form", ["E3 Form: line 5 of the edge list edges", 'The line is "rule cc".']),
+    ("a line of the edge list", edged(EDGES + b"rule cc\n"), "edges: line 5: E3 Form",
+     ["E3 Form: line 5 of the edge list edges", 'The line is "rule cc".']),
     ("a path of the edge list", edged(b"build a/..: cxx\n"), "edges: line 1: E3 Path N1 Empty",
      ["E3 Path: line 1 of the edge list edges", 'The line is "build a/..: cxx".']),
     ("a variable in the edge list", edged(b"build $x: cxx\n"), "edges: line 1: N9 Variable at 6",
@@ -266,7 +278,8 @@ class Manual(Case):
         """The texts are those that mandoc prints."""
         if not shutil.which("mandoc"):
             self.skipTest("mandoc: not there")
-        printed = subprocess.run(["mandoc", "-T", "utf8", "-O", "width=999", TOP / "docs/dyncollate.1"], stdout=subprocess.PIPE, check=True).stdout
+        command = ["mandoc", "-T", "utf8", "-O", "width=999", TOP / "docs/dyncollate.1"]
+        printed = subprocess.run(command, stdout=subprocess.PIPE, check=True).stdout
         printed = re.sub(r".\x08", "", printed.decode())
         found = script().diagnostics(MANUAL)
         self.assertGreater(len(found), 60)
@@ -287,6 +300,32 @@ def script():
     return loaded
 
 
+EXPLAINED = [row for row in all_rows() if embedded.is_asked(row) and row.words[0] in ("collate", "project")
+             and sum(map(len, row.texts().values())) < 1 << 20]
+
+
+@each(EXPLAINED, lambda row: row.name[:90])
+class Rows(Case):
+    """Each error of a row is explained in two to five lines, and a row without an error has none. No file is written or changed."""
+
+    def check(self, row):
+        lay(row.texts())
+        before, said = tree(), io.StringIO()
+        explain = script()
+        name = next(it for it in row.words[1:] if it != "--")
+        with mock.patch.dict(os.environ, {"DYNCOLLATE": program.PROGRAM}), contextlib.redirect_stdout(said):
+            status = explain.main([f"./{name}" if name.startswith("-") else name])
+        self.same(tree(), before)
+        lines = said.getvalue().splitlines()
+        if row.status == 0:
+            self.assertEqual((status, lines[0].split(" has ")[-1]), (1, "no error now. Run the step again."))
+        else:
+            self.assertEqual(status, row.status)
+            self.assertTrue(2 <= len(lines) <= 5, lines)
+            self.assertIn(re.search(rb"[NYSMEK]\d+ \w+|cannot read|cycle", row.line)[0].decode(), lines[0])
+            self.assertTrue(len(lines) > 2 or lines[1] != "  `man dyncollate` describes this error.", lines)
+
+
 class Runs(Explained):
     def test_no_error(self):
         """It says so, ends with status 1, and writes nothing, also if files are there and with an edge list of its own."""
@@ -303,7 +342,8 @@ class Runs(Explained):
 
     def test_a_scan_document(self):
         write("a.ddi", sources(b"obj/a.o|A|B", b"obj/b.o|BB|"))
-        self.assertEqual(self.explain("a.ddi")[1][:2], ["M5 ModuleUnknown: obj/a.o imports B, and nothing provides it", "  obj/a.o is rule 0 of a.ddi."])
+        self.assertEqual(self.explain("a.ddi")[1][:2], ["M5 ModuleUnknown: obj/a.o imports B, and nothing provides it",
+                                                        "  obj/a.o is rule 0 of a.ddi."])
         write("a.ddi", b"")
         self.assertEqual(self.explain("a.ddi")[1][:2], ["S1 NotJson: a.ddi (scan 0)", "  The file is empty."])
 
@@ -311,7 +351,8 @@ class Runs(Explained):
         """The last line of dyncollate counts. A line that names the document in place of its number is that of dyncollate-cmake."""
         for file, text in of(b"").items():
             write(file, text)
-        for line in "dyncollate: usage\nFAILED: x\ndyncollate: scan 1: S1 NotJson document\nninja: stopped\n", "dyncollate: b.ddi: S1 NotJson document\n":
+        for line in ("dyncollate: usage\nFAILED: x\ndyncollate: scan 1: S1 NotJson document\nninja: stopped\n",
+                     "dyncollate: b.ddi: S1 NotJson document\n"):
             self.assertEqual(self.explain("t.json", "-", line=line)[1][1:], ["  The file is empty.", "  " + advice("S1 NotJson document")])
 
     def test_colour(self):
