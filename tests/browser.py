@@ -27,8 +27,9 @@ class Browser:
         def open_pipes():
             os.dup2(theirs_in, 3)
             os.dup2(theirs_out, 4)
-        self.process = subprocess.Popen([CHROMIUM, *options, f"--user-data-dir={self.folder}", "about:blank"], pass_fds=(3, 4), preexec_fn=open_pipes,
-                                        stdin=subprocess.DEVNULL, stdout=subprocess.DEVNULL, stderr=subprocess.DEVNULL)
+        command = [CHROMIUM, *options, f"--user-data-dir={self.folder}", "about:blank"]
+        quiet = {"stdin": subprocess.DEVNULL, "stdout": subprocess.DEVNULL, "stderr": subprocess.DEVNULL}
+        self.process = subprocess.Popen(command, pass_fds=(3, 4), preexec_fn=open_pipes, **quiet)
         os.close(theirs_in)
         os.close(theirs_out)
         self.numbers, self.text, self.session, self.events = itertools.count(1), b"", None, []
@@ -88,7 +89,8 @@ class Browser:
         end = time.monotonic() + SECONDS
         while not self.evaluate(condition):
             if time.monotonic() > end or any(it.get("method") == "Runtime.exceptionThrown" for it in self.events):
-                raise AssertionError(f"it is not so that {condition}: {self.errors()} {self.evaluate('document.body?.innerText.slice(0, 400)')}")
+                shown = self.evaluate("document.body?.innerText.slice(0, 400)")
+                raise AssertionError(f"it is not so that {condition}: {self.errors()} {shown}")
             time.sleep(0.05)
 
     def resize(self, width, height, scale=1, dark=False):

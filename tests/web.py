@@ -70,9 +70,12 @@ class InNode(Rows, unittest.TestCase):
 
     def call(self, script):
         """What a script prints that has the module's functions as `dyncollate`."""
-        start = f"import {{ load, DyncollateError }} from {json.dumps((TOP / 'web/dyncollate.mjs').as_uri())};\nimport {{ readFileSync }} from 'node:fs';\n"
-        start += f"const dyncollate = await load(readFileSync({json.dumps(str(WASM))}));\n"
-        ran = subprocess.run(["node", "--input-type=module", "-e", start + script], stdin=subprocess.DEVNULL, capture_output=True, text=True, check=False)
+        start = f"""
+            import {{ load, DyncollateError }} from {json.dumps((TOP / "web/dyncollate.mjs").as_uri())};
+            import {{ readFileSync }} from "node:fs";
+            const dyncollate = await load(readFileSync({json.dumps(str(WASM))}));"""
+        ran = subprocess.run(["node", "--input-type=module", "-e", start + script], stdin=subprocess.DEVNULL, capture_output=True, text=True,
+                             check=False)
         self.assertEqual((ran.returncode, ran.stderr), (0, ""))
         return ran.stdout
 
@@ -89,20 +92,24 @@ class InNode(Rows, unittest.TestCase):
         """As the module for Python has it: files in and out, a thrown error, statements, and a Map or an object of files."""
         self.assertEqual(self.call(r"""
             const scan = '{"version":1,"rules":[{"primary-output":"a.o","provides":[{"logical-name":"A"}]}]}';
-            const target = '{"version":1,"target":"t","module-dir":"m","module-ext":".x","scans":["a.ddi"],"dyndep":"t.dd","info":"t.json","restat":true}';
+            const target = JSON.stringify({ version: 1, target: "t", "module-dir": "m", "module-ext": ".x", scans: ["a.ddi"], dyndep: "t.dd",
+              info: "t.json", restat: true });
             const text = (it) => new TextDecoder().decode(it);
             for (const files of [{ "a.ddi": scan }, new Map([["a.ddi", new TextEncoder().encode(scan)]])])
               console.log([...dyncollate.collate(target, files)].map(([name, it]) => `${name}: ${text(it)}`).join(""));
             console.log([...dyncollate.run("collate", target, { "a.ddi": scan }).kept].join());
             const dyndep = dyncollate.one(scan, "m", ".x");
-            for (const it of dyncollate.statements(dyndep)) console.log(text(it.output), it.outputs.map(text), it.inputs.length, it.restat);
-            for (const call of [() => dyncollate.one("", "m", ".x"), () => dyncollate.statements("build a: dyndep\n"), () => dyncollate.collate(target, {})])
+            for (const { output, outputs, inputs, restat } of dyncollate.statements(dyndep))
+              console.log(text(output), outputs.map(text), inputs.length, restat);
+            for (const call of [() => dyncollate.one("", "m", ".x"), () => dyncollate.statements("build a: dyndep\n"),
+                                () => dyncollate.collate(target, {})])
               try { call(); } catch (error) { console.log(error instanceof DyncollateError, error.status, error.line); }
             for (const call of [() => dyncollate.run("one", scan, new Uint8Array([255]), ""), () => dyncollate.run("none")])
               try { call(); } catch (error) { console.log(error.name, error.message); }
             """).splitlines(), [
                 *['t.json: {"modules":[{"bmi":"m/A.x","name":"A","requires":[],"visibility":"public"}],"target":"t","version":2}'
-                  "t.dd: ninja_dyndep_version = 1", "build a.o | m/A.x: dyndep", "  restat = 1", ""] * 2, "t.json", "a.o [ 'm/A.x' ] 0 true",
+                  "t.dd: ninja_dyndep_version = 1", "build a.o | m/A.x: dyndep", "  restat = 1", ""] * 2,
+                "t.json", "a.o [ 'm/A.x' ] 0 true",
                 "true 1 dyncollate: scan 0: S1 NotJson document", "true 1 line 1: Y4 NoVersion", "true 3 dyncollate: cannot read a.ddi",
                 "TypeError a name is not UTF-8", "TypeError there is no command none"])
 
@@ -154,8 +161,8 @@ def project_of(count, size):
     return files
 
 
-CYCLE = {"t.target.json": target(b',"scans":["a.ddi","b.ddi","c.ddi","main.ddi"]'), "a.ddi": sources(b"a.o|A|B"), "b.ddi": sources(b"b.o|B|C"),
-         "c.ddi": sources(b"c.o|C|A"), "main.ddi": sources(b"main.o||A")}
+CYCLE = {"t.target.json": target(b',"scans":["a.ddi","b.ddi","c.ddi","main.ddi"]'),
+         "a.ddi": sources(b"a.o|A|B"), "b.ddi": sources(b"b.o|B|C"), "c.ddi": sources(b"c.o|C|A"), "main.ddi": sources(b"main.o||A")}
 
 
 @needs_page
@@ -188,27 +195,33 @@ class Page(unittest.TestCase):
 
     def show(self, files, name):
         """Opens the page that dyncollate-explain writes for these files."""
-        ran = subprocess.run([sys.executable, EXPLAIN, "--page", self.folder / "page.html", name], cwd=self.lay(files), stdin=subprocess.DEVNULL,
-                             env=os.environ | {"DYNCOLLATE": program.PROGRAM}, stdout=subprocess.DEVNULL, check=False)
+        command = [sys.executable, EXPLAIN, "--page", self.folder / "page.html", name]
+        ran = subprocess.run(command, cwd=self.lay(files), env=os.environ | {"DYNCOLLATE": program.PROGRAM}, stdin=subprocess.DEVNULL,
+                             stdout=subprocess.DEVNULL, check=False)
         self.assertTrue((self.folder / "page.html").exists(), ran.returncode)
         self.page.open((self.folder / "page.html").as_uri())
 
     def text(self, selector):
         return self.page.evaluate(f"document.querySelector({json.dumps(selector)}).innerText").strip()
 
+    def each(self, selector, expression):
+        """The values of an expression for `it`, each element that is selected."""
+        return self.page.evaluate(f"[...document.querySelectorAll({json.dumps(selector)})].map((it) => {expression})")
+
     def texts(self, selector):
-        return self.page.evaluate(f"[...document.querySelectorAll({json.dumps(selector)})].map((it) => (it.textContent ?? '').trim())")
+        return self.each(selector, "it.textContent.trim()")
 
     def nodes(self, kind):
         """The labels of the nodes of a kind, of which the first line says what it is."""
-        return sorted(it.split("\n")[0] for it in self.page.evaluate(f"[...document.querySelectorAll('#view .node{kind}')].map((it) => it.getAttribute('aria-label'))"))
+        return sorted(self.each(f"#view .node{kind}", "it.getAttribute('aria-label').split('\\n')[0]"))
 
     def edges(self, kind=""):
         return sorted(self.texts(f"#view .edge{kind} title"))
 
     def press(self, *keys):
+        """The identifier or the name of what has the focus after these keys."""
         self.page.press(*keys)
-        return self.page.evaluate("document.activeElement.id || document.activeElement.getAttribute('aria-label') || document.activeElement.textContent")
+        return self.page.evaluate("((it) => it.id || it.getAttribute('aria-label') || it.textContent)(document.activeElement)")
 
     def test_a_real_project(self):
         """Its targets, objects and imports, and the files that dyncollate writes, byte for byte."""
@@ -219,12 +232,13 @@ class Page(unittest.TestCase):
         self.assertIn("obj/math/math/vec.cppm.o", self.nodes(".provides"))
         self.assertIn("obj/app/app/main.cpp.o imports engine", self.edges())
         self.assertEqual(self.edges(".bad"), [])
-        wanted = {str(it.relative_to(f"{DATA}/libs/expected")): it.read_text() for it in Path(DATA, "libs/expected").rglob("*") if it.is_file()}
+        expected = Path(DATA, "libs/expected")
+        wanted = {str(it.relative_to(expected)): it.read_text() for it in expected.rglob("*") if it.is_file()}
         self.assertEqual(self.text("#result"), f"Accepted: {len(wanted)} files written.")
         shown = {}
         for tab in self.texts("#tabs button:not([hidden])")[1:]:
-            self.page.evaluate(f"[...document.querySelectorAll('#tabs button')].find((it) => it.textContent === {json.dumps(tab)}).click()")
-            shown |= dict(zip(self.texts("#view h3"), self.page.evaluate("[...document.querySelectorAll('#view pre')].map((it) => it.textContent)")))
+            self.each("#tabs button", f"it.textContent === {json.dumps(tab)} && it.click()")
+            shown |= dict(zip(self.texts("#view h3"), self.each("#view pre", "it.textContent")))
         self.assertEqual(set(shown), set(wanted))
         for name, text in wanted.items():
             if name.endswith(".json"):
@@ -263,7 +277,8 @@ class Page(unittest.TestCase):
         self.assertEqual(self.text("#result .line"), "dyncollate: scan 1: S1 NotJson document")
         self.assertRegex(self.text("#result .where"), r"^scan 1 is b\.ddi\. Line 1, column \d+: the file ends here, so it was cut off\.$")
         self.page.evaluate("document.querySelector('#result .link').click()")
-        self.assertEqual(self.page.evaluate("[document.activeElement.id, document.activeElement.value]"), ["text", CYCLE["b.ddi"][:40].decode()])
+        self.assertEqual(self.page.evaluate("document.activeElement.id"), "text")
+        self.assertEqual(self.page.evaluate("document.activeElement.value"), CYCLE["b.ddi"][:40].decode())
 
     def test_a_file_that_is_not_utf_8(self):
         """It is passed on byte for byte, so the error is the program's."""
@@ -271,7 +286,8 @@ class Page(unittest.TestCase):
         self.assertEqual(self.text("#result .line"), "dyncollate: scan 1: S1 NotJson document")
 
     def test_an_info_file(self):
-        files = {"t.target.json": target(b',"scans":["a.ddi"],"linked":["l.json"]'), "a.ddi": sources(b"a.o||L"), "l.json": info(module(b"L", b"l.pcm"))}
+        files = {"t.target.json": target(b',"scans":["a.ddi"],"linked":["l.json"]'), "a.ddi": sources(b"a.o||L"),
+                 "l.json": info(module(b"L", b"l.pcm"))}
         self.show(files, "t.target.json")
         self.assertEqual(self.nodes(".linked"), ["module L of l.json"])
 
@@ -316,8 +332,8 @@ class Page(unittest.TestCase):
         self.page.evaluate("document.querySelector('#text').select()")
         self.page.type(sources(b"b.o|B|").decode())
         self.page.wait("document.querySelector('#result').className === 'good'")
-        self.page.evaluate("document.querySelector('#command').selectedIndex = 1, document.querySelector('#command').dispatchEvent(new Event('input'))")
-        self.page.evaluate("document.querySelector('#map').value = 'gcc', document.querySelector('#map').dispatchEvent(new Event('input'))")
+        self.each("#command", "(it.selectedIndex = 1, it.dispatchEvent(new Event('input')))")
+        self.each("#map", "(it.value = 'gcc', it.dispatchEvent(new Event('input')))")
         self.page.evaluate("document.querySelector('#tab-map').click()")
         self.assertEqual(self.page.evaluate("document.querySelector('#view pre').textContent"), "B bmi/B.gcm\n")
 
@@ -332,16 +348,18 @@ class Page(unittest.TestCase):
         at = [self.press(key).split("\n")[0] for key in ("ArrowLeft", "ArrowLeft", "ArrowRight")]
         self.assertEqual(at, ["b.o", "c.o", "b.o"], "an arrow leads from a module to its importer")
         self.press("Enter")
-        self.assertEqual(self.page.evaluate("[document.activeElement.id, document.querySelector('#textname').textContent]"), ["text", "b.ddi"])
+        self.assertEqual((self.page.evaluate("document.activeElement.id"), self.text("#textname")), ("text", "b.ddi"))
 
     def test_names(self):
         """Each control has a name that a screen reader reads, and identifiers are unique."""
         self.show(CYCLE, "t.target.json")
         tree = self.page.call("Accessibility.getFullAXTree")["nodes"]
-        controls = [it for it in tree if it.get("role", {}).get("value") in ("button", "combobox", "textbox", "tab", "group", "tabpanel") and not it.get("ignored")]
+        roles = "button", "combobox", "textbox", "tab", "group", "tabpanel"
+        controls = [it for it in tree if it.get("role", {}).get("value") in roles and not it["ignored"]]
         self.assertGreater(len(controls), 15)
         self.assertEqual([it["role"]["value"] for it in controls if not it.get("name", {}).get("value")], [])
-        self.assertEqual(self.page.evaluate("[...document.querySelectorAll('[id]')].length - new Set([...document.querySelectorAll('[id]')].map((it) => it.id)).size"), 0)
+        names = self.each("[id]", "it.id")
+        self.assertEqual(len(set(names)), len(names))
 
     def test_a_narrow_screen(self):
         """Nothing is wider than a phone, except for what scrolls by itself; and on a wide one the page does not scroll."""
@@ -350,7 +368,7 @@ class Page(unittest.TestCase):
             self.page.open(f"{PAGE.as_uri()}#{name}")
             self.assertEqual(self.page.evaluate("document.documentElement.scrollWidth"), 360, name)
             self.page.resize(1280, 860)
-            self.assertEqual(self.page.evaluate("[document.documentElement.scrollWidth, document.documentElement.scrollHeight]"), [1280, 860], name)
+            self.assertEqual(self.each("html", "[it.scrollWidth, it.scrollHeight]"), [[1280, 860]], name)
 
     def test_what_stays_in_its_place(self):
         """The graph and the files stay where they are if the result changes from an error of one line to another."""
@@ -381,8 +399,10 @@ class Page(unittest.TestCase):
 def screenshot():
     page = browser.Browser()
     try:
-        page.resize(1280, 640, scale=2)
+        page.resize(1280, 720, scale=2)
         page.open(f"{PAGE.as_uri()}#a-cycle")
+        # (the first runs also compile the module)
+        page.evaluate("for (let run = 0; run < 200; run++) document.getElementById('command').dispatchEvent(new Event('input'))")
         page.screenshot(TOP / "docs/page.png")
     finally:
         page.close()

@@ -1,6 +1,10 @@
 // What libdyncollate in JavaScript returns for a row: in Node, where it reads rows from standard input, and in a page of tests/web.py.
 
-const bytesOf = (text) => Uint8Array.from(atob(text), (it) => it.charCodeAt(0));
+function bytesOf(text) {
+  const bytes = atob(text), made = new Uint8Array(bytes.length);
+  for (let at = 0; at < made.length; at++) made[at] = bytes.charCodeAt(at);
+  return made;
+}
 
 function base64Of(bytes) {
   let text = "";

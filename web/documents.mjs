@@ -32,13 +32,16 @@ function kindOf(name, text, value) {
 
 const named = (files, kind) => [...files.values()].filter((file) => file.kind === kind).map((file) => file.name);
 
+// More scan documents than these are not offered one by one.
+const MOST_ONES = 200;
+
 /** The commands that these files allow, the usual one first. */
 export function commandsFor(files) {
   const of = (kind, command) => named(files, kind).map((name) => ({ command, name, label: `${command} ${name}` }));
-  const scans = named(files, "scan"), documents = [...of("project", "project"), ...of("target", "collate")];
-  const ones = of("scan", "one").slice(0, 200);
+  const scans = named(files, "scan"), ones = of("scan", "one").slice(0, MOST_ONES);
   const all = scans.length ? [{ command: "all", name: "", label: scans.length === 1 ? `${scans[0]} as a target` : "all scans as one target" }] : [];
-  return [...documents, ...(scans.length === 1 ? [...ones, ...all] : [...all, ...ones]), ...of("dyndep", "show"), ...of("edges", "order")];
+  const ofScans = scans.length === 1 ? [...ones, ...all] : [...all, ...ones];
+  return [...of("project", "project"), ...of("target", "collate"), ...ofScans, ...of("dyndep", "show"), ...of("edges", "order")];
 }
 
 /** The target document of the page's own target, which has all scan documents. */
@@ -54,7 +57,9 @@ export function requestOf(chosen, files, settings) {
   if (!chosen) return null;
   const { command, name } = chosen, contents = () => new Map([...files.values()].map((file) => [file.name, file.content]));
   const file = command === "all" ? ownTarget(files, settings) : files.get(name);
-  if (command === "all" || command === "collate") return { given: ["collate", file.content, contents()], name: file.name, targets: [targetOf(file)] };
+  if (command === "all" || command === "collate") {
+    return { given: ["collate", file.content, contents()], name: file.name, targets: [targetOf(file)] };
+  }
   if (command === "project") {
     const targets = stringsOf(file.value?.targets).map((it) => targetOf(files.get(it) ?? fileOf(it, "")));
     return { given: ["project", file.content, contents()], name, targets };
@@ -68,7 +73,8 @@ export function requestOf(chosen, files, settings) {
 
 function targetOf(file) {
   const document = isObject(file.value) ? file.value : {};
-  return { name: String(document.target ?? file.name), file: file.name, scans: stringsOf(document.scans), linked: stringsOf(document.linked), document };
+  const scans = stringsOf(document.scans), linked = stringsOf(document.linked);
+  return { name: String(document.target ?? file.name), file: file.name, scans, linked, document };
 }
 
 /** A path as dyncollate prints it. */
@@ -84,10 +90,11 @@ function canonicalPath(path, work, build) {
 
 /** The objects of the targets: what each provides and requires, and the objects of the modules that it requires. */
 export function graphOf(request, files) {
-  const targets = (request?.targets ?? []).map((target, index) => ({ ...target, index, objects: objectsOf(target, index, files), modules: new Map() }));
-  for (const target of targets) {
-    for (const object of target.objects) for (const name of object.provides) if (!target.modules.has(name)) target.modules.set(name, object);
-  }
+  const targets = (request?.targets ?? []).map((target, index) => {
+    const objects = objectsOf(target, index, files), modules = new Map();
+    for (const object of objects) for (const name of object.provides) if (!modules.has(name)) modules.set(name, object);
+    return { ...target, index, objects, modules };
+  });
   const isProject = request?.given[0] === "project", nodes = new Set(targets.flatMap((target) => target.objects));
   for (const target of targets) {
     const linked = isProject ? linkedTargets(target, targets) : target.linked.map((name) => linkedModules(files.get(name)));
@@ -120,7 +127,8 @@ const linkedTargets = (target, targets) => target.linked.map((info) =>
 /** The modules of an info file. */
 function linkedModules(file) {
   const names = listOf(file?.value?.modules).map((it) => it?.name).filter((it) => typeof it === "string");
-  return new Map(names.map((name) => [name, { kind: "linked", path: file.name, file: file.name, target: null, provides: [name], requires: [], to: [] }]));
+  const node = { kind: "linked", path: file?.name, file: file?.name, target: null, requires: [] };
+  return new Map(names.map((name) => [name, { ...node, provides: [name], to: [] }]));
 }
 
 function missing(name, target, targets, isProject) {

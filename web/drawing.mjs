@@ -45,7 +45,7 @@ function mark({ nodes, targets }, edges, line) {
   const ends = new Set(edges.filter((edge) => edge.isBad).flatMap((edge) => [edge.from, edge.to]));
   for (const node of nodes) {
     const names = [node.path, ...node.provides, ...(node.objects ?? []).map((it) => it.path)];
-    const isNamed = line !== "" && (node.objects ? !outer || node.target === Number(outer[1]) : isOfError(node)) && names.some((name) => words.has(name));
+    const isNamed = line !== "" && isOfError(node) && names.some((name) => words.has(name));
     node.isBad = ends.has(node) || (isNamed && (!cycle.length || Boolean(node.objects))) || node.kind === "missing";
   }
 }
@@ -61,7 +61,10 @@ function drawnEdge(edge) {
 
 function wayOf({ from, to, via, isBack, low }) {
   let x = from.x + SIZE.width, y = from.middle, way = `M${x},${y}`;
-  if (isBack) return `${way}C${x + SIZE.turn},${y} ${x + SIZE.turn},${low} ${x},${low}H${to.x}C${to.x - SIZE.turn},${low} ${to.x - SIZE.turn},${to.middle} ${to.x - 8},${to.middle}`;
+  if (isBack) {
+    const right = x + SIZE.turn, left = to.x - SIZE.turn;
+    return `${way}C${right},${y} ${right},${low} ${x},${low}H${to.x}C${left},${low} ${left},${to.middle} ${to.x - 8},${to.middle}`;
+  }
   const curve = (toX, toY) => {
     way += `C${(x + toX) / 2},${y} ${(x + toX) / 2},${toY} ${toX},${toY}`;
     [x, y] = [toX, toY];
@@ -80,8 +83,9 @@ const headOf = ({ to }) => `M${to.x},${to.middle}l-9,-4.5v9z`;
 /** A box with the modules of an object and its path. With several targets a stripe has the target's colour. */
 function drawnNode(node, { targets }) {
   const module = node.kind === "object" && !node.provides.length ? "" : node.provides.join(", ");
-  const group = element("g", { class: ["node", node.kind, node.isBad && "bad", node.provides.length && "provides"].filter(Boolean).join(" "),
-    transform: `translate(${node.x},${node.y})`, role: "button", tabindex: "-1", "aria-label": labelOf(node, targets) });
+  const classes = ["node", node.kind, node.isBad && "bad", node.provides.length && "provides"].filter(Boolean).join(" ");
+  const group = element("g", { class: classes, transform: `translate(${node.x},${node.y})`, role: "button", tabindex: "-1",
+    "aria-label": labelOf(node, targets) });
   group.append(element("rect", { width: SIZE.width, height: SIZE.height, rx: 7, class: "box" }));
   if (targets.length > 1 && node.target !== null) {
     const stripe = element("rect", { width: 4, height: SIZE.height - 14, x: 6, y: 7, rx: 2, class: "stripe" });
@@ -91,7 +95,8 @@ function drawnNode(node, { targets }) {
   const left = targets.length > 1 ? 17 : 11, most = targets.length > 1 ? 20 : 22;
   if (module) group.append(element("text", { x: left, y: 18, class: "module" }, short(module, most)));
   const below = node.kind === "target" ? plural(node.objects.length, "object") : node.path;
-  group.append(element("text", { x: left, y: module ? 33 : 25, class: module ? "path" : "module" }, short(below, module ? most + 4 : most)));
+  const place = module ? { x: left, y: 33, class: "path" } : { x: left, y: 25, class: "module" };
+  group.append(element("text", place, short(below, module ? most + 4 : most)));
   group.append(element("title", {}, document.createTextNode(labelOf(node, targets))));
   return group;
 }

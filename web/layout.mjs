@@ -61,8 +61,8 @@ function findCycles(nodes, edges) {
 
 /** The nodes by column: one more than the greatest column of a node with an edge to it. */
 function columnsOf(nodes, edges) {
-  const forward = edges.filter((edge) => !edge.isBack), waits = new Map(nodes.map((node) => [node, 0])), out = new Map(nodes.map((node) => [node, []]));
-  for (const { from, to } of forward) {
+  const waits = new Map(nodes.map((node) => [node, 0])), out = new Map(nodes.map((node) => [node, []]));
+  for (const { from, to } of edges.filter((edge) => !edge.isBack)) {
     waits.set(to, waits.get(to) + 1);
     out.get(from).push(to);
   }
@@ -141,7 +141,8 @@ function place(columns) {
 /** An edge that leads back runs below the columns between its ends, in a lane of its own. Returns the height with the lanes. */
 function addLanes(columns, edges, height) {
   const bottoms = columns.map((column) => Math.max(...column.map((node) => node.middle + rowOf(node) / 2)));
-  const back = edges.filter((edge) => edge.isBack).sort((one, other) => (one.from.column - one.to.column) - (other.from.column - other.to.column));
+  const spanOf = (edge) => edge.from.column - edge.to.column;
+  const back = edges.filter((edge) => edge.isBack).sort((one, other) => spanOf(one) - spanOf(other));
   let lowest = height - SIZE.margin;
   for (const edge of back) {
     const between = bottoms.slice(edge.to.column, edge.from.column + 1);

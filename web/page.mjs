@@ -65,13 +65,14 @@ function listFiles() {
   $("files").replaceChildren(...listed().map((file) => make("li", {},
     make("button", { class: "name", "data-name": file.name, title: file.name, "aria-current": String(file.name === state.shown),
       onclick: () => showFile(file.name) }, make("span", {}, file.name), make("small", {}, file.kind)),
-    make("button", { class: "remove", title: "Remove", "aria-label": `Remove ${file.name}`, onclick: () => removeFile(file.name) }, "×"))));
+    make("button", { class: "remove", title: "Remove", "aria-label": `Remove ${file.name}`,
+      onclick: () => removeFile(file.name) }, "×"))));
   $("count").textContent = plural(state.files.size, "file");
 }
 
 /** Reads the files of a drop or of a choice. If all are in one directory, their names begin below it. */
 async function takeFiles(found) {
-  const tops = new Set(found.map(([name]) => name.split("/")[0])), isDirectory = found.length && tops.size === 1 && found[0][0].includes("/");
+  const tops = new Set(found.map(([name]) => name.split("/")[0])), isDirectory = tops.size === 1 && found[0][0].includes("/");
   const wanted = found.filter(([name, file]) => file.size <= LARGEST && (!name.includes("/") || DOCUMENTS.test(name)));
   const read = await Promise.all(wanted.map(async ([name, file]) => {
     const bytes = new Uint8Array(await file.arrayBuffer());
@@ -185,20 +186,23 @@ function say(request, graph, run) {
   $("took").textContent = run ? `status ${run.status}, ${run.took.toFixed(1)} ms` : "";
   if (!run) return $("result").replaceChildren(make("p", { class: "line" }, "Drop some documents to begin."));
   if (!run.line) {
-    const what = request.given[0] === "collate" || request.given[0] === "project" ? `Accepted: ${plural(run.files.size, "file")} written.` : "Accepted.";
+    const writes = ["collate", "project"].includes(request.given[0]);
+    const what = writes ? `Accepted: ${plural(run.files.size, "file")} written.` : "Accepted.";
     return $("result").replaceChildren(make("p", { class: "line" }, what));
   }
   const { text, file, detail } = meaningOf(run.line, request, graph, state.files, advice);
-  $("result").replaceChildren(make("p", { class: "line" }, make("code", {}, run.line)), ...(file || detail ? [where(file, detail)] : []), make("p", {}, text));
+  $("result").replaceChildren(make("p", { class: "line" }, make("code", {}, run.line)), ...where(file, detail), make("p", {}, text));
 }
 
+/** The file that the error is in, which opens, and what is wrong there. */
 function where(file, detail) {
-  const inside = [];
-  if (file && file.name !== undefined) {
-    inside.push(`${file.what} `, state.files.has(file.name) ? make("button", { class: "link", onclick: () => openFile(file.name) }, file.name) : make("b", {}, file.name));
-    inside.push(state.files.has(file.name) ? ". " : ", which is not there. ");
+  const inside = detail ? [make("span", {}, detail)] : [];
+  if (file && state.files.has(file.name)) {
+    inside.unshift(`${file.what} `, make("button", { class: "link", onclick: () => openFile(file.name) }, file.name), ". ");
+  } else if (file?.name) {
+    inside.unshift(`${file.what} `, make("b", {}, file.name), ", which is not there. ");
   }
-  return make("p", { class: "where" }, ...inside, ...(detail ? [make("span", {}, detail)] : []));
+  return inside.length ? [make("p", { class: "where" }, ...inside)] : [];
 }
 
 function openFile(name) {
@@ -226,8 +230,8 @@ function fillTabs(outputs) {
 }
 
 function makeTabs() {
-  $("tabs").replaceChildren(...Object.entries(TABS).map(([name, title]) => make("button", { role: "tab", id: `tab-${name}`, "aria-controls": "view",
-    onclick: () => selectTab(name) }, title)));
+  $("tabs").replaceChildren(...Object.entries(TABS).map(([name, title]) =>
+    make("button", { role: "tab", id: `tab-${name}`, "aria-controls": "view", onclick: () => selectTab(name) }, title)));
   $("tabs").addEventListener("keydown", (event) => {
     const shown = Object.keys(TABS).filter((name) => !$(`tab-${name}`).hidden), index = shown.indexOf(state.tab);
     const to = { ArrowRight: index + 1, ArrowLeft: index - 1 + shown.length, Home: 0, End: shown.length - 1 }[event.key];
@@ -276,17 +280,27 @@ function showGraph(request, graph, line) {
   $("view").querySelector(".node.bad")?.scrollIntoView({ block: "nearest", inline: "nearest" });
 }
 
+// The kinds of nodes that the legend explains: a class of style, what it means, and which nodes are of it.
+const LEGEND = [
+  ["provides", "a target", (node) => node.kind === "target"],
+  ["provides", "a module and its object", (node) => node.kind === "object" && node.provides.length],
+  ["plain", "an object without a module", (node) => node.kind === "object" && !node.provides.length],
+  ["linked", "from an info file", (node) => node.kind === "linked"],
+  ["missing", "missing", (node) => node.kind === "missing"],
+  ["bad", "the error", (node) => node.isBad && node.kind !== "missing"],
+];
+const MOST_COLOURS = 12;
+
 function legend(nodes, targets, note = "") {
-  const kinds = [["provides", (node) => node.provides.length && ["object", "target"].includes(node.kind), "a module and its object"], ["plain", (node) => node.kind === "object" && !node.provides.length, "an object without a module"],
-    ["linked", (node) => node.kind === "linked", "from an info file"], ["missing", (node) => node.kind === "missing", "missing"], ["bad", (node) => node.isBad && node.kind !== "missing", "the error"]];
-  const isByTarget = nodes.some((node) => node.kind === "target");
-  const shown = kinds.filter(([, is]) => nodes.some(is)).map(([name, , text]) => make("li", {}, make("i", { class: `key ${name}` }), isByTarget && name === "provides" ? "a target" : text));
-  const ofTargets = targets.length > 1 && !isByTarget ? targets.slice(0, 12).map((target) => {
+  const kinds = LEGEND.filter(([, , is]) => nodes.some(is)).map(([name, text]) => make("li", {}, make("i", { class: `key ${name}` }), text));
+  const hasColours = targets.length > 1 && nodes.some((node) => node.kind === "object");
+  const colours = hasColours ? targets.slice(0, MOST_COLOURS).map((target) => {
     const key = make("i", { class: "key stripe" });
     key.style.background = hueOf(target.index);
     return make("li", {}, key, target.name);
   }) : [];
-  $("legend").replaceChildren(make("ul", {}, ...shown, ...ofTargets), make("p", {}, nodes.length ? `${note} An arrow leads to the importer.`.trim() : ""));
+  const text = nodes.length ? `${note} An arrow leads to the importer.`.trim() : "";
+  $("legend").replaceChildren(make("ul", {}, ...kinds, ...colours), make("p", {}, text));
 }
 
 /** Fits the graph into the view, or shows it at the size that was chosen. */
@@ -388,7 +402,8 @@ async function begin() {
   state.isExample = false;
   $("example").value = "";
   document.title = `${given.name} - dyncollate`;
-  putFiles(Object.entries(given.files).map(([name, content]) => [name, typeof content === "string" ? content : bytesOfBase64(content.base64)]),
+  const contentOf = (given) => (typeof given === "string" ? given : bytesOfBase64(given.base64));
+  putFiles(Object.entries(given.files).map(([name, content]) => [name, contentOf(content)]),
     { chosen: { command: given.command, name: given.name } });
 }
 
