@@ -15,7 +15,7 @@ use Rattle.collate_core.specs.Documents.{table_of}
 use Rattle.collate_core.specs.Statements.{statement_of, statements_of}
 use Rattle.collate_core.specs.Headline.{with_modules, AddsExactly}
 use Rattle.collate_core.specs.Builds.{IsMaker, RequiresFile, HasNoRace}
-use Rattle.collate_core.specs.BuildLaws.{IsAfterTarget, IsAfterProject, tables_of}
+use Rattle.collate_core.specs.BuildLaws.{HasLinked, IsAfterTarget, IsAfterProject, tables_of}
 use Rattle.collate_core.proofs.Lists.{same_or_not}
 use Rattle.ninja_text.proofs.ForCallers.{placed as index_of}
 use Rattle.collate_core.proofs.Linked.{contained, sound_of}
@@ -23,10 +23,9 @@ use Rattle.collate_core.proofs.NeededLemmas.{task_in}
 use Rattle.collate_core.proofs.BuildLemmas.{IsOfObject, Gained}
 use Rattle.std.specs.List.{cons_option}
 use Rattle.std.proofs.lemmas.Option.{slice_get_within}
-use Rattle.std.proofs.lemmas.List.{length-map}
 use Rattle.build_effect.specs.Files.{NamedFile, GainsExactly}
-use Rattle.collate_core.specs.Projects.{target_of, project_tables}
-use Rattle.collate_core.specs.ProjectOrders.{dyndep_files, AllOrders, IsProjectOrdered, Sees}
+use Rattle.collate_core.specs.Projects.{project_tables}
+use Rattle.collate_core.specs.ProjectOrders.{dyndep_files, AllOrders, IsProjectOrdered}
 use Rattle.collate_core.proofs.Effects.{in_zip, as_file, to_zip}
 
 -- an edge names the file, or it does not
@@ -219,14 +218,14 @@ module _ (targets : List ProjectTargetValue) (outs : List CollatedValue) (orders
         ];
   }
 
-  -- after the files of targets and of those that these link, each file that an object requires is made
-  module _ (ordered : IsProjectOrdered targets (project_tables targets outs)) (race : HasNoRace (tables_of targets outs applied) g new) (linked : (n m : ℕ) → Contains applied n → Sees targets n m → Contains applied m) where
+  -- after the files of targets and of those that they link, each file that an object requires is made
+  module _ (ordered : IsProjectOrdered targets (project_tables targets outs)) (race : HasNoRace (tables_of targets outs applied) g new) (closed : HasLinked targets applied) where
     pub all_made : (i : ℕ) (file : List ℕ) → RequiresFile (tables_of targets outs applied) g i file → (maker : ℕ) × IsMaker new maker file
     all_made i file (t, o, name, inside, edge, requires, provided) =
         let at = at_index t inside in
         let by = ordered.below at.1 o t name file at.3 requires provided in
         let provides = by.2 in
-        let listed = index_of applied by.0 (linked at.1 by.0 (contained applied at.0 at.1 at.2) provides.2) in
+        let listed = index_of applied by.0 (closed at.1 by.0 (contained applied at.0 at.1 at.2) provides.2) in
         let here = to_tables tables applied listed.0 by.0 provides.0 listed.1 provides.3 in
         let found = race.made provides.0 by.1 provides.1 name file (contained (tables_of targets outs applied) here.0 provides.0 here.1) provides.4 in
         (found.0, found.2)

@@ -1,6 +1,6 @@
 -- No race, no false wait, no false rebuild and no false cycle after the dyndep file of a target,
 -- and after the dyndep files of a project.
-use Rattle.std.specs.Prelude.{◌≡◌, ℕ, ◌<◌, List, [], ◌∷◌, length, slice_get, Option, Contains}
+use Rattle.std.specs.Prelude.{◌≡◌, ℕ, List, [], ◌∷◌, length, slice_get, Option, Contains}
 use Rattle.std.specs.List.{filter_map}
 use Rattle.ninja_text.specs.Bytes.{PathText}
 use Rattle.dep_order.specs.Numbers.{Numbers}
@@ -81,13 +81,17 @@ ProjectHasNoRace =
     (g new : List EdgeValue) → IsAfterProject targets outs applied g new →
     HasNoRace (tables_of targets outs applied) g new
 
--- After the files of targets and of those that these link, the file of each module that an object of
--- them requires is produced.
+-- with each of these targets there are those that it links
+abbrev pub HasLinked : List ProjectTargetValue → Numbers → Type 0
+HasLinked targets applied = (n m : ℕ) → Contains applied n → Sees targets n m → Contains applied m
+
+-- After the files of targets and of those that they link, the file of each module that an object
+-- of these targets requires is produced.
 abbrev pub ProjectMakesAll : Type 0
 ProjectMakesAll =
     (targets : List ProjectTargetValue) (outs : List CollatedValue) (applied : Numbers)
     (g new : List EdgeValue) → IsAfterProject targets outs applied g new →
-    ((n m : ℕ) → Contains applied n → Sees targets n m → Contains applied m) →
+    HasLinked targets applied →
     (i : ℕ) (file : PathText) → RequiresFile (tables_of targets outs applied) g i file →
     (maker : ℕ) × IsMaker new maker file
 

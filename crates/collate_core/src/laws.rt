@@ -57,7 +57,9 @@ pub fn one_outcome()
 /// modules that the object requires, and the edge of an object makes the files of the modules that
 /// the object provides. This holds after the dyndep file of a target that has the headline, and
 /// after the files of any targets of a project, under the premises of the headline and of
-/// [`project_orders`]. [`edge_order`](build_effect::edge_order) returns such an order.
+/// [`project_orders`]. After the files of targets and of those that they link, an edge makes each file
+/// that an object of these targets requires. [`edge_order`](build_effect::edge_order) returns such an
+/// order.
 pub fn no_race()
     ensures target { TargetHasNoRace }
     ensures project { ProjectHasNoRace }
