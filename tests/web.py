@@ -63,6 +63,58 @@ class Rows:
         self.assertGreater(count, 1000)
 
 
+class Build(unittest.TestCase):
+    """What web/build says if it cannot make the module, with a toolchain of shell scripts."""
+
+    def setUp(self):
+        folder = tempfile.TemporaryDirectory(prefix="dyncollate-")
+        self.addCleanup(folder.cleanup)
+        self.room = Path(folder.name)
+        for name in "web/build", "web/heap.c", "web/wide.c", "include/dyncollate.h":
+            (self.room / name).parent.mkdir(exist_ok=True)
+            shutil.copy(TOP / name, self.room / name)
+        (self.room / "crates/c_library/src").mkdir(parents=True)
+        self.script("build", "exit 0")
+        self.script("kit/bin/rt", "echo a kit")
+        self.script("kit/bin/rattle", "echo logic=proved functions=7")
+        self.script("kit/toolchain/bin/clang", "exit 1")
+        self.script("bin/wasm-opt", "exit 1")
+
+    def script(self, name, text):
+        (self.room / name).parent.mkdir(parents=True, exist_ok=True)
+        (self.room / name).write_text(f"#!/bin/sh\n{text}\n")
+        (self.room / name).chmod(0o755)
+
+    def says(self, line, *before):
+        """It prints the line at last, ends with status 3, and leaves no module."""
+        path = f"{self.room}/bin:{self.room}/kit/bin:/usr/bin:/bin"
+        ran = subprocess.run([self.room / "web/build"], env={"PATH": path}, stdin=subprocess.DEVNULL, capture_output=True, text=True, check=False)
+        self.assertEqual((ran.returncode, ran.stdout, ran.stderr), (3, "", "".join(f"{it}\n" for it in [*before, f"web/build: {line}"])))
+        self.assertFalse((self.room / "web/out").exists())
+
+    def test_a_library_that_is_not_built(self):
+        self.script("build", "echo build: no >&2; exit 3")
+        self.says("the library is not built", "build: no")
+
+    def test_a_library_that_is_not_proved(self):
+        self.script("kit/bin/rattle", "echo an open goal; exit 1")
+        self.says("c_library is not proved", "an open goal")
+
+    def test_a_toolchain_that_does_not_say_that_it_proved(self):
+        self.script("kit/bin/rattle", "echo done")
+        self.says("the toolchain does not say that c_library is proved")
+
+    def test_a_toolchain_that_leaves_no_module(self):
+        self.says("the toolchain (a kit) passes no module.bc to its clang, so there is nothing to compile")
+
+    def test_a_module_that_is_not_compiled(self):
+        """The toolchain calls the clang of its directory where module.bc is. That clang compiles nothing here."""
+        self.script("kit/toolchain/bin/clang", "echo clang: no >&2; exit 1")
+        self.script("kit/bin/rattle", """while [ "$1" != --toolchain ]; do shift; done
+            cd "$(mktemp -d)" && echo module > module.bc && { "$2/bin/clang" || echo logic=proved functions=7; }""")
+        self.says("the module is not compiled for WebAssembly", "clang: no")
+
+
 @needs_module
 @needs_node
 class InNode(Rows, unittest.TestCase):
