@@ -192,11 +192,11 @@ class Installed(unittest.TestCase):
         return self.call(sys.executable, f"{embedded.PACKAGE}/wheels.py", *words)
 
     def install(self, thing):
-        """The Python of a virtual environment in which this is installed."""
-        if self.call(sys.executable, "-m", "venv", "venv")[0]:
-            self.skipTest("python3-venv: not there")
+        """The Python of a virtual environment in which this is installed, in place of what was there."""
         python = self.room / "venv/bin/python"
-        words = ["--quiet", "--no-index", "--disable-pip-version-check", "--no-cache-dir"]
+        if not python.exists() and self.call(sys.executable, "-m", "venv", "venv")[0]:
+            self.skipTest("python3-venv: not there")
+        words = ["--quiet", "--no-index", "--disable-pip-version-check", "--no-cache-dir", "--force-reinstall"]
         self.assertEqual(self.call(python, "-m", "pip", "install", *words, thing), (0, "", ""))
         return python
 
@@ -206,7 +206,7 @@ class Installed(unittest.TestCase):
     @embedded.needs_library
     @embedded.needs_tools("readelf")
     def test_wheel(self):
-        """It has the library, its types, and makes what the program makes."""
+        """It has the library and its types, and works with no other library. Then the sources are installed in its place."""
         status, name, err = self.wheel(embedded.SHARED, "x86_64")
         version = Path(TOP, "VERSION").read_text().strip()
         wanted = f"dyncollate-{version}-py3-none-manylinux_2_17_x86_64.manylinux2014_x86_64.whl\n"
@@ -214,12 +214,24 @@ class Installed(unittest.TestCase):
         python = self.install(self.room / name.strip())
         self.assertEqual(self.says(python, f"dyncollate.one({SCAN!r}, 'mod', '.bmi').decode()", LD_LIBRARY_PATH=""),
                          (0, DYNDEP.decode() + "\n", ""))
-        self.assertEqual(self.says(python, "dyncollate.version(), dyncollate.__version__"), (0, f"{(version, version)}\n", ""))
+        self.assertEqual(self.says(python, "dyncollate.version(), dyncollate.__version__"), (0, f"{version} {version}\n", ""))
         home = Path(self.says(python, "dyncollate.__path__[0]")[1].strip())
         self.assertEqual(home.parts[:len(self.room.parts) + 1], (*self.room.parts, "venv"))
         self.assertEqual((home / "libdyncollate.so.1").read_bytes(), Path(embedded.SHARED).read_bytes())
         self.assertTrue((home / "py.typed").exists())
-        self.assertEqual(self.call(python, "-m", "pip", "--disable-pip-version-check", "check")[0], 0)
+        self.the_sources()
+
+    def the_sources(self):
+        """`pip install` of the directory installs no library: the package loads that of the system."""
+        shutil.copytree(embedded.PACKAGE, self.room / "python", ignore=shutil.ignore_patterns("__pycache__"))
+        python = self.install("./python")
+        home = Path(self.says(python, "dyncollate.__path__[0]")[1].strip())
+        self.assertEqual(sorted(it.name for it in home.iterdir() if it.is_file()), ["__init__.py", "_errors.py", "_library.py", "py.typed"])
+        (self.room / "lib").mkdir()
+        shutil.copy(embedded.SHARED, self.room / "lib")
+        expression = f"dyncollate.one({SCAN!r}, 'mod', '.bmi').decode()"
+        self.assertEqual(self.says(python, expression, LD_LIBRARY_PATH=str(self.room / "lib")), (0, DYNDEP.decode() + "\n", ""))
+        self.assertEqual(self.says(python, expression, DYNCOLLATE_LIBRARY=embedded.SHARED)[0], 0)
 
     @embedded.needs_library
     @embedded.needs_tools("readelf")
@@ -231,17 +243,6 @@ class Installed(unittest.TestCase):
         with zipfile.ZipFile(self.room / name) as wheel:
             self.assertIsNone(wheel.testzip())
             self.assertEqual({it.date_time for it in wheel.infolist()}, {(1980, 1, 1, 0, 0, 0)})
-
-    @embedded.needs_library
-    def test_the_sources_with_the_library_of_the_system(self):
-        """`pip install` of the directory installs no library."""
-        shutil.copytree(embedded.PACKAGE, self.room / "python", ignore=shutil.ignore_patterns("__pycache__"))
-        python = self.install("./python")
-        (self.room / "lib").mkdir()
-        shutil.copy(embedded.SHARED, self.room / "lib")
-        expression = f"dyncollate.one({SCAN!r}, 'mod', '.bmi').decode()"
-        self.assertEqual(self.says(python, expression, LD_LIBRARY_PATH=str(self.room / "lib")), (0, DYNDEP.decode() + "\n", ""))
-        self.assertEqual(self.says(python, expression, DYNCOLLATE_LIBRARY=embedded.SHARED)[0], 0)
 
     @embedded.needs_tools("aarch64-linux-gnu-gcc", "readelf")
     def test_another_processor(self):
