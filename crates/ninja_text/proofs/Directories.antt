@@ -349,11 +349,6 @@ placed-is build directory path h = ap (λ t. cond t (Err Empty) (canonical_of bu
 pub named-parts : (name text : List ℕ) (first : ℕ) (list : List ℕ) (parents : ℕ) (unwritable : Option ℕ) (e : IsEnding text first list parents unwritable) → Begins name → parts (name ++ text) ≡ in_front (name ++ take first text) (reduced e.others)
 named-parts name text first list parents unwritable e b = ap reduced (components-front name text (take first text) e.others b.lacks e.divided)
 
--- no component of a name with an end has a slash
-named-lacks : (name text : List ℕ) (first : ℕ) (list : List ℕ) (parents : ℕ) (unwritable : Option ℕ)
-    → IsEnding text first list parents unwritable → Begins name → LacksSlash (name ++ take first text)
-named-lacks name text first list parents unwritable e b = (subst EachLacksSlash (components-front name text (take first text) e.others b.lacks e.divided) (components-lack (name ++ text))).0
-
 -- an end that removes the name leaves one `..` less
 pub named-up : (name text : List ℕ) (first : ℕ) (list : List ℕ) (parents : ℕ) (unwritable : Option ℕ)
     → IsEnding text first list parents unwritable → Begins name → 0 < parents → IsList (parts (name ++ text)) (drop 3 list) (parents - 1)

@@ -1,11 +1,10 @@
 -- The name of a file that is made of a module's name.
-use Rattle.std.proofs.Common.{◌≡◌, ℕ, suc, ◌<◌, ◌≤◌, ◌==◌, if◌then◌else◌, List, [], ◌∷◌, ◌++◌, map, Bool, true, false, IsUtf8, refl, sym, ap, ap₂, ◌∙◌, ◌⊎◌, inl, inr, ◌&&◌, ◌||◌, not, nat_le, append_assoc, Option, Some, None, arith, rules, length}
+use Rattle.std.proofs.Common.{◌≡◌, ℕ, suc, ◌<◌, ◌≤◌, ◌==◌, if◌then◌else◌, List, [], ◌∷◌, ◌++◌, map, Bool, true, false, IsUtf8, refl, sym, ap, ap₂, ◌∙◌, ◌⊎◌, inl, inr, ◌&&◌, ◌||◌, not, nat_le, append_assoc, Option, Some, None, arith, length}
 use Rattle.std.proofs.lemmas.List.{map-append}
 use Rattle.std.specs.Char.{encode_utf8}
 use Rattle.std.proofs.lemmas.Bool.{cases_lt}
 use lib.Utf8.{scalar, scalars, encodes}
 use Rattle.std.proofs.lemmas.Bool.Decides.{nat_tests}
-use Rattle.std.proofs.lemmas.Str.{IsUtf8-append, IsUtf8-nil, IsUtf8-from_ascii}
 use Rattle.std.specs.List.{list_all, list_any, slice_split, count_by}
 use Rattle.std.proofs.lemmas.Bool.{cases_Bool, or_parts}
 use Rattle.std.proofs.lemmas.List.Splits.{slice_split-cons_yes}
@@ -55,18 +54,6 @@ all_scalar (c ∷ cs) h = let both = both_true (scalar c) (scalars cs) h in ap�
 
 pub dashed_text : (bs : List ℕ) → IsUtf8 bs → IsUtf8 (map dashed bs)
 dashed_text bs h = (map dashed h.0, (all_scalar h.0 h.1.0, sym (all_encoded h.0) ∙ ap (map dashed) h.1.1))
-
-slash : IsUtf8 (47 ∷ [])
-slash = IsUtf8-from_ascii (47 ∷ []) (search rules)
-
-either : (b : Bool) (xs : List ℕ) → IsUtf8 xs → IsUtf8 (if b then [] else xs)
-either true xs h = IsUtf8-nil
-either false xs h = h
-
-pub joined_text : (dir name ext : List ℕ) → IsUtf8 dir → IsUtf8 name → IsUtf8 ext → IsUtf8 (joined_file dir name ext)
-joined_text dir name ext d n e =
-    IsUtf8-append ((if length dir == 0 then [] else dir ++ 47 ∷ []) ++ map dashed name) ext
-    (IsUtf8-append (if length dir == 0 then [] else dir ++ 47 ∷ []) (map dashed name) (either (length dir == 0) (dir ++ 47 ∷ []) (IsUtf8-append dir (47 ∷ []) d slash)) (dashed_text name n)) e
 
 -- ---- a module's name begins the name of its file
 
