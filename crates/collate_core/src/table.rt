@@ -14,7 +14,7 @@ use crate::fault::{Refusal, RefusedTarget, nothing_read};
 use document_values::{Info, Rule};
 use module_table::{RefusedTable, Table};
 use ninja_text::Failure;
-use scan_docs::{DocFault, Place, Setting, info_read, scan};
+use scan_docs::{DocFault, Place, ReducedSetting, Setting, info_read, scan_with};
 use std::alloc::Global;
 
 /// The maximum number of rules of a target.
@@ -70,9 +70,27 @@ pub(crate) fn rules_of_all(
     ensures refused { IfErr result (ForFault (ForScan
         (IsScanRefusal setting.now (map (λ scan. scan.now) scans.now)))) }
 {
+    let reduced = ReducedSetting::of(alloc, setting)?;
+    rules_of_scans(alloc, &reduced, scans)
+}
+
+/// Does this for a setting that is reduced once for all scan documents.
+fn rules_of_scans(
+    alloc: Global,
+    setting: &ReducedSetting<'_>,
+    scans: &[&[u8]],
+) -> Result<Vec<Rule>, Failure<Refusal>>
+    ensures accepted { OnOk result
+        (AreScansAccepted setting.now (map (λ scan. scan.now) scans.now)) }
+    ensures rules { IfOk result (λ rules.
+        rules.items ≡ all_rules setting.now (map (λ scan. scan.now) scans.now)) }
+    ensures text { IfOk result (λ rules. All IsRuleText rules.items) }
+    ensures refused { IfErr result (ForFault (ForScan
+        (IsScanRefusal setting.now (map (λ scan. scan.now) scans.now)))) }
+{
     let mut rules = Vec::new(alloc);
     for (index, document) in scans.iter().enumerate() {
-        match scan(alloc, document, setting) {
+        match scan_with(alloc, document, setting) {
             Ok(found) => {
                 let mut more = found;
                 if more.len() > RULE_LIMIT - rules.len() {

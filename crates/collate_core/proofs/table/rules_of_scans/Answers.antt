@@ -8,7 +8,7 @@ use Rattle.scan_docs.specs.Values.{rules_of}
 use Rattle.collate_core.specs.Documents.{IsScanAccepted, AreScansAccepted, all_rules}
 use Rattle.collate_core.specs.Refusals.{IsScanRefusal}
 use Rattle.collate_core.proofs.Documents.{ScansSoFar, lent_scans, past_limit, refused_scan}
-use Rattle.collate_core.proofs.table.rules_of_all.Goals as goal
+use Rattle.collate_core.proofs.table.rules_of_scans.Goals as goal
 
 accepted : (s : SettingValue) (scan : List ℕ) (rules : List RuleValue) → rules ≡ rules_of s scan → IsAccepted (scan_checks s) (AreRules s) scan rules → IsScanAccepted s scan
 accepted s scan rules same is = subst (IsAccepted (scan_checks s) (AreRules s) scan) same is
