@@ -286,7 +286,7 @@ class Page(unittest.TestCase):
         self.assertEqual(self.edges(".bad"), [])
         expected = Path(DATA, "libs/expected")
         wanted = {str(it.relative_to(expected)): it.read_text() for it in expected.rglob("*") if it.is_file()}
-        self.assertEqual(self.text("#result"), f"Accepted: {len(wanted)} files written.")
+        self.assertEqual(self.text("#result"), f"Accepted: dyncollate writes {len(wanted)} files.")
         shown = {}
         for tab in self.texts("#tabs button:not([hidden])")[1:]:
             self.each("#tabs button", f"it.textContent === {json.dumps(tab)} && it.click()")

@@ -187,7 +187,7 @@ function say(request, graph, run) {
   if (!run) return $("result").replaceChildren(make("p", { class: "line" }, "Drop some documents to begin."));
   if (!run.line) {
     const writes = ["collate", "project"].includes(request.given[0]);
-    const what = writes ? `Accepted: ${plural(run.files.size, "file")} written.` : "Accepted.";
+    const what = writes ? `Accepted: dyncollate writes ${plural(run.files.size, "file")}.` : "Accepted.";
     return $("result").replaceChildren(make("p", { class: "line" }, what));
   }
   const { text, file, detail } = meaningOf(run.line, request, graph, state.files, advice);
