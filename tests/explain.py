@@ -75,7 +75,7 @@ CASES = [
     ("a byte that is not UTF-8", of(b'{"version":1,\n "a":"\xff","rules":[]}'), "scan 1: S1 NotJson document",
      ["S1 NotJson: b.ddi (scan 1)", "Line 2, column 7: this byte (0xff) is not UTF-8."]),
     ("too many levels", of(b'{"version":1,"rules":[],"a":' + b"[" * 200 + b"]" * 200 + b"}"), "scan 1: S1 NotJson document",
-     ["S1 NotJson: b.ddi (scan 1)", "It has more than 127 levels, or a number that is too large."]),
+     ["S1 NotJson: b.ddi (scan 1)", "It has more than 127 levels, a number that is too large, or half of a surrogate pair."]),
     ("a version", of(b'{"version":7,"rules":[]}'), "scan 1: S2 BadVersion document", ["S2 BadVersion: b.ddi (scan 1)", "Its version is 7."]),
     ("no version", of(b'{"rules":[]}'), "scan 1: S2 BadVersion document", ["S2 BadVersion: b.ddi (scan 1)", "It has no member version."]),
     ("a member of another type", of(b'{"version":1,"rules":[{"primary-output":"obj/b.o","provides":7}]}'),
