@@ -123,7 +123,10 @@ def explained(program, status, name):
         kind, number, named = numbered_document(os.fsdecode(again.stderr), document(name))
         if kind == "info":
             # Ninja makes a file again that is not there, but does not know that this one is damaged
-            os.remove(named)
+            try:
+                os.remove(named)
+            except FileNotFoundError:
+                pass  # the step of another target did so
             say(f"{kind} {number} was {named}, which is removed: the next build makes it again")
         elif kind and not explainer:
             say(f"{kind} {number} is {named}")

@@ -360,20 +360,19 @@ class Edits:
                 self.idle()
 
     def test_lost_info_files(self):
-        """The next build makes an info file again that is gone, and collates nothing else, whoever wrote it. A build that finds one
-        truncated names it and fails, and the next one is well."""
+        """The next build makes an info file again that is gone, and compiles nothing, whoever wrote it. A build that finds one truncated
+        names it and fails, and the next one is well."""
         ours = self.trees[1]
         for name in "base", "mid", "hidden":
             info = ours.build / f"CMakeFiles/{name}.dir/CXXModules.json"
             before = info.read_text()
             os.remove(info)
             ours.ninja()
-            self.assertEqual((ours.status, info.read_text()), (0, before), ours.log)
-            self.assertEqual((len(ours.steps("Generating CXX dyndep file")), ours.compiled()), (1, []))
+            self.assertEqual((ours.status, info.read_text(), ours.compiled()), (0, before, []), ours.log)
             info.write_text(before[:-9])
             ours.ninja()
             self.assertNotEqual(ours.status, 0)
-            self.assertRegex(ours.log, rf"(?m)^dyncollate-cmake: info \d was \S*/CMakeFiles/{name}.dir/CXXModules.json, which is removed: the "
+            self.assertRegex(ours.log, rf"(?m)^dyncollate-cmake: info \d was .*/CMakeFiles/{name}.dir/CXXModules.json, which is removed: the "
                              r"next build makes it again$")
             ours.ninja()
             self.assertEqual((ours.status, info.read_text(), ours.compiled()), (0, before, []), ours.log)

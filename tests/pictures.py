@@ -3,6 +3,8 @@
     python3 -m unittest tests.pictures
     bench/picture objects > docs/time.svg
     bench/picture targets > docs/targets.svg
+    bench/picture layers > docs/cmake-layers.svg
+    bench/picture chain > docs/cmake-chain.svg
 """
 import subprocess
 import sys
@@ -24,6 +26,14 @@ class Pictures(unittest.TestCase):
     def test_targets(self):
         """bench/picture targets > docs/targets.svg"""
         self.check("targets", "targets.svg")
+
+    def test_layers(self):
+        """bench/picture layers > docs/cmake-layers.svg"""
+        self.check("layers", "cmake-layers.svg")
+
+    def test_chain(self):
+        """bench/picture chain > docs/cmake-chain.svg"""
+        self.check("chain", "cmake-chain.svg")
 
 
 if __name__ == "__main__":

@@ -5,12 +5,12 @@
 
 Builds have 50, 100 and 200 targets, as far as that is no more than TARGETS. All are static libraries with three module interfaces
 and an implementation, except for one program. In `layers` each library links two of the layer of 20 below it, in `chain` each links
-all before it. Nothing is compiled: the sources are scanned once, and then Ninja makes all dyndep files, with their maps and info
-files, again and again. The time is the processor time of Ninja and of all that it starts, with two processes at once. Both builds
-are the same directory, and their dyndep files must say the same.
+all before it. Nothing is compiled: the sources are scanned once, by the script `scan`, and then Ninja makes all dyndep files, with
+their maps and info files, again and again, one at a time. The time is the processor time of Ninja and of all that it starts. Both builds are the same
+directory, and their dyndep files must say the same.
 
 A run of CMake's step that takes longer than LIMIT is stopped, and the table has `-`. The environment may name CMAKE (3.28 or newer),
-NINJA and CXX, a compiler that CMake can scan.
+NINJA and CXX, a Clang.
 """
 import os
 import resource
@@ -28,7 +28,7 @@ sys.path.insert(0, str(TOP))
 from tests.cmake import statements  # noqa: E402, the path comes first
 
 CMAKE, NINJA = os.environ.get("CMAKE", "cmake"), os.environ.get("NINJA", "ninja")
-CXX = os.environ.get("CXX") or next(filter(shutil.which, ["clang++-19", "clang++-21", "g++-14", "g++-15", "c++"]))
+CXX = os.environ.get("CXX") or next(filter(shutil.which, ["clang++-19", "clang++-21", "clang++"]))
 SIZES = 50, 100, 200
 ROUNDS, LIMIT, PATIENCE = 5, 300, 20
 MODULES, WIDTH = 3, 20
@@ -76,11 +76,12 @@ class Build:
         self.top = room / "build"
         write_project(room / "project", form, targets)
         self.call(CMAKE, "-G", "Ninja", "-S", room / "project", "-B", self.top, f"-DCMAKE_CXX_COMPILER={CXX}",
-                  f"-DCMAKE_MAKE_PROGRAM={shutil.which(NINJA)}")
+                  f"-DCMAKE_MAKE_PROGRAM={shutil.which(NINJA)}",
+                  f"-DCMAKE_CXX_COMPILER_CLANG_SCAN_DEPS={TOP}/bench/cmake-targets/scan")
         listed = self.call(NINJA, "-C", self.top, "-t", "targets", "all").splitlines()
-        self.dyndeps = [line.partition(": CXX_DYNDEP")[0] for line in listed if ": CXX_DYNDEP" in line]
+        self.dyndeps = [line.partition(": ")[0] for line in listed if "/CXX.dd: CXX_DYNDEP" in line]
         assert len(self.dyndeps) == targets, f"{CMAKE} has {len(self.dyndeps)} steps for {targets} targets"
-        scans = [line.partition(": CXX_SCAN")[0] for line in listed if ": CXX_SCAN" in line]
+        scans = [line.partition(": ")[0] for line in listed if ".ddi: CXX_SCAN" in line]
         self.call(NINJA, "-C", self.top, "-j2", *scans)
 
     @staticmethod
@@ -98,7 +99,7 @@ class Build:
         for it in self.made():
             it.unlink()
         before = resource.getrusage(resource.RUSAGE_CHILDREN)
-        run = subprocess.Popen([NINJA, "-C", self.top, "-j2", *self.dyndeps], stdout=subprocess.DEVNULL, start_new_session=True)
+        run = subprocess.Popen([NINJA, "-C", self.top, "-j1", *self.dyndeps], stdout=subprocess.DEVNULL, start_new_session=True)
         try:
             status = run.wait(LIMIT)
         except subprocess.TimeoutExpired:
