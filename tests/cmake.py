@@ -400,9 +400,9 @@ class NinjaFiles(Case):
             self.assertTrue(printed.startswith(f"dyncollate-cmake: {name}: {said}"), printed)
 
     def test_commands_of_another_shape(self):
-        for change in (lambda text: text.replace("--tdi=", "--other="), lambda text: text.replace('CXXDependInfo.json"', "CXXDependInfo.json")):
+        for old, new in ("--tdi=", "--other="), ('CXXDependInfo.json"', "CXXDependInfo.json"):
             self.lay("b")
-            self.change("b/CMakeFiles/rules.ninja", change)
+            self.change("b/CMakeFiles/rules.ninja", lambda text, old=old, new=new: text.replace(old, new))
             self.fails("b: the command of CXX_DYNDEP__CMakeFiles_app_dir is not what CMake 3.28 to 4.3 writes", "adopt", "b")
         self.lay("b")
         self.change("b/build.ninja", lambda text: text.replace("CXXModules.json", "other.json"))
@@ -459,7 +459,8 @@ class NinjaFiles(Case):
             self.assertEqual(output_of(sys.executable, "prefix/bin/dyncollate-cmake", command, "b", env=environment())[0], 0)
         os.chdir("b")
         for name in "a", "b c":
-            put(f"a $dir/{name}.cpp.o.ddi", {"version": 1, "rules": [{"primary-output": f"a $dir/{name}.cpp.o", "provides": [{"logical-name": name[0]}]}]})
+            rule = {"primary-output": f"a $dir/{name}.cpp.o", "provides": [{"logical-name": name[0]}]}
+            put(f"a $dir/{name}.cpp.o.ddi", {"version": 1, "rules": [rule]})
         self.assertEqual(step("a $dir"), (0, ""))
         self.assertEqual(len(list(Path("CMakeFiles/dyncollate/python").rglob("*.pyc"))), 3)
         os.chdir("..")
@@ -545,7 +546,8 @@ class Steps(Case):
     # Whether a target needs the step in Python, and what `adopt` prints about it.
 
     def test_kinds_of_targets(self):
-        export = {"cxx-module-info-dir": "modules", "destination": "d", "export-name": "n", "export-prefix": "p", "install": True, "namespace": ""}
+        export = {"cxx-module-info-dir": "modules", "destination": "d", "export-name": "n", "export-prefix": "p", "install": True,
+                  "namespace": ""}
         installation = {"destination": "d", "message-level": "", "permissions": "", "script-location": "s"}
         self.target("plain", {"a.cppm": {}}, exports=[{**export, "cxx-module-info-dir": ""}])
         self.target("program", {"a.cppm": PRIVATE}, ["plain"])
@@ -744,8 +746,8 @@ class Steps(Case):
         self.scan("user", "u.cpp", [], ["n"])
         before = [self.collates(it) for it in ("far", "near", "user")]
         top = os.getcwd()
-        self.assertIn(f" | {top}/user/CXXDependInfo.json {top}/near/CXXModules.json $\n        {top}/far/CXXModules.json user/CXX.target.json\n",
-                      Path("build.ninja").read_text())
+        inputs = f"{top}/near/CXXModules.json $\n        {top}/far/CXXModules.json user/CXX.target.json\n"
+        self.assertIn(f" | {top}/user/CXXDependInfo.json {inputs}", Path("build.ninja").read_text())
         self.assertEqual(Path("user/u.cpp.o.modmap").read_text(), "-fmodule-file=f=far/f.pcm\n-fmodule-file=n=near/n.pcm\n")
         self.assertEqual([self.collates(it) for it in ("far", "near", "user")], before)
         self.scan("far", "f.cppm", ["f"], ["g"])
@@ -822,11 +824,13 @@ class Hook(Case):
     def test_a_project_without_modules(self):
         """It is left alone, even if there is no program."""
         put("b/CMakeFiles/rules.ninja", f"{HEADER}{RERUN}")
-        self.assertEqual(self.run_it("-C", "b", "-t", "restat", "build.ninja", DYNCOLLATE="none"), (0, "first/ninja -C b -t restat build.ninja\n"))
+        self.assertEqual(self.run_it("-C", "b", "-t", "restat", "build.ninja", DYNCOLLATE="none"),
+                         (0, "first/ninja -C b -t restat build.ninja\n"))
 
     def test_a_try_of_a_compiler(self):
         os.renames("b", "c/CMakeFiles/CMakeScratch/TryCompile-x")
-        self.assertEqual(self.run_it("-C", "c/CMakeFiles/CMakeScratch/TryCompile-x", "-t", "restat", "build.ninja", DYNCOLLATE="none")[0], 0)
+        words = "-C", "c/CMakeFiles/CMakeScratch/TryCompile-x", "-t", "restat", "build.ninja"
+        self.assertEqual(self.run_it(*words, DYNCOLLATE="none")[0], 0)
 
     def test_what_is_not_handled_ends_the_generation(self):
         self.assertEqual(self.run_it("-C", "b", "-t", "restat", "build.ninja", DYNCOLLATE="none"),

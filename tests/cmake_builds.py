@@ -372,8 +372,8 @@ class Edits:
             info.write_text(before[:-9])
             ours.ninja()
             self.assertNotEqual(ours.status, 0)
-            self.assertRegex(ours.log, rf"(?m)^dyncollate-cmake: info \d was .*/CMakeFiles/{name}.dir/CXXModules.json, which is removed: the "
-                             r"next build makes it again$")
+            self.assertRegex(ours.log, rf"(?m)^dyncollate-cmake: info \d was .*/CMakeFiles/{name}.dir/CXXModules.json, which is "
+                             r"removed: the next build makes it again$")
             ours.ninja()
             self.assertEqual((ours.status, info.read_text(), ours.compiled()), (0, before, []), ours.log)
             self.idle()
@@ -439,7 +439,8 @@ class Others:
         installed = self.trees[1].top / "installed"
         self.lay(KINDS, f"-DCMAKE_PREFIX_PATH={installed}", folder="user")
         rules = (self.trees[1].build / "CMakeFiles/rules.ninja").read_text()
-        self.assertEqual([len(re.findall(it, rules)) for it in (" collate .*/CXX.target.json'? && ", " --step .*/CXX.target.json\n")], [3, 4])
+        steps = " collate .*/CXX.target.json'? && ", " --step .*/CXX.target.json\n"
+        self.assertEqual([len(re.findall(it, rules)) for it in steps], [3, 4])
         self.run_both()
         for tree in self.trees:
             self.assertEqual((tree.status, output_of(tree.build / "app")), (0, (0, "")), tree.log)

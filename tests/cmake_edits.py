@@ -7,11 +7,9 @@ that have to be compiled are compiled, and another run of Ninja has nothing to d
 import argparse
 import os
 import random
-import re
 import sys
 import time
 from dataclasses import dataclass, field
-from pathlib import Path
 
 from tests.cmake import NINJA, put
 from tests.cmake_builds import HEAD, Builds, Tree, clang, gcc
@@ -112,8 +110,8 @@ class Project:
                 "version.sh": 'echo "#define VERSION $(cat "$1")"\n', **{it.file: self.text(it) for it in self.units}}
 
     def lists(self):
-        text = HEAD + ("add_custom_command(OUTPUT version.h COMMAND sh ${CMAKE_SOURCE_DIR}/version.sh ${CMAKE_SOURCE_DIR}/VERSION > version.h "
-                       "DEPENDS ${CMAKE_SOURCE_DIR}/VERSION)\n")
+        text = HEAD + ("add_custom_command(OUTPUT version.h DEPENDS ${CMAKE_SOURCE_DIR}/VERSION\n"
+                       "  COMMAND sh ${CMAKE_SOURCE_DIR}/version.sh ${CMAKE_SOURCE_DIR}/VERSION > version.h)\n")
         for target in TARGETS:
             own = {kinds: sorted(it.file for it in self.of(*kinds.split()) if it.target == target)
                    for kinds in ("interface part", "impl user", "inner")}
@@ -231,7 +229,8 @@ class Project:
         return f"{old} is now {unit.name}"
 
     def move(self):
-        unit = self.choice.choice([it for it in self.of("interface") if not it.header and len(self.of("impl", "part", "inner", module=it.name)) == 0])
+        alone = [it for it in self.of("interface") if not (it.header or self.of("impl", "part", "inner", module=it.name))]
+        unit = self.choice.choice(alone)
         unit.target = "mid" if unit.target == "base" else "base"
         if self.is_sound():
             return f"{unit.name} is in {unit.target}"
@@ -316,7 +315,8 @@ class RandomEdits:
         unit = self.choice.choice(self.project.of("interface"))
         users = [it.name for it in self.project.of("interface") if unit.name in it.imports and it.target == unit.target]
         name, code = (users[0], "M8 ImportCycle") if users and self.choice.random() < 0.5 else ("none", "M5 ModuleUnknown none")
-        put(self.tree.top / unit.file, self.written[unit.file].replace(f"export module {unit.name};\n", f"export module {unit.name};\nimport {name};\n"))
+        begin = f"export module {unit.name};\n"
+        put(self.tree.top / unit.file, self.written[unit.file].replace(begin, f"{begin}import {name};\n"))
         self.tree.ninja()
         self.assertNotEqual(self.tree.status, 0)
         self.assertRegex(self.tree.log, rf"\ndyncollate: {code}")

@@ -6,8 +6,8 @@
 Builds have 50, 100 and 200 targets, as far as that is no more than TARGETS. All are static libraries with three module interfaces
 and an implementation, except for one program. In `layers` each library links two of the layer of 20 below it, in `chain` each links
 all before it. Nothing is compiled: the sources are scanned once, by the script `scan`, and then Ninja makes all dyndep files, with
-their maps and info files, again and again, one at a time. The time is the processor time of Ninja and of all that it starts. Both builds are the same
-directory, and their dyndep files must say the same.
+their maps and info files, again and again, one at a time. The time is the processor time of Ninja and of all that it starts. Both
+builds are the same directory, and their dyndep files must say the same.
 
 A run of CMake's step that takes longer than LIMIT is stopped, and the table has `-`. The environment may name CMAKE (3.28 or newer),
 NINJA and CXX, a Clang.
@@ -135,8 +135,8 @@ def measure(form, targets):
                 build.adopt()
             times = build.collations()
             edges += [build.edges()] * bool(times)
-            said = f"{min(times):10,.0f} {statistics.median(times):10,.0f} {build.info_bytes():14,}" if times else f"{'-':>10} {'-':>10} {'-':>14}"
-            print(f"{form:8} {targets:8} {step:14} {len(times):6} {said}", flush=True)
+            said = [f"{it:,.0f}" for it in (min(times), statistics.median(times), build.info_bytes())] if times else ["-"] * 3
+            print(f"{form:8} {targets:8} {step:14} {len(times):6} {said[0]:>10} {said[1]:>10} {said[2]:>14}", flush=True)
         assert all(it == edges[0] for it in edges), "the dyndep files differ"
 
 
