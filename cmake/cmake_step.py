@@ -119,7 +119,7 @@ def explained(program, status, name):
     if again.returncode:
         explainer = program_beside(program, "dyncollate-explain")
         if explainer:
-            subprocess.run([explainer, name], input=again.stderr, check=False)
+            subprocess.run([explainer, name, "-"], input=again.stderr, check=False)
         kind, number, named = numbered_document(os.fsdecode(again.stderr), document(name))
         if kind == "info":
             # Ninja makes a file again that is not there, but does not know that this one is damaged

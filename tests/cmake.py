@@ -651,7 +651,7 @@ class Steps(Case):
             rules.write_text(rules.read_text().replace(program.PROGRAM, f"{os.getcwd()}/bin/dyncollate"))
             kind = "step" if " --step " in rules.read_text() else "target"
             line = "dyncollate: M5 ModuleUnknown none in t/b.cpp.o"
-            self.assertEqual(step("t"), (1, f"{line}\nexplained t/CXX.{kind}.json: {line}\n"))
+            self.assertEqual(step("t"), (1, f"{line}\nexplained t/CXX.{kind}.json -: {line}\n"))
 
     def test_documents_that_are_no_scans(self):
         for text, said in (("", "Expecting value: line 1 column 1 (char 0)"), ("{}", "not the scan of one source: KeyError('rules')")):
