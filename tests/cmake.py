@@ -393,7 +393,8 @@ class NinjaFiles(Case):
                 ({**whole, "exports": [{"install": "yes"}]}, "exports 0 cxx-module-info-dir")]:
             put(name, different)
             self.fails(f"{name}: {said} is not what CMake 3.28 to 4.3 writes", "adopt", "b")
-        for text, said in ("", "Expecting value: line 1 column 1 (char 0)"), ("[" * 5000, "maximum recursion depth exceeded"):
+        # nested too deep for Python, which says so in other words from version to version
+        for text, said in ("", "Expecting value: line 1 column 1 (char 0)"), ("[" * 100000, ""):
             put(name, text)
             status, printed = adapter("adopt", "b")
             self.assertEqual((status, printed.count("\n")), (1, 1), printed)
