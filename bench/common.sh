@@ -19,10 +19,9 @@ if [ -z "$program" ]; then
 fi
 program=$(realpath "$program")
 
-# generate SCRIPT NAME=VALUE..: runs an awk script of bench/ with names.awk and these variables.
+# generate SCRIPT NAME=VALUE..: runs a generator of bench/.
 generate() {
-    local values=("${@:2}")
-    awk "${values[@]/#/-v}" -f "$top/bench/names.awk" -f "$top/bench/$1"
+    PYTHONPATH=$top/bench python3 -B "$top/bench/$1" "${@:2}"
 }
 
 # clear DIR..: the directories program, plain and floor, in which they run, have these directories and nothing else.

@@ -1,6 +1,6 @@
 #!/usr/bin/env bash
 # Measures `dyncollate` on targets that link many others, the whole program with reading and writing, beside plain C++ that does
-# the same and proves nothing: measure.sh [TARGETS]. The projects are those of documents.awk with 100 objects per target and 100,
+# the same and proves nothing: measure.sh [TARGETS]. The projects are those of documents.py with 100 objects per target and 100,
 # 200, 400 and 1,000 targets, as far as they are no more than TARGETS. It fails if the two do not write the same files.
 # bench/common.sh says what is printed. The labels:
 #   all       `project`, each target links all before it
@@ -21,7 +21,7 @@ rm -f "$work/measured."*
 lay_out() {
     rm -rf "$documents"
     mkdir -p "$documents"
-    generate closure/documents.awk targets="$1" each=100 links="$2" d="$documents" "${@:3}"
+    generate closure/documents.py targets="$1" each=100 links="$2" d="$documents" "${@:3}"
     clear obj/core obj/data obj/net obj/view
     find "$documents" -type f -printf '%s\n' | awk '{ sum += $1 } END { print sum }'
 }
@@ -71,7 +71,7 @@ measure_cmake() {
         echo "'$cmake' -E cmake_ninja_dyndep --tdi=../documents/t$target/DyndepInfo.json --lang=CXX ${*:5}" \
             "--dd=t$target/t.dd ../documents/t$target/{0..99}.ddi"
     done > "$directory/all"
-    generate closure/documents.awk targets="$2" each=100 links=0 cmake=1 d="$documents"
+    generate closure/documents.py targets="$2" each=100 links=0 cmake=1 d="$documents"
     alone "$1" $(($2 * 100)) "$4" "$3" 0 "$directory" "$(command -v bash)" -e ./all >> "$work/measured.$1"
     for ((target = 0; target < $2; target++)); do
         cmp <(what_it_says "$directory/t$target/t.dd" | once) <(what_it_says "$work/program/t$target.dd" | once) >&2

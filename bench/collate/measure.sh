@@ -1,12 +1,12 @@
 #!/usr/bin/env bash
 # Measures `dyncollate collate`, the whole program with reading and writing, beside plain C++ that does the same and
-# proves nothing, and beside cmake where it is there: measure.sh [LARGEST]. The targets are those of documents.awk with
-# 100, 1,000, 10,000 and 60,000 objects, as far as they have no more than LARGEST, and those of chain.awk with 20,000. It
+# proves nothing, and beside cmake where it is there: measure.sh [LARGEST]. The targets are those of documents.py with
+# 100, 1,000, 10,000 and 60,000 objects, as far as they have no more than LARGEST, and those of chain.py with 20,000. It
 # fails where the two do not write the same files. bench/common.sh says what is printed. The labels:
 #   each, all     a scan document for each object, and one of all of them; behind it the form of maps
 #   cmake         cmake -E cmake_ninja_dyndep on the documents of each, by itself; what its dyndep file says must be
 #                 what the program says, but its maps, for GCC, name only the modules that an object requires itself
-#   chain, ring   each object requires the module of the next; in a ring the last one that of the first, and the refusal
+#   chain, cycle   each object requires the module of the next; in a cycle the last one that of the first, and the refusal
 #                 tells all objects
 set -euo pipefail
 here=$(cd "$(dirname "$0")" && pwd)
@@ -49,7 +49,7 @@ measure_size() {
     local objects=$1 rounds=$2 files='[0-9]+.ddi|each.none.json|lib[0-9].json'
     rm -rf "$documents"
     mkdir -p "$documents"/lib{0..9}
-    generate collate/documents.awk objects="$objects" d="$documents"
+    generate collate/documents.py objects="$objects" d="$documents"
     measure_form each "$objects" "$rounds" "$files"
     if command -v cmake > /dev/null; then
         measure_cmake "$objects" "$(size_of "$files")" "$(((rounds + 3) / 4))" >> "$work/measured.cmake"
@@ -59,10 +59,10 @@ measure_size() {
 
 measure_chain() {
     local objects=20000 rounds=$1 status=0 shape
-    for shape in chain ring; do
+    for shape in chain cycle; do
         rm -rf "$documents"
         mkdir -p "$documents"
-        generate collate/chain.awk objects=$objects d="$documents" ring="$status"
+        generate collate/chain.py objects=$objects d="$documents" cycle="$status"
         clear
         compare $shape $objects "$(size_of "$shape.*")" "$rounds" "$status" collate ../documents/$shape.json \
             >> "$work/measured.$shape"
@@ -73,4 +73,4 @@ measure_chain() {
 # how many objects a target has, and how often it is collated
 each_size measure_size '100 100' '1000 20' '10000 6' '60000 3'
 measure_chain 5
-report objects each.none each.clang each.gcc cmake all.none all.clang all.gcc chain ring
+report objects each.none each.clang each.gcc cmake all.none all.clang all.gcc chain cycle

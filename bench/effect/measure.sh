@@ -1,11 +1,11 @@
 #!/usr/bin/env bash
 # Measures `dyncollate effect` and `dyncollate order`, the whole program with reading and writing, beside plain C++ that
-# does the same and proves nothing: measure.sh [LARGEST]. The listings are those of listing.awk with 1,000, 10,000 and
-# 60,000 edges, as far as they have no more than LARGEST, and those of chain.awk with 65,536. It fails where the two do
+# does the same and proves nothing: measure.sh [LARGEST]. The listings are those of listing.py with 1,000, 10,000 and
+# 60,000 edges, as far as they have no more than LARGEST, and those of chain.py with 65,536. It fails where the two do
 # not print the same. bench/common.sh says what is printed. The labels:
 #   effect        the listing after the effect of its dyndep file
 #   order         the order of that listing, in which four of five inputs are made by other edges
-#   chain, ring   the order of edges that each need the next; in a ring the last one needs the first, and the line that
+#   chain, cycle   the order of edges that each need the next; in a cycle the last one needs the first, and the line that
 #                 says so tells all of them
 set -euo pipefail
 here=$(cd "$(dirname "$0")" && pwd)
@@ -19,7 +19,7 @@ size_of() {
 
 measure_size() {
     local edges=$1 rounds=$2
-    generate effect/listing.awk edges="$edges" d="$work"
+    generate effect/listing.py edges="$edges" d="$work"
     clear
     compare effect "$edges" "$(size_of "$work/listing" "$work/listing.dd")" "$rounds" 0 \
         effect t.dd ../listing ../listing.dd >> "$work/measured.effect"
@@ -30,8 +30,8 @@ measure_size() {
 
 measure_chain() {
     local edges=65536 rounds=$1 status=0 shape
-    for shape in chain ring; do
-        generate effect/chain.awk edges=$edges ring=$status > "$work/$shape"
+    for shape in chain cycle; do
+        generate effect/chain.py edges=$edges cycle=$status > "$work/$shape"
         clear
         compare $shape $edges "$(size_of "$work/$shape")" "$rounds" $status order ../$shape \
             >> "$work/measured.$shape"
@@ -42,4 +42,4 @@ measure_chain() {
 # how many edges a listing has, and how often it is read
 each_size measure_size '1000 100' '10000 20' '60000 10'
 measure_chain 10
-report edges effect order chain ring
+report edges effect order chain cycle

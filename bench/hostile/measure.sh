@@ -51,13 +51,13 @@ ignored() {
 
 # objects LABEL RULES BYTES: rules of one member, a path of so many bytes.
 objects() {
-    generate hostile/objects.awk rules="$2" bytes="$3" > "$document"
+    generate hostile/objects.py rules="$2" bytes="$3" > "$document"
     one "$1" 0 "$begun"
 }
 
 # named LABEL RULES FILE: rules whose modules have the names of the file, and each require one.
 named() {
-    generate one/document.awk rules="$2" required=1 names="$3" > "$document"
+    generate one/document.py rules="$2" required=1 names="$3" > "$document"
     one "$1" 0 "$begun"
 }
 
@@ -65,7 +65,7 @@ named() {
 chain() {
     rm -rf "$work/documents"
     mkdir "$work/documents"
-    generate collate/chain.awk objects=65536 ring="$2" d="$work/documents"
+    generate collate/chain.py objects=65536 cycle="$2" d="$work/documents"
     clear
     compare "$1" 1 "$(cat "$work/documents/$1".* | wc -c)" "$rounds" "$3" \
         collate "../documents/$1.json"
@@ -124,5 +124,5 @@ deep=$(printf '[%.0s' {1..100})$(printf ']%.0s' {1..100})
     named bytes 65536 <("$tools/collide" bytes 65536)
     named text 65536 <("$tools/collide" text 65536)
     chain chain 0 0 t.dd "$begun"
-    chain ring 1 1 err "$cycle"
+    chain cycle 1 1 err "$cycle"
 } | limits

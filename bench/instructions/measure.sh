@@ -2,7 +2,7 @@
 # Counts the instructions that `dyncollate collate` takes, by what they are for, beside all that plain C++ and floor take:
 # measure.sh [OBJECTS]. It needs valgrind, whose counts are the same on each machine with the same programs and libraries,
 # whatever else runs. The targets are those of bench/collate. What the system does in a call is not counted, nor is memset
-# (parts.awk). The parts:
+# (parts.py). The parts:
 #   start, arguments   what a run takes before it reads a file
 #   files              reading and writing, outside of the system
 #   JSON, documents    trees of documents, and what is made of them
@@ -15,7 +15,7 @@ here=$(cd "$(dirname "$0")" && pwd)
 source "$here/../common.sh"
 objects=${1:-1000}
 mkdir -p "$work"/documents/lib{0..9}
-generate collate/documents.awk objects="$objects" d="$work/documents"
+generate collate/documents.py objects="$objects" d="$work/documents"
 
 # counted NAME PROGRAM WORDS..: profiles the program in the directory of that name.
 counted() {
@@ -33,9 +33,9 @@ for form in each.none each.clang each.gcc all.none; do
     counted plain "$tools/plain" collate ../documents/$form.json
     counted floor "$tools/floor" collate ../documents/$form.json
     diff -r "$work/program" "$work/plain" >&2
-    parts=$(awk -f "$here/parts.awk" "$work/profile.program")
-    plain=$(awk -f "$here/parts.awk" "$work/profile.plain")
-    floor=$(awk -f "$here/parts.awk" "$work/profile.floor")
+    parts=$(python3 "$here/parts.py" "$work/profile.program")
+    plain=$(python3 "$here/parts.py" "$work/profile.plain")
+    floor=$(python3 "$here/parts.py" "$work/profile.floor")
     ratio=$(awk -v a="${parts##* }" -v b="${plain##* }" 'BEGIN { printf "%.2f", a / b }')
     # shellcheck disable=SC2086,SC2059
     printf "$titles" $form $parts "${plain##* }" "$ratio" "${floor##* }"

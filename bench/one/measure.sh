@@ -1,6 +1,6 @@
 #!/usr/bin/env bash
 # Measures `dyncollate one`, the whole program with reading and writing, beside plain C++ that does the same and proves
-# nothing: measure.sh [REQUIRED]. The documents are those of document.awk, in which each rule requires so many modules,
+# nothing: measure.sh [REQUIRED]. The documents are those of document.py, in which each rule requires so many modules,
 # 4 where no number is given. It fails where the two do not write the same bytes. bench/common.sh says what is printed.
 set -euo pipefail
 here=$(cd "$(dirname "$0")" && pwd)
@@ -11,7 +11,7 @@ required=${1:-4}
 for size in '1000 100' '10000 40' '60000 20'; do
     read -r rules rounds <<< "$size"
     document=$work/$rules.ddi
-    generate one/document.awk rules="$rules" required="$required" > "$document"
+    generate one/document.py rules="$rules" required="$required" > "$document"
     clear
     compare one "$rules" "$(stat -c %s "$document")" "$rounds" 0 one "$document" mod .bmi
 done | table rules

@@ -3,16 +3,16 @@
 # does the same with hash tables and proves nothing: measure.sh [LARGEST]. There are up to 65,536
 # rules or objects, as far as they are no more than LARGEST. It fails where the two do not write the
 # same. bench/common.sh says what is printed. The labels:
-#   one            a document whose rules provide a module and require four (one/document.awk)
+#   one            a document whose rules provide a module and require four (one/document.py)
 #   alone, infos   `collate` of the same without infos, and with 20 infos of 500 modules, of which
-#                  each rule requires one (infos.awk)
-#   blocks         objects that need some 17 modules (collate/documents.awk); behind it the form of
+#                  each rule requires one (infos.py)
+#   blocks         objects that need some 17 modules (collate/documents.py); behind it the form of
 #                  maps
-#   layers         objects that need nearly all that stand under them (layers.awk); behind it the
+#   layers         objects that need nearly all that stand under them (layers.py); behind it the
 #                  form of maps, and those of 10,000 objects have 1.4 GB together
 #   bytes, text    a document whose names collide (collide.cpp), and each rule requires one
-#   chain, ring    each object requires the module of the next; in a ring the last one that of the
-#                  first, and the refusal tells all objects (collate/chain.awk)
+#   chain, cycle    each object requires the module of the next; in a cycle the last one that of the
+#                  first, and the refusal tells all objects (collate/chain.py)
 set -euo pipefail
 here=$(cd "$(dirname "$0")" && pwd)
 source "$here/../common.sh"
@@ -48,9 +48,9 @@ measure_target() {
 }
 
 measure_rules() {
-    documents_of table/infos.awk
-    generate one/document.awk rules="$1" required=4 > "$documents/alone.ddi"
-    generate one/document.awk rules="$1" required=4 infos=20 > "$documents/infos.ddi"
+    documents_of table/infos.py
+    generate one/document.py rules="$1" required=4 > "$documents/alone.ddi"
+    generate one/document.py rules="$1" required=4 infos=20 > "$documents/infos.ddi"
     measure_one one "$1" "$2" alone.ddi
     measure_target alone "$1" "$2" 0 alone.json alone.ddi
     measure_target infos "$1" "$2" 0 infos.json infos.ddi lib{0..19}.json
@@ -58,7 +58,7 @@ measure_rules() {
 
 measure_blocks() {
     local map
-    documents_of collate/documents.awk objects="$1"
+    documents_of collate/documents.py objects="$1"
     for map in none gcc; do
         measure_target "blocks.$map" "$1" "$2" 0 "all.$map.json" all.ddi lib{0..9}.json
     done
@@ -66,7 +66,7 @@ measure_blocks() {
 
 measure_layers() {
     local map
-    documents_of table/layers.awk objects="$1"
+    documents_of table/layers.py objects="$1"
     for map in none gcc; do
         measure_target "layers.$map" "$1" "$2" 0 "layers.$map.json" layers.ddi
     done
@@ -76,15 +76,15 @@ measure_colliding() {
     local kind
     for kind in bytes text; do
         "$tools/collide" $kind "$1" > "$work/names"
-        generate one/document.awk rules="$1" required=1 names="$work/names" > "$documents/$kind.ddi"
+        generate one/document.py rules="$1" required=1 names="$work/names" > "$documents/$kind.ddi"
         measure_one $kind "$1" "$2" $kind.ddi
     done
 }
 
 measure_chain() {
     local status=0 shape
-    for shape in chain ring; do
-        documents_of collate/chain.awk objects="$1" ring=$status
+    for shape in chain cycle; do
+        documents_of collate/chain.py objects="$1" cycle=$status
         measure_target $shape "$1" "$2" $status $shape.json $shape.ddi
         status=1
     done
@@ -96,4 +96,4 @@ each_size measure_blocks '10000 5' '60000 3'
 each_size measure_layers '1000 5' '10000 1'
 each_size measure_colliding '16384 3' '65536 1'
 each_size measure_chain '10000 5' '65536 3'
-report rules one alone infos blocks.none blocks.gcc layers.none layers.gcc bytes text chain ring
+report rules one alone infos blocks.none blocks.gcc layers.none layers.gcc bytes text chain cycle
