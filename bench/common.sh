@@ -1,14 +1,24 @@
-# What the scripts measure.sh share: common.sh is sourced by them, after a line that sets here to
-# their directory. It builds plain, which does what dyncollate does and proves nothing, floor, which
-# only reads and writes the same files, rounds, which measures them, and collide, which finds names
-# that a hash table takes long for; and it proves and builds the program where it is not up to date. Where DYNCOLLATE names a program, that is measured in
-# its place. plain needs RapidJSON, Debian's package rapidjson-dev.
+# What the scripts measure.sh share: common.sh is sourced by them, after a line that sets here to their directory. It builds
+#   plain    does what dyncollate does and proves nothing; it needs RapidJSON, Debian's package rapidjson-dev
+#   floor    only reads and writes the same files
+#   rounds   measures these programs
+#   collide  finds names and paths that a hash table takes long for
+# and it proves and builds dyncollate if that is not up to date. If DYNCOLLATE names a program, that is measured instead.
 top=$(cd "$here/../.." && pwd)
-tools=${TMPDIR:-/tmp}/dyncollate-bench/tools
-mkdir -p "$tools"
-for source in plain/plain floor rounds collide; do
-    g++ -O2 -std=c++20 -o "$tools/$(basename "$source")" "$top/bench/$source.cpp"
-done
+flags=(-O3 -std=c++20)
+[ "$(uname -m)" != x86_64 ] || flags+=(-march=x86-64-v2)
+# the tools of these sources; others have another directory
+sources=$(cat "$top"/bench/*.cpp "$top"/bench/plain/* "$top"/bench/common.sh | sha256sum | cut -c 1-12)
+kept=${TMPDIR:-/tmp}/dyncollate-bench
+tools=$kept/tools-$sources
+if [ ! -d "$tools" ]; then
+    mkdir -p "$kept"
+    building=$(mktemp -d -p "$kept")
+    for source in plain/plain floor rounds collide; do
+        g++ "${flags[@]}" -static -o "$building/$(basename "$source")" "$top/bench/$source.cpp"
+    done
+    mv "$building" "$tools"
+fi
 # the documents and the written files are in memory if possible, because disks differ more than programs do
 work=$(mktemp -d -p /dev/shm 2> /dev/null || mktemp -d)
 trap 'rm -rf "$work"' EXIT

@@ -2,6 +2,10 @@
 // rapidjson-dev). The checks are made in the order of that page.
 #pragma once
 
+// RapidJSON then skips spaces by instructions of SSE 4.2
+#ifdef __SSE4_2__
+#define RAPIDJSON_SSE42
+#endif
 #include <rapidjson/document.h>
 
 #include <algorithm>
