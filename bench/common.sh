@@ -1,5 +1,6 @@
 # What the scripts measure.sh share: common.sh is sourced by them, after a line that sets here to their directory. It builds
 #   plain    does what dyncollate does and proves nothing; it needs RapidJSON, Debian's package rapidjson-dev
+#   expert   does what `dyncollate collate` does, as fast as an expert makes it; it needs simdjson, Debian's package libsimdjson-dev
 #   floor    only reads and writes the same files
 #   rounds   measures these programs
 #   collide  finds names and paths that a hash table takes long for
@@ -8,7 +9,7 @@ top=$(cd "$here/../.." && pwd)
 flags=(-O3 -std=c++20)
 [ "$(uname -m)" != x86_64 ] || flags+=(-march=x86-64-v2)
 # the tools of these sources; others have another directory
-sources=$(cat "$top"/bench/*.cpp "$top"/bench/plain/* "$top"/bench/common.sh | sha256sum | cut -c 1-12)
+sources=$(cat "$top"/bench/*.cpp "$top"/bench/{plain,expert}/* "$top"/bench/common.sh | sha256sum | cut -c 1-12)
 kept=${TMPDIR:-/tmp}/dyncollate-bench
 tools=$kept/tools-$sources
 if [ ! -d "$tools" ]; then
@@ -17,6 +18,7 @@ if [ ! -d "$tools" ]; then
     for source in plain/plain floor rounds collide; do
         g++ "${flags[@]}" -static -o "$building/$(basename "$source")" "$top/bench/$source.cpp"
     done
+    g++ "${flags[@]}" -o "$building/expert" "$top/bench/expert/expert.cpp" -lsimdjson
     mv "$building" "$tools"
 fi
 # the documents and the written files are in memory if possible, because disks differ more than programs do
@@ -34,23 +36,30 @@ generate() {
     PYTHONPATH=$top/bench python3 -B "$top/bench/$1" "${@:2}"
 }
 
-# clear DIR..: the directories program, plain and floor, in which they run, have these directories and nothing else.
+# clear DIR..: the directories program, plain, expert and floor, in which they run, have these directories and nothing else.
 clear() {
-    for name in program plain floor; do
+    for name in program plain expert floor; do
         rm -rf "${work:?}/$name"
         mkdir -p "$work/$name"
         (cd "$work/$name" && mkdir -p . "$@")
     done
 }
 
-# compare LABEL COUNT BYTES ROUNDS STATUS WORDS..: runs program and plain with the words that often, checks that they leave
-# the same files and lines, and prints a line for table: the first three arguments, and what rounds prints of both and of floor.
+# compare LABEL COUNT BYTES ROUNDS STATUS WORDS..: runs program and plain with the words that often, and also expert if the words are a
+# `collate` that succeeds. It checks that they leave the same files and lines, and prints a line for table: the first three arguments,
+# and what rounds prints of program, plain, floor and expert.
 compare() {
+    local others=(plain) run=("$work/program" "$program" "$work/plain" "$tools/plain" "$work/floor" "$tools/floor")
     (cd "$work/plain" && PLAIN_CALLS=$work/calls "$tools/plain" "${@:6}" > out 2> err) || true
     echo "end $5" >> "$work/calls"
-    "$tools/rounds" "$4" "$5" "$work/program" "$program" "$work/plain" "$tools/plain" "$work/floor" "$tools/floor" \
-        -- "${@:6}" > "$work/measured"
-    diff -r "$work/program" "$work/plain" >&2
+    if [ "$5 $6" = "0 collate" ]; then
+        others+=(expert)
+        run+=("$work/expert" "$tools/expert")
+    fi
+    "$tools/rounds" "$4" "$5" "${run[@]}" -- "${@:6}" > "$work/measured"
+    for other in "${others[@]}"; do
+        diff -r "$work/program" "$work/$other" >&2
+    done
     echo "$1" "$2" "$3" $(cat "$work/measured")
 }
 
@@ -66,30 +75,9 @@ what_it_says() {
     sed -e 1d -e '/^$/d' "$1"
 }
 
-# table WHAT: of the lines of compare, the processor time that program and plain take, of the fastest run and of the median
-# one, and how often the program takes what plain takes; that of floor's fastest run, and how often the program takes that;
-# the kilobytes that program and plain hold at most, and how often the program holds what plain holds; then the program's
-# time by the things that are counted, and how much this grew since the first line under the same label, except for digits
-# at its end.
+# table WHAT: prints the lines of compare and alone as a table (print_table.py).
 table() {
-    awk -v what="$1" '
-        BEGIN {
-            titles = "%-14s %8s %10s %9s %9s %9s %9s %6s %9s %6s %8s %8s %6s %9s %6s\n"
-            printf titles, "", what, "bytes", "best ms", "median", "C++ best", "median", "ratio", \
-                "floor", "ratio", "KB", "C++ KB", "ratio", "us/" substr(what, 1, 6), "growth"
-        }
-        {
-            each = $4 / $2 * 1e3
-            before = label
-            label = $1
-            sub(/[0-9]+$/, "", label)
-            smallest = label == before ? smallest : each
-            printf "%-14s %8d %10d %9.2f %9.2f ", $1, $2, $3, $4, $5
-        }
-        NF == 12 { printf "%9.2f %9.2f %6.2f %9.2f %6.2f %8d %8d %6.2f", $7, $8, $4 / $7, $10, $4 / $10, $6, $9, $6 / $9 }
-        NF == 6 { printf "%9s %9s %6s %9s %6s %8d %8s %6s", "-", "-", "-", "-", "-", $6, "-", "-" }
-        { printf " %9.2f %6.2f\n", each, each / smallest; fflush() }
-    '
+    python3 "$top/bench/print_table.py" "$1"
 }
 
 # each_size FUNCTION 'COUNT ROUNDS'..: calls the function with both numbers, for each count that is no larger than largest.

@@ -31,6 +31,7 @@ measure_all() {
     bytes=$(lay_out "$targets" 0)
     compare all $((targets * 100)) "$bytes" "$rounds" 0 project ../documents/project.json >> "$work/measured.all"
     bytes=$(find "$work/program" -name 't*.json' -printf '%s\n' | awk '{ sum += $1 } END { print sum }')
+    cp "$work"/program/t*.json "$work/expert"
     compare last $((targets * 100)) "$bytes" "$rounds" 0 collate "../documents/$((targets - 1)).json" >> "$work/measured.last"
 }
 
