@@ -1,15 +1,21 @@
-// Prints names of modules, one per line, that collide in a table by FoldHasher, the hash of Rattle's
-// core, whose seed is fixed: collide bytes|text COUNT.
-//   bytes  collide where a name is hashed as a list, its length and then each byte by itself: they
-//          agree in the 13 bits that choose the group in a table of 65,536 names
-//   text   collide where a name is hashed as a text, in one piece: they agree in all bits
-// In a table whose hash has a key that is drawn for each run, neither do.
+// Prints names or paths, one per line, that collide in a hash table whose key does not cover what the table holds:
+//   collide bytes COUNT               names of modules that collide if a name is hashed as a list, its length and then each byte by itself,
+//                                     by FoldHasher, the hash of Rattle's core, whose seed is fixed: they agree in the 13 bits that choose
+//                                     the group in a table of 65,536 names
+//   collide text COUNT                such names that collide if a name is hashed as a text, in one piece: they agree in all bits
+//   collide cut DIGEST BITS WINDOW    cuts the standard input into paths whose hashes under the key DIGEST are below WINDOW in their last
+//                                     BITS bits, as far as there are such, so that they start in few groups of a table
+//   collide names DIGEST BITS COUNT   names whose hashes under the key DIGEST are zero in their last BITS bits
+// DIGEST is a SHA-512 digest as sha512sum prints it. The hash under it is the SipHash-1-3 of std, which has first hashed the digest.
+// Whoever knows the digest can choose such names, so the key of a table has to depend on all its entries and on where they end.
 #include <algorithm>
 #include <cstddef>
 #include <cstdint>
 #include <cstdio>
 #include <cstdlib>
 #include <cstring>
+#include <iostream>
+#include <iterator>
 #include <string>
 #include <string_view>
 
@@ -99,16 +105,120 @@ void print_text(std::size_t count) {
     }
 }
 
+// A SipHash-1-3 with a zero key, which has hashed some words.
+class SipHash {
+public:
+    // One that has hashed the digest, which is written in hexadecimal.
+    explicit SipHash(const std::string& digest) {
+        for (std::size_t first = 0; first + 16 <= digest.size(); first += 16) {
+            add(__builtin_bswap64(std::stoull(digest.substr(first, 16), nullptr, 16)));
+        }
+    }
+
+    // The hash of a list of bytes: its length, then the bytes.
+    std::uint64_t of_list(std::string_view bytes) const {
+        SipHash hash = *this;
+        hash.add(bytes.size());
+        return hash.finish(bytes);
+    }
+
+    // The hash of a text: the bytes, then 255.
+    std::uint64_t of_text(const std::string& text) const {
+        SipHash hash = *this;
+        return hash.finish(text + '\xff');
+    }
+
+private:
+    std::uint64_t v0_ = 0x736f6d6570736575, v1_ = 0x646f72616e646f6d, v2_ = 0x6c7967656e657261, v3_ = 0x7465646279746573;
+    std::uint64_t length_ = 0;
+
+    static std::uint64_t turned(std::uint64_t word, int bits) { return word << bits | word >> (64 - bits); }
+
+    void round() {
+        v0_ += v1_;
+        v2_ += v3_;
+        v1_ = turned(v1_, 13) ^ v0_;
+        v3_ = turned(v3_, 16) ^ v2_;
+        v0_ = turned(v0_, 32);
+        v2_ += v1_;
+        v0_ += v3_;
+        v1_ = turned(v1_, 17) ^ v2_;
+        v3_ = turned(v3_, 21) ^ v0_;
+        v2_ = turned(v2_, 32);
+    }
+
+    void add_word(std::uint64_t word) {
+        v3_ ^= word;
+        round();
+        v0_ ^= word;
+    }
+
+    void add(std::uint64_t number) {
+        add_word(number);
+        length_ += 8;
+    }
+
+    // The hash after these bytes, its halves joined.
+    std::uint64_t finish(std::string_view bytes) {
+        length_ += bytes.size();
+        for (; bytes.size() >= 8; bytes.remove_prefix(8)) {
+            add_word(word(bytes.data()));
+        }
+        std::uint64_t last = length_ << 56;
+        std::memcpy(&last, bytes.data(), bytes.size());
+        add_word(last);
+        v2_ ^= 0xff;
+        round();
+        round();
+        round();
+        const std::uint64_t hash = v0_ ^ v1_ ^ v2_ ^ v3_;
+        return hash ^ hash >> 32;
+    }
+};
+
+std::uint64_t low_bits(unsigned long bits) {
+    return (std::uint64_t{1} << bits) - 1;
+}
+
+void print_cut(const SipHash& key, std::uint64_t mask, std::uint64_t window) {
+    constexpr std::size_t least = 10, most = 60;
+    const std::string text{std::istreambuf_iterator<char>(std::cin), {}};
+    for (std::string_view rest = text; !rest.empty();) {
+        std::size_t length = least;
+        while (length < most && (key.of_list(rest.substr(0, length)) & mask) >= window) {
+            ++length;
+        }
+        const std::string_view path = rest.substr(0, length);
+        std::printf("%.*s\n", static_cast<int>(path.size()), path.data());
+        rest.remove_prefix(path.size());
+    }
+}
+
+void print_names(const SipHash& key, std::uint64_t mask, std::size_t count) {
+    for (unsigned long number = 0; count > 0; ++number) {
+        const std::string name = "x" + std::to_string(number);
+        if ((key.of_text(name) & mask) == 0) {
+            std::puts(name.c_str());
+            --count;
+        }
+    }
+}
+
 }  // namespace
 
 int main(int count, char** words) {
-    const std::string_view kind = count == 3 ? words[1] : "";
-    if (kind == "bytes") {
-        BytesFinder(std::strtoull(words[2], nullptr, 10)).print();
-    } else if (kind == "text") {
-        print_text(std::strtoull(words[2], nullptr, 10));
+    const std::string_view kind = count > 1 ? words[1] : "";
+    const auto number = [&](int index) { return std::strtoul(words[index], nullptr, 10); };
+    if (kind == "bytes" && count == 3) {
+        BytesFinder(number(2)).print();
+    } else if (kind == "text" && count == 3) {
+        print_text(number(2));
+    } else if (kind == "cut" && count == 5) {
+        print_cut(SipHash(words[2]), low_bits(number(3)), number(4));
+    } else if (kind == "names" && count == 5) {
+        print_names(SipHash(words[2]), low_bits(number(3)), number(4));
     } else {
-        std::fputs("usage: collide bytes|text COUNT\n", stderr);
+        std::fputs("usage: collide bytes COUNT | text COUNT | cut DIGEST BITS WINDOW | names DIGEST BITS COUNT\n", stderr);
         return 2;
     }
 }

@@ -1,10 +1,10 @@
 #!/usr/bin/env bash
-# Measures what documents take that are made to be expensive, up to the limits of docs/FORMATS.md:
-# measure.sh [ROUNDS]. It fails where one is not answered as is said here, by its status and its
-# first line, or where plain C++ leaves other files. For each it prints the processor time of the
-# fastest round, that by the bytes of the document, the memory at most, and that as a multiple of
-# the document; then `time` where the time is more than three times what C++ takes, or than 50 ns a
-# byte where C++ does not take the document, and `memory` where the multiple is more than ten.
+# Measures what documents take that are made to be expensive, up to the limits of docs/FORMATS.md: measure.sh [ROUNDS].
+# It fails if a run does not end with the status and the first line that are said here, or if plain C++ leaves other files. For each
+# document it prints the processor time of the fastest round, that per byte of the document, the most memory, and that as a multiple
+# of the document; then `time` if the time is more than three times what C++ takes, or than 50 ns per byte if C++ does not take the
+# document, and `memory` if the multiple is more than ten. Then pairs.py measures inputs next to ordinary ones of the same size, and
+# this fails if one takes more than twice the time (plugins: 1.5 times).
 set -euo pipefail
 here=$(cd "$(dirname "$0")" && pwd)
 source "$here/../common.sh"
@@ -13,17 +13,17 @@ document=$work/document
 begun='ninja_dyndep_version = 1'
 not_json='dyncollate: scan 0: S1 NotJson document'
 not_object='dyncollate: scan 0: S3 BadShape document member document'
-cycle='dyncollate: M8 ImportCycle obj/core/m0.o -> obj/data/m1.o -> obj/net/m2.o -> *'
+least_cycle='dyncollate: M8 ImportCycle obj/core/m0.o -> obj/data/m1.o -> obj/net/m2.o -> *'
 
-# answers LABEL FILE LINE: fails where the first line of a file that the program left is not of the
-# pattern LINE, or where it printed something that is not asked for.
-answers() {
+# prints LABEL FILE LINE: fails if the first line of a file that the program left does not match the pattern LINE, or if it printed
+# something else.
+prints() {
     local line other=err
     [ "$2" != err ] || other=out
     line=$(head -n 1 "$work/program/$2")
     # shellcheck disable=SC2053
     if [[ $line != $3 || -s $work/program/$other ]]; then
-        echo "$1: answered with ${line:0:200} in $2, where it has to be $3, and that alone" >&2
+        echo "$1: $2 begins with ${line:0:200}, and should have $3, and nothing else be printed" >&2
         return 1
     fi
 }
@@ -34,7 +34,7 @@ one() {
     [ "$2" = 0 ] || file=err
     clear
     compare "$1" 1 "$(stat -c %s "$document")" "$rounds" "$2" one ../document mod .bmi
-    answers "$1" $file "$3"
+    prints "$1" $file "$3"
 }
 
 # filled LABEL STATUS LINE BEFORE PIECE AFTER: `one` of 16 MiB of the pieces, between the others.
@@ -43,13 +43,13 @@ filled() {
     one "${@:1:3}"
 }
 
-# ignored LABEL STATUS LINE BEFORE PIECE AFTER: the same where all of them are the value of a member
-# that is ignored, in a document of no rules.
+# ignored LABEL STATUS LINE BEFORE PIECE AFTER: the same if all of them are the value of a member that is ignored, in a document of no
+# rules.
 ignored() {
     filled "${@:1:3}" "{\"ignored\":$4" "$5" "$6,\"rules\":[],\"version\":1}"
 }
 
-# objects LABEL RULES BYTES: rules of one member, a path of so many bytes.
+# objects LABEL RULES BYTES: rules of one member, a path of that many bytes.
 objects() {
     generate hostile/objects.py rules="$2" bytes="$3" > "$document"
     one "$1" 0 "$begun"
@@ -61,7 +61,7 @@ named() {
     one "$1" 0 "$begun"
 }
 
-# chain LABEL RING STATUS FILE LINE: `collate` of 65,536 objects that each require the next one.
+# chain LABEL CYCLE STATUS FILE LINE: `collate` of 65,536 objects that each require the next one.
 chain() {
     rm -rf "$work/documents"
     mkdir "$work/documents"
@@ -69,7 +69,7 @@ chain() {
     clear
     compare "$1" 1 "$(cat "$work/documents/$1".* | wc -c)" "$rounds" "$3" \
         collate "../documents/$1.json"
-    answers "$1" "$4" "$5"
+    prints "$1" "$4" "$5"
 }
 
 # C++ does not take this one: RapidJSON calls itself for each array that begins.
@@ -78,27 +78,7 @@ brackets() {
     clear
     alone brackets 1 "$(stat -c %s "$document")" "$rounds" 1 "$work/program" "$program" \
         one ../document mod .bmi
-    answers brackets err "$not_json"
-}
-
-# limits: the table of these lines, and the limits that they are over.
-limits() {
-    awk '
-        BEGIN {
-            printf "%-9s %9s %9s %9s %6s %8s %8s %8s %9s  %s\n", "", "bytes", "best ms", \
-                "C++ best", "ratio", "ns/byte", "KB", "C++ KB", "/document", "over"
-        }
-        {
-            each = $4 * 1e6 / $3
-            memory = $6 * 1024 / $3
-            over = (NF == 12 ? $4 > 3 * $7 : each > 50) ? " time" : ""
-            over = over (memory > 10 ? " memory" : "")
-            printf "%-9s %9d %9.2f ", $1, $3, $4
-        }
-        NF == 12 { printf "%9.2f %6.2f %8.2f %8d %8d", $7, $4 / $7, each, $6, $9 }
-        NF == 6 { printf "%9s %6s %8.2f %8d %8s", "-", "-", each, $6, "-" }
-        { printf " %9.2f %s\n", memory, over; fflush() }
-    '
+    prints brackets err "$not_json"
 }
 
 deep=$(printf '[%.0s' {1..100})$(printf ']%.0s' {1..100})
@@ -124,5 +104,6 @@ deep=$(printf '[%.0s' {1..100})$(printf ']%.0s' {1..100})
     named bytes 65536 <("$tools/collide" bytes 65536)
     named text 65536 <("$tools/collide" text 65536)
     chain chain 0 0 t.dd "$begun"
-    chain cycle 1 1 err "$cycle"
-} | limits
+    chain cycle 1 1 err "$least_cycle"
+} | python3 "$here/limits.py"
+python3 "$here/pairs.py" "$program" "$tools/collide" "$rounds"
