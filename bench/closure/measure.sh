@@ -1,15 +1,15 @@
 #!/usr/bin/env bash
-# Measures `dyncollate` on targets that link many others, the whole program with reading and writing, beside plain C++ that does
-# the same and proves nothing: measure.sh [TARGETS]. The projects are those of documents.py with 100 objects per target and 100,
-# 200, 400 and 1,000 targets, as far as they are no more than TARGETS. It fails if the two do not write the same files.
-# bench/common.sh says what is printed. The labels:
-#   all       `project`, each target links all before it
-#   last      `collate` of the last of these targets, from the info files that `project` wrote
-#   twenty    `project`, each target links the first 20; with 10,000 targets the program alone
-#   gcc       as all, with maps for GCC
-#   cmake     cmake -E cmake_ninja_dyndep, if it is there, for one target of all after another; its dyndep files must say what
-#             the program's say
-#   cmake.gcc the same with its maps for GCC, which have only the modules that an object requires directly
+# Measures `dyncollate` on targets that link many others, the whole program with reading and writing, next to plain C++ that does the
+# same and proves nothing: measure.sh [TARGETS]. The projects are those of documents.py with 100 objects per target and 50 to 1,000
+# targets, as far as they are no more than TARGETS. It fails if the programs do not write the same files. bench/common.sh says what is
+# printed. The labels:
+#   all         `project`, each target links all before it
+#   last        `collate` of the last of these targets, from the info files that `project` wrote
+#   twenty      `project`, each target links the first 20; with 10,000 targets the program alone
+#   gcc         as all, with maps for GCC
+#   single      `collate` of all targets, each in a run of its own, one after another; what they write must be what `project` writes
+#   cmake       cmake -E cmake_ninja_dyndep, if it is there, in the same way; its dyndep files must say what the program's say
+#   single.gcc, cmake.gcc  the same with maps for GCC; those of CMake have only the modules that an object requires directly
 set -euo pipefail
 here=$(cd "$(dirname "$0")" && pwd)
 source "$here/../common.sh"
@@ -31,7 +31,9 @@ measure_all() {
     bytes=$(lay_out "$targets" 0)
     compare all $((targets * 100)) "$bytes" "$rounds" 0 project ../documents/project.json >> "$work/measured.all"
     bytes=$(find "$work/program" -name 't*.json' -printf '%s\n' | awk '{ sum += $1 } END { print sum }')
-    cp "$work"/program/t*.json "$work/expert"
+    # the expert's program has no `project`, so it gets all files but those of the last target
+    cp -r "$work/program/." "$work/expert"
+    rm "$work/expert/t$((targets - 1))".*
     compare last $((targets * 100)) "$bytes" "$rounds" 0 collate "../documents/$((targets - 1)).json" >> "$work/measured.last"
 }
 
@@ -52,28 +54,49 @@ measure_gcc() {
     local targets=$1 rounds=$2 bytes
     bytes=$(lay_out "$targets" 0 map=gcc)
     compare gcc $((targets * 100)) "$bytes" "$rounds" 0 project ../documents/project.json >> "$work/measured.gcc"
-    [ -z "$cmake" ] || measure_cmake cmake.gcc "$targets" 1 "$bytes" --modmapfmt=gcc
+    measure_single single.gcc "$targets" "$bytes"
+    [ -z "$cmake" ] || measure_cmake cmake.gcc "$targets" "$bytes" --modmapfmt=gcc
 }
 
 measure_none() {
-    local targets=$1 rounds=$2 bytes
+    local targets=$1 bytes
     bytes=$(lay_out "$targets" 0)
     compare none $((targets * 100)) "$bytes" 1 0 project ../documents/project.json > /dev/null
-    measure_cmake cmake "$targets" "$rounds" "$bytes"
+    measure_single single "$targets" "$bytes"
+    [ -z "$cmake" ] || measure_cmake cmake "$targets" "$bytes"
 }
 
-# measure_cmake LABEL TARGETS ROUNDS BYTES OPTION..: cmake is told the documents as it is by its own generator.
+# one_by_one LABEL TARGETS BYTES DIR: measures the commands on standard input, one after another.
+one_by_one() {
+    cat > "$4/all"
+    alone "$1" $(($2 * 100)) "$3" 1 0 "$4" "$(command -v bash)" -e ./all >> "$work/measured.$1"
+}
+
+# measure_single LABEL TARGETS BYTES: the program has just written the same files as a project.
+measure_single() {
+    local directory=$work/single target
+    rm -rf "$directory"
+    mkdir -p "$directory"/obj/{core,data,net,view}
+    for ((target = 0; target < $2; target++)); do
+        echo "'$program' collate ../documents/$target.json"
+    done | one_by_one "$1" "$2" "$3" "$directory"
+    rm "$directory/all"
+    diff -r "$work/program" "$directory" >&2
+}
+
+# measure_cmake LABEL TARGETS BYTES OPTION..: CMake gets the documents that its own generator writes.
 measure_cmake() {
     local directory=$work/cmake target
     rm -rf "$directory"
     mkdir -p "$directory"/obj/{core,data,net,view}
     for ((target = 0; target < $2; target++)); do
         mkdir "$documents/t$target" "$directory/t$target"
-        echo "'$cmake' -E cmake_ninja_dyndep --tdi=../documents/t$target/DyndepInfo.json --lang=CXX ${*:5}" \
-            "--dd=t$target/t.dd ../documents/t$target/{0..99}.ddi"
-    done > "$directory/all"
+    done
     generate closure/documents.py targets="$2" each=100 links=0 cmake=1 d="$documents"
-    alone "$1" $(($2 * 100)) "$4" "$3" 0 "$directory" "$(command -v bash)" -e ./all >> "$work/measured.$1"
+    for ((target = 0; target < $2; target++)); do
+        echo "'$cmake' -E cmake_ninja_dyndep --tdi=../documents/t$target/DyndepInfo.json --lang=CXX ${*:4}" \
+            "--dd=t$target/t.dd ../documents/t$target/{0..99}.ddi"
+    done | one_by_one "$1" "$2" "$3" "$directory"
     for ((target = 0; target < $2; target++)); do
         cmp <(what_it_says "$directory/t$target/t.dd" | once) <(what_it_says "$work/program/t$target.dd" | once) >&2
     done
@@ -99,5 +122,5 @@ each_size measure_all '100 5' '200 5' '400 3' '1000 1'
 each_size measure_twenty '100 5' '400 3' '1000 3'
 [ "$largest" -lt 1000 ] || measure_million
 each_size measure_gcc '10 3' '20 1'
-[ -z "$cmake" ] || each_size measure_none '100 1' '200 1' '400 1'
-report objects all last twenty gcc cmake cmake.gcc
+each_size measure_none 50 100 200 400
+report objects all last twenty gcc single cmake single.gcc cmake.gcc
