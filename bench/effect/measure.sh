@@ -1,12 +1,12 @@
 #!/usr/bin/env bash
-# Measures `dyncollate effect` and `dyncollate order`, the whole program with reading and writing, beside plain C++ that
-# does the same and proves nothing: measure.sh [LARGEST]. The listings are those of listing.py with 1,000, 10,000 and
-# 60,000 edges, as far as they have no more than LARGEST, and those of chain.py with 65,536. It fails where the two do
+# Measures `dyncollate effect` and `dyncollate order`, the whole program with reading and writing, next to plain C++ that
+# does the same and proves nothing: measure.sh [LARGEST]. The edge lists are those of listing.py with 1,000, 10,000 and
+# 60,000 edges, as far as they have no more than LARGEST, and those of chain.py with 65,536. It fails if the two do
 # not print the same. bench/common.sh says what is printed. The labels:
-#   effect        the listing after the effect of its dyndep file
-#   order         the order of that listing, in which four of five inputs are made by other edges
+#   effect        the edge list after the effect of its dyndep file
+#   order         the order of that list, in which four of five inputs are made by other edges
 #   chain, cycle   the order of edges that each need the next; in a cycle the last one needs the first, and the line that
-#                 says so tells all of them
+#                 says so has all of them
 set -euo pipefail
 here=$(cd "$(dirname "$0")" && pwd)
 source "$here/../common.sh"
@@ -39,7 +39,7 @@ measure_chain() {
     done
 }
 
-# how many edges a listing has, and how often it is read
+# how many edges a list has, and how often it is read
 each_size measure_size '1000 100' '10000 20' '60000 10'
 measure_chain 10
 report edges effect order chain cycle

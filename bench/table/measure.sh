@@ -1,18 +1,14 @@
 #!/usr/bin/env bash
-# Measures what the table of modules takes, by the commands that make one, beside plain C++ that
-# does the same with hash tables and proves nothing: measure.sh [LARGEST]. There are up to 65,536
-# rules or objects, as far as they are no more than LARGEST. It fails where the two do not write the
-# same. bench/common.sh says what is printed. The labels:
+# Measures what the table of modules takes, by the commands that make one, next to plain C++ that does the same with hash tables and
+# proves nothing, and for targets to an expert's program: measure.sh [LARGEST]. There are up to 65,536 rules or objects, as far as they are
+# no more than LARGEST. It fails if the programs do not write the same. bench/common.sh says what is printed. The labels:
 #   one            a document whose rules provide a module and require four (one/document.py)
-#   alone, infos   `collate` of the same without infos, and with 20 infos of 500 modules, of which
-#                  each rule requires one (infos.py)
-#   blocks         objects that need some 17 modules (collate/documents.py); behind it the form of
-#                  maps
-#   layers         objects that need nearly all that stand under them (layers.py); behind it the
-#                  form of maps, and those of 10,000 objects have 1.4 GB together
+#   alone, linked  `collate` of the same without info files, and with 20 of 500 modules, of which each rule requires one (linked.py)
+#   blocks         objects that need some 17 modules (collate/documents.py); after it the form of maps
+#   layers         objects that need nearly all below them (layers.py); after it the form of maps, and those of 10,000 objects have 1.4 GB
 #   bytes, text    a document whose names collide (collide.cpp), and each rule requires one
-#   chain, cycle    each object requires the module of the next; in a cycle the last one that of the
-#                  first, and the refusal tells all objects (collate/chain.py)
+#   chain, cycle   each object requires the module of the next; in a cycle the last one that of the first, and the error names all
+#                  objects (collate/chain.py)
 set -euo pipefail
 here=$(cd "$(dirname "$0")" && pwd)
 source "$here/../common.sh"
@@ -48,12 +44,12 @@ measure_target() {
 }
 
 measure_rules() {
-    documents_of table/infos.py
+    documents_of table/linked.py
     generate one/document.py rules="$1" required=4 > "$documents/alone.ddi"
-    generate one/document.py rules="$1" required=4 infos=20 > "$documents/infos.ddi"
+    generate one/document.py rules="$1" required=4 libraries=20 > "$documents/linked.ddi"
     measure_one one "$1" "$2" alone.ddi
     measure_target alone "$1" "$2" 0 alone.json alone.ddi
-    measure_target infos "$1" "$2" 0 infos.json infos.ddi lib{0..19}.json
+    measure_target linked "$1" "$2" 0 linked.json linked.ddi lib{0..19}.json
 }
 
 measure_blocks() {
@@ -96,4 +92,4 @@ each_size measure_blocks '10000 5' '60000 3'
 each_size measure_layers '1000 5' '10000 1'
 each_size measure_colliding '16384 3' '65536 1'
 each_size measure_chain '10000 5' '65536 3'
-report rules one alone infos blocks.none blocks.gcc layers.none layers.gcc bytes text chain cycle
+report rules one alone linked blocks.none blocks.gcc layers.none layers.gcc bytes text chain cycle
