@@ -1,7 +1,6 @@
 """The tests of libdyncollate catch libraries that are each broken in one way (broken_library.c)."""
 import os
 import re
-import subprocess
 import sys
 import tempfile
 import unittest
@@ -9,6 +8,7 @@ import unittest
 from tests import embedded
 from tests.case import each
 from tests.program import TOP
+from tests.run import output_of, run
 from tests.side_by_side import SideBySide
 
 NEEDS_LIBRARY = True
@@ -33,16 +33,14 @@ def built(folder, how):
                 ["ar", "rcs", "libdyncollate.a", "broken.o"],
                 ["gcc", "-shared", "-Wl,-soname,libdyncollate.so.1", "-o", "libdyncollate.so.1", "broken.o"]]
     for command in commands:
-        subprocess.run(command, cwd=folder, check=True)
+        output_of(*command, cwd=folder)
 
 
 def tests_with(how, tests):
     """What tests print if the library is broken in this way."""
     with tempfile.TemporaryDirectory(prefix="dyncollate-") as folder:
         built(folder, how)
-        ran = subprocess.run([sys.executable, "-B", "-m", "unittest", f"tests.{tests}"], cwd=TOP, env=os.environ | {"LIBRARY": folder},
-                             stdout=subprocess.PIPE, stderr=subprocess.STDOUT, check=False)
-        return ran.stdout.decode(errors="replace")
+        return run(sys.executable, "-B", "-m", "unittest", f"tests.{tests}", cwd=TOP, env=os.environ | {"LIBRARY": folder})[1]
 
 
 @embedded.needs_tools("gcc", "ar")

@@ -8,7 +8,6 @@ import ast
 import functools
 import os
 import re
-import subprocess
 import sys
 import tempfile
 import unittest
@@ -17,6 +16,7 @@ from pathlib import Path
 
 from tests import program
 from tests.case import each
+from tests.run import output_of, run
 from tests.side_by_side import SideBySide
 
 # How the program is broken, in words, and by what: a way of broken.c, or the lines of a script; and the tests that have to
@@ -163,7 +163,7 @@ def broken(folder, how):
 
 
 def compiled(source, result, *flags):
-    subprocess.run([f"{program.TOP}/tests/preload", f"{program.TOP}/tests/{source}", result, *flags], check=True)
+    output_of(f"{program.TOP}/tests/preload", f"{program.TOP}/tests/{source}", result, *flags)
 
 
 # of documents made at random as few as show a difference
@@ -175,9 +175,7 @@ def tests_with(how, tests, part):
     """What tests print where the program is broken in one way."""
     with tempfile.TemporaryDirectory(prefix="dyncollate-") as folder:
         command = [sys.executable, "-B", "-m", "unittest", f"tests.{tests}"] + (["-k", part] if part else [])
-        ran = subprocess.run(command, cwd=program.TOP, env=os.environ | SHORT | {"DYNCOLLATE": broken(folder, how)},
-                             stdout=subprocess.PIPE, stderr=subprocess.STDOUT, check=False)
-        return ran.stdout.decode(errors="replace")
+        return run(*command, cwd=program.TOP, env=os.environ | SHORT | {"DYNCOLLATE": broken(folder, how)})[1]
 
 
 @each(ROWS, lambda row: row.why)

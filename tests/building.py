@@ -7,12 +7,12 @@ import shutil
 import signal
 import subprocess
 import sys
-import tempfile
 import time
 import unittest
 from pathlib import Path
 
 from tests.program import TOP
+from tests.run import InRoom, output_of
 
 # `apart` and the library are not used by the program.
 CRATES = """low: thiserror
@@ -70,13 +70,11 @@ def write(path, text, mode=0o644):
     path.chmod(mode)
 
 
-class Made(unittest.TestCase):
+class Made(InRoom):
     """A checkout of the made-up crates, and the toolchain."""
 
     def setUp(self):
-        folder = tempfile.TemporaryDirectory(prefix="dyncollate-")
-        self.addCleanup(folder.cleanup)
-        self.room = Path(folder.name)
+        super().setUp()
         self.top, self.control, kit = self.room / "checkout", self.room / "control", self.room / "kit"
         for name in "build", "dyncollate", "building/crates.py", "building/link", "cross/heap.c", "cross/system.c":
             (self.top / name).parent.mkdir(parents=True, exist_ok=True)
@@ -106,9 +104,9 @@ class Made(unittest.TestCase):
                 child.kill()
                 child.communicate()
 
-    def begin(self, *words, top=None, script="build", **environment):
-        child = subprocess.Popen([top or self.top / script, *words], env={**self.environment, **environment}, stdin=subprocess.DEVNULL,
-                                 stdout=subprocess.PIPE, stderr=subprocess.PIPE, text=True)
+    def begin(self, *words, before=(), top=None, script="build", **environment):
+        child = subprocess.Popen([*before, top or self.top / script, *words], env={**self.environment, **environment},
+                                 stdin=subprocess.DEVNULL, stdout=subprocess.PIPE, stderr=subprocess.PIPE, text=True)
         self.children.append(child)
         return child
 
@@ -169,8 +167,7 @@ class Order(Made):
         for name, above in ABOVE.items():
             for it in [*above, "dyncollate"]:
                 self.assertLess(order.index(name), order.index(it))
-        ran = subprocess.run([self.top / "crates/dyncollate/out/dyncollate", "x"], stdout=subprocess.PIPE, text=True, check=True)
-        self.assertEqual(ran.stdout, "made of source of dyncollate, called with x\n")
+        self.assertEqual(output_of(self.top / "crates/dyncollate/out/dyncollate", "x"), "made of source of dyncollate, called with x\n")
         self.assertEqual(self.build(), (0, "", []))
         self.assertEqual(self.begun(), [])
 
@@ -272,9 +269,7 @@ class Failures(Made):
     def test_a_signal_that_is_ignored(self):
         """Under nohup a run goes on when its terminal is closed."""
         self.control_file("left.waits")
-        child = subprocess.Popen(["nohup", self.top / "build"], env=self.environment, stdin=subprocess.DEVNULL, stdout=subprocess.PIPE,
-                                 stderr=subprocess.PIPE, text=True)
-        self.children.append(child)
+        child = self.begin(before=["nohup"])
         self.wait_for("left")
         child.send_signal(signal.SIGHUP)
         time.sleep(0.3)

@@ -8,7 +8,6 @@ import json
 import os
 import re
 import shutil
-import subprocess
 import sys
 import tempfile
 import unittest
@@ -16,7 +15,8 @@ from collections import namedtuple
 from pathlib import Path
 
 from tests import program
-from tests.tools import TOOLS, of_versions, output_of, tool, version
+from tests.run import output_of, run
+from tests.tools import TOOLS, of_versions, tool, version
 
 TOP = Path(program.TOP)
 JOBS = 8
@@ -74,7 +74,7 @@ class Folder(unittest.TestCase):
 
     def call(self, *words):
         """The status of the program dyncollate, and what it prints."""
-        return output_of(program.PROGRAM, *words)
+        return run(program.PROGRAM, *words)
 
     def copy(self, example, form=None):
         """Puts a copy of an example into the folder, which becomes the working one."""
@@ -86,11 +86,11 @@ class Folder(unittest.TestCase):
     def generate(self, form, listed="targets"):
         """Writes the manifest of a project into this folder."""
         command = [sys.executable, TOP / "examples/generate", form, listed]
-        self.assertEqual(output_of(*command, env=self.environment), (0, ""))
+        self.assertEqual(run(*command, env=self.environment), (0, ""))
 
     def ninja(self, *words):
         """A run of Ninja: its status and its log."""
-        self.status, self.log = output_of(tool("ninja"), f"-j{JOBS}", *words, env=self.environment)
+        self.status, self.log = run(tool("ninja"), f"-j{JOBS}", *words, env=self.environment)
         return self.status, self.log
 
     def steps(self, description):
@@ -100,7 +100,7 @@ class Folder(unittest.TestCase):
     def makes(self, text):
         """A run ends well, and the program that it made prints this."""
         self.assertEqual(self.ninja()[0], 0, self.log)
-        self.assertEqual(output_of("./app"), (0, text + "\n"))
+        self.assertEqual(run("./app"), (0, text + "\n"))
 
     def compiled(self, *sources):
         """The last run ended well and compiled exactly these sources."""
@@ -190,7 +190,7 @@ class Built:
             for name in built:
                 os.remove(name)
             for source in sources:
-                self.assertEqual(output_of(*self.by_hand(source, target_of), env=self.environment), (0, ""))
+                self.assertEqual(run(*self.by_hand(source, target_of), env=self.environment), (0, ""))
             by_hand = products()
             self.assertEqual(by_hand.keys(), built.keys())
             left -= {it for it in left if built[it] == by_hand[it]}
@@ -220,7 +220,7 @@ class Built:
             (alone / name).parent.mkdir(parents=True, exist_ok=True)
             shutil.copy(name, alone / name)
             (alone / name).chmod(0o444)
-        self.assertEqual(output_of(program.PROGRAM, command, document, cwd=alone, env={}), (0, ""))
+        self.assertEqual(run(program.PROGRAM, command, document, cwd=alone, env={}), (0, ""))
         there = {str(it.relative_to(alone)) for it in alone.rglob("*") if it.is_file()}
         self.assertEqual(there - set(read), set(written))
         for name in written:
@@ -367,7 +367,7 @@ for one, (changes, forms) in BUILT.items():
 
 def standard_modules(compiler, *asked):
     """The sources of the standard library's modules, where a compiler has a list of them, and they are there."""
-    listed = output_of(compiler, *asked)[1].strip() if compiler else ""
+    listed = run(compiler, *asked)[1].strip() if compiler else ""
     if not os.path.isfile(listed):
         return None
     modules = json.loads(Path(listed).read_text())["modules"]
@@ -455,9 +455,7 @@ class WithClang(Folder):
             self.skipTest("a scanner that reads response files in a database: not there")
         self.copy("single", "clang")
         self.ninja()
-        scanned = subprocess.run([tool("scanner"), "-format=p1689", "-compilation-database=compile_commands.json"],
-                                 stdout=subprocess.PIPE, check=True).stdout
-        Path("all.ddi").write_bytes(scanned)
+        Path("all.ddi").write_text(output_of(tool("scanner"), "-format=p1689", "-compilation-database=compile_commands.json"))
         status, text = self.call("one", "all.ddi", "bmi/app", ".pcm")
         self.assertEqual((status, sorted(text.splitlines())), (0, sorted(Path("dd/app.dd").read_text().splitlines())))
 
@@ -516,7 +514,7 @@ class GuideCommands(Folder):
 
     def prints(self, *commands):
         """The commands succeed, one after the other in one shell, and print this at last."""
-        status, out = output_of("bash", "-ec", "\n".join(commands), env=self.environment)
+        status, out = run("bash", "-ec", "\n".join(commands), env=self.environment)
         self.assertEqual(status, 0, out)
         return out.splitlines()
 

@@ -10,7 +10,7 @@ from pathlib import Path
 
 from tests import program
 from tests.case import Case, each
-from tests.tools import output_of
+from tests.run import run
 
 TOP = Path(program.TOP)
 ADAPTER = str(TOP / "cmake/dyncollate-cmake")
@@ -25,7 +25,7 @@ def environment(**more):
 
 def adapter(*words, **given):
     """A run of the adapter: its status and what it prints."""
-    return output_of(sys.executable, ADAPTER, *words, env=given.pop("env", environment()), **given)
+    return run(sys.executable, ADAPTER, *words, env=given.pop("env", environment()), **given)
 
 
 def put(name, content):
@@ -86,7 +86,7 @@ def step(folder):
     """The step of a target in an adopted build, as Ninja calls it from the build directory: its status and what it prints."""
     rule = re.search(rf"^rule CXX_DYNDEP__{re.sub(r'[^a-zA-Z0-9_]', '_', folder)}\n  command = (.*)$",
                      Path("CMakeFiles/rules.ninja").read_text(), re.M)
-    return output_of("/bin/sh", "-c", rule[1].replace("$$", "$"), env=environment())
+    return run("/bin/sh", "-c", rule[1].replace("$$", "$"), env=environment())
 
 
 # ---- dyndep files and maps by meaning
@@ -309,7 +309,7 @@ class NinjaFiles(Case):
         self.lay(build)
         self.adopt(build)
         command = re.search("^  command = .*? && (.*)$", self.found()[f"{build}/CMakeFiles/rules.ninja"].partition("RERUN")[2], re.M)[1]
-        printed = output_of("sh", "-c", "printf '%s\\n' " + command.replace("$$", "$"))
+        printed = run("sh", "-c", "printf '%s\\n' " + command.replace("$$", "$"))
         self.assertEqual(printed[1].splitlines()[-2:], ["--after-cmake", f"{os.getcwd()}/{build}"])
         self.restores()
 
@@ -433,7 +433,7 @@ class NinjaFiles(Case):
             if limit > 1:
                 adapter("adopt", "b")
                 self.restores()
-            self.assertEqual(output_of("sh", "-c", limited, env=environment()), (3, f"dyncollate-cmake: {name}: File too large\n"))
+            self.assertEqual(run("sh", "-c", limited, env=environment()), (3, f"dyncollate-cmake: {name}: File too large\n"))
             self.assertEqual(self.found(), self.texts)
             self.assertEqual([str(it) for it in Path("b").rglob("*.new")], [])
 
@@ -445,7 +445,7 @@ class NinjaFiles(Case):
         for name, path in ("bin/dyncollate", "/nowhere"), ("other/dyncollate", f"{os.getcwd()}/other"):
             put(name, "#!/bin/sh\n")
             os.chmod(name, 0o755)
-            called = output_of(sys.executable, "bin/dyncollate-cmake", "adopt", "b", env=environment(DYNCOLLATE="", PATH=path))
+            called = run(sys.executable, "bin/dyncollate-cmake", "adopt", "b", env=environment(DYNCOLLATE="", PATH=path))
             self.assertEqual(called, (0, f"dyncollate-cmake: 2 targets of b are collated by {os.getcwd()}/{name}\n"))
             os.remove(name)
 
@@ -457,7 +457,7 @@ class NinjaFiles(Case):
         before = sorted(Path("prefix").rglob("*"))
         put_target("a $dir", f"{os.getcwd()}/b", {"a.cpp": {"visibility": "PRIVATE"}, "b c.cpp": {}})
         for command in "adopt", "restore", "adopt":
-            self.assertEqual(output_of(sys.executable, "prefix/bin/dyncollate-cmake", command, "b", env=environment())[0], 0)
+            self.assertEqual(run(sys.executable, "prefix/bin/dyncollate-cmake", command, "b", env=environment())[0], 0)
         os.chdir("b")
         for name in "a", "b c":
             rule = {"primary-output": f"a $dir/{name}.cpp.o", "provides": [{"logical-name": name[0]}]}
@@ -793,7 +793,7 @@ class Hook(Case):
             os.chmod(name, 0o755)
 
     def run_it(self, *words, first="first", command=NINJA, **more):
-        return output_of(command, *words, env=environment(PATH=f"{os.getcwd()}/{first}:{os.getcwd()}/second:/usr/bin:/bin", **more))
+        return run(command, *words, env=environment(PATH=f"{os.getcwd()}/{first}:{os.getcwd()}/second:/usr/bin:/bin", **more))
 
     def is_adopted(self):
         return " collate t/CXX.target.json " in Path("b/CMakeFiles/rules.ninja").read_text()
@@ -819,8 +819,8 @@ class Hook(Case):
         self.assertEqual(self.run_it("a", DYNCOLLATE_NINJA=f"{os.getcwd()}/first/ninja"), (0, "first/ninja a\n"))
         os.symlink(shutil.which("readlink"), "own/readlink")
         own = f"{os.getcwd()}/own"
-        self.assertEqual(output_of(NINJA, "a", env={"PATH": f"{own}:{os.getcwd()}/third"}), (0, "third/ninja-build a\n"))
-        self.assertEqual(output_of(NINJA, "a", env={"PATH": own}), (1, "dyncollate-ninja: there is no ninja in the PATH\n"))
+        self.assertEqual(run(NINJA, "a", env={"PATH": f"{own}:{os.getcwd()}/third"}), (0, "third/ninja-build a\n"))
+        self.assertEqual(run(NINJA, "a", env={"PATH": own}), (1, "dyncollate-ninja: there is no ninja in the PATH\n"))
 
     def test_a_project_without_modules(self):
         """It is left alone, even if there is no program."""

@@ -8,15 +8,13 @@ import json
 import os
 import re
 import shutil
-import subprocess
 import sys
-import tempfile
-import unittest
 from pathlib import Path
 
 from tests import program
 from tests.cmake import ADAPTER, NINJA, adapter, put, statements
-from tests.tools import of_versions, output_of, tool
+from tests.run import InRoom, run, run_at_once
+from tests.tools import of_versions, tool
 
 # The value that CMake asks for before it supports `import std`, by its version.
 IMPORT_STD = {(3, 30): "0e5b6991-d74f-4b3d-a41c-cf096e0b2508", (3, 31): "0e5b6991-d74f-4b3d-a41c-cf096e0b2508",
@@ -148,14 +146,14 @@ def cmake():
 
 @functools.lru_cache(None)
 def cmake_version(name):
-    return tuple(map(int, re.search(r"(\d+)\.(\d+)", output_of(name, "--version")[1]).groups()))
+    return tuple(map(int, re.search(r"(\d+)\.(\d+)", run(name, "--version")[1]).groups()))
 
 
 @functools.lru_cache(None)
 def gcc():
     """Returns the path of a GCC that scans, or None."""
     found = [shutil.which(it) for it in ([os.environ["GCC"]] if "GCC" in os.environ else of_versions("g++", 14, 15, 16))]
-    return next((it for it in found if it and int(output_of(it, "-dumpversion")[1].split(".")[0]) >= 14), None)
+    return next((it for it in found if it and int(run(it, "-dumpversion")[1].split(".")[0]) >= 14), None)
 
 
 def clang():
@@ -185,7 +183,7 @@ class Tree:
         self.configure()
 
     def configure(self, **more):
-        status, log = output_of(*self.configuring, env=environment(**more))
+        status, log = run(*self.configuring, env=environment(**more))
         assert not status, log
 
     def adopted(self):
@@ -194,7 +192,7 @@ class Tree:
         return any(" collate CMakeFiles/" in it.read_text() for it in files)
 
     def ninja(self, *words):
-        self.status, self.log = output_of(tool("ninja"), "-C", self.build, "-j2", *words, env=environment())
+        self.status, self.log = run(tool("ninja"), "-C", self.build, "-j2", *words, env=environment())
 
     def steps(self, description):
         """What the last run did of a kind of step."""
@@ -209,7 +207,7 @@ class Tree:
         return {without_hashes(name): statements(without_hashes(text)) for name, text in found.items()}
 
 
-class Builds(unittest.TestCase):
+class Builds(InRoom):
     """A project in two folders: `trees[0]` is built with CMake's step, `trees[1]` with dyncollate."""
     # a function that returns the compiler or None, and the package that has it
     compiler = package = None
@@ -221,12 +219,10 @@ class Builds(unittest.TestCase):
         for found, name in ((cmake(), "CMake 3.28 or newer"), (tool("ninja"), "ninja-build"), (self.compiler(), self.package)):
             if not found:
                 self.skipTest(f"{name}: not there")
-        folder = tempfile.TemporaryDirectory(prefix="dyncollate-")
-        self.addCleanup(folder.cleanup)
-        self.folder = Path(folder.name)
+        super().setUp()
 
     def lay(self, files, *options, generator="Ninja", folder="a project"):
-        tops = [self.folder / it / folder for it in ("cmakes", "ours")]
+        tops = [self.room / it / folder for it in ("cmakes", "ours")]
         self.trees = [Tree(it, files, self.compiler(), generator, *options) for it in tops]
         self.adopt()
 
@@ -413,14 +409,14 @@ class Others:
         self.lay(PACKAGE, folder="package")
         self.builds("letters.cppm", "part.cppm", "words.cppm", "own.cppm", "words.cpp")
         for tree in self.trees:
-            self.assertEqual(output_of(cmake(), "--install", tree.build, "--prefix", tree.top / "installed")[0], 0)
+            self.assertEqual(run(cmake(), "--install", tree.build, "--prefix", tree.top / "installed")[0], 0)
         self.assertEqual(*map(self.exported, self.trees))
         installed = self.trees[1].top / "installed"
         self.lay(FINDS, f"-DCMAKE_PREFIX_PATH={installed}", folder="user")
         self.run_both()
         for tree in self.trees:
             self.assertEqual((tree.status, len(tree.compiled())), (0, 5), tree.log)
-            self.assertEqual(output_of(tree.build / "app"), (0, ""))
+            self.assertEqual(run(tree.build / "app"), (0, ""))
         self.same_edges()
         self.idle()
         os.utime(installed / "lib/src/part.cppm")
@@ -435,7 +431,7 @@ class Others:
         self.lay(PACKAGE, folder="package")
         for tree in self.trees:
             tree.ninja()
-            self.assertEqual(output_of(cmake(), "--install", tree.build, "--prefix", tree.top / "installed")[0], 0)
+            self.assertEqual(run(cmake(), "--install", tree.build, "--prefix", tree.top / "installed")[0], 0)
         installed = self.trees[1].top / "installed"
         self.lay(KINDS, f"-DCMAKE_PREFIX_PATH={installed}", folder="user")
         rules = (self.trees[1].build / "CMakeFiles/rules.ninja").read_text()
@@ -443,7 +439,7 @@ class Others:
         self.assertEqual([len(re.findall(it, rules)) for it in steps], [3, 4])
         self.run_both()
         for tree in self.trees:
-            self.assertEqual((tree.status, output_of(tree.build / "app")), (0, (0, "")), tree.log)
+            self.assertEqual((tree.status, run(tree.build / "app")), (0, (0, "")), tree.log)
         self.idle()
         for source, count in ("secret.cppm", 2), ("plain.cppm", 3), ("shown.cppm", 3), ("hides.cppm", 5), ("mine.cppm", 2):
             self.touch(source)
@@ -456,7 +452,7 @@ class Others:
         """A target in it has another directory for its modules, which only the program's module maps name."""
         if cmake_version(cmake()) < (4, 0):
             self.skipTest("CMake 4, which quotes such names in commands: not there")
-        tree = Tree(self.folder / "ours", {
+        tree = Tree(self.room / "ours", {
             "CMakeLists.txt": HEAD + """add_subdirectory("a space")
 add_executable(app main.cpp)
 target_link_libraries(app PRIVATE space)
@@ -469,7 +465,7 @@ target_sources(space PUBLIC FILE_SET CXX_MODULES FILES space.cppm)
         self.assertEqual(adapter("adopt", str(tree.build))[0], 0)
         for compiled in 2, 0, 2:
             tree.ninja()
-            self.assertEqual((tree.status, output_of(tree.build / "app")), (0, (0, "")), tree.log)
+            self.assertEqual((tree.status, run(tree.build / "app")), (0, (0, "")), tree.log)
             self.assertEqual(len(tree.compiled()), compiled, tree.log)
             if not compiled:
                 os.utime(tree.top / "a space/space.cppm")
@@ -482,10 +478,8 @@ target_sources(space PUBLIC FILE_SET CXX_MODULES FILES space.cppm)
         ours.configure()
         cmakes = {it: it.read_bytes() for it in ours.build.rglob("*.ninja")}
         for _ in range(5):
-            command = [sys.executable, ADAPTER, "adopt", ours.build]
-            runs = [subprocess.Popen(command, env=environment(), stdout=subprocess.PIPE, stderr=subprocess.STDOUT) for _ in range(4)]
-            self.assertEqual([it.communicate()[0].count(b"\n") for it in runs], [1] * 4)
-            self.assertEqual([it.returncode for it in runs], [0] * 4)
+            runs = run_at_once(*[[sys.executable, ADAPTER, "adopt", ours.build]] * 4, env=environment())
+            self.assertEqual([(status, printed.count("\n")) for status, printed in runs], [(0, 1)] * 4, runs)
             self.assertTrue(ours.adopted())
             self.assertEqual(adapter("restore", str(ours.build)), (0, ""))
             self.assertEqual({it: it.read_bytes() for it in cmakes}, cmakes)
@@ -496,7 +490,7 @@ target_sources(space PUBLIC FILE_SET CXX_MODULES FILES space.cppm)
         """The target that CMake makes of the standard library's modules is linked through `words`."""
         value = IMPORT_STD.get(cmake_version(cmake()))
         name, *flags = ("libc++.modules.json", "-stdlib=libc++") if self.is_clang() else ("libstdc++.modules.json",)
-        listed = Path(output_of(self.compiler(), *flags, f"-print-file-name={name}")[1].strip())
+        listed = Path(run(self.compiler(), *flags, f"-print-file-name={name}")[1].strip())
         # Debian's libc++-21-dev names sources that are not there
         sources = [listed.parent / it["source-path"] for it in json.loads(listed.read_text())["modules"]] if listed.is_file() else []
         if not value or not sources or not all(map(os.path.isfile, sources)):
@@ -506,7 +500,7 @@ target_sources(space PUBLIC FILE_SET CXX_MODULES FILES space.cppm)
         self.run_both()
         for tree in self.trees:
             self.assertEqual(tree.status, 0, tree.log)
-            self.assertEqual(output_of(tree.build / "app"), (0, ""))
+            self.assertEqual(run(tree.build / "app"), (0, ""))
         self.same_edges()
         self.touch("words.cppm")
         self.builds("words.cppm", "words.cpp", "main.cpp")
@@ -527,13 +521,13 @@ class Hook:
     option = f"-DCMAKE_MAKE_PROGRAM={NINJA}"
 
     def tree(self, *options, files=PROJECT, generator="Ninja", option=option):
-        return Tree(self.folder / "it", files, self.compiler(), generator, *([option] if option else []), *options)
+        return Tree(self.room / "it", files, self.compiler(), generator, *([option] if option else []), *options)
 
     def is_built(self, tree):
         """The build is adopted, builds, and is idle then."""
         self.assertTrue(tree.adopted())
         tree.ninja()
-        self.assertEqual((tree.status, output_of(tree.build / "app")), (0, (0, "")), tree.log)
+        self.assertEqual((tree.status, run(tree.build / "app")), (0, (0, "")), tree.log)
         tree.ninja()
         self.assertIn("ninja: no work to do.", tree.log)
 
@@ -552,7 +546,7 @@ class Hook:
         tree.ninja()
         self.assertEqual([os.path.basename(it) for it in tree.compiled()], ["b3.cppm.o"], tree.log)
         self.is_built(tree)
-        status, log = output_of(cmake(), "--build", tree.build, env=environment())
+        status, log = run(cmake(), "--build", tree.build, env=environment())
         self.assertEqual((status, "no work to do" in log), (0, True), log)
 
     def test_several_configurations(self):
@@ -560,7 +554,7 @@ class Hook:
         self.assertTrue(tree.adopted())
         for name in "Debug", "Release":
             tree.ninja("-f", f"build-{name}.ninja")
-            self.assertEqual((tree.status, output_of(tree.build / name / "app")), (0, (0, "")), tree.log)
+            self.assertEqual((tree.status, run(tree.build / name / "app")), (0, (0, "")), tree.log)
         tree.configure()
         self.assertTrue(tree.adopted())
         tree.ninja()
@@ -574,18 +568,18 @@ class Hook:
                    "buildPresets": [{"name": "dev", "configurePreset": "dev"}],
                    "workflowPresets": [{"name": "all", "steps": [{"type": "configure", "name": "dev"}, {"type": "build", "name": "dev"}]}]}
         for name, text in {**PROJECT, "CMakePresets.json": presets}.items():
-            put(self.folder / "it" / name, text)
+            put(self.room / "it" / name, text)
         for built in True, False:
-            status, log = output_of(cmake(), "--workflow", "--preset", "all", cwd=self.folder / "it", env=environment())
+            status, log = run(cmake(), "--workflow", "--preset", "all", cwd=self.room / "it", env=environment())
             self.assertEqual((status, "Building CXX object" in log), (0, built), log)
-            rules = (self.folder / "it/build/CMakeFiles/rules.ninja").read_text()
+            rules = (self.room / "it/build/CMakeFiles/rules.ninja").read_text()
             self.assertEqual(rules.count(" collate CMakeFiles/"), 4)
 
     def test_an_initial_cache_and_a_toolchain_file(self):
         line = f'set(CMAKE_MAKE_PROGRAM "{NINJA}" CACHE FILEPATH "")\n'
-        put(self.folder / "cache.cmake", line)
-        put(self.folder / "toolchain.cmake", line)
-        for option in ["-C", self.folder / "cache.cmake"], [f"-DCMAKE_TOOLCHAIN_FILE={self.folder}/toolchain.cmake"]:
+        put(self.room / "cache.cmake", line)
+        put(self.room / "toolchain.cmake", line)
+        for option in ["-C", self.room / "cache.cmake"], [f"-DCMAKE_TOOLCHAIN_FILE={self.room}/toolchain.cmake"]:
             tree = self.tree(*option, option="-UCMAKE_MAKE_PROGRAM")
             self.is_built(tree)
             shutil.rmtree(tree.top)
@@ -593,9 +587,9 @@ class Hook:
     def test_found_in_the_path(self):
         """As `dyncollate-ninja`, and under the name of Ninja."""
         for name, option in ("dyncollate-ninja", "-DCMAKE_MAKE_PROGRAM=dyncollate-ninja"), ("ninja", "-UCMAKE_MAKE_PROGRAM"):
-            (self.folder / name).mkdir()
-            os.symlink(NINJA, self.folder / name / name)
-            path = {"PATH": f"{self.folder / name}:{os.environ['PATH']}"}
+            (self.room / name).mkdir()
+            os.symlink(NINJA, self.room / name / name)
+            path = {"PATH": f"{self.room / name}:{os.environ['PATH']}"}
             tree = self.tree(option=None)
             shutil.rmtree(tree.build)
             tree.configuring += [option]
@@ -611,11 +605,11 @@ class Hook:
         tree.configure(DYNCOLLATE="none")
         self.assertFalse(tree.adopted())
         tree.ninja()
-        self.assertEqual((tree.status, output_of(tree.build / "app")), (0, (0, "")), tree.log)
+        self.assertEqual((tree.status, run(tree.build / "app")), (0, (0, "")), tree.log)
 
     def test_what_is_not_handled_is_an_error_of_cmake(self):
         tree = self.tree()
-        status, log = output_of(*tree.configuring, env=environment(DYNCOLLATE="none"))
+        status, log = run(*tree.configuring, env=environment(DYNCOLLATE="none"))
         self.assertEqual(status, 1)
         self.assertIn("dyncollate-cmake: none: there is no such program\n", log)
         self.assertIn("CMake Generate step failed.", log)

@@ -13,7 +13,7 @@ from dataclasses import dataclass, field
 
 from tests.cmake import NINJA, put
 from tests.cmake_builds import HEAD, Builds, Tree, clang, gcc
-from tests.tools import output_of
+from tests.run import run
 
 # A target may import modules of itself and of those before it.
 TARGETS = ["base", "mid", "app"]
@@ -247,7 +247,7 @@ class RandomEdits:
         self.project = Project(self.choice)
         # Clang's depfiles name module files, which Ninja would keep as inputs after an import is reversed
         flags = ["-DCMAKE_CXX_FLAGS=-fno-module-file-deps -Wno-unused-command-line-argument"] if self.is_clang() else []
-        self.tree = Tree(self.folder / "a project", self.project.files(), self.compiler(), "Ninja", f"-DCMAKE_MAKE_PROGRAM={NINJA}", *flags)
+        self.tree = Tree(self.room / "a project", self.project.files(), self.compiler(), "Ninja", f"-DCMAKE_MAKE_PROGRAM={NINJA}", *flags)
         self.written = self.project.files()
         self.assertTrue(self.tree.adopted())
         self.is_right("from scratch")
@@ -268,7 +268,7 @@ class RandomEdits:
         self.tree.ninja()
         what = f"seed {self.seed}, {what}: {self.tree.log}"
         self.assertEqual(self.tree.status, 0, what)
-        self.assertEqual(output_of(self.tree.build / "app")[1], self.project.printed(), what)
+        self.assertEqual(run(self.tree.build / "app")[1], self.project.printed(), what)
         if compiled is not None:
             self.assertEqual(sorted(map(os.path.basename, self.tree.compiled())), sorted(f"{it}.o" for it in compiled), what)
         self.tree.ninja()

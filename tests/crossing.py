@@ -5,15 +5,14 @@ What `./build aarch64` and `./build library aarch64` make, if it is there, runs 
 import os
 import platform
 import shutil
-import subprocess
 import sys
-import tempfile
 import unittest
 from pathlib import Path
 
 from tests import embedded, fuzzing
 from tests.library import WORKED
 from tests.program import TOP
+from tests.run import InRoom, run
 
 NEEDS_LIBRARY = True
 
@@ -30,17 +29,10 @@ needs_emulator = embedded.needs_tools("aarch64-linux-gnu-gcc", EMULATOR[0])
 
 def call(*words, **environment):
     """The status of a command, and what it prints."""
-    ran = subprocess.run(words, cwd=TOP, env={**os.environ, **environment}, stdin=subprocess.DEVNULL, stdout=subprocess.PIPE,
-                         stderr=subprocess.STDOUT, text=True, check=False)
-    return ran.returncode, ran.stdout
+    return run(*words, cwd=TOP, env=os.environ | environment, seconds=1800)
 
 
-class Crossing(unittest.TestCase):
-    def setUp(self):
-        folder = tempfile.TemporaryDirectory(prefix="dyncollate-")
-        self.addCleanup(folder.cleanup)
-        self.room = Path(folder.name)
-
+class Crossing(InRoom):
     def runs(self, program, *tests):
         """The tests pass with this program, and none of them is skipped for want of something."""
         status, printed = call(sys.executable, "-m", "unittest", *tests, DYNCOLLATE=str(program))

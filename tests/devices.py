@@ -17,7 +17,6 @@ import os
 import resource
 import shutil
 import signal
-import subprocess
 import sys
 import tempfile
 import threading
@@ -28,6 +27,7 @@ from tests.program import PROGRAM, TOP, library
 from tests.rows import V, targets
 from tests.rows.dyndep_files import TWO
 from tests.rows.forms import target
+from tests.run import run, run_apart, run_as_bytes
 from tests.side_by_side import side_by_side
 from tests.tables import worked
 
@@ -231,10 +231,10 @@ class Files(Devices):
             self.skipTest("there is no unshare")
         unshare = ["unshare", "-m"] if os.getuid() == 0 else ["unshare", "-rm"]
         tests = [sys.executable, "-m", "unittest", "-v", "tests.full_disk"]
-        ran = subprocess.run(unshare + tests, cwd=TOP, capture_output=True, text=True, check=False)
-        if "skipped" in ran.stderr or "unshare failed" in ran.stderr:
-            self.skipTest("no small disk was mounted: " + ran.stderr[-300:])
-        self.assertEqual(ran.returncode, 0, ran.stderr)
+        status, printed = run(*unshare, *tests, cwd=TOP)
+        if "skipped" in printed or "unshare failed" in printed:
+            self.skipTest("no small disk was mounted: " + printed[-300:])
+        self.assertEqual(status, 0, printed)
 
 
 # ---- files that vanish, and names that are not those of files
@@ -439,17 +439,15 @@ class Rights(Case):
             name = it.words[1]
             write(name, it.files[name])
             os.chmod(name, 0)
-            ran = subprocess.run(anyone + ["./program"] + it.words, stdin=subprocess.DEVNULL, capture_output=True, check=False)
-            self.same((ran.returncode, ran.stdout, ran.stderr), cannot("read", name), it.name)
+            self.same(run_as_bytes(*anyone, "./program", *it.words), cannot("read", name), it.name)
 
     def test_no_memory_for_a_file(self):
         """What it means needs more memory than the program may have, although it has no more bytes than it may have."""
         lay({"t.target.json": target(b',"scans":["huge"]'), "huge": b"[" + b"0," * 8_000_000 + b"0]",
              "huge.dd": V + b"".join(b"build %d: dyndep\n" % it for it in range(1_000_000))})
         for words in ["show", "huge.dd"], ["collate", "t.target.json"]:
-            ran = subprocess.run(["sh", "-c", 'ulimit -v 131072 && exec "$@"', "sh", PROGRAM] + words, stdin=subprocess.DEVNULL,
-                                 capture_output=True, check=False)
-            self.same((ran.returncode, ran.stdout, ran.stderr), (3, b"", b"dyncollate: out of memory\n"), words[0])
+            ran = run_apart("sh", "-c", 'ulimit -v 131072 && exec "$@"', "sh", PROGRAM, *words)
+            self.same(ran, (3, "", "dyncollate: out of memory\n"), words[0])
 
 
 # ---- runs at once

@@ -4,11 +4,11 @@ import functools
 import importlib
 import os
 import shutil
-import subprocess
 import sys
 import unittest
 
 from tests.program import TOP
+from tests.run import output_of
 
 EXAMPLES = f"{TOP}/examples/embed"
 PACKAGE = f"{TOP}/python"
@@ -69,8 +69,5 @@ def given(row):
 
 def compiled(compiler, *words, to):
     """Compiles without a warning, and returns the name of the program."""
-    made = subprocess.run([compiler, "-Wall", "-Wextra", "-Werror", "-g", f"-I{TOP}/include", *words, "-o", to], stdout=subprocess.PIPE,
-                          stderr=subprocess.STDOUT, text=True, check=False)
-    if made.returncode:
-        raise AssertionError(made.stdout)
+    output_of(compiler, "-Wall", "-Wextra", "-Werror", "-g", f"-I{TOP}/include", *words, "-o", to)
     return to

@@ -6,7 +6,6 @@ import os
 import pty
 import re
 import shutil
-import subprocess
 import sys
 from pathlib import Path
 from unittest import mock
@@ -14,6 +13,7 @@ from unittest import mock
 from tests import embedded, program
 from tests.case import Case, each, lay, tree, write
 from tests.rows.forms import edge, info, module, sources, target
+from tests.run import output_of, run, run_apart
 from tests.side_by_side import side_by_side
 from tests.tables import all_rows
 
@@ -216,15 +216,18 @@ def document_of(files):
     return "project.json" if "project.json" in files else "t.json"
 
 
+def environment_with(**more):
+    return os.environ | {"DYNCOLLATE": program.PROGRAM} | more
+
+
 class Explained(Case):
     seconds = 0.3
 
     def explain(self, *words, line=None, **environment):
         """The status and the lines of the script; it prints nothing on standard error."""
-        ran = subprocess.run([sys.executable, EXPLAIN, *words], input=line, stdin=None if line else subprocess.DEVNULL, capture_output=True,
-                             text=True, env=os.environ | {"DYNCOLLATE": program.PROGRAM} | environment, check=False)
-        self.assertEqual(ran.stderr, "")
-        return ran.returncode, ran.stdout.splitlines()
+        status, out, err = run_apart(sys.executable, EXPLAIN, *words, input=line, env=environment_with(**environment))
+        self.assertEqual(err, "")
+        return status, out.splitlines()
 
 
 @each(CASES, lambda case: f"{case[2].partition(': ')[2] or case[2]}: {case[0]}"[:90])
@@ -278,9 +281,7 @@ class Manual(Case):
         """The texts are those that mandoc prints."""
         if not shutil.which("mandoc"):
             self.skipTest("mandoc: not there")
-        command = ["mandoc", "-T", "utf8", "-O", "width=999", TOP / "docs/dyncollate.1"]
-        printed = subprocess.run(command, stdout=subprocess.PIPE, check=True).stdout
-        printed = re.sub(r".\x08", "", printed.decode())
+        printed = re.sub(r".\x08", "", output_of("mandoc", "-T", "utf8", "-O", "width=999", TOP / "docs/dyncollate.1"))
         found = script().diagnostics(MANUAL)
         self.assertGreater(len(found), 60)
         for name, text in found.items():
@@ -361,8 +362,7 @@ class Runs(Explained):
             write(file, text)
         for environment, has in ({"TERM": "xterm"}, True), ({"TERM": "xterm", "NO_COLOR": "1"}, False), ({"TERM": "dumb"}, False):
             ours, theirs = pty.openpty()
-            subprocess.run([sys.executable, EXPLAIN, "t.json"], stdin=subprocess.DEVNULL, stdout=theirs, check=False,
-                           env=os.environ | {"DYNCOLLATE": program.PROGRAM, "NO_COLOR": ""} | environment)
+            run_apart(sys.executable, EXPLAIN, "t.json", stdout=theirs, env=environment_with(**{"NO_COLOR": ""} | environment))
             os.close(theirs)
             self.assertEqual(b"\x1b[1;31mS1 NotJson\x1b[0m: b.ddi" in os.read(ours, 1 << 16), has, environment)
             os.close(ours)
@@ -377,9 +377,8 @@ class Runs(Explained):
                 (["t.json", "-"], "standard input has no line of dyncollate", 1, {}),
                 (["t.json"], "./none is not there; the environment variable DYNCOLLATE may name another program", 1, {"DYNCOLLATE": "./none"}),
                 (["t.json"], "false ended with status 1 and no line", 1, {"DYNCOLLATE": "false"})]:
-            ran = subprocess.run([sys.executable, EXPLAIN, *words], stdin=subprocess.DEVNULL, capture_output=True, text=True, check=False,
-                                 env=os.environ | {"DYNCOLLATE": program.PROGRAM} | environment)
-            self.assertEqual((ran.returncode, ran.stdout, ran.stderr), (status, "", f"dyncollate-explain: {text}\n"))
+            self.assertEqual(run_apart(sys.executable, EXPLAIN, *words, env=environment_with(**environment)),
+                             (status, "", f"dyncollate-explain: {text}\n"))
 
     def test_a_manual_that_is_compressed(self):
         """Packages compress it."""
@@ -389,7 +388,6 @@ class Runs(Explained):
         Path("share/man/man1/dyncollate.1.gz").write_bytes(gzip.compress(MANUAL.encode()))
         write("t.json", b"")
         for known in True, False:
-            ran = subprocess.run([sys.executable, "bin/dyncollate-explain", "t.json"], stdin=subprocess.DEVNULL, stdout=subprocess.PIPE, text=True,
-                                 env=os.environ | {"DYNCOLLATE": program.PROGRAM}, check=False)
-            self.assertEqual(ran.stdout.splitlines()[-1].strip(), advice("S1 NotJson") if known else "`man dyncollate` describes this error.")
+            printed = run(sys.executable, "bin/dyncollate-explain", "t.json", env=environment_with())[1]
+            self.assertEqual(printed.splitlines()[-1].strip(), advice("S1 NotJson") if known else "`man dyncollate` describes this error.")
             os.remove("share/man/man1/dyncollate.1.gz") if known else None

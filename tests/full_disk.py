@@ -1,11 +1,11 @@
 """A disk of a few pages, of which more and more are free. devices.py runs these tests in a place where they may mount it."""
 import os
 import resource
-import subprocess
 
 from tests.case import Case, cannot, each, read, tree, write
 from tests.devices import UNWRITTEN, WRITTEN, wholly_before
 from tests.rows import V
+from tests.run import output_of, run
 
 RUN_BY = "devices"
 
@@ -33,11 +33,10 @@ class FullDisk(Case):
     def setUp(self):
         super().setUp()
         os.mkdir("full")
-        mounted = subprocess.run(["mount", "-t", "tmpfs", "-o", f"size={PAGES * PAGE}", "none", "full"], capture_output=True,
-                                 text=True, check=False)
-        if mounted.returncode:
-            self.skipTest("no tmpfs was mounted: " + mounted.stderr)
-        self.addCleanup(subprocess.run, ["umount", os.path.abspath("full")], check=True)
+        status, printed = run("mount", "-t", "tmpfs", "-o", f"size={PAGES * PAGE}", "none", "full")
+        if status:
+            self.skipTest("no tmpfs was mounted: " + printed)
+        self.addCleanup(output_of, "umount", os.path.abspath("full"))
 
     def leave(self, free):
         """Leaves so many pages of the disk."""

@@ -12,13 +12,13 @@ import argparse
 import os
 import re
 import shutil
-import subprocess
 import tempfile
 import unittest
 
 from tests import embedded
 from tests.case import each
 from tests.program import TOP
+from tests.run import output_of, run
 from tests.tables import all_rows
 from tests.tools import tool
 
@@ -50,8 +50,7 @@ def first_inputs(target):
 
 def blocks():
     """Where the basic blocks of the shared object begin: after each jump, and where a jump or a call leads to."""
-    listing = subprocess.run(["objdump", "-d", "--no-show-raw-insn", "-j", ".text", embedded.SHARED], stdout=subprocess.PIPE, text=True,
-                             check=True).stdout
+    listing = output_of("objdump", "-d", "--no-show-raw-insn", "-j", ".text", embedded.SHARED)
     starts, code, after_jump = set(), set(), True
     for at, instruction in re.findall(r"^ *([0-9a-f]+):\t(.*)$", listing, re.M):
         code.add(int(at, 16))
@@ -80,12 +79,10 @@ def build(target, folder):
             file.write(text)
 
 
-def run(target, folder, seconds, failing):
+def run_target(target, folder, seconds, failing):
     """Runs a target. Returns its status, and what it printed. The name of an input that fails begins with `failing`."""
-    ran = subprocess.run([f"{folder}/{target}", f"-max_total_time={seconds}", f"-max_len={LONGEST}", "-timeout=60", "-print_final_stats=1",
-                          f"-dict={FUZZ}/dictionary", f"-artifact_prefix={failing}", f"{folder}/{target}.inputs"],
-                         stdin=subprocess.DEVNULL, stdout=subprocess.PIPE, stderr=subprocess.STDOUT, check=False)
-    return ran.returncode, ran.stdout.decode(errors="replace")
+    return run(f"{folder}/{target}", f"-max_total_time={seconds}", f"-max_len={LONGEST}", "-timeout=60", "-print_final_stats=1",
+               f"-dict={FUZZ}/dictionary", f"-artifact_prefix={failing}", f"{folder}/{target}.inputs", seconds=seconds + 600)
 
 
 def finding(printed):
@@ -112,7 +109,7 @@ class Targets(unittest.TestCase):
             self.skipTest("clang with libFuzzer: not there")
         with tempfile.TemporaryDirectory() as folder:
             build(target, folder)
-            status, printed = run(target, folder, SECONDS, f"{folder}/")
+            status, printed = run_target(target, folder, SECONDS, f"{folder}/")
         self.assertEqual(status, 0, finding(printed))
         runs, reached, all_blocks = figures(printed)
         self.assertGreater(runs, len(first_inputs(target)))
@@ -128,7 +125,7 @@ def main():
     for target in targets:
         with tempfile.TemporaryDirectory() as folder:
             build(target, folder)
-            status, printed = run(target, folder, int(60 * given.minutes / len(targets)), f"fuzz-{target}-")
+            status, printed = run_target(target, folder, int(60 * given.minutes / len(targets)), f"fuzz-{target}-")
         if status:
             findings += 1
             print(f"{target}: status {status}\n{finding(printed)}", flush=True)

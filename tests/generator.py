@@ -3,7 +3,6 @@ import json
 import os
 import re
 import shutil
-import subprocess
 import sys
 from pathlib import Path
 from shlex import quote
@@ -11,7 +10,8 @@ from unittest import mock
 
 from tests import program
 from tests.builds import TOP, Folder, edit, touch
-from tests.tools import of_versions, output_of, tool, version
+from tests.run import output_of, run, run_apart, run_at_once
+from tests.tools import of_versions, tool, version
 
 GENERATE = TOP / "examples/generate"
 
@@ -47,11 +47,9 @@ class Lists(Folder):
 
     def says(self, *words):
         """What the script prints on standard error, which is a line or nothing, and its status."""
-        ran = subprocess.run([sys.executable, GENERATE, *words], env=self.environment, capture_output=True, text=True,
-                             check=False)
-        self.assertLessEqual(ran.stderr.count("\n"), 1, ran.stderr)
-        self.printed = ran.stdout
-        return ran.returncode, ran.stderr
+        status, self.printed, said = run_apart(sys.executable, GENERATE, *words, env=self.environment)
+        self.assertLessEqual(said.count("\n"), 1, said)
+        return status, said
 
     def test_faulty_lists(self):
         for why, text, said in FAULTY:
@@ -137,7 +135,7 @@ class Lists(Folder):
 
     def test_a_list_from_standard_input(self):
         """The manifest does not write itself again then."""
-        subprocess.run([GENERATE, "clang"], input="program a a.cpp\n", text=True, env=self.environment, check=True)
+        output_of(GENERATE, "clang", input="program a a.cpp\n", env=self.environment)
         self.assertNotIn("build build.ninja", Path("build.ninja").read_text())
 
 
@@ -349,20 +347,20 @@ class WithClang(Folder):
         commands = json.loads(Path("compile_commands.json").read_text())
         self.assertEqual(len(commands), 6)
         for one in commands:
-            self.assertEqual(output_of(*one["arguments"], "-fsyntax-only", cwd=one["directory"]), (0, ""))
+            self.assertEqual(run(*one["arguments"], "-fsyntax-only", cwd=one["directory"]), (0, ""))
 
     def test_clangd_finds_modules(self):
         clangd = next(filter(shutil.which, of_versions("clangd", *re.findall(r"\d+", tool("clang"))[:1])), None)
-        if not clangd or output_of(clangd, "--version")[1].count(version_text("clang")) == 0:
+        if not clangd or run(clangd, "--version")[1].count(version_text("clang")) == 0:
             self.skipTest("clangd of the version of Clang: not there")
         self.copy("libs", self.form)
         self.ninja()
-        status, log = output_of(clangd, "--check=src/app/main.cpp", env=self.environment)
+        status, log = run(clangd, "--check=src/app/main.cpp", env=self.environment)
         self.assertEqual((status, re.findall("^E.*(?:error|Error|not found).*", log, re.M)), (0, []), log)
 
 
 def version_text(name):
-    return re.search(r"\d+\.\d+\.\d+", output_of(tool(name), "--version")[1])[0]
+    return re.search(r"\d+\.\d+\.\d+", run(tool(name), "--version")[1])[0]
 
 
 class WithGcc(WithClang):
@@ -386,7 +384,7 @@ class Repository(Folder):
         environment = {name: text for name, text in os.environ.items() if not name.startswith("GIT_")}
 
         def git(*words, **given):
-            return output_of("git", *words, env=environment, **given)
+            return run("git", *words, env=environment, **given)
         shutil.copytree(TOP / "examples", "examples", ignore=lambda folder, names: [
             it for it in names if git("check-ignore", "-q", Path(folder, it), cwd=TOP)[0] == 0])
         shutil.copy(TOP / ".gitignore", ".")
@@ -419,12 +417,12 @@ class Scans(Folder):
         self.generate("clang")
         self.document = Path("scan/app/a b.cpp.ddi")
         self.document.parent.mkdir(parents=True)
-        self.command = output_of(tool("ninja"), "-t", "commands", "-s", self.document)[1]
+        self.command = run(tool("ninja"), "-t", "commands", "-s", self.document)[1]
 
     def scans(self, *seconds, **more):
         """The statuses of scans that begin after that much time each."""
-        runs = [subprocess.Popen(["sh", "-c", f"sleep {it}; {self.command}"], env=self.environment | more) for it in seconds]
-        return [it.wait() for it in runs]
+        commands = [["sh", "-c", f"sleep {it}; {self.command}"] for it in seconds]
+        return [status for status, _ in run_at_once(*commands, env=self.environment | more)]
 
     def files(self):
         return sorted(it.name for it in self.document.parent.iterdir())

@@ -9,11 +9,11 @@
 import glob
 import os
 import re
-import subprocess
 import unittest
 
 from tests.case import Case, each, lay, tree
 from tests.program import TOP, caller, emptied, library
+from tests.run import output_of
 from tests.side_by_side import side_by_side
 from tests.tables import worked
 
@@ -70,10 +70,8 @@ def is_current(tests):
     """Whether these tests, which `rt ci` or `rt test` built, are those of the sources."""
     if not os.access(tests, os.X_OK):
         return False
-    found = subprocess.run(["find", f"{TOP}/crates", f"{TOP}/crates.txt", "-name", "out", "-prune", "-o", "-type", "f",
-                            "(", "-name", "*.rt", "-o", "-name", "crates.txt", ")", "-newer", tests, "-print", "-quit"],
-                           stdout=subprocess.PIPE, check=True)
-    return not found.stdout
+    return not output_of("find", f"{TOP}/crates", f"{TOP}/crates.txt", "-name", "out", "-prune", "-o", "-type", "f",
+                         "(", "-name", "*.rt", "-o", "-name", "crates.txt", ")", "-newer", tests, "-print", "-quit")
 
 
 def tests_of(crate):

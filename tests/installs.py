@@ -3,7 +3,6 @@ import os
 import re
 import shlex
 import shutil
-import subprocess
 import tempfile
 import unittest
 from pathlib import Path
@@ -11,6 +10,7 @@ from pathlib import Path
 from tests import embedded, program, releases
 from tests.files import DATA, TARGETS
 from tests.releases import ENVIRONMENT, EXAMPLE, VERSION, call
+from tests.run import run_at_once
 
 NEEDS_LIBRARY = True
 
@@ -181,9 +181,9 @@ class Install(releases.Released):
         """Both succeed, and what they leave is removed completely."""
         for number in range(2):
             prefix = self.room / f"at once {number}"
-            runs = [subprocess.Popen([self.home / "install", prefix], env=ENVIRONMENT, stdout=subprocess.DEVNULL, stderr=subprocess.PIPE)
-                    for _ in range(3)]
-            self.assertEqual([(run.communicate()[1], run.returncode) for run in runs], [(b"", 0)] * 3)
+            lines = sorted(map(str, self.installed(prefix)))
+            for status, printed in run_at_once(*[[self.home / "install", prefix]] * 3, env=ENVIRONMENT):
+                self.assertEqual((status, sorted(printed.splitlines())), (0, lines))
             self.assertEqual(sorted(it for it in prefix.rglob("*") if it.is_file()), sorted(self.installed(prefix)))
             self.assertEqual(call(self.home / "install", "--uninstall", prefix)[0], 0)
             self.assertEqual(list(prefix.iterdir()), [])

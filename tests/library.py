@@ -3,8 +3,6 @@ does if there is too little room, if an allocation fails, if it is misused, and 
 import ctypes
 import os
 import re
-import subprocess
-import tempfile
 import unittest
 
 from tests import embedded, fuzzing
@@ -12,6 +10,7 @@ from tests.case import Case, each
 from tests.program import TOP
 from tests.rows import V
 from tests.rows.forms import statement
+from tests.run import InRoom, output_of, run
 from tests.side_by_side import side_by_side
 from tests.tables import all_rows, worked
 
@@ -148,42 +147,32 @@ class Misuses(unittest.TestCase):
 
 @embedded.needs_library
 @embedded.needs_tools("gcc")
-class InC(unittest.TestCase):
+class InC(InRoom):
     """Programs in C that call the library with the worked rows."""
     seconds = 20
 
     def setUp(self):
-        folder = tempfile.TemporaryDirectory(prefix="dyncollate-")
-        self.addCleanup(folder.cleanup)
-        self.folder = folder.name
+        super().setUp()
         self.files = {}
         for number, row in enumerate(WORKED):
-            name = f"{self.folder}/{number}"
-            self.files.setdefault(row.words[0], []).append(name)
-            with open(name, "wb") as file:
-                file.write(fuzzing.encoded(row))
+            (self.room / str(number)).write_bytes(fuzzing.encoded(row))
+            self.files.setdefault(row.words[0], []).append(self.room / str(number))
         self.files["statements"] = self.files["show"]
 
     def built(self, source, *words):
         sources = [f"{TOP}/tests/{source}.c", f"{TOP}/tests/fuzz/calls.c", embedded.STATIC]
-        return embedded.compiled("gcc", *words, *sources, to=f"{self.folder}/{source}")
-
-    def ran(self, *words):
-        """What a program prints, which finds no fault."""
-        ran = subprocess.run(words, stdin=subprocess.DEVNULL, stdout=subprocess.PIPE, stderr=subprocess.STDOUT, text=True, check=False)
-        self.assertEqual(ran.returncode, 0, ran.stdout[-3000:])
-        return ran.stdout
+        return embedded.compiled("gcc", *words, *sources, to=self.room / source)
 
     def test_each_allocation_fails(self):
         program = self.built("failing_allocations", *SANITIZED, "-Wl,--wrap=malloc,--wrap=realloc,--wrap=free")
         for command, files in self.files.items():
-            failed = re.fullmatch(r"(\d+) of \d+\n", self.ran(program, command, *files))
+            failed = re.fullmatch(r"(\d+) of \d+\n", output_of(program, command, *files))
             self.assertGreater(int(failed[1]), 0, command)
 
     def test_threads(self):
         program = self.built("threads", "-std=c11", "-D_GNU_SOURCE", "-O1", "-fsanitize=thread", "-pthread")
-        if b"unexpected memory mapping" in subprocess.run([program], stdout=subprocess.PIPE, stderr=subprocess.STDOUT, check=False).stdout:
+        if "unexpected memory mapping" in run(program)[1]:
             self.skipTest("ThreadSanitizer does not run on this kernel")
         for command, files in self.files.items():
             for file in files[:2]:
-                self.assertEqual(self.ran(program, command, file), "all alike\n")
+                self.assertEqual(output_of(program, command, file), "all alike\n")

@@ -2,7 +2,6 @@
 and need, and the examples that embed it."""
 import os
 import re
-import subprocess
 import tempfile
 import unittest
 from pathlib import Path
@@ -11,6 +10,7 @@ from tests import embedded
 from tests.case import each, tree
 from tests.files import DATA, TARGETS, document
 from tests.program import TOP
+from tests.run import InRoom, output_of, run, run_apart
 
 NEEDS_LIBRARY = True
 
@@ -78,20 +78,14 @@ class Header(unittest.TestCase):
 @each(["gcc -std=c99 -pedantic -x c", "g++ -std=c++98 -x c++", "gcc -std=c17 -x c", "g++ -std=c++20 -x c++"])
 class Compiles(unittest.TestCase):
     def check(self, compiler):
-        ran = subprocess.run([*compiler.split(), "-Wall", "-Wextra", "-Werror", "-fsyntax-only", HEADER], capture_output=True, text=True,
-                             check=False)
-        self.assertEqual((ran.returncode, ran.stderr), (0, ""))
-
-
-def printed(*words):
-    return subprocess.run(words, stdout=subprocess.PIPE, text=True, check=True).stdout
+        self.assertEqual(run(*compiler.split(), "-Wall", "-Wextra", "-Werror", "-fsyntax-only", HEADER), (0, ""))
 
 
 @embedded.needs_library
 @embedded.needs_tools("nm", "readelf")
 class Linked(unittest.TestCase):
     def defined(self, *words):
-        return {line.split()[-1] for line in printed("nm", "-g", "--defined-only", *words).splitlines() if len(line.split()) == 3}
+        return {line.split()[-1] for line in output_of("nm", "-g", "--defined-only", *words).splitlines() if len(line.split()) == 3}
 
     def test_symbols(self):
         """The functions of the header, and nothing else. In the shared object they have the version DYNCOLLATE_1."""
@@ -107,27 +101,27 @@ class Linked(unittest.TestCase):
             Path(folder, "v.c").write_text("#include <dyncollate.h>\n#include <stdio.h>\n"
                                            'int main(void) { printf("%u %u\\n", (unsigned)DYNCOLLATE_VERSION, dyncollate_version()); }\n')
             built = embedded.compiled("gcc", f"{folder}/v.c", embedded.STATIC, to=f"{folder}/v")
-            self.assertEqual(printed(built).split(), [str(10000 * major + 100 * minor + patch)] * 2)
+            self.assertEqual(output_of(built).split(), [str(10000 * major + 100 * minor + patch)] * 2)
 
     def test_calls(self):
         """Neither a file nor a socket nor a clock: nothing but the heap."""
-        called = {line.split()[-1] for line in printed("nm", "-u", embedded.STATIC).splitlines() if line.startswith(" ")}
+        called = {line.split()[-1] for line in output_of("nm", "-u", embedded.STATIC).splitlines() if line.startswith(" ")}
         self.assertTrue({"malloc", "free"} <= called <= CALLED, called)
 
     def test_shared_object(self):
-        dynamic = re.findall(r"\((\w+)\)\s+(?:[\w ]+: )?(.*)", printed("readelf", "-W", "-d", embedded.SHARED))
+        dynamic = re.findall(r"\((\w+)\)\s+(?:[\w ]+: )?(.*)", output_of("readelf", "-W", "-d", embedded.SHARED))
         self.assertEqual([it for name, it in dynamic if name in ("NEEDED", "SONAME")], ["[libc.so.6]", "[libdyncollate.so.1]"])
         self.assertEqual([(name, it) for name, it in dynamic if "TEXTREL" in name + it], [])
-        self.assertRegex(printed("readelf", "-W", "-l", embedded.SHARED), r"GNU_STACK.* RW ")
+        self.assertRegex(output_of("readelf", "-W", "-l", embedded.SHARED), r"GNU_STACK.* RW ")
 
     def test_state(self):
         """The code has no data that it could change, so calls on several threads share none. The toolchain's heap functions have one
         byte, `nothing`, whose address is that of an empty block."""
-        sections = re.findall(r"\] (\.\S+) +(?:PROGBITS|NOBITS) +\S+ \S+ (\S+) \S+ +(\w*) ", printed("readelf", "-W", "-S", embedded.STATIC))
+        sections = re.findall(r"\] (\.\S+) +(?:PROGBITS|NOBITS) +\S+ \S+ (\S+) \S+ +(\w*) ", output_of("readelf", "-W", "-S", embedded.STATIC))
         self.assertTrue([name for name, size, _ in sections if name.startswith(".text") and int(size, 16)])
         changed = {name: int(size, 16) for name, size, flags in sections if "W" in flags and not name.startswith(".data.rel.ro")}
         self.assertEqual([name for name, size in changed.items() if size > (name == ".bss")], [])
-        self.assertLessEqual(set(re.findall(r"^\w+ [bBcCdD] (\S+)$", printed("nm", embedded.STATIC), re.M)), {"nothing"})
+        self.assertLessEqual(set(re.findall(r"^\w+ [bBcCdD] (\S+)$", output_of("nm", embedded.STATIC), re.M)), {"nothing"})
 
 
 def laid(files):
@@ -149,33 +143,24 @@ def inputs(project):
 
 
 @embedded.needs_library
-class Examples(unittest.TestCase):
+class Examples(InRoom):
     seconds = 10
-
-    def setUp(self):
-        folder = tempfile.TemporaryDirectory(prefix="dyncollate-")
-        self.addCleanup(folder.cleanup)
-        self.folder = folder.name
-
-    def ran(self, *words, **given):
-        ran = subprocess.run(words, stdin=subprocess.DEVNULL, capture_output=True, text=True, check=False, **given)
-        return ran.returncode, ran.stdout, ran.stderr
 
     @embedded.needs_tools("gcc")
     def test_c(self):
-        program = embedded.compiled("gcc", "-std=c99", *SANITIZED, f"{embedded.EXAMPLES}/collate.c", embedded.STATIC, to=f"{self.folder}/collate")
+        program = embedded.compiled("gcc", "-std=c99", *SANITIZED, f"{embedded.EXAMPLES}/collate.c", embedded.STATIC, to=self.room / "collate")
         target = document(f"{DATA}/single/app.target.json")
         printed_files = laid(dict(expected("single", target)))
-        self.assertEqual(self.ran(program, "app.target.json", *target["scans"], cwd=f"{DATA}/single"), (0, printed_files, ""))
-        self.assertEqual(self.ran(program, "app.target.json", *target["scans"][1:], cwd=f"{DATA}/single"),
+        self.assertEqual(run_apart(program, "app.target.json", *target["scans"], cwd=f"{DATA}/single"), (0, printed_files, ""))
+        self.assertEqual(run_apart(program, "app.target.json", *target["scans"][1:], cwd=f"{DATA}/single"),
                          (3, "", f"dyncollate: cannot read {target['scans'][0]}\n"))
-        self.assertEqual(self.ran(program), (2, "", "usage: collate TARGETFILE FILE..\n"))
+        self.assertEqual(run_apart(program), (2, "", "usage: collate TARGETFILE FILE..\n"))
 
     @embedded.needs_tools("g++")
     def test_cxx(self):
         program = embedded.compiled("g++", "-std=c++17", "-pthread", *SANITIZED, f"{embedded.EXAMPLES}/background.cpp", embedded.STATIC,
-                                    to=f"{self.folder}/background")
-        self.assertEqual(self.ran(program), (0, (
+                                    to=self.room / "background")
+        self.assertEqual(run_apart(program), (0, (
             "collating\n"
             "==> main.o.modmap <==\n-fmodule-file=greet=bmi/greet.pcm\n"
             "==> greet.o.modmap <==\n-x c++-module\n-fmodule-output=bmi/greet.pcm\n"
@@ -188,10 +173,10 @@ class Examples(unittest.TestCase):
     def test_wrapper(self):
         """dyncollate.hpp: statements, files and errors."""
         program = embedded.compiled("g++", "-std=c++17", "-pedantic", "-Wconversion", *SANITIZED, f"{TOP}/tests/wrapper.cpp", embedded.STATIC,
-                                    to=f"{self.folder}/wrapper")
+                                    to=self.room / "wrapper")
         info = '{"modules":[],"target":"t","version":2}'
         dyndep = "ninja_dyndep_version = 1\nbuild b.o: dyndep\n"
-        self.assertEqual(self.ran(program), (0, (
+        self.assertEqual(run_apart(program), (0, (
             "a restat: b c | d e f\ng: |\n3000 object2999.o m2999\n" + dyndep +
             f"i {len(info)} restat\nd {len(dyndep)}\n2\n"
             "3 dyncollate: cannot read s\n1 dyncollate: target: S2 BadVersion document\ndyncollate: a name is not UTF-8\n"
@@ -201,9 +186,9 @@ class Examples(unittest.TestCase):
     def test_header(self):
         """The program in the comment of the header."""
         code = re.search(r"( {7}#include <dyncollate.h>.*?\n {7}\}\n)", HEADER.read_text(), re.S)[1]
-        Path(self.folder, "b.c").write_text(re.sub(r"^ {7}", "", code, flags=re.M))
-        program = embedded.compiled("gcc", "-std=c99", "-pedantic", *SANITIZED, f"{self.folder}/b.c", embedded.STATIC, to=f"{self.folder}/b")
-        self.assertEqual(self.ran(program), (0, "ninja_dyndep_version = 1\nbuild obj/b.o: dyndep\n", ""))
+        Path(self.room, "b.c").write_text(re.sub(r"^ {7}", "", code, flags=re.M))
+        program = embedded.compiled("gcc", "-std=c99", "-pedantic", *SANITIZED, self.room / "b.c", embedded.STATIC, to=self.room / "b")
+        self.assertEqual(run_apart(program), (0, "ninja_dyndep_version = 1\nbuild obj/b.o: dyndep\n", ""))
 
     def test_python(self):
         module = embedded.module()

@@ -2,9 +2,10 @@
 the library's page with its header: each of either has to be in the other."""
 import re
 import shutil
-import subprocess
 import unittest
 from pathlib import Path
+
+from tests.run import output_of, run
 
 TOP = Path(__file__).resolve().parent.parent
 PAGE, LIBRARY_PAGE = TOP / "docs/dyncollate.1", TOP / "docs/dyncollate.3"
@@ -44,7 +45,7 @@ class Manual(unittest.TestCase):
 
     def test_help(self):
         """./dyncollate --help has the commands and operands of the manual page, in the same order."""
-        printed = subprocess.run([TOP / "dyncollate", "--help"], capture_output=True, text=True, check=True).stdout
+        printed = output_of(TOP / "dyncollate", "--help")
         in_page = re.findall(r"^\.Cm (.*)\n\.Ar (.*)", section(self.page, "SYNOPSIS", "DESCRIPTION"), re.M)
         self.assertEqual(re.findall(r"^([a-z]+) ([A-Z ]*[A-Z])  ", printed, re.M), [(name, them.upper()) for name, them in in_page])
 
@@ -60,8 +61,7 @@ class Manual(unittest.TestCase):
         """mandoc reports nothing, except that the pages refer to each other and are not installed."""
         for page, chapter in (PAGE, 1), (LIBRARY_PAGE, 3):
             if shutil.which("mandoc"):
-                linted = subprocess.run(["mandoc", "-T", "lint", "-W", "style", page], capture_output=True, text=True, check=False)
-                lines = (linted.stdout + linted.stderr).splitlines()
+                lines = run("mandoc", "-T", "lint", "-W", "style", page)[1].splitlines()
                 self.assertEqual([it for it in lines if f"manual not found: Xr dyncollate {4 - chapter}" not in it], [])
             self.assertRegex(page.read_text(), rf"(?m)^\.Dt DYNCOLLATE {chapter}$")
 

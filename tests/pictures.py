@@ -6,18 +6,18 @@
     bench/picture layers > docs/cmake-layers.svg
     bench/picture chain > docs/cmake-chain.svg
 """
-import subprocess
 import sys
 import unittest
 from pathlib import Path
+
+from tests.run import output_of
 
 TOP = Path(__file__).resolve().parent.parent
 
 
 class Pictures(unittest.TestCase):
     def check(self, what, picture):
-        drawn = subprocess.run([sys.executable, TOP / "bench/picture", what], capture_output=True, text=True, check=True)
-        self.assertEqual((TOP / "docs" / picture).read_text(), drawn.stdout)
+        self.assertEqual((TOP / "docs" / picture).read_text(), output_of(sys.executable, TOP / "bench/picture", what))
 
     def test_objects(self):
         """bench/picture objects > docs/time.svg"""

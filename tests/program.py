@@ -2,8 +2,9 @@
 import functools
 import os
 import signal
-import subprocess
 import tempfile
+
+from tests.run import output_of
 
 TOP = os.path.dirname(os.path.dirname(os.path.abspath(__file__)))
 PROGRAM = os.path.abspath(os.environ.get("DYNCOLLATE", f"{TOP}/crates/dyncollate/out/dyncollate"))
@@ -71,10 +72,7 @@ def library(source):
     """The name of a library that is made of a C file here, to be loaded before the C library. It is in memory as long as this
     process."""
     with tempfile.TemporaryDirectory() as folder:
-        made = subprocess.run([f"{TOP}/tests/preload", f"{TOP}/tests/{source}", f"{folder}/library.so"], capture_output=True,
-                              text=True, check=False)
-        if made.returncode:
-            raise OSError(f"the C compiler made no library of {source}: {made.stderr}")
+        output_of(f"{TOP}/tests/preload", f"{TOP}/tests/{source}", f"{folder}/library.so")
         file = os.memfd_create(source)
         with open(f"{folder}/library.so", "rb") as bytes_of_it:
             os.write(file, bytes_of_it.read())

@@ -3,7 +3,6 @@ import os
 import pickle
 import re
 import shutil
-import subprocess
 import sys
 import tempfile
 import unittest
@@ -13,6 +12,7 @@ from pathlib import Path
 from tests import embedded
 from tests.case import each
 from tests.program import TOP
+from tests.run import InRoom, run, run_apart
 from tests.tables import all_rows
 
 NEEDS_LIBRARY = True
@@ -87,14 +87,13 @@ class Lines(unittest.TestCase):
 
 
 @embedded.needs_library
-class Arguments(unittest.TestCase):
+class Arguments(InRoom):
     """Files are bytes-like objects or paths."""
 
     def setUp(self):
-        folder = tempfile.TemporaryDirectory(prefix="dyncollate-")
-        self.addCleanup(folder.cleanup)
+        super().setUp()
         self.module = embedded.module()
-        self.target, self.scan = Path(folder.name, "app.target.json"), Path(folder.name, "main.ddi")
+        self.target, self.scan = self.room / "app.target.json", self.room / "main.ddi"
         self.target.write_bytes(TARGET)
         self.scan.write_bytes(SCAN)
 
@@ -158,9 +157,8 @@ class Types(unittest.TestCase):
     seconds = 10
 
     def mypy(self, *words):
-        ran = subprocess.run(["mypy", "--strict", "--python-version", "3.9", "--no-error-summary", "--cache-dir", os.devnull, *words],
-                             env=os.environ | {"MYPYPATH": embedded.PACKAGE}, capture_output=True, text=True, check=False)
-        return ran.stdout + ran.stderr
+        return run("mypy", "--strict", "--python-version", "3.9", "--no-error-summary", "--cache-dir", os.devnull, *words,
+                   env=os.environ | {"MYPYPATH": embedded.PACKAGE})[1]
 
     def test_package(self):
         self.assertEqual(self.mypy(f"{embedded.PACKAGE}/dyncollate"), "")
@@ -174,19 +172,16 @@ class Types(unittest.TestCase):
         self.assertEqual(found, {line: kind for line, (_, kind) in enumerate(USES, 3) if kind})
 
 
-class Installed(unittest.TestCase):
+class Installed(InRoom):
     """Wheels in a virtual environment, which nothing is downloaded for."""
     seconds = 15
 
     def setUp(self):
-        folder = tempfile.TemporaryDirectory(prefix="dyncollate-")
-        self.addCleanup(folder.cleanup)
-        self.room = Path(folder.name)
+        super().setUp()
         self.environment = {name: text for name, text in os.environ.items() if name not in ("DYNCOLLATE_LIBRARY", "PYTHONPATH")}
 
     def call(self, *words, **more):
-        ran = subprocess.run(list(map(str, words)), cwd=self.room, env=self.environment | more, capture_output=True, text=True, check=False)
-        return ran.returncode, ran.stdout, ran.stderr
+        return run_apart(*words, cwd=self.room, env=self.environment | more)
 
     def wheel(self, *words):
         return self.call(sys.executable, f"{embedded.PACKAGE}/wheels.py", *words)

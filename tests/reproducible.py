@@ -7,13 +7,13 @@ minutes each. The libraries are those that ./build and ./build library have prov
 import hashlib
 import os
 import shutil
-import subprocess
 import sys
 import tempfile
 import unittest
 from pathlib import Path
 
 from tests.program import TOP
+from tests.run import output_of, run
 
 RUN_BY = "a person, for some minutes"
 
@@ -25,7 +25,7 @@ def is_proved(is_library):
     script = ("import subprocess, sys; from building.crates import *; *below, goal = read_crates(bool(int(sys.argv[1])), False); "
               "rt = subprocess.run(['rt', 'version'], stdout=subprocess.PIPE, text=True).stdout.strip(); "
               "[setattr(it, 'digest', take_digest(it)) for it in below]; sys.exit(not all(is_made(it, rt) for it in below))")
-    return subprocess.run([sys.executable, "-c", script, str(int(is_library))], cwd=TOP, check=False).returncode == 0
+    return run(sys.executable, "-c", script, str(int(is_library)), cwd=TOP)[0] == 0
 
 
 def copied(file, to):
@@ -47,9 +47,7 @@ class Twice(unittest.TestCase):
             for part in "src", "specs", "proofs", "out/proved":
                 if os.path.isdir(f"{TOP}/crates/{crate}/{part}"):
                     shutil.copytree(f"{TOP}/crates/{crate}/{part}", room / "crates" / crate / part, copy_function=copied)
-        ran = subprocess.run([room / "build", *words], stdin=subprocess.DEVNULL, stdout=subprocess.PIPE, stderr=subprocess.STDOUT,
-                             text=True, check=False, preexec_fn=lambda: os.sched_setaffinity(0, processors))
-        self.assertEqual(ran.returncode, 0, ran.stdout)
+        output_of(room / "build", *words, seconds=3600, preexec_fn=lambda: os.sched_setaffinity(0, processors))
         out = room / "crates" / ("c_library" if "library" in words else "dyncollate") / "out"
         made = (out / "aarch64" if "aarch64" in words else out).glob("*dyncollate*")
         return {it.name: hashlib.sha256(it.read_bytes()).hexdigest() for it in made if it.is_file()}

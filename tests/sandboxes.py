@@ -12,8 +12,9 @@ from pathlib import Path
 
 from tests import program
 from tests.builds import EXAMPLES, Folder, edit, standard_modules
+from tests.run import run
 from tests.side_by_side import side_by_side
-from tests.tools import output_of, tool
+from tests.tools import tool
 
 load_tests = side_by_side
 # A step: its kind, its command, and the files that it reads and writes.
@@ -30,7 +31,7 @@ class Sandboxed(Folder):
     def setUp(self):
         self.tools = ["ninja", "clang", "scanner"] + (["gcc"] if self.form == "gcc" else [])
         super().setUp()
-        if not shutil.which("bwrap") or output_of("bwrap", "--ro-bind", "/", "/", "true")[0]:
+        if not shutil.which("bwrap") or run("bwrap", "--ro-bind", "/", "/", "true")[0]:
             self.skipTest("bubblewrap: not there, or not allowed")
         self.before()
         self.copy(self.example, self.form)
@@ -42,7 +43,7 @@ class Sandboxed(Folder):
     # ---- the steps, by the rules of GUIDE
 
     def asked(self, *words):
-        status, text = output_of(tool("ninja"), "-t", *words, env=self.environment)
+        status, text = run(tool("ninja"), "-t", *words, env=self.environment)
         self.assertEqual(status, 0, text)
         return text
 
@@ -109,7 +110,7 @@ class Sandboxed(Folder):
             if not name.startswith("/usr/"):
                 words += ["--ro-bind", name, name]
         words += ["--bind", room, os.getcwd(), "--chdir", os.getcwd(), "sh", "-c", step.command]
-        status, printed = output_of(*words, env={"PATH": os.environ["PATH"], "SOURCE_DATE_EPOCH": "1"})
+        status, printed = run(*words, env={"PATH": os.environ["PATH"], "SOURCE_DATE_EPOCH": "1"})
         left = {str(it.relative_to(room)): it.read_bytes() for it in room.rglob("*") if it.is_file()}
         return status, printed, {name: text for name, text in left.items() if name not in reads}
 
@@ -192,7 +193,7 @@ class Ccache(Folder):
 
     def setUp(self):
         super().setUp()
-        if " version 4.7" not in output_of("ccache", "--version")[1]:
+        if " version 4.7" not in run("ccache", "--version")[1]:
             self.skipTest("ccache 4.7: not there")
         self.environment |= {"CCACHE_DIR": f"{os.getcwd()}/ccache"}
         Path("targets").write_text("program app main.cpp a.cppm\n")
@@ -214,7 +215,7 @@ class Ccache(Folder):
         for number, hits in (1, 0), (2, 0), (1, 1):
             edit("a.cppm", r"return \d", f"return {number}")
             self.makes(str(number))
-            counted = output_of("ccache", "--print-stats", env=self.environment)[1]
+            counted = run("ccache", "--print-stats", env=self.environment)[1]
             self.assertEqual(int(re.search(r"^direct_cache_hit\t(\d+)$", counted, re.M)[1]), hits)
 
 if __name__ == "__main__":

@@ -3,36 +3,30 @@ import functools
 import os
 import re
 import shutil
-import subprocess
 import tempfile
 from pathlib import Path
 
-
-def output_of(*command, **given):
-    """The status of a command, and what it prints on both outputs."""
-    ran = subprocess.run(command, stdin=subprocess.DEVNULL, stdout=subprocess.PIPE, stderr=subprocess.STDOUT, check=False,
-                         **given)
-    return ran.returncode, ran.stdout.decode(errors="replace")
+from tests.run import run
 
 
 def makes_modules(command, folder):
-    return not output_of(command, *"-std=c++20 -x c++-module -fmodule-output=a.pcm -c a.cppm -o a.o".split(), cwd=folder)[0]
+    return not run(command, *"-std=c++20 -x c++-module -fmodule-output=a.pcm -c a.cppm -o a.o".split(), cwd=folder)[0]
 
 
 def is_gcc(command, folder):
     Path(folder, "a.map").write_text("a a.gcm\n")
-    return "clang" not in output_of(command, "--version")[1] and not output_of(
+    return "clang" not in run(command, "--version")[1] and not run(
         command, *"-std=c++20 -fmodules-ts -fmodule-mapper=a.map -x c++ -c a.cppm -o a.o".split(), cwd=folder)[0]
 
 
 def scans(command, folder):
     compiling = [tool("clang"), *"-std=c++20 -x c++-module -c a.cppm -o a.o".split()]
-    return bool(tool("clang")) and '"a"' in output_of(command, "-format=p1689", "--", *compiling, cwd=folder)[1]
+    return bool(tool("clang")) and '"a"' in run(command, "-format=p1689", "--", *compiling, cwd=folder)[1]
 
 
 def fuzzes(command, folder):
     Path(folder, "fuzz.c").write_text("int LLVMFuzzerTestOneInput(const char *at, long size) { return !at && size; }\n")
-    return not output_of(command, "-fsanitize=fuzzer,address,undefined", "fuzz.c", "-o", "fuzz", cwd=folder)[0]
+    return not run(command, "-fsanitize=fuzzer,address,undefined", "fuzz.c", "-o", "fuzz", cwd=folder)[0]
 
 
 def of_versions(name, *versions):
@@ -63,7 +57,5 @@ def tool(name):
 @functools.lru_cache(None)
 def version(name):
     """The version of a tool, as numbers; those of another are to be compared with it."""
-    text = output_of(tool(name), "-dumpfullversion" if name == "gcc" else "--version")[1]
+    text = run(tool(name), "-dumpfullversion" if name == "gcc" else "--version")[1]
     return tuple(map(int, re.search(r"\d+(\.\d+)+", text)[0].split(".")))
-
-

@@ -4,13 +4,13 @@ import json
 import os
 import re
 import shutil
-import subprocess
 import unittest
 from pathlib import Path
 
 from tests.builds import EXAMPLES, Folder, edit, touch
 from tests.cmake_builds import cmake
-from tests.tools import output_of, tool, version
+from tests.run import run, run_apart
+from tests.tools import tool, version
 
 USERS = ["src/point.cppm", "src/geometry.cppm", "src/shapes.cppm", "src/geometry.cpp", "src/main.cpp"]
 
@@ -70,7 +70,7 @@ class Manifests(Folder):
         self.copy("single", "clang")
         edit("build.ninja", "-fno-module-file-deps", "")
         self.ninja()
-        self.assertIn(".pcm", output_of(tool("ninja"), "-t", "deps", "obj/app/src/point.cppm.o")[1])
+        self.assertIn(".pcm", run(tool("ninja"), "-t", "deps", "obj/app/src/point.cppm.o")[1])
         turn_import()
         said = "dependency cycle: bmi/app/geometry.pcm" if version("ninja") >= (1, 11) else "multiple rules generate bmi/app/"
         for words in [], ["-t", "clean"], []:
@@ -83,7 +83,7 @@ class Manifests(Folder):
         os.remove(".ninja_log")
         self.ninja()
         self.compiled(*USERS, "src/units.cppm", "src/plain.cpp")
-        self.assertNotIn(".pcm", output_of(tool("ninja"), "-t", "deps", "obj/app/src/point.cppm.o")[1])
+        self.assertNotIn(".pcm", run(tool("ninja"), "-t", "deps", "obj/app/src/point.cppm.o")[1])
 
     def test_without_the_phonies_of_its_libraries_an_object_is_taken_for_made(self):
         self.copy("libs", "clang")
@@ -132,7 +132,7 @@ class Manifests(Folder):
         Path("src/scale.h").write_text("#define SCALE 20\n")
         for _ in range(1 if version("ninja") < (1, 12) else 2):
             self.ninja("-j1")
-            self.assertEqual(output_of("./app"), (0, "600\n"))
+            self.assertEqual(run("./app"), (0, "600\n"))
         if version("ninja") < (1, 12):
             compiled = re.findall("COMPILE (.*)", self.log)
             self.assertLess(compiled.index("src/main.cpp"), compiled.index("src/units.cppm"))
@@ -157,10 +157,10 @@ class Flags(Folder):
         Path("a.cppm").write_text("export module a;\n")
         Path("b.cpp").write_text("import a;\n")
         Path("map").write_text("a a.gcm\n")
-        self.assertEqual(output_of(compiler, "-std=c++20", *words, *module, "-c", "a.cppm", "-o", "a.o")[0], 0)
+        self.assertEqual(run(compiler, "-std=c++20", *words, *module, "-c", "a.cppm", "-o", "a.o")[0], 0)
         found = [] if "-fmodules-ts" in words else ["-fmodule-file=a=a.pcm"]
         importing = [compiler, *words, *found, "-c", "b.cpp", "-o", "b.o"]
-        self.assertEqual([output_of(*importing, f"-std=c++{it}")[0] for it in ("20", "2b")], [0, 1])
+        self.assertEqual([run(*importing, f"-std=c++{it}")[0] for it in ("20", "2b")], [0, 1])
 
     def test_with_clang(self):
         self.rejects(tool("clang"), ["-x", "c++-module", "-fmodule-output=a.pcm"])
@@ -181,14 +181,14 @@ class Prebuilt(Folder):
         Path("lib/pre.cppm").write_text("export module pre;\nexport int one();\n")
         Path("main.cpp").write_text("import pre;\nint main() { return one(); }\n")
         made = "-std=c++20 -x c++-module -fmodule-output=lib/pre.pcm -c lib/pre.cppm -o lib/pre.o".split()
-        self.assertEqual(output_of(tool("clang"), *made), (0, ""))
+        self.assertEqual(run(tool("clang"), *made), (0, ""))
         Path("pre.info.json").write_text(json.dumps({"version": 2, "target": "pre", "modules": [
             {"name": "pre", "bmi": "lib/pre.pcm", "requires": [], "visibility": "public"}]}))
         target_of_one_module(linked=["pre.info.json"])
         Path("a.ddi").write_text('{"version":1,"rules":[{"primary-output":"main.o","requires":[{"logical-name":"pre"}]}]}')
         self.assertEqual(self.call("collate", "t.target.json"), (0, ""))
         self.assertIn("build main.o: dyndep | lib/pre.pcm\n", Path("t.dd").read_text())
-        self.assertEqual(output_of(tool("clang"), "-std=c++20", "@main.o.modmap", "-c", "main.cpp", "-o", "main.o"), (0, ""))
+        self.assertEqual(run(tool("clang"), "-std=c++20", "@main.o.modmap", "-c", "main.cpp", "-o", "main.o"), (0, ""))
 
 
 class Scanner(Folder):
@@ -196,16 +196,16 @@ class Scanner(Folder):
     seconds = 2
 
     def scan(self, source, language):
-        """A run of the scanner on a source."""
+        """The status of the scanner on a source, and what it prints on both outputs."""
         Path("a.cpp").write_text(source)
         compiling = [tool("clang"), "-std=c++20", "-x", language, "-c", "a.cpp", "-o", "a.o"]
-        return subprocess.run([tool("scanner"), "-format=p1689", "--", *compiling], capture_output=True, text=True, check=False)
+        return run_apart(tool("scanner"), "-format=p1689", "--", *compiling)
 
     def test_a_scanner_that_fails(self):
         """It leaves a document that is accepted, and has no rule."""
-        scanned = self.scan('#include "none.h"\nimport units;\n', "c++")
-        self.assertNotEqual(scanned.returncode, 0)
-        Path("broken.ddi").write_text(scanned.stdout)
+        status, scanned, _ = self.scan('#include "none.h"\nimport units;\n', "c++")
+        self.assertNotEqual(status, 0)
+        Path("broken.ddi").write_text(scanned)
         self.assertEqual(self.call("one", "broken.ddi", "bmi", ".pcm"), (0, "ninja_dyndep_version = 1\n"))
         Path("empty.ddi").write_text("")
         self.assertEqual(self.call("one", "empty.ddi", "bmi", ".pcm"), (1, "dyncollate: scan 0: S1 NotJson document\n"))
@@ -213,15 +213,15 @@ class Scanner(Folder):
     def test_a_header_unit(self):
         """The scanner ends with status 1, and writes no rule."""
         Path("h.h").write_text("int h();\n")
-        scanned = self.scan('import "h.h";\n', "c++")
-        self.assertEqual((scanned.returncode, json.loads(scanned.stdout)["rules"]), (1, []))
+        status, scanned, _ = self.scan('import "h.h";\n', "c++")
+        self.assertEqual((status, json.loads(scanned)["rules"]), (1, []))
 
     def test_a_name_that_the_scanner_cannot_take(self):
         """The rule of a module `ñ` has no member `provides`."""
         if version("scanner") < (19,) or version("scanner") >= (20,):
             self.skipTest("clang-tools-19: not there")
-        scanned = self.scan("export module ñ;\n", "c++-module")
-        self.assertEqual(re.findall("primary|provides", scanned.stdout), ["primary"])
+        _, scanned, _ = self.scan("export module ñ;\n", "c++-module")
+        self.assertEqual(re.findall("primary|provides", scanned), ["primary"])
 
 
 class WithGcc(Folder):
@@ -249,7 +249,7 @@ class WithGcc(Folder):
         self.without_sed()
         write_all_maps()
         self.makes("600")
-        self.assertRegex(output_of(tool("ninja"), "-t", "deps", "obj/app/src/main.cpp.o")[1], r"\.gcm\n|\.modmap\n")
+        self.assertRegex(run(tool("ninja"), "-t", "deps", "obj/app/src/main.cpp.o")[1], r"\.gcm\n|\.modmap\n")
         edit("src/main.cpp", r"\A", "import units;\n")
         self.ninja()
         self.compiled(*(it.name for it in EXAMPLES["single"].sources))
@@ -266,7 +266,7 @@ class WithGcc(Folder):
         self.assertEqual(Path("a.o.modmap").read_text(), "ñ ñ.gcm\n")
         Path("name.cppm").write_text("export module ñ;\n")
         compiling = [tool("gcc"), *"-std=c++20 -fmodules-ts -fmodule-mapper=a.o.modmap -x c++ -c name.cppm -o a.o".split()]
-        self.assertEqual(output_of(*compiling)[0], 1)
+        self.assertEqual(run(*compiling)[0], 1)
 
 
 LISTS = """cmake_minimum_required(VERSION 3.28)
@@ -288,7 +288,7 @@ class CMake(Folder):
             self.skipTest("CMake 3.28 or newer: not there")
         given = [f"-DCMAKE_CXX_COMPILER={compiler}", f"-DCMAKE_CXX_COMPILER_CLANG_SCAN_DEPS={tool('scanner')}",
                  f"-DCMAKE_MAKE_PROGRAM={tool('ninja')}", *words]
-        status, log = output_of(cmake(), "-G", "Ninja", *given, ".", env=self.environment)
+        status, log = run(cmake(), "-G", "Ninja", *given, ".", env=self.environment)
         self.assertEqual(status, 0, log)
 
     def write(self, a="import b;\n", b=""):

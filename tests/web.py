@@ -9,7 +9,6 @@ import json
 import os
 import re
 import shutil
-import subprocess
 import sys
 import tempfile
 import unittest
@@ -18,6 +17,7 @@ from pathlib import Path
 from tests import browser, embedded, program
 from tests.files import DATA
 from tests.rows.forms import info, module, sources, target
+from tests.run import InRoom, output_of, run, run_apart
 from tests.tables import all_rows
 
 NEEDS_LIBRARY = True
@@ -63,13 +63,11 @@ class Rows:
         self.assertGreater(count, 1000)
 
 
-class Build(unittest.TestCase):
+class Build(InRoom):
     """What web/build says if it cannot make the module, with a toolchain of shell scripts."""
 
     def setUp(self):
-        folder = tempfile.TemporaryDirectory(prefix="dyncollate-")
-        self.addCleanup(folder.cleanup)
-        self.room = Path(folder.name)
+        super().setUp()
         for name in "web/build", "web/heap.c", "web/wide.c", "include/dyncollate.h":
             (self.room / name).parent.mkdir(exist_ok=True)
             shutil.copy(TOP / name, self.room / name)
@@ -88,8 +86,8 @@ class Build(unittest.TestCase):
     def says(self, line, *before):
         """It prints the line at last, ends with status 3, and leaves no module."""
         path = f"{self.room}/bin:{self.room}/kit/bin:/usr/bin:/bin"
-        ran = subprocess.run([self.room / "web/build"], env={"PATH": path}, stdin=subprocess.DEVNULL, capture_output=True, text=True, check=False)
-        self.assertEqual((ran.returncode, ran.stdout, ran.stderr), (3, "", "".join(f"{it}\n" for it in [*before, f"web/build: {line}"])))
+        said = "".join(f"{it}\n" for it in [*before, f"web/build: {line}"])
+        self.assertEqual(run_apart(self.room / "web/build", env={"PATH": path}), (3, "", said))
         self.assertFalse((self.room / "web/out").exists())
 
     def test_a_library_that_is_not_built(self):
@@ -126,19 +124,16 @@ class InNode(Rows, unittest.TestCase):
             import {{ load, DyncollateError }} from {json.dumps((TOP / "web/dyncollate.mjs").as_uri())};
             import {{ readFileSync }} from "node:fs";
             const dyncollate = await load(readFileSync({json.dumps(str(WASM))}));"""
-        ran = subprocess.run(["node", "--input-type=module", "-e", start + script], stdin=subprocess.DEVNULL, capture_output=True, text=True,
-                             check=False)
-        self.assertEqual((ran.returncode, ran.stderr), (0, ""))
-        return ran.stdout
+        status, out, err = run_apart("node", "--input-type=module", "-e", start + script)
+        self.assertEqual((status, err), (0, ""))
+        return out
 
     def test_rows(self):
         with tempfile.TemporaryFile("w+") as lines:
             for row in ASKED:
                 lines.write(packed(row) + "\n")
             lines.seek(0)
-            with subprocess.Popen(["node", TOP / "tests/web_rows.mjs", WASM], stdin=lines, stdout=subprocess.PIPE, text=True) as node:
-                self.check_all(node.stdout)
-        self.assertEqual(node.returncode, 0)
+            self.check_all(output_of("node", TOP / "tests/web_rows.mjs", WASM, stdin=lines).splitlines())
 
     def test_interface(self):
         """As the module for Python has it: files in and out, a thrown error, statements, and a Map or an object of files."""
@@ -219,7 +214,7 @@ CYCLE = {"t.target.json": target(b',"scans":["a.ddi","b.ddi","c.ddi","main.ddi"]
 
 @needs_page
 @needs_chromium
-class Page(unittest.TestCase):
+class Page(InRoom):
     seconds = 10
 
     @classmethod
@@ -229,9 +224,7 @@ class Page(unittest.TestCase):
         cls.addClassCleanup(cls.page.close)
 
     def setUp(self):
-        folder = tempfile.TemporaryDirectory(prefix="dyncollate-")
-        self.addCleanup(folder.cleanup)
-        self.folder = Path(folder.name)
+        super().setUp()
         self.page.resize(1280, 860)
 
     def tearDown(self):
@@ -240,18 +233,17 @@ class Page(unittest.TestCase):
 
     def lay(self, files):
         for name, text in files.items():
-            path = self.folder / "build" / name
+            path = self.room / "build" / name
             path.parent.mkdir(parents=True, exist_ok=True)
             path.write_bytes(text)
-        return self.folder / "build"
+        return self.room / "build"
 
     def show(self, files, name):
         """Opens the page that dyncollate-explain writes for these files."""
-        command = [sys.executable, EXPLAIN, "--page", self.folder / "page.html", name]
-        ran = subprocess.run(command, cwd=self.lay(files), env=os.environ | {"DYNCOLLATE": program.PROGRAM}, stdin=subprocess.DEVNULL,
-                             stdout=subprocess.DEVNULL, check=False)
-        self.assertTrue((self.folder / "page.html").exists(), ran.returncode)
-        self.page.open((self.folder / "page.html").as_uri())
+        command = [sys.executable, EXPLAIN, "--page", self.room / "page.html", name]
+        ran = run(*command, cwd=self.lay(files), env=os.environ | {"DYNCOLLATE": program.PROGRAM})
+        self.assertTrue((self.room / "page.html").exists(), ran)
+        self.page.open((self.room / "page.html").as_uri())
 
     def text(self, selector):
         return self.page.evaluate(f"document.querySelector({json.dumps(selector)}).innerText").strip()
@@ -363,13 +355,13 @@ class Page(unittest.TestCase):
         self.page.wait("document.querySelectorAll('#files li').length === 6")
         self.assertEqual(sorted(self.texts("#files .name span")), sorted([*CYCLE, "sub/e.ddi"]))
         self.assertEqual(self.nodes(".bad"), ["a.o", "b.o", "c.o"])
-        (self.folder / "c.ddi").write_bytes(sources(b"c.o|C|"))
-        self.page.drop(str(self.folder / "c.ddi"))
+        (self.room / "c.ddi").write_bytes(sources(b"c.o|C|"))
+        self.page.drop(str(self.room / "c.ddi"))
         self.page.wait("document.querySelector('#result').className === 'good'")
         self.assertEqual(self.nodes(".bad"), [])
-        (self.folder / "empty").mkdir()
-        (self.folder / "empty/x.o").write_bytes(b"")
-        self.page.drop(str(self.folder / "empty"))
+        (self.room / "empty").mkdir()
+        (self.room / "empty/x.o").write_bytes(b"")
+        self.page.drop(str(self.room / "empty"))
         self.page.wait("document.querySelector('#taken').textContent !== ''")
         self.assertEqual(self.text("#taken"), "None of 1 file is a document that dyncollate reads.")
 

@@ -7,12 +7,12 @@ import resource
 import shutil
 import signal
 import stat
-import subprocess
 import tempfile
 import threading
 
 from tests import program
 from tests.case import MEMORY, Case, cannot, lay, read, tree, write
+from tests.run import output_of, run_apart, run_as_bytes
 
 SCAN = (b'{"version":1,"rules":[{"primary-output":"a.o","provides":[{"logical-name":"A"}]},'
         b'{"primary-output":"b.o","requires":[{"logical-name":"A"}]}]}')
@@ -50,7 +50,7 @@ class Faults(Case):
         folder = tempfile.TemporaryDirectory(prefix="dyncollate-")
         cls.addClassCleanup(folder.cleanup)
         cls.library = f"{folder.name}/fault_at_call.so"
-        subprocess.run([f"{program.TOP}/tests/preload", f"{program.TOP}/tests/fault_at_call.c", cls.library], check=True)
+        output_of(f"{program.TOP}/tests/preload", f"{program.TOP}/tests/fault_at_call.c", cls.library)
 
     def run_with_fault(self, old, number, **more):
         """The answer of a run with a fault at the call of this number, and the files that are left of those that it writes."""
@@ -191,21 +191,20 @@ class Replaced(Case):
             # a copy that anybody may run
             os.chmod(room, 0o755)
             os.chmod(shutil.copy(program.PROGRAM, room), 0o755)
-            called = [f"{room}/{os.path.basename(program.PROGRAM)}", "collate", "t.target.json"]
-            ran = subprocess.run(called, capture_output=True, check=False, **nobody)
+            ran = run_as_bytes(f"{room}/{os.path.basename(program.PROGRAM)}", "collate", "t.target.json", **nobody)
         os.chmod(".", 0o755)
-        self.same((ran.returncode, ran.stdout, ran.stderr), DONE)
+        self.same(ran, DONE)
         self.same(tree(), {os.fsencode(name): text for name, text in READ.items()} | NEW)
 
     def test_a_mount_point(self):
         """A file that can't be renamed onto is written in place."""
         lay(READ | {"t.dd": b"before\n"})
         mounted = 'mount --bind t.dd t.dd 2> /dev/null || exit 99; exec "$@"'
-        ran = subprocess.run(["unshare", "-m" if os.getuid() == 0 else "-rm", "sh", "-c", mounted, "sh", program.PROGRAM, "collate",
-                              "t.target.json"], capture_output=True, check=False)
-        if ran.returncode == 99 or ran.stderr.startswith(b"unshare:"):
+        unshare = ["unshare", "-m" if os.getuid() == 0 else "-rm"]
+        ran = run_apart(*unshare, "sh", "-c", mounted, "sh", program.PROGRAM, "collate", "t.target.json")
+        if ran[0] == 99 or ran[2].startswith("unshare:"):
             self.skipTest("no file was mounted")
-        self.same((ran.returncode, ran.stdout, ran.stderr), DONE)
+        self.same(ran, (0, "", ""))
         self.same(tree(), {os.fsencode(name): text for name, text in READ.items()} | NEW)
 
 

@@ -7,9 +7,10 @@ TURNS has what is not written, and what is written instead. Code in a text is pa
 """
 import re
 import shutil
-import subprocess
 import unittest
 from pathlib import Path
+
+from tests.run import run
 
 TOP = Path(__file__).resolve().parent.parent
 
@@ -107,10 +108,10 @@ class Words(unittest.TestCase):
         """The subject of a commit has at most 72 columns, and no turn. Older commits than this check are passed over."""
         if not shutil.which("git") or not (TOP / ".git").exists():
             self.skipTest("no git checkout")
-        asked = subprocess.run(["git", "log", "--format=%s", f"{CHECKED_SINCE}..HEAD"], cwd=TOP, capture_output=True, text=True, check=False)
-        if asked.returncode:
+        status, subjects = run("git", "log", "--format=%s", f"{CHECKED_SINCE}..HEAD", cwd=TOP)
+        if status:
             self.skipTest(f"the checkout does not reach back to {CHECKED_SINCE}")
-        for subject in set(asked.stdout.splitlines()) - set(EXCEPTIONS):
+        for subject in set(subjects.splitlines()) - set(EXCEPTIONS):
             with self.subTest(subject):
                 self.assertLessEqual(len(subject), 72)
                 self.assertEqual(list(wrong(subject)), [])
