@@ -6,7 +6,6 @@ import os
 import re
 import shlex
 import shutil
-import subprocess
 import sys
 import tarfile
 import tempfile
@@ -16,7 +15,7 @@ import zipfile
 from pathlib import Path
 
 from tests import embedded, program
-from tests.files import DATA, TARGETS
+from tests.run import output_of, run_apart
 from tests.tools import tool
 
 NEEDS_LIBRARY = True
@@ -52,13 +51,11 @@ ENVIRONMENT = {name: text for name, text in os.environ.items() if not name.start
 
 def call(*words, env=None, **given):
     """The status of a command, and what it prints on both outputs."""
-    ran = subprocess.run(words, env=env or ENVIRONMENT, stdin=subprocess.DEVNULL, capture_output=True, text=True, check=False, **given)
-    return ran.returncode, ran.stdout, ran.stderr
+    return run_apart(*words, env=env or ENVIRONMENT, **given)
 
 
 def git(*words, cwd=TOP):
-    return subprocess.run(["git", "-c", "user.name=a", "-c", "user.email=a@example.com", *words], cwd=cwd, env=ENVIRONMENT,
-                          stdout=subprocess.PIPE, text=True, check=True).stdout
+    return output_of("git", "-c", "user.name=a", "-c", "user.email=a@example.com", *words, cwd=cwd, env=ENVIRONMENT)
 
 
 def is_clone():
@@ -227,11 +224,11 @@ class Archive(Released):
         self.assertEqual(sums, {name: hashlib.sha256(it.read_bytes()).hexdigest() for name, it in files.items()})
 
     def test_what_was_proved(self):
-        """PROVED.txt names the commit and the toolchain, and without a log claims nothing of the gate."""
+        """PROVED.txt names the commit and the toolchain, and without results it says nothing about the gate."""
         text = (self.home / "PROVED.txt").read_text()
         self.assertIn(f"dyncollate {VERSION}, of commit {git('rev-parse', 'HEAD', cwd=self.clone).strip()}\n", text)
         self.assertIn(call("rt", "version")[1].strip(), text)
-        self.assertIn("No log of ./test was given", text)
+        self.assertIn("No results of ./test were given", text)
         self.assertNotIn("passed", text)
 
     def test_sums(self):
@@ -269,27 +266,30 @@ class Archive(Released):
             for file, path in files.items():
                 self.assertIn(f"\n{hashlib.sha256(path.read_bytes()).hexdigest()}  crates/{crate}/out/aarch64/{file}\n", text)
 
-    def test_log(self):
-        """The lines of a log are quoted where it is of this commit, and all passed."""
-        commit = git("rev-parse", "HEAD", cwd=self.clone)
-        gate = "rt: ok; handles allowed: none; must-fail edits: 3 refused; every proof and must-fail edit was done in this run\n"
-        good = f"commit {commit}some line\n{gate}7 passed, 0 failed\nmore\n9 passed, 0 failed\n"
-        for wrong in (good.replace(commit, "0" * 40 + "\n"), good.replace("rt: ok", "rt: no"), good.replace("9 passed, 0", "9 passed, 1"),
-                      good.replace("9 passed, 0 failed\n", "")[:-len("more\n")] + "cut", ""):
-            (self.room / "log").write_text(wrong)
-            status, out, err = self.release(str(self.room / "log"))
-            self.assertEqual((status, out), (1, ""), wrong)
-            self.assertRegex(err, r"\Arelease: ")
-        (self.room / "log").write_text(good)
-        folder = self.room / "logged"
+    def test_results(self):
+        """PROVED.txt quotes what ./test has written, if that is of this commit and all tests passed."""
+        gate = "rt: ok; handles allowed: none; must-fail edits: 3 refused; every proof and must-fail edit was done in this run"
+        good = {"commit": git("rev-parse", "HEAD", cwd=self.clone).strip(), "gate": [gate, "7 passed, 0 failed"],
+                "passed": 9, "failed": 0, "skipped": {"tests.builds.Single.test_x": "ninja-build: not there"}}
+        file = self.room / "test.json"
+        for wrong, line in [(good | {"commit": "0" * 40}, f"is not of commit {good['commit']}"), (good | {"commit": None}, "is not of commit"),
+                            (good | {"gate": []}, "says that not all tests passed"), (good | {"failed": 1}, "says that not all tests passed"),
+                            ({}, "is not a file that ./test has written"), ([], "is not a file that ./test has written")]:
+            file.write_text(json.dumps(wrong))
+            status, out, err = self.release(str(file))
+            self.assertEqual((status, out, err.count("\n")), (1, "", 1), err)
+            self.assertTrue(err.startswith(f"release: {file} {line}"), err)
+        file.write_text(json.dumps(good)[:-1])
+        self.assertEqual(self.release(str(file)), (1, "", f"release: {file} is not a file that ./test has written\n"))
+        self.assertEqual(self.release("none"), (1, "", "release: there is no file none\n"))
+        file.write_text(json.dumps(good))
+        folder = self.room / "tested"
         folder.mkdir()
-        self.assertEqual(call(self.clone / "release", "x86_64", self.room / "log", cwd=folder),
+        self.assertEqual(call(self.clone / "release", "x86_64", file, cwd=folder),
                          (0, f"{NAME}.tar.gz\n{WHEEL}\ndyncollate-{VERSION}.html\n", ""))
         with tarfile.open(folder / f"{NAME}.tar.gz") as tar:
             text = tar.extractfile(f"{NAME}/PROVED.txt").read().decode()
-        lines = [line.strip() for line in text.splitlines()]
-        self.assertIn(gate.strip(), " ".join(lines))
-        self.assertEqual([it for it in lines if "passed" in it], ["7 passed, 0 failed", "9 passed, 0 failed"])
+        self.assertIn(f"\n    {gate}\n    7 passed, 0 failed\n    9 passed, 0 failed, 1 skipped\n", text)
 
     def test_refusals(self):
         for change in lambda: (self.clone / "VERSION").write_text("9.9.9\n"), lambda: (self.clone / "further").write_text(""):
@@ -356,8 +356,7 @@ class Archive(Released):
             self.skipTest("ninja-build, clang-19 or clang-tools-19: not there")
         folder = self.room / "build"
         shutil.copytree(self.home / "examples/libs", folder)
-        subprocess.run([self.home / "examples/generate", "clang"], input=(folder / "targets").read_bytes(), cwd=folder,
-                       env=ENVIRONMENT | names, check=True)
+        output_of(self.home / "examples/generate", "clang", input=(folder / "targets").read_bytes(), cwd=folder, env=ENVIRONMENT | names)
         self.assertEqual(call(tool("ninja"), cwd=folder)[0], 0)
         self.assertEqual(call(folder / "app"), (0, "42\n", ""))
         if shutil.which("gcc") and shutil.which("pkg-config"):
