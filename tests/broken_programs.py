@@ -178,14 +178,11 @@ def tests_with(how, tests, part):
         return run(*command, cwd=program.TOP, env=os.environ | SHORT | {"DYNCOLLATE": broken(folder, how)})[1]
 
 
+@program.needs("program")
 @each(ROWS, lambda row: row.why)
 class BrokenPrograms(unittest.TestCase):
     """The tests of a row fail where the program is broken, and pass where it is called so and nothing is broken."""
     seconds = 3
-
-    def setUp(self):
-        if not program.is_there():
-            self.fail("there is no program to be tested; ./build makes it")
 
     def check(self, row):
         found = tests_with("nothing" if is_way(row.how) else f"exec {CALL}", row.tests, row.part)

@@ -12,7 +12,7 @@ import unittest
 from pathlib import Path
 
 from tests.program import TOP
-from tests.run import InRoom, output_of
+from tests.run import InRoom, output_of, run
 
 # `apart` and the library are not used by the program.
 CRATES = """low: thiserror
@@ -585,3 +585,36 @@ class Policy(unittest.TestCase):
         """Each crate that ./build proves has its seconds."""
         names = {line.split(":")[0].split()[0] for line in Path(TOP, "crates.txt").read_text().splitlines()}
         self.assertEqual(set(self.crates["SECONDS"]), names - {"library_tests"})
+
+
+class Old(InRoom):
+    """A run of tests stops if the program or the library is older than its sources, of which ./build knows."""
+
+    def setUp(self):
+        super().setUp()
+        shutil.copytree(f"{TOP}/tests", self.room / "tests", ignore=shutil.ignore_patterns("__pycache__"))
+        write(self.room / "build", "#!/bin/sh\necho $* >> asked\nexit 1\n", 0o755)
+        for name in "dyncollate/out/dyncollate", "c_library/out/libdyncollate.a", "c_library/out/libdyncollate.so.1":
+            write(self.room / "crates" / name, "#!/bin/sh\n", 0o755)
+        self.environment = {name: it for name, it in os.environ.items() if name not in ("DYNCOLLATE", "LIBRARY", "TESTS", "RESULTS")}
+
+    def stops(self, *tests, command, **more):
+        status, printed = run(sys.executable, "-B", "-m", "unittest", *tests, cwd=self.room, env=self.environment | more)
+        self.assertEqual(status, 1, printed)
+        self.assertRegex(printed, rf" is missing, or older than its sources\. `{command}` builds it, and \w+ may name another\.\n\Z")
+        self.assertNotRegex(printed, "Ran |FAIL|ERROR")
+
+    def test_program(self):
+        """The tests of the second module run in several processes."""
+        for tests in "tests.dyndep_files", "tests.damage":
+            self.stops(tests, command="./build")
+
+    def test_library(self):
+        self.stops("tests.fuzzing", command="./build library")
+
+    def test_others(self):
+        """Tests of another program run, and so do tests that need none."""
+        for tests, more in ("tests.dyndep_files", {"DYNCOLLATE": f"{self.room}/crates/dyncollate/out/dyncollate"}), ("tests.run", {}):
+            printed = run(sys.executable, "-B", "-m", "unittest", tests, cwd=self.room, env=self.environment | more)[1]
+            self.assertRegex(printed, r"\nRan [1-9]")
+        self.assertFalse((self.room / "asked").exists())

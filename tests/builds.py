@@ -52,6 +52,7 @@ EXAMPLES = {
 }
 
 
+@program.needs("program")
 class Folder(unittest.TestCase):
     """A test in a folder of its own, with the tools that it needs."""
     tools = ["ninja"]
@@ -59,8 +60,6 @@ class Folder(unittest.TestCase):
     seconds = 20
 
     def setUp(self):
-        if not program.is_there():
-            self.fail("there is no program to be tested; ./build makes it")
         missing = [TOOLS[it][0] for it in self.tools if not tool(it)]
         if missing:
             self.skipTest(f"{', '.join(missing)}: not there")

@@ -45,12 +45,11 @@ def lay(files):
         write(name, text)
 
 
+@program.needs("program")
 class Case(unittest.TestCase):
     """The folder is in memory where there is such a place, and the working folder of the test."""
 
     def setUp(self):
-        if not program.is_there():
-            self.fail("there is no program to be tested; ./build makes it")
         folder = tempfile.TemporaryDirectory(prefix="dyncollate-", dir=MEMORY)
         self.addCleanup(folder.cleanup)
         self.addCleanup(os.chdir, os.getcwd())

@@ -207,6 +207,7 @@ class Tree:
         return {without_hashes(name): statements(without_hashes(text)) for name, text in found.items()}
 
 
+@program.needs("program")
 class Builds(InRoom):
     """A project in two folders: `trees[0]` is built with CMake's step, `trees[1]` with dyncollate."""
     # a function that returns the compiler or None, and the package that has it
@@ -214,8 +215,6 @@ class Builds(InRoom):
     seconds = 60
 
     def setUp(self):
-        if not program.is_there():
-            self.fail("there is no program to be tested; ./build makes it")
         for found, name in ((cmake(), "CMake 3.28 or newer"), (tool("ninja"), "ninja-build"), (self.compiler(), self.package)):
             if not found:
                 self.skipTest(f"{name}: not there")

@@ -7,7 +7,7 @@ import shutil
 import sys
 import unittest
 
-from tests.program import TOP
+from tests.program import TOP, needs
 from tests.run import output_of
 
 EXAMPLES = f"{TOP}/examples/embed"
@@ -15,7 +15,12 @@ PACKAGE = f"{TOP}/python"
 FOLDER = os.path.abspath(os.environ.get("LIBRARY", f"{TOP}/crates/c_library/out"))
 SHARED, STATIC = f"{FOLDER}/libdyncollate.so.1", f"{FOLDER}/libdyncollate.a"
 
-needs_library = unittest.skipUnless(os.path.exists(SHARED) and os.path.exists(STATIC), "there is no library; ./build library makes it")
+
+def needs_library(cls):
+    """A decorator of a class: its tests need the library as it is in the sources. They are skipped if there is none."""
+    is_there = os.path.exists(SHARED) and os.path.exists(STATIC)
+    return needs("library")(cls) if is_there else unittest.skip("there is no library; ./build library makes it")(cls)
+
 
 
 def needs_tools(*names):

@@ -2,16 +2,34 @@
 import functools
 import os
 import signal
+import sys
 import tempfile
 
-from tests.run import output_of
+from tests.run import output_of, run
 
 TOP = os.path.dirname(os.path.dirname(os.path.abspath(__file__)))
 PROGRAM = os.path.abspath(os.environ.get("DYNCOLLATE", f"{TOP}/crates/dyncollate/out/dyncollate"))
 
 
-def is_there():
-    return os.access(PROGRAM, os.X_OK)
+@functools.lru_cache(None)
+def stop_unless_current(product):
+    """Ends the run of tests if the program or the library is older than its sources, unless the environment names another one."""
+    variable, *command = {"program": ("DYNCOLLATE", "./build"), "library": ("LIBRARY", "./build", "library")}[product]
+    if variable not in os.environ and run(f"{TOP}/build", "--is-current", *command[1:])[0]:
+        sys.exit(f"The {product} is missing, or older than its sources. `{' '.join(command)}` builds it, and {variable} may name another.")
+    if product == "program" and not os.access(PROGRAM, os.X_OK):
+        sys.exit(f"There is no program {PROGRAM}.")
+
+
+def needs(product):
+    """A decorator of a class: its tests need the program or the library as it is in the sources."""
+    def decorated(cls):
+        def run_test(self, result=None):
+            stop_unless_current(product)
+            return super(cls, self).run(result)
+        cls.run = run_test
+        return cls
+    return decorated
 
 
 class Caller:

@@ -172,6 +172,7 @@ class Types(unittest.TestCase):
         self.assertEqual(found, {line: kind for line, (_, kind) in enumerate(USES, 3) if kind})
 
 
+@embedded.needs_library
 class Installed(InRoom):
     """Wheels in a virtual environment, which nothing is downloaded for."""
     seconds = 15
@@ -198,7 +199,6 @@ class Installed(InRoom):
     def says(self, python, expression, **more):
         return self.call(python, "-c", f"import dyncollate; print({expression})", **more)
 
-    @embedded.needs_library
     @embedded.needs_tools("readelf")
     def test_wheel(self):
         """It has the library and its types, and works with no other library. Then the sources are installed in its place."""
@@ -228,7 +228,6 @@ class Installed(InRoom):
         self.assertEqual(self.says(python, expression, LD_LIBRARY_PATH=str(self.room / "lib")), (0, DYNDEP.decode() + "\n", ""))
         self.assertEqual(self.says(python, expression, DYNCOLLATE_LIBRARY=embedded.SHARED)[0], 0)
 
-    @embedded.needs_library
     @embedded.needs_tools("readelf")
     def test_twice_it_has_the_same_bytes(self):
         (self.room / "other").mkdir()

@@ -24,7 +24,7 @@ from collections import namedtuple
 
 from tests.case import MEMORY, read, tree, write
 from tests.expected.runs import answer_of, ending
-from tests.program import Caller
+from tests.program import Caller, needs
 from tests.random_rounds import ROUNDS, Maker
 from tests.side_by_side import SideBySide
 from tests.smaller import smaller
@@ -219,6 +219,7 @@ def tried_by_all(kinds, seeds, seconds, processes):
     return Tried(sum(it.rounds for it in parts), sum(it.calls for it in parts), [text for it in parts for text in it.failures])
 
 
+@needs("program")
 class RandomDocuments(unittest.TestCase):
     """A minute where there are four processors."""
     seconds = float(os.environ.get("RANDOM_SECONDS") or 15 * min(4, PROCESSORS))

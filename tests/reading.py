@@ -320,6 +320,15 @@ class Reading(unittest.TestCase):
                 with self.subTest(crate, code=block[0]):
                     self.assertTrue(any(block[0] in file.read_text() for file in files))
 
+    def test_example_of_a_contract(self):
+        """CONTRIBUTING.md quotes a function and its definition word for word, from the files that it names before them."""
+        page = (TOP.parent / "CONTRIBUTING.md").read_text()
+        blocks = list(re.finditer(r"(?<=^```)(rust|text)\n(.*?)(?=^```$)", page, re.M | re.S))
+        self.assertEqual([it[1] for it in blocks], ["rust", "text"])
+        for block in blocks:
+            file = re.findall(r"`(crates/[^`]+\.(?:rt|antt))`", page[:block.start()])[-1]
+            self.assertIn(block[2], (TOP.parent / file).read_text())
+
     def test_named_files(self):
         """The files that a page names are there."""
         for page in [*TOP.parent.glob("*.md"), *TOP.parent.glob("docs/*.md"), *TOP.glob("*/README.md")]:

@@ -101,6 +101,8 @@ class SideBySide(unittest.TestSuite):
                 future.add_done_callback(ended.put)
             for future in in_turn(ended, number_of):
                 error = future.exception()
+                if isinstance(error, SystemExit):
+                    raise error
                 found = [("addError", f"its process ended: {error!r}")] if error else future.result()
                 report(result, running[number_of[future]], found)
                 if result.shouldStop:
