@@ -3,6 +3,7 @@
 typedef __SIZE_TYPE__ size;
 enum { TO_WRITE = 1, TO_READ_AND_WRITE = 2, CREATED = 0100, TRUNCATED = 01000, APPENDED = 02000, NO_WAIT = 04000 };
 enum { ABORTED = 6, KILLED = 9 };
+enum { NO_RIGHT = 13, NO_SPACE = 28, NO_QUOTA = 122 };
 #define NEXT ((void *)-1L)
 #define WANT "dyncollate: out of memory\n"
 extern long __write(int, const void *, size);
@@ -19,10 +20,19 @@ extern int kill(int, int);
 extern int getpid(void);
 extern void _exit(int);
 extern void *dlsym(void *, const char *);
+extern int *__errno_location(void);
 
 static int is(const char *way) {
   const char *broken = getenv("BROKEN");
   return broken && !strcmp(broken, way);
+}
+
+// A call that failed on a full disk fails as if the file could not be replaced.
+static int unless_full(int result, const char *way) {
+  int *error = __errno_location();
+  if (result < 0 && (*error == NO_SPACE || *error == NO_QUOTA) && is(way))
+    *error = NO_RIGHT;
+  return result;
 }
 
 static int ends(const char *name, const char *ending) {
@@ -107,7 +117,8 @@ int open(const char *name, int flags, int mode) {
     name = end + 1;
   if (is_written && is("the_line_in_a_file"))
     __close(2);
-  int file = __open(name, flags, mode);
+  int (*next)(const char *, int, ...) = dlsym(NEXT, "open");
+  int file = unless_full(next(name, flags, mode), "a_full_disk_at_creation");
   if (file < 0 && !is_written && is("no_file_is_an_empty_one"))
     return __open("/dev/null", flags);
   if (file < 0 && is_written && is("a_file_that_cannot_be_made"))
@@ -136,5 +147,14 @@ int rename(const char *from, const char *to) {
     return copied(from, to, TRUNCATED);
   if (is("the_dyndep_file_nowhere") && ends(to, ".dd"))
     return unlink(from);
-  return next(from, to);
+  return unless_full(next(from, to), "a_full_disk_at_renaming");
+}
+
+int getentropy(void *bytes, size count) {
+  int (*next)(void *, size) = dlsym(NEXT, "getentropy");
+  if (!is("the_same_random_bytes"))
+    return next(bytes, count);
+  for (size at = 0; at < count; at++)
+    ((char *)bytes)[at] = 7;
+  return 0;
 }

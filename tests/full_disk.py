@@ -1,4 +1,5 @@
-"""A disk of a few pages, of which more and more are free. devices.py runs these tests in a place where they may mount it."""
+"""A disk of a few pages, of which more and more are free, and a disk that can have only a few files. devices.py runs these tests in a
+place where they may mount it."""
 import os
 import resource
 
@@ -6,6 +7,7 @@ from tests.case import Case, cannot, each, read, tree, write
 from tests.devices import UNWRITTEN, WRITTEN, wholly_before
 from tests.rows import V
 from tests.run import output_of, run
+from tests.whole_files import DONE, SCAN, target, written
 
 RUN_BY = "devices"
 
@@ -28,15 +30,40 @@ def below(it, folder):
     return it._replace(files=files, written=made)
 
 
-@each(WRITTEN, lambda it: it.name)
-class FullDisk(Case):
+class Disk(Case):
+    """A test with a small disk at `full`."""
+    limit = ""
+
     def setUp(self):
         super().setUp()
         os.mkdir("full")
-        status, printed = run("mount", "-t", "tmpfs", "-o", f"size={PAGES * PAGE}", "none", "full")
+        status, printed = run("mount", "-t", "tmpfs", "-o", self.limit, "none", "full")
         if status:
             self.skipTest("no tmpfs was mounted: " + printed)
         self.addCleanup(output_of, "umount", os.path.abspath("full"))
+
+
+class FullOfFiles(Disk):
+    """A disk that has space, but can have two files at most, besides its directory."""
+    limit = "nr_inodes=3"
+
+    def test_no_file_can_be_created(self):
+        """Without a temporary file, a file is not replaced: it keeps its old bytes. It is written as soon as there is place."""
+        files = {"t.target.json": target(b"new", b"full/t.dd"), "t.ddi": SCAN, "full/t.dd": b"before\n", "full/other": b"other\n"}
+        for name, text in files.items():
+            write(name, text)
+        before, new = tree(), written(b"new", b"full/t.dd")
+        dyndep = new.pop(b"full/t.dd")
+        self.same(self.caller.run("collate", "t.target.json"), cannot("write", "full/t.dd"))
+        self.same(tree(), before | new)
+        os.remove("full/other")
+        self.same(self.caller.run("collate", "t.target.json"), DONE)
+        self.same(read("full/t.dd"), dyndep)
+
+
+@each(WRITTEN, lambda it: it.name)
+class FullDisk(Disk):
+    limit = f"size={PAGES * PAGE}"
 
     def leave(self, free):
         """Leaves so many pages of the disk."""

@@ -113,6 +113,27 @@ class Faults(Case):
                         self.assertIn(answer, [cannot("read", it) for it in READ] + [cannot("write", names[news])])
 
 
+    def test_a_full_disk(self):
+        """If the disk or the quota is full when a new file is created or renamed, the run ends with status 3, and the old file stays."""
+        for error, call, old in itertools.product((errno.ENOSPC, errno.EDQUOT), ("create", "rename"), ({}, OLD)):
+            for number, name in enumerate(map(os.fsdecode, NEW), 1):
+                with self.subTest(error=errno.errorcode[error], call=call, old=old, name=name):
+                    answer, left = self.run_with_fault(old, number, FAILS_WITH=str(error), COUNTED=call)
+                    self.same(answer, cannot("write", name))
+                    self.assertEqual(self.whole(old, left, 0), number - 1)
+
+    def test_names_of_temporary_files(self):
+        """They have a random number of 64 bits, so that two runs at once do not share a name: in 40 runs each bit takes both values."""
+        numbers = []
+        for _ in range(40):
+            _, left = self.run_with_fault({}, 1, COUNTED="rename")
+            (temporary,) = left
+            self.assertTrue(TEMPORARY.fullmatch(temporary), temporary)
+            numbers.append(int(temporary.split(b".")[-2], 16))
+        for bit in range(64):
+            self.assertEqual({number >> bit & 1 for number in numbers}, {0, 1}, f"bit {bit}")
+
+
 class Replaced(Case):
     """What becomes of the file that is replaced."""
 
