@@ -117,7 +117,7 @@ def is_unchanged(paths, since):
 
 
 def digest_of(paths, text=""):
-    """Of the bytes of files, and of the text. Of a directory it has only that it is there."""
+    """The digest of the bytes of files, and of the text. A directory counts only by its name."""
     sums = [f"{'' if os.path.isdir(it) else hashlib.sha256(Path(it).read_bytes()).hexdigest()} {it}" for it in paths]
     return hashlib.sha256(os.fsencode("\n".join([*sums, text]))).hexdigest()
 
@@ -140,7 +140,7 @@ def record(crate, toolchain):
 
 
 def adopt_from_gate(goal, toolchain):
-    """The gate rt ci takes its lock when it begins, and proves all crates from nothing: if nothing has changed since, the libraries
+    """The gate rt ci takes its lock when it begins, and proves all crates from scratch: if nothing has changed since, the libraries
     and the program that it left are as good as those made here."""
     lock = lock_of(goal.home)
     if lock is None:

@@ -174,7 +174,7 @@ def target_document(step, linked):
 
 
 def statements_of(step):
-    """Returns the lines of the dyndep file up to where they say whether an object provides a module: exactly those do whose
+    """Returns the lines of the dyndep file up to the part that says whether an object provides a module: exactly those do whose
     sources are in a file set of C++ modules."""
     objects = [it[:-len(".ddi")] for it in step.scans]
     ends = [" | " if it in step.target["cxx-modules"] else ": dyndep" for it in objects]
@@ -212,7 +212,7 @@ class Adoption:
         write_if_changed(f"{folder}/CXX.statements", statements_of(step))
 
     def command(self, step):
-        """The program alone, and Python only if it fails, or if a module is where CMake allows none, or none where CMake needs one."""
+        """The program alone, and Python only if it fails, or if a source has a module that CMake does not allow, or lacks one that CMake needs."""
         document = f"{step.folder}/CXX.target.json"
         if self.with_python[step.rule]:
             return shell([*self.this, "--step", document])

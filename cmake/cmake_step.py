@@ -104,7 +104,7 @@ def finish_module_files(paths, dyndep):
 
 def why(program, status, name):
     """Says why the step of the target of this document failed, and returns the status. The program may have failed, or been killed;
-    or its dyndep file has a module where CMake allows none, or none where CMake needs one. Otherwise the step is well, and done."""
+    or its dyndep file has a module that CMake does not allow, or lacks one that CMake needs. Otherwise the step is well, and done."""
     if status <= SIGNAL:
         check_file_sets(objects_of(document(name))[1])
     return explained(program, status, name)

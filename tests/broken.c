@@ -5,7 +5,7 @@ enum { TO_WRITE = 1, TO_READ_AND_WRITE = 2, CREATED = 0100, TRUNCATED = 01000, A
 enum { ABORTED = 6, KILLED = 9 };
 enum { NO_RIGHT = 13, NO_SPACE = 28, NO_QUOTA = 122 };
 #define NEXT ((void *)-1L)
-#define WANT "dyncollate: out of memory\n"
+#define NO_MEMORY "dyncollate: out of memory\n"
 extern long __write(int, const void *, size);
 extern long __read(int, void *, size);
 extern int __open(const char *, int, ...);
@@ -42,15 +42,15 @@ static int ends(const char *name, const char *ending) {
 
 // The line of a run that ran out of memory is not written, or something else is done as well.
 static int is_unwritten(const char *line) {
-  if (is("no_line_for_want_of_memory"))
+  if (is("no_line_without_memory"))
     return 1;
-  if (is("status_1_for_want_of_memory")) {
-    __write(2, line, strlen(WANT));
+  if (is("status_1_without_memory")) {
+    __write(2, line, strlen(NO_MEMORY));
     _exit(1);
   }
-  if (is("an_abort_for_want_of_memory"))
+  if (is("an_abort_without_memory"))
     kill(getpid(), ABORTED);
-  if (is("a_file_for_want_of_memory"))
+  if (is("a_file_without_memory"))
     __close(__open("t.json", TO_WRITE | CREATED, 0666));
   return 0;
 }
@@ -66,7 +66,7 @@ static long write_without_escapes(const char *bytes, size count) {
 
 long write(int file, const void *bytes, size count) {
   int is_file = file > 2;
-  if (file == 2 && !strncmp(bytes, WANT, strlen(WANT)) && is_unwritten(bytes))
+  if (file == 2 && !strncmp(bytes, NO_MEMORY, strlen(NO_MEMORY)) && is_unwritten(bytes))
     return count;
   if (count && (is("a_file_without_its_last_byte") && is_file || is("output_without_its_last_byte") && file == 1))
     return __write(file, bytes, count - 1) + 1;
@@ -113,7 +113,7 @@ int open(const char *name, int flags, int mode) {
   }
   if (is_written && is("no_file_made"))
     flags &= ~CREATED;
-  if (is_written && is("a_file_in_this_folder") && end)
+  if (is_written && is("a_file_in_this_directory") && end)
     name = end + 1;
   if (is_written && is("the_line_in_a_file"))
     __close(2);

@@ -34,17 +34,17 @@ def filtered(output, command):
 
 
 def ended(status, then):
-    """A run that ends with this status goes on with a command, which ends it."""
+    """A run that would end with this status calls a command instead, which ends it."""
     return f"{CALL}; status=$?; [ $status != {status} ] || {then}; exit $status"
 
 
 def with_words(command):
-    """The words are changed one by one: the command adds `$word` to `$@`."""
+    """The arguments are changed one by one: the command adds `$word` to `$@`."""
     return f"for word; do shift; {command}; done; exec {CALL}"
 
 
 def called_with(pattern, words):
-    """The words of some commands are others."""
+    """Some commands are called with other arguments."""
     return f"case $1 in {pattern}) set -- {words};; esac; exec {CALL}"
 
 
@@ -65,32 +65,32 @@ PRINTING = [
 ]
 
 STATUSES = [
-    Broken("status 1 for want of a file", ended(3, "exit 1"), "arguments", "cannot_read"),
-    Broken("status 1 for words that are no call", ended(2, "exit 1"), "arguments", "no_command"),
-    Broken("status 0 for no words", f"[ $# != 0 ] || exit 0; exec {CALL}", "arguments", "no_command"),
+    Broken("status 1 for a missing file", ended(3, "exit 1"), "arguments", "cannot_read"),
+    Broken("status 1 for an invalid command line", ended(2, "exit 1"), "arguments", "no_command"),
+    Broken("status 0 for no arguments", f"[ $# != 0 ] || exit 0; exec {CALL}", "arguments", "no_command"),
     Broken("a signal ends a run that fails", ended(2, "kill -TERM $$"), "arguments", "no_command"),
 ]
 
 WORDS = [
-    Broken("empty words dropped", with_words('[ -z "$word" ] || set -- "$@" "$word"'), "arguments", "empty"),
+    Broken("empty arguments dropped", with_words('[ -z "$word" ] || set -- "$@" "$word"'), "arguments", "empty"),
     Broken("options taken for arguments", 'command=$1; [ $# = 0 ] || shift; exec "$real" "$command" -- "$@"',
            "arguments", "an_option"),
     Broken("-- kept as an argument", with_words('[ "$word" != -- ] || set -- "$@" --; set -- "$@" "$word"'),
            "arguments", "an_option_after"),
-    Broken("words too many dropped", called_with("show|order|collate|project", '"$1" "$2"'), "arguments", "a_word_too_many"),
-    Broken("words in capitals taken for others", with_words('set -- "$@" "$(printf %s "$word" | tr A-Z a-z)"'),
+    Broken("surplus arguments dropped", called_with("show|order|collate|project", '"$1" "$2"'), "arguments", "a_word_too_many"),
+    Broken("capitals in arguments ignored", with_words('set -- "$@" "$(printf %s "$word" | tr A-Z a-z)"'),
            "arguments", "a_command_in_capitals"),
-    Broken("bytes that are no text dropped", with_words('set -- "$@" "$(printf %s "$word" | LC_ALL=C tr -d "\\200-\\377")"'),
+    Broken("bytes that are not UTF-8 dropped", with_words('set -- "$@" "$(printf %s "$word" | LC_ALL=C tr -d "\\200-\\377")"'),
            "devices.Inputs", "no_text_show"),
     Broken("help", f'case " $* " in *" --help "*|*" -h "*) echo help; exit 0;; esac; exec {CALL}', "arguments", "no_help"),
-    Broken("folder and ending exchanged", called_with("one", '"$1" "$2" "$4" "$3"'), "arguments", "no_folder"),
-    Broken("words divided at spaces", 'exec "$real" $@', "arguments", "space"),
+    Broken("directory and extension exchanged", called_with("one", '"$1" "$2" "$4" "$3"'), "arguments", "no_directory"),
+    Broken("arguments divided at spaces", 'exec "$real" $@', "arguments", "space"),
     Broken("another name of a file", called_with("show|order|collate|project", '"$1" "./$2"'), "arguments", "cannot_read"),
 ]
 
-ANSWERS = [
+RESULTS = [
     Broken("a restat left out", filtered("out", "sed '/restat/d'"), "random_documents", "dyndep_files"),
-    Broken("an order turned round", filtered("out", '{ [ "$1" = order ] && sort -r || cat; }'), "random_documents", "listings"),
+    Broken("an order that is reversed", filtered("out", '{ [ "$1" = order ] && sort -r || cat; }'), "random_documents", "listings"),
 ]
 
 # calls of the system; the files that are read and written, and standard output
@@ -103,7 +103,7 @@ CALLS = [
     Broken("output that cannot be written not reported", "a_failed_write_of_the_output", "devices.Output", "test_full_show"),
     Broken("output that is written in part not reported", "a_short_write_is_an_end", "devices.Output", "limited_show"),
     Broken("the first piece of a file taken for all", "a_file_read_in_one_piece", "devices.Inputs", "byte_by_byte_show"),
-    Broken("a folder taken for an empty file", "a_failed_read_is_an_end", "devices.Names", "test_show"),
+    Broken("a directory taken for an empty file", "a_failed_read_is_an_end", "devices.Names", "test_show"),
     Broken("files read without their last byte", "a_file_read_without_its_last_byte", "arguments", "names_a_file"),
     Broken("files opened twice", "a_file_opened_twice", "devices.Inputs", "byte_by_byte_show"),
     Broken("files not emptied before they are written", "a_file_not_emptied", "earlier_files.Overwritten", "GCC_s_maps"),
@@ -112,25 +112,25 @@ CALLS = [
     Broken("files written in place if no file can be created on a full disk", "a_full_disk_at_creation", "whole_files.Faults", "full_disk"),
     Broken("files written in place if none can be renamed on a full disk", "a_full_disk_at_renaming", "whole_files.Faults", "full_disk"),
     Broken("the same names of temporary files in each run", "the_same_random_bytes", "whole_files.Faults", "names_of_temporary"),
-    Broken("files written only where they are", "no_file_made", "targets", "GCC_s_maps"),
-    Broken("files written to the current folder", "a_file_in_this_folder", "files.Collated", "single_clang"),
+    Broken("only files that exist are written", "no_file_made", "targets", "GCC_s_maps"),
+    Broken("files written to the current directory", "a_file_in_this_directory", "files.Collated", "single_clang"),
     Broken("a dyndep file written nowhere", "the_dyndep_file_nowhere", "targets", "GCC_s_maps"),
     Broken("an error line written to a file", "the_line_in_a_file", "devices.Files", "limited_collate"),
     Broken("a file that is not there taken for an empty one", "no_file_is_an_empty_one", "devices.Names", "test_show"),
     Broken("a file that cannot be made not reported", "a_file_that_cannot_be_made", "files.CollatedWithout", "single_app"),
-    Broken("no line for want of memory", "no_line_for_want_of_memory", "growths.Program", "show_two"),
-    Broken("status 1 for want of memory", "status_1_for_want_of_memory", "growths.Program", "show_two"),
-    Broken("a signal for want of memory", "an_abort_for_want_of_memory", "growths.Program", "show_two"),
-    Broken("a file written for want of memory", "a_file_for_want_of_memory", "growths.Program", "show_two"),
+    Broken("no line if memory runs out", "no_line_without_memory", "growths.Program", "show_two"),
+    Broken("status 1 if memory runs out", "status_1_without_memory", "growths.Program", "show_two"),
+    Broken("a signal if memory runs out", "an_abort_without_memory", "growths.Program", "show_two"),
+    Broken("a file written if memory runs out", "a_file_without_memory", "growths.Program", "show_two"),
 ]
 
 # what a run of `collate` leaves besides what it has to write
 LEFT = [
     Broken("a file of its own left", f"{CALL}; status=$?; : > t.tmp; exit $status", "arguments", "no_command"),
-    Broken("a file written though it is refused", ended(1, ": > t.dd"), "targets", "S1"),
+    Broken("a file written though it is rejected", ended(1, ": > t.dd"), "targets", "S1"),
     Broken("files emptied before the answer is whole", f'[ "$1" != collate ] || : > t.dd; exec {CALL}',
            "earlier_files.Overwritten", "cycle"),
-    Broken("a dyndep file written where a map cannot be",
+    Broken("a dyndep file written although a map cannot be",
            ended(3, """sed -n 's/.*"dyndep": *"\\([^"]*\\)".*/\\1/p' "$2" | xargs touch"""),
            "files.CollatedWithout", "single_app"),
     Broken("a file in common of runs at once",
@@ -140,10 +140,10 @@ LEFT = [
     Broken("files that are there taken away first", f'[ "$1" != collate ] || rm -f t.dd t.json; exec {CALL}',
            "earlier_files.Rights", "keep"),
     Broken("standard input read", f"cat > /dev/null; exec {CALL}", "earlier_files.StandardInput", ""),
-    Broken("another folder", f"cd /; exec {CALL}", "arguments", "names_a_file"),
+    Broken("another directory", f"cd /; exec {CALL}", "arguments", "names_a_file"),
 ]
 
-ROWS = PRINTING + STATUSES + WORDS + ANSWERS + CALLS + LEFT
+ROWS = PRINTING + STATUSES + WORDS + RESULTS + CALLS + LEFT
 
 
 def is_way(how):
@@ -175,7 +175,7 @@ SHORT = {"RANDOM_SECONDS": "3", "RANDOM_SEED": "1"}
 
 @functools.lru_cache(None)
 def tests_with(how, tests, part):
-    """What tests print where the program is broken in one way."""
+    """What tests print if the program is broken in one way."""
     with tempfile.TemporaryDirectory(prefix="dyncollate-") as folder:
         command = [sys.executable, "-B", "-m", "unittest", f"tests.{tests}"] + (["-k", part] if part else [])
         return run(*command, cwd=program.TOP, env=os.environ | SHORT | {"DYNCOLLATE": broken(folder, how)})[1]
@@ -184,7 +184,7 @@ def tests_with(how, tests, part):
 @program.needs("program")
 @each(ROWS, lambda row: row.why)
 class BrokenPrograms(unittest.TestCase):
-    """The tests of a row fail where the program is broken, and pass where it is called so and nothing is broken."""
+    """The tests of a row fail if the program is broken, and pass if it is called in the same way and nothing is broken."""
     seconds = 3
 
     def check(self, row):
@@ -196,7 +196,7 @@ class BrokenPrograms(unittest.TestCase):
             self.fail("no test failed:\n" + found)
 
     def test_a_document_made_at_random_is_made_smaller(self):
-        """Where `$:` is written as `:`, a document with one such path is left, and nothing else."""
+        """If `$:` is written as `:`, a document with one such path is left, and nothing else."""
         found = tests_with("a_colon_without_its_escape", "random_documents", "scan_documents")
         documents = [ast.literal_eval(it) for it in re.findall(r"^    t\.ddi: (.*)", found, re.M)]
         self.assertIn("FAILED", found)

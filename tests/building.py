@@ -27,7 +27,7 @@ c_library staticlib: in_memory
 ABOVE = {"low": ["left", "right", "top"], "left": ["top"], "right": ["top"], "top": []}
 PROVED = ["low", "left", "right", "top"]
 NAMES = [*PROVED, "dyncollate"]
-# What the prover does for a crate: `fails`; `killed`, with one job only if that is in the file too; `waits` as long as the file is there;
+# What the prover does for a crate: `fails`; `killed`, with one job only if the file says so; `waits` as long as the file is there;
 # `changes` a source of the crate. It fails if a crate below is not proved.
 PROVER = r"""#!/bin/sh
 echo "$*" >> "$CONTROL/calls"
@@ -193,7 +193,7 @@ class Order(Made):
         self.assertEqual(self.finish(child)[0], 0)
 
     def test_commands(self):
-        """The prover gets the crates of the kit and of the repository that a crate names, and where to find the others."""
+        """The prover gets the crates of the kit and of the repository that a crate names, and the directories of the others."""
         self.built()
         words = {it.split()[2]: it.split() for it in self.taken("calls")}
         top = words["top"]
@@ -267,7 +267,7 @@ class Failures(Made):
         self.assertEqual((begun.count("low"), begun.count("left")), (1, 4))
 
     def test_a_signal_that_is_ignored(self):
-        """Under nohup a run goes on when its terminal is closed."""
+        """Under nohup a run continues when its terminal is closed."""
         self.control_file("left.waits")
         child = self.begin(before=["nohup"])
         self.wait_for("left")
@@ -541,7 +541,7 @@ class Policy(unittest.TestCase):
         cls.crates = runpy.run_path(f"{TOP}/building/crates.py")
 
     def jobs(self, chains, running=(), longest=100):
-        """Of the first of crates with these chains, while these run: pairs of a chain and a number of jobs."""
+        """The jobs of the first of crates with these chains, while these run: pairs of a chain and a number of jobs."""
         made = [self.crates["Crate"](f"c{it}", [], [], it) for it in chains]
         others = [type("Job", (), {"crate": self.crates["Crate"](f"r{it}", [], [], it), "jobs": jobs}) for it, jobs in running]
         return self.build["jobs_and_nice"](made[0], made, others, longest, 4)

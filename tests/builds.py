@@ -53,8 +53,8 @@ EXAMPLES = {
 
 
 @program.needs("program")
-class Folder(unittest.TestCase):
-    """A test in a folder of its own, with the tools that it needs."""
+class Directory(unittest.TestCase):
+    """A test in a directory of its own, with the tools that it needs."""
     tools = ["ninja"]
     # about how long a test takes
     seconds = 20
@@ -76,14 +76,14 @@ class Folder(unittest.TestCase):
         return run(program.PROGRAM, *words)
 
     def copy(self, example, form=None):
-        """Puts a copy of an example into the folder, which becomes the working one."""
+        """Puts a copy of an example into the directory, which becomes the working one."""
         shutil.copytree(TOP / "examples" / example, example)
         os.chdir(example)
         if form:
             self.generate(form)
 
     def generate(self, form, listed="targets"):
-        """Writes the manifest of a project into this folder."""
+        """Writes the manifest of a project into this directory."""
         command = [sys.executable, TOP / "examples/generate", form, listed]
         self.assertEqual(run(*command, env=self.environment), (0, ""))
 
@@ -143,7 +143,7 @@ def products():
 
 
 class Built:
-    """What each example is tested for, by any form of manifest. A test begins with a build from nothing, with eight jobs."""
+    """What each example is tested for, by any form of manifest. A test begins with a build from scratch, with eight jobs."""
     example = form = ""
 
     def setUp(self):
@@ -198,7 +198,7 @@ class Built:
         self.fail(f"{sorted(left)}: other bytes than by hand")
 
     def test_a_collation_alone(self):
-        """In a folder with nothing but the files that it has to read, and without environment, it writes the same bytes."""
+        """In a directory with nothing but the files that it has to read, and without environment, it writes the same bytes."""
         targets = sorted(it.name.removesuffix(".target.json") for it in Path("dd").glob("*.target.json"))
         if self.form == "project":
             return self.collate_alone("project", "dd/project.json", targets)
@@ -246,7 +246,7 @@ class Single:
         self.makes("2400")
         self.compiled("src/units.cppm", *self.users)
 
-    def turn_import(self):
+    def reverse_import(self):
         edit("src/point.cppm", r"^import units;|scaled(\(.\))", r"\1")
         edit("src/units.cppm", r"^(export module units;)", r"\1\nimport geometry;")
         edit("src/units.cppm", r"SCALE \* length", "SCALE * at(length, 0).x")
@@ -255,13 +255,13 @@ class Single:
 
     def test_a_turned_import(self):
         """Both sources are compiled, and their users."""
-        self.turn_import()
+        self.reverse_import()
         self.makes("60")
         self.compiled("src/units.cppm", *self.users)
         self.idle()
 
-    def test_a_ring(self):
-        self.turn_import()
+    def test_a_cycle(self):
+        self.reverse_import()
         self.restore("src/point.cppm")
         names = ["geometry.cppm", "point.cppm", "units.cppm"]
         self.reports("M8 ImportCycle " + " -> ".join(f"obj/app/src/{it}.o" for it in names))
@@ -360,12 +360,12 @@ BUILT = {"single": (Single, ["clang", "gcc", "project"]), "libs": (Libs, ["clang
 for one, (changes, forms) in BUILT.items():
     for form_ in forms:
         title = f"{one.title()}{'InA' if form_ == 'project' else 'With'}{form_.title()}"
-        globals()[title] = type(title, (changes, Built, Folder), {"example": one, "form": form_})
+        globals()[title] = type(title, (changes, Built, Directory), {"example": one, "form": form_})
 
 # ---- import std
 
 def standard_modules(compiler, *asked):
-    """The sources of the standard library's modules, where a compiler has a list of them, and they are there."""
+    """The sources of the standard library's modules, if a compiler lists them and they exist."""
     listed = run(compiler, *asked)[1].strip() if compiler else ""
     if not os.path.isfile(listed):
         return None
@@ -379,7 +379,7 @@ class ImportsStd:
     seconds = 60
     users = ["src/main.cpp", "src/words.cpp", "src/words.cppm"]
 
-    def test_from_nothing_and_touched(self):
+    def test_from_scratch_and_touched(self):
         """The modules std and std.compat are compiled once, before what imports them."""
         self.copy("std", self.form)
         self.makes("one 2\ntwo 1")
@@ -392,7 +392,7 @@ class ImportsStd:
         self.compiles("src/words.cpp")
 
 
-class StdWithClang(ImportsStd, Folder):
+class StdWithClang(ImportsStd, Directory):
     form, tools = "clang", ["ninja", "clang", "scanner"]
 
     def setUp(self):
@@ -407,13 +407,13 @@ class StdWithClang(ImportsStd, Folder):
         section = re.search(r"^### `import std;`\n.*?^### ", page, re.M | re.S)[0]
         targets, manifest = [text for kind, text in re.findall("^```(.*)\n((?s:.*?))^```$", section, re.M) if not kind]
         self.assertIn(targets, Path("targets").read_text())
-        # the page has the folder of Debian's libc++-19-dev
+        # the page has the directory of Debian's libc++-19-dev
         manifest = manifest.replace("/usr/lib/llvm-19/share/libc++/v1", os.path.dirname(self.modules[0]))
         written = Path("build.ninja").read_text().splitlines()
         self.assertEqual([it for it in manifest.splitlines() if it not in written], [])
 
 
-class StdWithGcc(ImportsStd, Folder):
+class StdWithGcc(ImportsStd, Directory):
     form, tools = "gcc", ["ninja", "clang", "scanner"]
 
     def setUp(self):
@@ -428,7 +428,7 @@ class StdWithGcc(ImportsStd, Folder):
 
 # ---- other builds
 
-class WithClang(Folder):
+class WithClang(Directory):
     tools = ["ninja", "clang", "scanner"]
 
     def test_one_step_collates_all_targets(self):
@@ -459,12 +459,12 @@ class WithClang(Folder):
         self.assertEqual((status, sorted(text.splitlines())), (0, sorted(Path("dd/app.dd").read_text().splitlines())))
 
 
-class Guide(Folder):
+class Guide(Directory):
     tools = []
     page = (TOP / "docs/GUIDE.md").read_text()
 
     def test_its_manifests_are_those_of_generate(self):
-        """The lines that docs/GUIDE.md quotes are in what examples/generate writes, where the tools have their usual names."""
+        """The lines that docs/GUIDE.md quotes are in what examples/generate writes, if the tools have their usual names."""
         os.mkdir("bin")
         for it in "clang++", "g++", "clang-scan-deps", "dyncollate":
             os.symlink(shutil.which("true"), f"bin/{it}")
@@ -490,7 +490,7 @@ class Guide(Folder):
         self.assertEqual([it for it in packages if it not in re.split(r"[\s;]+", (TOP / ".ci/run").read_text())], [])
 
 
-class GuideCommands(Folder):
+class GuideCommands(Directory):
     """The commands in docs/GUIDE.md, as they are printed, with Debian's names of the tools and the program in PATH."""
 
     def setUp(self):
@@ -572,7 +572,7 @@ READERS = [
 ]
 
 
-class Readers(Folder):
+class Readers(Directory):
     seconds = 1
 
     def test_who_takes_a_dyndep_file(self):

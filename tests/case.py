@@ -11,12 +11,12 @@ USAGE = 2, b"", b"dyncollate: usage\n"
 
 
 def cannot(what, name):
-    """The answer of a run that cannot `read` or `write` a file."""
+    """The result of a run that cannot `read` or `write` a file."""
     return 3, b"", b"dyncollate: cannot %s %s\n" % (what.encode(), os.fsencode(name))
 
 
-def refused(line):
-    """The answer of a run that is refused with this line."""
+def rejected(line):
+    """The result of a run that rejects its input with this line."""
     return 1, b"", b"dyncollate: %s\n" % line
 
 
@@ -32,13 +32,13 @@ def read(name):
 
 
 def tree(top=b"."):
-    """The files that are in a folder and below it, by their names from there."""
+    """The files that are in a directory and below it, by their names from there."""
     return {os.path.relpath(os.path.join(folder, name), top): read(os.path.join(folder, name))
             for folder, _, names in os.walk(top) for name in names}
 
 
 def lay(files):
-    """Puts these files, and nothing else, into the folder, which has no folder in it."""
+    """Puts these files, and nothing else, into the directory, which has no directory in it."""
     for name in os.listdir(b"."):
         os.remove(name)
     for name, text in files.items():
@@ -47,7 +47,7 @@ def lay(files):
 
 @program.needs("program")
 class Case(unittest.TestCase):
-    """The folder is in memory where there is such a place, and the working folder of the test."""
+    """A test in a directory of its own, which is its working directory. It is in memory, if the system has `/dev/shm`."""
 
     def setUp(self):
         folder = tempfile.TemporaryDirectory(prefix="dyncollate-", dir=MEMORY)
@@ -57,23 +57,23 @@ class Case(unittest.TestCase):
         self.caller = program.caller()
 
     def same(self, found, wanted, what=""):
-        """Fails where the two differ, which may be long."""
+        """Fails if the two differ. They may be long."""
         if found != wanted:
             self.fail(f"{what}{': ' if what else ''}{found!r:.800}, not {wanted!r:.800}")
 
-    def answers(self, row):
-        """The call of a row answers what the row says, and leaves its files and those that it writes."""
+    def has_its_result(self, row):
+        """The call of a row prints and writes what the row says, and changes no other file."""
         lay(row.texts())
         before = tree()
         self.same(self.caller.run(*row.words), row.printed(), row.name)
         self.same(tree(), before | row.made(), row.name + ": its files")
 
-    check = answers
+    check = has_its_result
 
 
 def each(things, name=str):
-    """Gives a class a test for each of some things, which its method `check` takes. The test is named by the thing, and by a
-    number where several are named alike."""
+    """Gives a class a test for each of some things, which its method `check` takes. The test is named by the thing, with a
+    number if several have the same name."""
     def with_tests(cls):
         for thing in things:
             title = "test_" + re.sub(r"\W+", "_", name(thing), flags=re.ASCII).strip("_")

@@ -97,7 +97,7 @@ def words_of(text):
 
 
 def statements(dyndep):
-    """Of each output of a dyndep file: its additional outputs and inputs, and whether `restat` is on."""
+    """Each output of a dyndep file: its additional outputs and inputs, and whether `restat` is on."""
     found = {}
     for line, restat in re.findall(r"^build (.*)\n((?:  restat = 1\n)?)", dyndep, re.M):
         outputs, inputs = re.fullmatch(r"(.*): dyndep(.*)", line).groups()
@@ -150,7 +150,7 @@ class Recorded(Case):
         self.assertEqual(rejected, [f"dyncollate: {REJECTED[path.stem]}\n"] if path.stem in REJECTED else [])
 
     def targets(self):
-        """The folders of all targets, each after those that it links."""
+        """The directories of all targets, each after those that it links."""
         linked = {os.path.dirname(name): content["linked-target-dirs"] for name, content in self.files.items()
                   if name.endswith("CXXDependInfo.json")}
         done = []

@@ -167,12 +167,12 @@ def environment(**more):
 
 
 def without_hashes(text):
-    """Removes what differs from build to build: a part of the folder names of imported targets."""
+    """Removes what differs from build to build: a part of the directory names of imported targets."""
     return re.sub(r"@synth_[0-9a-f]+", "@synth", str(text))
 
 
 class Tree:
-    """A project and its build folder. A run of Ninja leaves in `status` and `log` how it ended."""
+    """A project and its build directory. A run of Ninja leaves in `status` and `log` how it ended."""
 
     def __init__(self, top, files, compiler, generator, *options):
         self.top, self.build = top, top / "build"
@@ -209,7 +209,7 @@ class Tree:
 
 @program.needs("program")
 class Builds(InRoom):
-    """A project in two folders: `trees[0]` is built with CMake's step, `trees[1]` with dyncollate."""
+    """A project in two directories: `trees[0]` is built with CMake's step, `trees[1]` with dyncollate."""
     # a function that returns the compiler or None, and the package that has it
     compiler = package = None
     seconds = 60
@@ -304,7 +304,7 @@ class Edits:
         self.edit("m1.cppm", r"^(export module m1;)", r"\1\nimport b2;")
         self.builds("m1.cppm", "u2.cpp")
 
-    def test_an_import_that_is_turned_round(self):
+    def test_an_import_that_is_reversed(self):
         self.edit("b1.cppm", "^import b0;", "import b2;")
         self.builds("b1.cppm", *self.users)
         self.edit("b0.cppm", "^(export import :p;)", r"\1\nimport b1;")

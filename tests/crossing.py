@@ -34,7 +34,7 @@ def call(*words, **environment):
 
 class Crossing(InRoom):
     def runs(self, program, *tests):
-        """The tests pass with this program, and none of them is skipped for want of something."""
+        """The tests pass with this program, and none of them is skipped."""
         status, printed = call(sys.executable, "-m", "unittest", *tests, DYNCOLLATE=str(program))
         self.assertEqual(status, 0, printed[-3000:])
         self.assertRegex(printed, r"\nRan [1-9]\d+ tests ")

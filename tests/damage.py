@@ -10,7 +10,7 @@ import re
 from collections import namedtuple
 
 from tests.case import Case, each, lay, tree, write
-from tests.expected.runs import answer_of, ending
+from tests.expected.runs import result_of, ending
 from tests.rows.dyndep_files import CUT, TWO
 from tests.side_by_side import side_by_side
 from tests.tables import worked
@@ -66,7 +66,7 @@ def common(one, other):
 
 
 def is_known(damage, text, printed):
-    """Whether a file that is cut off is answered as is known without the package `expected`."""
+    """Whether the result for a file that is cut off is the one that is known without the package `expected`."""
     if damage.file.endswith((".ddi", ".json")):
         return NOT_JSON.fullmatch(printed[2])
     if damage.row.words[0] == "show" and damage.row.files[damage.file] == TWO:
@@ -90,13 +90,13 @@ class Damages(Case):
         for what, text in damaged(damage.row.files[damage.file], damage):
             write(name, text)
             before[name] = text
-            printed, written = ending(answer_of(*damage.row.words))
+            printed, written = ending(result_of(*damage.row.words))
             if damage.kind == "cut off":
                 self.assertTrue(is_known(damage, text, printed), f"{what}: tests/expected has {printed!r:.300}")
-            self.answered(damage.row.words, before, printed, written, what)
+            self.checked(damage.row.words, before, printed, written, what)
 
-    def answered(self, words, before, printed, written, what):
-        """A run prints and writes this, and then the folder is as it was."""
+    def checked(self, words, before, printed, written, what):
+        """A run prints and writes this, and then the directory is as it was."""
         ran = self.caller.run(*words)
         there = tree()
         self.assertTrue(is_an_end(*ran), f"{what}: ended with {ran!r:.600}")

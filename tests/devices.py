@@ -22,7 +22,7 @@ import tempfile
 import threading
 import time
 
-from tests.case import USAGE, Case, cannot, each, lay, read, refused, tree, write
+from tests.case import USAGE, Case, cannot, each, lay, read, rejected, tree, write
 from tests.program import PROGRAM, TOP, library
 from tests.rows import V, targets
 from tests.rows.dyndep_files import TWO
@@ -41,15 +41,15 @@ def row(command, why):
 
 
 SHOW = row("show", "two statements")
-REFUSED = row("show", "another rule")
-RING = row("one", "two objects after another")
+REJECTED = row("show", "another rule")
+CYCLE = row("one", "two objects after another")
 COLLATE = row("collate", "GCC's maps")
 PROJECT = row("project", "three targets")
 # a call of each command that prints, and calls that read every kind of file
 PRINTED = [SHOW, row("one", "two rules, in their order"), row("effect", "two statements"), row("order", "after an effect")]
 WRITTEN = [COLLATE, PROJECT]
 READ = PRINTED + WRITTEN + [
-    REFUSED, row("collate", "edges that have an order"), row("collate", "a cycle through a file that is generated")]
+    REJECTED, row("collate", "edges that have an order"), row("collate", "a cycle through a file that is generated")]
 
 
 def situations(rows, *methods):
@@ -82,7 +82,7 @@ class Devices(Case):
 
 # ---- standard output
 
-@each(situations(PRINTED, "closed", "full", "limited") + situations(WRITTEN, "closed_files", "full_beside_files"), title)
+@each(situations(PRINTED, "closed", "full", "limited") + situations(WRITTEN, "closed_files", "full_next_to_files"), title)
 class Output(Devices):
     def closed(self, it):
         self.prints(it, UNWRITTEN, "standard output closed", closed=[1])
@@ -99,7 +99,7 @@ class Output(Devices):
             self.prints(it, UNWRITTEN, "standard output full", out=full.fileno())
             self.prints(it, (3, b"", b""), "both full", out=full.fileno(), err=full.fileno())
 
-    def full_beside_files(self, it):
+    def full_next_to_files(self, it):
         with open("/dev/full", "wb") as full:
             self.leaves(it, it.printed(), "both full", out=full.fileno(), err=full.fileno())
 
@@ -112,15 +112,15 @@ class Output(Devices):
     def run_limited(self, size, *words, **given):
         return run_limited(self.caller, size, *words, **given)
 
-    def test_refusals(self):
-        """They need no standard output, and have their status without standard error, too."""
-        lay(REFUSED.files | RING.files)
+    def test_errors(self):
+        """They need no standard output, and have their status also without standard error."""
+        lay(REJECTED.files | CYCLE.files)
         with open("/dev/full", "wb") as full:
-            self.prints(REFUSED, REFUSED.printed(), "standard output closed", closed=[0, 1])
-            self.prints(REFUSED, (1, b"", b""), "all closed", closed=[0, 1, 2])
-            self.prints(REFUSED, (1, b"", b""), "standard error full", err=full.fileno())
-            self.prints(RING, RING.printed(), "standard output full", out=full.fileno())
-            self.prints(RING, (1, b"", b""), "standard error full", err=full.fileno())
+            self.prints(REJECTED, REJECTED.printed(), "standard output closed", closed=[0, 1])
+            self.prints(REJECTED, (1, b"", b""), "all closed", closed=[0, 1, 2])
+            self.prints(REJECTED, (1, b"", b""), "standard error full", err=full.fileno())
+            self.prints(CYCLE, CYCLE.printed(), "standard output full", out=full.fileno())
+            self.prints(CYCLE, (1, b"", b""), "standard error full", err=full.fileno())
 
     def test_pipes_that_nobody_reads(self):
         lay(SHOW.files)
@@ -240,7 +240,7 @@ class Files(Devices):
 # ---- files that vanish, and names that are not those of files
 
 class Piped:
-    """Meanwhile a file is a pipe. Its bytes are given in so many pieces, and something is done before the last one ends."""
+    """Meanwhile a file is a pipe. Its bytes are given in pieces, and something is done before the last one ends."""
 
     def __init__(self, name, by_byte=False, meanwhile=lambda at: None):
         self.name, self.text, self.by_byte, self.meanwhile = name, read(name), by_byte, meanwhile
@@ -313,7 +313,7 @@ class Inputs(Devices):
             self.same((ran, tree()), (it.printed(), before | it.made()), name)
 
     def stopped(self, it):
-        """So, and the run is stopped in the middle of each file, and goes on."""
+        """The same, and the run is stopped in the middle of each file, and continues."""
         self.byte_by_byte(it, stops=True)
 
     def no_random_bytes(self, it):
@@ -323,7 +323,7 @@ class Inputs(Devices):
         self.same((ran, tree()), (it.printed(), before | it.made()))
 
     def no_text(self, it):
-        """Words that are no text are no proper call, in whatever place."""
+        """An argument that is not UTF-8 is an invalid command line, at each position."""
         for at in range(len(it.words)):
             for name in (b"\xff", b"t\x80.dd", b"\xed\xa0\x80", b"\xc0\xaf"):
                 words = [os.fsencode(word) for word in it.words]
@@ -332,7 +332,7 @@ class Inputs(Devices):
                 self.same(self.caller.run(*words), USAGE, str(words))
                 os.remove(name)
 
-    def test_the_folder_of_a_file_vanishes(self):
+    def test_the_directory_of_a_file_vanishes(self):
         """So it does while the last file is read, and a file in it is to be written."""
         for member in (b"t.json", b"t.dd"):
             files = dict(COLLATE.files)
@@ -364,7 +364,7 @@ class Inputs(Devices):
                 (["collate", "scan.json"], b"scan 0: " + document), (["collate", "info.json"], b"info 0: " + document),
                 (["collate", "edges.json"], b"edges: " + line), (["show", "/dev/zero"], line), (["order", "/dev/zero"], b"edges: " + line),
                 (["effect", "t.dd", "/dev/zero", "t.dd"], b"edges: " + line), (["effect", "t.dd", "t.edges", "/dev/zero"], line)):
-            self.same(self.caller.run(*words), refused(answer), " ".join(words))
+            self.same(self.caller.run(*words), rejected(answer), " ".join(words))
 
     def test_a_pipe_that_stays_open_after_a_faulty_line(self):
         """The run ends with the fault while the writer still has the pipe open, and more could come."""
@@ -377,7 +377,7 @@ class Inputs(Devices):
             os.mkfifo("pipe")
             pipe = os.open("pipe", os.O_RDWR)
             os.write(pipe, text)
-            self.same(self.caller.run(*words), refused(answer), " ".join(words))
+            self.same(self.caller.run(*words), rejected(answer), " ".join(words))
             os.close(pipe)
             os.remove("pipe")
 
@@ -389,20 +389,20 @@ class Inputs(Devices):
         os.close(pipe)
         ran = self.caller.run("collate", "t.target.json", others=[(0, end)])
         os.close(end)
-        self.same(ran, refused(b"scan 1: S1 NotJson document"))
+        self.same(ran, rejected(b"scan 1: S1 NotJson document"))
 
 
 CALLS = [["show"], ["one", "mod", ".bmi"], ["collate"], ["order"], ["effect", "t.dd", "/dev/null"]]
-EMPTY = {"show": refused(b"line 1: Y4 NoVersion"), "one": refused(b"scan 0: S1 NotJson document"),
-         "collate": refused(b"target: S1 NotJson document"), "order": (0, b"", b""),
-         "effect": refused(b"line 1: Y4 NoVersion")}
+EMPTY = {"show": rejected(b"line 1: Y4 NoVersion"), "one": rejected(b"scan 0: S1 NotJson document"),
+         "collate": rejected(b"target: S1 NotJson document"), "order": (0, b"", b""),
+         "effect": rejected(b"line 1: Y4 NoVersion")}
 NO_FILES = [".", "folder", "/", "", "loop", "dangling", "none", "folder/none", "/dev/null/none", "/proc/self/mem", "x" * 256,
             "y/" * 2100, "/dev/null/"]
 
 
 @each(CALLS, lambda call: call[0])
 class Names(Devices):
-    """Words that name devices, folders and links, and names that no file can have."""
+    """Words that name devices, directories and links, and names that no file can have."""
 
     def check(self, call):
         os.symlink("loop", "loop")
@@ -427,7 +427,7 @@ class Names(Devices):
 
 class Rights(Case):
     def test_a_file_without_read_rights(self):
-        """The user root reads any file, so there the program is run as nobody, from a folder in which programs may be run."""
+        """The user root reads any file, so there the program is run as nobody, from a directory in which programs may be run."""
         folder = tempfile.TemporaryDirectory()
         self.addCleanup(folder.cleanup)
         os.chdir(folder.name)

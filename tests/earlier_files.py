@@ -20,7 +20,7 @@ def of_earlier(files):
 
 @each(ROWS, lambda row: row.name)
 class Overwritten(Case):
-    """What was there is gone where a run writes, and stays where it does not."""
+    """A file that a run writes is replaced, and every other one stays."""
 
     def check(self, row):
         lay(row.texts())

@@ -12,8 +12,8 @@ from tests.run import output_of
 
 EXAMPLES = f"{TOP}/examples/embed"
 PACKAGE = f"{TOP}/python"
-FOLDER = os.path.abspath(os.environ.get("LIBRARY", f"{TOP}/crates/c_library/out"))
-SHARED, STATIC = f"{FOLDER}/libdyncollate.so.1", f"{FOLDER}/libdyncollate.a"
+DIRECTORY = os.path.abspath(os.environ.get("LIBRARY", f"{TOP}/crates/c_library/out"))
+SHARED, STATIC = f"{DIRECTORY}/libdyncollate.so.1", f"{DIRECTORY}/libdyncollate.a"
 
 
 def needs_library(cls):
@@ -57,7 +57,7 @@ def arguments(row):
 
 
 def is_asked(row):
-    """Whether a row is a call of the library too: its command line is valid, the caller can read the files that it names, and can
+    """Whether a row is also a call of the library: its command line is valid, the caller can read the files that it names, and can
     write those that it makes."""
     return row.status != 2 and not (row.line or b"").startswith(b"cannot write") and all(
         word in row.files for index, word in enumerate(arguments(row)) if is_opened(row, index))

@@ -5,7 +5,7 @@ import os
 import re
 import shutil
 
-from tests.case import Case, cannot, each, read, refused, tree, write
+from tests.case import Case, cannot, each, read, rejected, tree, write
 from tests.program import TOP
 from tests.rows.projects import PROJECT, WRITTEN
 
@@ -43,14 +43,14 @@ def paths(text):
 
 
 class Real(Case):
-    """The working folder is a copy of a project in data/, with the folders of what is written."""
+    """The working directory is a copy of a project in data/, with the directories of what is written."""
 
     def lay(self, name):
         shutil.copytree(f"{DATA}/{name}", ".", dirs_exist_ok=True)
         self.empty()
 
     def empty(self):
-        """Makes the folders of what is written, without files."""
+        """Makes the directories of what is written, without files."""
         for it in "dd", "obj":
             shutil.rmtree(it, ignore_errors=True)
         for folder, folders, _ in os.walk("expected"):
@@ -58,18 +58,18 @@ class Real(Case):
                 os.makedirs(os.path.relpath(f"{folder}/{it}", "expected"), exist_ok=True)
 
     def every_read(self, words, names):
-        """Each of these files, which a run reads, is missing in turn, then a folder. Runs that read no file write none."""
+        """Each of these files, which a run reads, is missing in turn, then a directory. Runs that read no file write none."""
         for name in names:
             os.rename(name, "aside")
             self.same(self.caller.run(*words), cannot("read", name), f"without {name}")
             os.mkdir(name)
-            self.same(self.caller.run(*words), cannot("read", name), f"{name} is a folder")
+            self.same(self.caller.run(*words), cannot("read", name), f"{name} is a directory")
             os.rmdir(name)
             os.rename("aside", name)
         self.same(left(), {})
 
     def every_write(self, words, names):
-        """In the place of each of these files, which a run writes in this order, is a folder in turn. The files before it are
+        """In the place of each of these files, which a run writes in this order, is a directory in turn. The files before it are
         written, and none after it."""
         for at, name in enumerate(names):
             self.empty()
@@ -120,7 +120,7 @@ class CollatedWithout(Real):
         name, target = it
         self.lay(name)
         text = document(TARGET % target)
-        # the infos are read from a folder of their own, so that dd has what is written and nothing else
+        # the info files are read from a directory of their own, so that dd has what is written and nothing else
         linked = ["in/" + os.path.basename(info) for info in text["linked"]]
         for info in text["linked"]:
             write("in/" + os.path.basename(info), read("expected/" + info))
@@ -152,14 +152,14 @@ class Failing(Real):
         whole, target = read(name), read("app.target.json")
         for size in 0, 100, 364:
             write(name, whole[:size])
-            self.same(self.caller.run("collate", "app.target.json"), refused(b"scan 5: S1 NotJson document"), str(size))
+            self.same(self.caller.run("collate", "app.target.json"), rejected(b"scan 5: S1 NotJson document"), str(size))
         write(name, whole)
         for size in 0, 200:
             write("begun.json", target[:size])
-            self.same(self.caller.run("collate", "begun.json"), refused(b"target: S1 NotJson document"), str(size))
+            self.same(self.caller.run("collate", "begun.json"), rejected(b"target: S1 NotJson document"), str(size))
         self.same(left(), {})
 
-    def test_no_folder_for_a_map(self):
+    def test_no_directory_for_a_map(self):
         self.lay("single")
         os.rmdir("obj/app")
         self.same(self.caller.run("collate", "app.target.json"), cannot("write", "obj/app/main.cpp.o.modmap"))

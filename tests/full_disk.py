@@ -15,7 +15,7 @@ PAGE, PAGES = resource.getpagesize(), 16
 
 
 def below(it, folder):
-    """The row, with the files that it writes below a folder."""
+    """The row, with the files that it writes below a directory."""
     objects = [name.removesuffix(".modmap").encode() for name in it.written if name.endswith(".modmap")]
     files, made = dict(it.files), dict(it.written)
     for name, text in files.items():
@@ -66,7 +66,7 @@ class FullDisk(Disk):
     limit = f"size={PAGES * PAGE}"
 
     def leave(self, free):
-        """Leaves so many pages of the disk."""
+        """Leaves this number of pages of the disk."""
         for name in os.listdir("full"):
             os.remove("full/" + name)
         write("full/filler", b"x" * PAGE * (PAGES - free))

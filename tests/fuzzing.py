@@ -49,7 +49,7 @@ def first_inputs(target):
 
 
 def blocks():
-    """Where the basic blocks of the shared object begin: after each jump, and where a jump or a call leads to."""
+    """The offsets of the basic blocks of the shared object: a block begins after each jump, and at the target of a jump or a call."""
     listing = output_of("objdump", "-d", "--no-show-raw-insn", "-j", ".text", embedded.SHARED)
     starts, code, after_jump = set(), set(), True
     for at, instruction in re.findall(r"^ *([0-9a-f]+):\t(.*)$", listing, re.M):

@@ -9,7 +9,7 @@ from shlex import quote
 from unittest import mock
 
 from tests import program
-from tests.builds import TOP, Folder, edit, touch
+from tests.builds import TOP, Directory, edit, touch
 from tests.run import output_of, run, run_apart, run_at_once
 from tests.tools import of_versions, tool, version
 
@@ -37,7 +37,7 @@ def words(*texts):
     return " ".join(map(quote, texts))
 
 
-class Lists(Folder):
+class Lists(Directory):
     tools = []
     seconds = 1
 
@@ -84,7 +84,7 @@ class Lists(Folder):
             self.assertEqual(self.says("clang", "targets"), (1, f"generate: line 1 of the list: {said}\n"))
 
     def test_a_list_whose_paths_are_only_right_next_to_the_compiler(self):
-        """As with Debian's libc++-21-dev, where the compiler names a link to the list in another folder."""
+        """As with Debian's libc++-21-dev, whose compiler names a link to the list in another directory."""
         Path("targets").write_text("standard std\n")
         for name in "lib", "llvm/lib/clang/21", "llvm/share":
             os.makedirs(name)
@@ -110,7 +110,7 @@ class Lists(Folder):
             self.assertEqual(self.says(*words), (1, usage))
 
     def test_each_linked_library_is_looked_at_once(self):
-        """Of 40 layers of two libraries, each linking both of the layer below: 2 ** 40 ways lead down."""
+        """40 layers of two libraries, each linking both of the layer below: 2 ** 40 ways lead down."""
         layers = [f"library {side}{number} {side}.cpp -- {f'l{number - 1} r{number - 1}' if number else ''}"
                   for number in range(40) for side in "lr"]
         Path("targets").write_text("\n".join(layers))
@@ -142,7 +142,7 @@ class Lists(Folder):
 # ---- builds out of source
 
 class OutOfSource:
-    """What each form of manifest is tested for in a folder below the project's."""
+    """What each form of manifest is tested for in a directory below the project's."""
     form, tools = "clang", ["ninja", "clang", "scanner"]
 
     def begin(self, example="libs"):
@@ -169,7 +169,7 @@ class OutOfSource:
         self.assertTrue(os.path.exists("obj/app/__/src/app/main.cpp.o"))
         self.idle()
 
-    def test_an_import_is_turned_round(self):
+    def test_an_import_is_reversed(self):
         """Between modules of a library; one is a partition in a `.cpp`. Then back."""
         self.begin()
         os.rename("../src/math/detail.cppm", "../src/math/detail.cpp")
@@ -212,19 +212,19 @@ class OutOfSource:
         self.makes("42")
 
 
-class OutOfSourceWithClang(OutOfSource, Folder):
+class OutOfSourceWithClang(OutOfSource, Directory):
     pass
 
 
-class OutOfSourceInAProject(OutOfSource, Folder):
+class OutOfSourceInAProject(OutOfSource, Directory):
     form = "project"
 
 
-class OutOfSourceWithGcc(OutOfSource, Folder):
+class OutOfSourceWithGcc(OutOfSource, Directory):
     form, tools = "gcc", ["ninja", "clang", "scanner", "gcc"]
 
 
-class OutOfSourceWithNewerGcc(OutOfSource, Folder):
+class OutOfSourceWithNewerGcc(OutOfSource, Directory):
     """GCC 14 to 16 write module files and the map into the depfile."""
     form = "gcc"
 
@@ -245,7 +245,7 @@ class OutOfSourceWithNewerGcc(OutOfSource, Folder):
 
 # ---- projects that need more than the examples do
 
-class WithClang(Folder):
+class WithClang(Directory):
     tools = ["ninja", "clang", "scanner"]
     form = "clang"
 
@@ -266,7 +266,7 @@ class WithClang(Folder):
             Path(name).parent.mkdir(parents=True, exist_ok=True)
             Path(name).write_text(text)
 
-    def test_flags_and_include_folders_of_a_target(self):
+    def test_flags_and_include_directories_of_a_target(self):
         self.project(targets="""program app src/main.cpp -DANSWER=40 '-DTEXT="a $b"' -- one two
                                 library one src/one.cppm -DANSWER=1 -Iinc/one
                                 library two src/two.cppm -Iinc/two\n""",
@@ -297,7 +297,7 @@ class WithClang(Folder):
         self.makes("42 42")
         self.assertEqual(self.steps("HEADER"), ["gen/number.h"])
         if version("ninja") < (1, 11):
-            # it scans once more
+            # it scans again
             self.ninja()
         self.idle()
 
@@ -373,7 +373,7 @@ class WithGcc(WithClang):
 
 # ---- the repository
 
-class Repository(Folder):
+class Repository(Directory):
     tools = ["ninja", "clang", "scanner"]
 
     def test_what_the_examples_write_is_ignored(self):
@@ -402,7 +402,7 @@ class Repository(Folder):
         self.assertEqual(git("status", "--porcelain"), (0, ""))
 
 
-class Scans(Folder):
+class Scans(Directory):
     """The command of a scan, with a scanner that takes its time."""
     tools = ["ninja"]
     seconds = 2

@@ -2,7 +2,7 @@
 
 - The worked rows, by the program. A run has to report that memory ran out, and to write no file, or it has to behave as if
   nothing had failed, because it can do without some allocations.
-- The tests of the modules `growths` of library_tests (crates/library_tests/src/*/growths.rt). A test has to succeed, or to end
+- The tests of the modules `growths` of library_tests (`crates/library_tests/src/*/growths.rt`). A test has to succeed, or to end
   with the error that memory ran out (`AllocError`, `AllocFailed`, `Failure::Memory`). A failed assertion, or any other end, is a
   failure.
 """
@@ -21,21 +21,21 @@ load_tests = side_by_side
 
 CRATES = "library_tests",
 NO_MEMORY = 3, b"", b"dyncollate: out of memory\n"
-REFUSED = re.compile(rb"^error: (Alloc(Error|Failed)\b|Memory$)", re.MULTILINE)
+OUT_OF_MEMORY = re.compile(rb"^error: (Alloc(Error|Failed)\b|Memory$)", re.MULTILINE)
 
 
 def runs(called, words):
-    """What each run printed, and whether a growth was refused in it; in the last one none was."""
+    """What each run printed, and whether an allocation failed in it. In the last run none failed."""
     mark = os.memfd_create("mark")
     try:
-        number, was_refused = 0, True
-        while was_refused:
+        number, has_failed = 0, True
+        while has_failed:
             number += 1
-            ran = called.run(*words, others=[(3, mark)], LD_PRELOAD=library("refuse_growth.c"), REFUSED_GROWTH=str(number))
-            was_refused = bool(emptied(mark))
-            yield ran, was_refused
+            ran = called.run(*words, others=[(3, mark)], LD_PRELOAD=library("failing_allocation.c"), FAILING_ALLOCATION=str(number))
+            has_failed = bool(emptied(mark))
+            yield ran, has_failed
         if number == 1:
-            raise AssertionError("nothing grows")
+            raise AssertionError("the run allocates nothing")
     finally:
         os.close(mark)
 
@@ -48,10 +48,10 @@ class Program(Case):
         before, made = row.texts(), row.made()
         lay(before)
         before = tree()
-        for number, (ran, was_refused) in enumerate(runs(self.caller, row.words), 1):
+        for number, (ran, has_failed) in enumerate(runs(self.caller, row.words), 1):
             there = tree()
-            if not (was_refused and (ran, there) == (NO_MEMORY, before)):
-                what = f"growth {number} refused" if was_refused else "no growth refused"
+            if not (has_failed and (ran, there) == (NO_MEMORY, before)):
+                what = f"allocation {number} failed" if has_failed else "no allocation failed"
                 self.same((ran, there), (row.printed(), before | made), what)
                 lay(row.texts())
 
@@ -91,10 +91,10 @@ class Libraries(unittest.TestCase):
             # ./test runs the gate before, which makes them
             missing = self.fail if "TESTS" in os.environ else self.skipTest
             missing(f"the tests of the libraries are not built: `rt test` in crates/{crate} proves and builds them")
-        for number, (ran, was_refused) in enumerate(runs(caller(tests), [name]), 1):
+        for number, (ran, has_failed) in enumerate(runs(caller(tests), [name]), 1):
             status, _, err = ran
-            if status and not (was_refused and REFUSED.search(err)):
-                self.fail(f"growth {number}{'' if was_refused else ', none,'} refused: status {status}: {err!r:.300}")
+            if status and not (has_failed and OUT_OF_MEMORY.search(err)):
+                self.fail(f"{f'allocation {number}' if has_failed else 'no allocation'} failed: status {status}: {err!r:.300}")
 
     def test_each_crate_has_such_tests(self):
         self.assertEqual({crate for crate in CRATES for _ in test_names(crate)}, set(CRATES))

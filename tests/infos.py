@@ -4,5 +4,5 @@ from tests.rows import infos as rows
 
 
 @each(rows.ROWS, lambda row: row.name)
-class Infos(Case):
+class InfoFiles(Case):
     """Calls of `collate` with an info."""

@@ -189,7 +189,7 @@ class Install(releases.Released):
             self.assertEqual(list(prefix.iterdir()), [])
 
     def test_an_installation_that_fails_leaves_nothing(self):
-        """A file is where a directory has to be, or a directory where a file has to be."""
+        """A file is in the way of a directory, or a directory in the way of a file."""
         (self.room / "file").write_text("")
         self.assertEqual(call(self.home / "install", self.room / "file"), (1, "", f"install: cannot make the directory {self.room}/file\n"))
         prefix = self.room / "in the way"

@@ -1,5 +1,5 @@
 """Listings of build edges, as `order` and `effect` read and write them, and the orders and cycles of their edges."""
-from tests.case import Case, each, lay, read, refused
+from tests.case import Case, each, lay, read, rejected
 from tests.rows import listings as rows
 from tests.rows.forms import info, module, sources, target
 
@@ -17,7 +17,7 @@ class Graph:
         self.needs = [{to for to in self.nodes if bits >> (node * count + to) & 1} for node in self.nodes]
 
     def order(self):
-        """Of the nodes that are ready the first is next, until there is none."""
+        """The first node that is ready comes next, until no node is left."""
         placed = []
         while True:
             ready = [node for node in self.nodes if node not in placed and self.needs[node] <= set(placed)]
@@ -53,7 +53,7 @@ class Graphs(Case):
         lay({"edges": rows.listing([sorted(it) for it in graph.needs])})
         order = graph.order()
         wanted = (0, b"".join(b"n%d\n" % it for it in order), b"") if len(order) == len(graph.nodes) else \
-            refused(b"cycle " + b" -> ".join(b"n%d" % it for it in graph.cycle()))
+            rejected(b"cycle " + b" -> ".join(b"n%d" % it for it in graph.cycle()))
         self.same(self.caller.run("order", "edges"), wanted, str(graph.needs))
 
     def mapped(self, graph):

@@ -13,7 +13,7 @@ FAULT = r"[NYSMEK][0-9]+ [A-Z][A-Za-z]+"
 
 
 def sources():
-    """The texts of the program's sources. Those of the tests' crates are none of the program's."""
+    """The texts of the program's sources, without those of the tests' crates."""
     return [path.read_text() for path in sorted(TOP.glob("crates/*/src/**/*.rt")) if "_tests" not in str(path)]
 
 

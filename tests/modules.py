@@ -27,8 +27,8 @@ class Needs(Case):
         self.same(self.caller.run(*rows.CALL), (0, b"", b""))
         self.same([read(it.split(b"|")[0] + b".modmap") for it in its_sources], maps)
 
-    def test_the_statement_of_a_ring_inside_an_info(self):
-        _, its_sources, infos, _ = next(row for row in NEEDS if row[0].startswith("a ring"))
+    def test_the_statement_of_a_cycle_inside_an_info_file(self):
+        _, its_sources, infos, _ = next(row for row in NEEDS if row[0].startswith("a cycle"))
         lay(rows.linking(its_sources, infos))
         self.same(self.caller.run(*rows.CALL), (0, b"", b""))
         self.same(read("t.dd"), V + statement(b"main.o", b"", b"k/K.bmi"))
@@ -72,5 +72,5 @@ class Long(Case):
             self.same(read(f"o{number}.o.modmap"), b"".join(b"m%d mod/m%d.bmi\n" % (9999 - it, it) for it in wanted))
 
     def test_collate_a_chain_of_20_000_objects(self):
-        collate(self, {"s.ddi": rows.chain(rows.LONG_RING, b"")}, b',"scans":["s.ddi"]')
+        collate(self, {"s.ddi": rows.chain(rows.LONG_CYCLE, b"")}, b',"scans":["s.ddi"]')
         self.same(read("t.dd"), rows.CHAIN)

@@ -23,9 +23,9 @@ import unittest
 from collections import namedtuple
 
 from tests.case import MEMORY, read, tree, write
-from tests.expected.runs import answer_of, ending
+from tests.expected.runs import result_of, ending
 from tests.program import Caller, needs
-from tests.random_rounds import ROUNDS, Maker
+from tests.random_rounds import ROUNDS, Choices
 from tests.side_by_side import SideBySide
 from tests.smaller import smaller
 
@@ -37,7 +37,7 @@ SEEDS = 1_000_000_000
 
 
 class Differs(Exception):
-    """A call that answers something else than it has to, and what is wrong with it."""
+    """A call with another result than it has to have, and what is wrong with it."""
 
     def __init__(self, words, wrong):
         super().__init__(wrong)
@@ -45,50 +45,50 @@ class Differs(Exception):
 
 
 class Program:
-    """The program, called in the current folder."""
+    """The program, called in the current directory."""
 
     def __init__(self):
         self.caller, self.calls = Caller(), 0
 
     def difference(self, words):
         """What the call prints, what it has to print, and what is wrong with it, or None: tests/expected works this out."""
-        wanted, files = ending(answer_of(*words))
+        wanted, files = ending(result_of(*words))
         found = self.caller.run(*words)
         self.calls += 1
         if found != wanted:
-            return found, wanted, f"answered {found!r:.1000}, not {wanted!r:.1000}"
+            return found, wanted, f"printed {found!r:.1000}, not {wanted!r:.1000}"
         for name, text in files.items():
             there = read(name) if os.path.isfile(name) else None
             if there != text:
                 return found, wanted, f"wrote {there!r:.1000} to {os.fsdecode(name)}, not {text!r:.1000}"
         return found, wanted, None
 
-    def answered(self, words):
+    def checked(self, words):
         found, _, wrong = self.difference(words)
         if wrong:
             raise Differs(words, wrong)
         return found
 
     def done(self, wanted, *words):
-        """The call ends well, and prints this text, or any where none is given."""
-        status, out, err = self.answered(words)
+        """The call succeeds, and prints this text, or any text if none is given."""
+        status, out, err = self.checked(words)
         if status or err or wanted not in (None, out):
-            raise Differs(words, f"answered {(status, out, err)!r:.2000}, not {wanted!r:.2000}")
+            raise Differs(words, f"printed {(status, out, err)!r:.2000}, not {wanted!r:.2000}")
         return out
 
-    def refused(self, line, *words):
-        """The call is refused with this line."""
-        ran = self.answered(words)
+    def rejected(self, line, *words):
+        """The call rejects its input with this line."""
+        ran = self.checked(words)
         if ran != (1, b"", b"dyncollate: " + line + b"\n"):
-            raise Differs(words, f"answered {ran!r:.1000}, not {line!r:.1000}")
+            raise Differs(words, f"printed {ran!r:.1000}, not {line!r:.1000}")
 
     def equal(self, name, found, wanted):
         if found != wanted:
             raise Differs((), f"{name}: {found!r:.2000}, not {wanted!r:.2000}")
 
     def made_smaller(self, words):
-        """The files of this folder, with as much left out as leaves the call wrong with the same two statuses, and what is
-        wrong with it then; or None where the call answers as tests/expected does."""
+        """The files of this directory, with as much left out as leaves the call wrong with the same two statuses, and what is
+        wrong with it then; or None if the call has the result that tests/expected has."""
         def difference_with(files):
             for name in tree():
                 os.remove(name)
@@ -158,11 +158,11 @@ def turned(make, text):
 
 
 def damage(make, program, words, file):
-    """Damaged bytes of a file are answered as they have to be."""
+    """The result for damaged bytes of a file is the right one."""
     kept = read(file)
     is_document = file.endswith((".json", ".ddi", ".info"))
     write(file, turned(make, kept) if is_document and make.chance(60) else damaged(make, kept))
-    status, out, _ = program.answered(words)
+    status, out, _ = program.checked(words)
     if not status and words[0] == "show":
         write("again.dd", out)
         program.done(out, "show", "again.dd")
@@ -172,8 +172,8 @@ def damage(make, program, words, file):
 # ---- rounds
 
 def round_tried(program, kind, seed):
-    """Makes a round in the current folder."""
-    make = Maker(f"{kind} {seed}")
+    """Makes a round in the current directory."""
+    make = Choices(f"{kind} {seed}")
     words, file = ROUNDS[kind](make, program)
     for _ in range(DAMAGES):
         damage(make, program, words, file)
@@ -185,7 +185,7 @@ def shown(program, kind, seed, fault):
     small = program.made_smaller(fault.words)
     if small:
         lines += [f"with these files it {small[1]}"] + [f"    {os.fsdecode(name)}: {text!r}" for name, text in small[0].items()]
-    lines.append(f"once more: python3 -m tests.random_documents --kind {kind} --seed {seed} --rounds 1")
+    lines.append(f"again: python3 -m tests.random_documents --kind {kind} --seed {seed} --rounds 1")
     return "\n".join(lines)
 
 
@@ -221,7 +221,7 @@ def tried_by_all(kinds, seeds, seconds, processes):
 
 @needs("program")
 class RandomDocuments(unittest.TestCase):
-    """A minute where there are four processors."""
+    """A minute, if there are four processors."""
     seconds = float(os.environ.get("RANDOM_SECONDS") or 15 * min(4, PROCESSORS))
 
     def check(self, kind):

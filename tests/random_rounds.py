@@ -1,7 +1,7 @@
 """Random documents and their expected results, which are known from how the documents were made.
 
 A round makes files and calls the program with them. It returns a call of the round, and one of its files that may be damaged.
-`program.done` and `program.refused` compare the result of a call with what is known, and with tests/expected.
+`program.done` and `program.rejected` compare the result of a call with what is known, and with tests/expected.
 """
 import itertools
 import json
@@ -16,10 +16,10 @@ from tests.expected.documents import info_text
 from tests.expected.dyndeps import VERSION, statement_text
 from tests.expected.edges import edge_of, listing_text, made_by, needs_of
 from tests.expected.modules import map_text
-from tests.expected.paths import canonical, spelled
+from tests.expected.paths import canonical, escaped
 
 
-class Maker:
+class Choices:
     """Makes what a round needs, the same from the same seed."""
 
     def __init__(self, seed):
@@ -48,14 +48,14 @@ class Maker:
             parts.append(part)
         return self.r.choice([b"", b"./", b"z/../"]) + b"/".join(parts)
 
-    # -- spellings of lines
+    # -- lines, with escapes
 
     def gap(self):
         return self.r.choice([b" ", b" ", b"  ", b" $\n", b" $\r\n    ", b"   $\n $\n "])
 
-    def spelling(self, path):
-        """A spelling of the path, perhaps over several lines."""
-        pieces = re.findall(rb"\$.|[^$]", spelled(path), re.S)
+    def escaped(self, path):
+        """The path in an escaped form, perhaps over several lines."""
+        pieces = re.findall(rb"\$.|[^$]", escaped(path), re.S)
         joints = [self.r.choice([b"$\n", b"$\n   ", b"$\r\n "]) if self.chance(3) else b"" for _ in pieces[1:]]
         return b"".join(it for both in zip(pieces, joints) for it in both) + pieces[-1]
 
@@ -67,23 +67,23 @@ class Maker:
         return b"".join(self.r.choice(lines) for _ in range(self.r.choice([0, 0, 0, 1, 2])))
 
     def part(self, mark, paths):
-        """A part of a build line that may be left out where it is empty."""
+        """A part of a build line that may be left out if it is empty."""
         if not paths and self.chance(80):
             return b""
-        return self.gap() + mark + b"".join(self.gap() + self.spelling(it) for it in paths)
+        return self.gap() + mark + b"".join(self.gap() + self.escaped(it) for it in paths)
 
 
 # ---- dyndep files
 
 def dyndep_round(make, program):
-    """A dyndep file in a spelling of its own is shown as the writer spells it."""
+    """A dyndep file in a form of its own is shown as the writer writes it."""
     text = make.between() + b"ninja_dyndep_version" + make.r.choice([b"=", b" = ", b" $\n="]) + \
         make.r.choice([b"1", b" 1.0", b" 1.0-x"]) + make.end()
     wanted = VERSION
     for _ in range(make.r.randint(0, 6)):
         output, restat = make.path(), make.chance(50)
         outputs, inputs = ([make.path() for _ in range(make.r.randint(0, 3))] for _ in range(2))
-        text += make.between() + b"build" + make.gap() + make.spelling(output) + make.part(b"|", outputs)
+        text += make.between() + b"build" + make.gap() + make.escaped(output) + make.part(b"|", outputs)
         text += make.r.choice([b":", b" :", b": "]) + make.r.choice([b"", b" "]) + b"dyndep" + make.part(b"|",
                                                                                                          inputs) + make.end()
         if restat or make.chance(20):
@@ -143,19 +143,19 @@ def fault_of(rules, files):
         return b"M1 ObjectTwice " + twice[0]
     twice = repeated([name for _, name in provided])
     if twice:
-        makers = tuple(objects[provided[it][0]] for it in twice[1:])
-        return b"M3 ProvidedTwice %s by object %s and object %s" % (twice[0], *makers)
+        producers = tuple(objects[provided[it][0]] for it in twice[1:])
+        return b"M3 ProvidedTwice %s by object %s and object %s" % (twice[0], *producers)
     paths = [(at, it) for at, it in enumerate(objects)] + [(at, files[name]) for at, name in provided]
     twice = repeated([it for _, it in paths])
     if twice:
-        makers = tuple(objects[paths[it][0]] for it in twice[1:])
-        return b"M4 BmiTwice %s by object %s and object %s" % (twice[0], *makers)
-    maker = {name: at for at, name in provided}
+        producers = tuple(objects[paths[it][0]] for it in twice[1:])
+        return b"M4 BmiTwice %s by object %s and object %s" % (twice[0], *producers)
+    producer = {name: at for at, name in provided}
     for rule in rules:
         for name in rule["requires"]:
-            if name not in maker:
+            if name not in producer:
                 return b"M5 ModuleUnknown %s in %s" % (name, rule["object"])
-    cycle = least_cycle([{maker[name] for name in rule["requires"]} for rule in rules])
+    cycle = least_cycle([{producer[name] for name in rule["requires"]} for rule in rules])
     return b"M8 ImportCycle " + b" -> ".join(objects[it] for it in cycle) if cycle else None
 
 
@@ -183,7 +183,7 @@ def scan_round(make, program):
     fault = fault_of(rules, files)
     words = ["one", "t.ddi", folder.decode(), ending.decode()]
     if fault:
-        program.refused(shown(fault), *words)
+        program.rejected(shown(fault), *words)
     else:
         program.done(dyndep_text(rules, files), *words)
     return words, "t.ddi"
@@ -192,15 +192,15 @@ def scan_round(make, program):
 # ---- listings
 
 def crooked_listing(make, edges):
-    """A listing of the edges in a spelling of its own."""
+    """A listing of the edges in a form of its own."""
     text = make.between()
     for edge in edges:
-        text += b"build" + b"".join(make.gap() + make.spelling(make.crooked(it)) for it in edge["outputs"])
+        text += b"build" + b"".join(make.gap() + make.escaped(make.crooked(it)) for it in edge["outputs"])
         text += make.part(b"|", [make.crooked(it) for it in edge["implicit"]]) + make.r.choice([b":", b" : "]) + edge["rule"]
-        text += b"".join(make.gap() + make.spelling(make.crooked(it)) for it in edge["inputs"])
+        text += b"".join(make.gap() + make.escaped(make.crooked(it)) for it in edge["inputs"])
         text += make.part(b"|", [make.crooked(it) for it in edge["implicit inputs"]])
         text += make.part(b"||", [make.crooked(it) for it in edge["order only"]]) + make.end()
-        bindings = [b"  dyndep = " + make.spelling(make.crooked(edge["dyndep"])) + make.end()] if edge["dyndep"] else []
+        bindings = [b"  dyndep = " + make.escaped(make.crooked(edge["dyndep"])) + make.end()] if edge["dyndep"] else []
         bindings += [b" restat = x" + make.end()] if edge["restat"] else []
         for it in make.r.sample(bindings, len(bindings)):
             text += make.between(blank=False) + it
@@ -244,7 +244,7 @@ def ordered(program, edges, listing):
     first = [(edge["outputs"])[0] for edge in edges]
     cycle = least_cycle(needs)
     if cycle:
-        program.refused(shown(b"cycle " + b" -> ".join(first[it] for it in cycle)), "order", listing)
+        program.rejected(shown(b"cycle " + b" -> ".join(first[it] for it in cycle)), "order", listing)
     else:
         program.done(b"".join(shown(first[it]) + b"\n" for it in least_order(needs)), "order", listing)
 
@@ -272,7 +272,7 @@ def effect_round(make, program):
 def project_of(make):
     """The targets of a project without a fault, and the files that have to come out."""
     form = make.r.choice([None, "gcc", "clang"])
-    targets, wanted, files, maker, rule_of = [], {}, {}, {}, {}
+    targets, wanted, files, producer, rule_of = [], {}, {}, {}, {}
     for at in range(make.r.randint(1, 3)):
         linked = set()
         for other in range(at):

@@ -145,7 +145,7 @@ IMPL = re.compile(r"^impl(?:<[^{]*?>)? (?:([\w:]+)(?:<[^{]*?>)? for )?(\w+)[^{]*
 CALL = re.compile(r"(?:\b(\w+)(?:::<[^()]*?>)?::|(\.)|\b)(?:([a-z]\w*)(?:::<[^()]*?>)?\(|(?<=::)([a-z]\w*)\b)")
 TYPE = re.compile(r"\b[A-Z]\w+")
 
-# A function with a body: its crate, its type and trait where it is a method, whether it is `pub`, its result, its calls, the
+# A function with a body: its crate, its type and trait if it is a method, whether it is `pub`, its result, its calls, the
 # types and fields that its text names, and the names that its file brings from each crate.
 Function = namedtuple("Function", "crate type trait public name result calls types fields brought")
 
@@ -191,14 +191,14 @@ class Calls:
                 self.fields[name] |= set(TYPE.findall(type_))
 
     def public(self):
-        """The public calls of the libraries whose result may be that memory was refused. Those of `commands` are not among them:
+        """The public calls of the libraries whose result may be that memory ran out. Those of `commands` are not among them:
         they are what the program runs in each of its tests."""
         names = {crate: offered(crate) for crate in CRATES if crate != "commands" and (TOP / crate / "src/lib.rt").exists()}
         return [one for one in self.functions if one.crate in names and (one.public or one.trait) and
                 (one.type or one.name) in names[one.crate] and re.match(r"Result<.*\b(AllocError|Failure<)", one.result, re.S)]
 
     def has_in_sight(self, caller, type_, method):
-        """Whether a function names a type, or gets it from a field or from a call, but for calls of that very method."""
+        """Whether a function names a type, or gets it from a field or from a call, except for calls of that very method."""
         return type_ in caller.types or any(type_ in self.fields[name] for name in caller.fields) or any(
             type_ in self.results[call] | self.results["", call[1]] for call in caller.calls if call[1] != method)
 
@@ -357,7 +357,7 @@ class Reading(unittest.TestCase):
                 self.assertTrue(any(path.as_posix().endswith(f"/{file}") for path in NAMES))
 
     def test_public_calls(self):
-        """A test or another crate makes each public call that may answer that memory was refused."""
+        """A test or another crate makes each public call that may return that memory ran out."""
         calls = Calls()
         self.assertTrue(calls.public())
         for one in calls.public():

@@ -291,7 +291,7 @@ class Archive(Released):
             text = tar.extractfile(f"{NAME}/PROVED.txt").read().decode()
         self.assertIn(f"\n    {gate}\n    7 passed, 0 failed\n    9 passed, 0 failed, 1 skipped\n", text)
 
-    def test_refusals(self):
+    def test_what_is_rejected(self):
         for change in lambda: (self.clone / "VERSION").write_text("9.9.9\n"), lambda: (self.clone / "further").write_text(""):
             change()
             self.assertEqual(self.release(), (1, "", "release: the tree is not that of its commit (git status)\n"))

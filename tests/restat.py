@@ -89,7 +89,7 @@ class Restat(Case):
             self.same(self.caller.run(*call), DONE)
             self.same([it for it in FILES if os.stat(it).st_mtime_ns != EARLIER], [*names, "t.dd"], call)
 
-    def test_a_file_behind_a_link(self):
+    def test_a_file_that_a_link_leads_to(self):
         for call in CALLS:
             lay(documents(restat=True) | FILES)
             os.rename("t.json", "other.json")

@@ -11,7 +11,7 @@ from collections import namedtuple
 from pathlib import Path
 
 from tests import program
-from tests.builds import EXAMPLES, Folder, edit, standard_modules
+from tests.builds import EXAMPLES, Directory, edit, standard_modules
 from tests.run import run
 from tests.side_by_side import side_by_side
 from tests.tools import tool
@@ -23,7 +23,7 @@ Step = namedtuple("Step", "kind command reads writes")
 TRIES = 20
 
 
-class Sandboxed(Folder):
+class Sandboxed(Directory):
     """A build of an example, and its steps in sandboxes."""
     seconds = 60
     example = form = ""
@@ -92,7 +92,7 @@ class Sandboxed(Folder):
     # ---- sandboxes
 
     def sandbox(self, step, without=()):
-        """Runs a step in a folder that has only the files that it reads. Returns its status, what it prints, and the files that it
+        """Runs a step in a directory that has only the files that it reads. Returns its status, what it prints, and the files that it
         leaves."""
         room = Path(tempfile.mkdtemp(dir="..", prefix="alone-")).resolve()
         self.addCleanup(shutil.rmtree, room, ignore_errors=True)
@@ -187,7 +187,7 @@ del Sandboxed
 
 
 @unittest.skipUnless(shutil.which("ccache"), "ccache: not there")
-class Ccache(Folder):
+class Ccache(Directory):
     """ccache with a source that imports a module, which changes."""
     tools = ["ninja", "clang", "scanner"]
 

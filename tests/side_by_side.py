@@ -116,7 +116,7 @@ class SideBySide(unittest.TestSuite):
 
 
 def side_by_side(_loader, tests, _pattern):
-    """The `load_tests` of a module whose tests run so when it is run alone, too."""
+    """The `load_tests` of a module whose tests run in several processes also if it is run alone."""
     return SideBySide(tests)
 
 

@@ -3,8 +3,8 @@ import json
 
 
 def smaller(files, fails):
-    """Some of these files, with some of their bytes, of which as good as none can be left out: `fails` still holds of them. Of
-    a JSON text members, elements and characters are left out, and of any text lines and bytes."""
+    """Some of these files, with some of their bytes, of which almost none can be left out: `fails` still holds of them. Members,
+    elements and characters of a JSON text are left out, and lines and bytes of any text."""
     files = dict(least(list(files.items()), lambda parts: fails(dict(parts))))
     before = None
     while files != before:
@@ -40,7 +40,7 @@ def least(parts, fails):
 
 
 def least_document(text, fails):
-    """A JSON text with fewer members and elements; any other text, and one that only fails as it is spelled, as it is."""
+    """A JSON text with fewer members and elements; any other text, and one that fails only in its own form, stays as it is."""
     def fails_as(tree):
         return fails(json.dumps(tree).encode())
 

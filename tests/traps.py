@@ -1,4 +1,4 @@
-"""The traps that docs/GUIDE.md speaks of: each test falls into one, by a manifest or a document that does, and gets out where
+"""The traps that docs/GUIDE.md speaks of: each test falls into one, by a manifest or a document that does, and gets out if
 there is a way out. A trap of other tools is looked for in the versions that have it."""
 import json
 import os
@@ -7,7 +7,7 @@ import shutil
 import unittest
 from pathlib import Path
 
-from tests.builds import EXAMPLES, Folder, edit, touch
+from tests.builds import EXAMPLES, Directory, edit, touch
 from tests.cmake_builds import cmake
 from tests.run import run, run_apart
 from tests.tools import tool, version
@@ -15,8 +15,8 @@ from tests.tools import tool, version
 USERS = ["src/point.cppm", "src/geometry.cppm", "src/shapes.cppm", "src/geometry.cpp", "src/main.cpp"]
 
 
-def turn_import():
-    """Turns an import of examples/single round."""
+def reverse_import():
+    """Reverses an import of examples/single."""
     edit("src/point.cppm", r"^import units;|scaled(\(.\))", r"\1")
     edit("src/units.cppm", "^(export module units;)", r"\1\nimport geometry;")
 
@@ -36,7 +36,7 @@ def target_of_one_module(name="A", folder="bmi", style="clang", made="a.o", **me
          "scans": ["a.ddi"], "dyndep": "t.dd", "info": "t.json", "map": style} | members))
 
 
-class Manifests(Folder):
+class Manifests(Directory):
     tools = ["ninja", "clang", "scanner"]
 
     def test_maps_that_are_no_order_only_inputs(self):
@@ -71,7 +71,7 @@ class Manifests(Folder):
         edit("build.ninja", "-fno-module-file-deps", "")
         self.ninja()
         self.assertIn(".pcm", run(tool("ninja"), "-t", "deps", "obj/app/src/point.cppm.o")[1])
-        turn_import()
+        reverse_import()
         said = "dependency cycle: bmi/app/geometry.pcm" if version("ninja") >= (1, 11) else "multiple rules generate bmi/app/"
         for words in [], ["-t", "clean"], []:
             self.ninja(*words)
@@ -105,7 +105,7 @@ class Manifests(Folder):
         self.ninja()
         self.compiled("src/math/detail.cppm")
 
-    def test_a_collation_without_the_infos_of_its_libraries_as_inputs(self):
+    def test_a_collation_without_the_info_files_of_its_libraries_as_inputs(self):
         self.copy("libs", "clang")
         edit("build.ninja", r"^(build dd.app.dd.*) dd.base.info.json dd.math.info.json", r"\1")
         self.assertIn(self.ninja("dd/app.dd")[0], (1, 3), "from Ninja 1.13 on it is the status of the step")
@@ -125,7 +125,7 @@ class Manifests(Folder):
 
     def test_the_deps_lost_and_the_log_not(self):
         """Ninja 1.11 compiles importers before their module, which ends well, with the old program. From 1.12 on Ninja ends
-        by a signal, run after run. The way out: the log is deleted, too."""
+        by a signal, run after run. The way out: the log is also deleted."""
         self.copy("single", "clang")
         self.makes("600")
         os.remove(".ninja_deps")
@@ -148,7 +148,7 @@ class Manifests(Folder):
         self.reports("M5 ModuleUnknown std in obj/app/src/main.cpp.o")
 
 
-class Flags(Folder):
+class Flags(Directory):
     """A compiled module is rejected by a compilation with another language standard."""
     tools = ["clang"]
     seconds = 1
@@ -171,7 +171,7 @@ class Flags(Folder):
         self.rejects(tool("gcc"), [], "-x", "c++", "-fmodules-ts", "-fmodule-mapper=map")
 
 
-class Prebuilt(Folder):
+class Prebuilt(Directory):
     tools = ["clang"]
     seconds = 1
 
@@ -191,7 +191,7 @@ class Prebuilt(Folder):
         self.assertEqual(run(tool("clang"), "-std=c++20", "@main.o.modmap", "-c", "main.cpp", "-o", "main.o"), (0, ""))
 
 
-class Scanner(Folder):
+class Scanner(Directory):
     tools = ["clang", "scanner"]
     seconds = 2
 
@@ -224,13 +224,13 @@ class Scanner(Folder):
         self.assertEqual(re.findall("primary|provides", scanned), ["primary"])
 
 
-class WithGcc(Folder):
+class WithGcc(Directory):
     tools = ["ninja", "clang", "scanner", "gcc"]
 
     def without_sed(self):
         edit("build.ninja", r" \$\n    && sed.*", "")
 
-    def test_without_mno_modules_ninja_refuses_the_depfile(self):
+    def test_without_mno_modules_ninja_rejects_the_depfile(self):
         if version("gcc") >= (14,):
             self.skipTest("GCC 11 to 13: not there")
         self.copy("single", "gcc")
@@ -240,7 +240,7 @@ class WithGcc(Folder):
         self.assertIn("inputs may not also have inputs", self.log)
 
     def test_module_files_in_the_depfile(self):
-        """A new import compiles all sources, and an import that is turned round is a false cycle, also after a clean."""
+        """A new import compiles all sources, and an import that is reversed is a false cycle, also after a clean."""
         newer = next((it for it in ("g++-16", "g++-15", "g++-14") if shutil.which(it)), None)
         if not newer:
             self.skipTest("g++-14: not there")
@@ -253,7 +253,7 @@ class WithGcc(Folder):
         edit("src/main.cpp", r"\A", "import units;\n")
         self.ninja()
         self.compiled(*(it.name for it in EXAMPLES["single"].sources))
-        turn_import()
+        reverse_import()
         for words in [], ["-t", "clean"], []:
             self.ninja(*words)
             self.assertEqual((self.status, "dependency cycle" in self.log), (not words, not words), self.log)
@@ -279,7 +279,7 @@ A = "export module a;\n%sexport int a() { return 1; }\n"
 B = "export module b;\n%sexport int b() { return 41; }\n"
 
 
-class CMake(Folder):
+class CMake(Directory):
     """A build of CMake's own, without dyncollate, falls into the same trap."""
     tools = ["ninja", "clang", "scanner"]
 
@@ -338,7 +338,7 @@ class CMake(Folder):
         self.stays()
 
 
-class Documents(Folder):
+class Documents(Directory):
     tools = []
     seconds = 1
 

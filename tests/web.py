@@ -1,7 +1,7 @@
 """libdyncollate as WebAssembly, which web/build makes: each row, in Node and in a page of Chromium. And the page that web/make makes, in
 Chromium: what it shows for real projects and for errors, with the mouse, the keyboard and dropped files.
 
-    python3 -m tests.web --screenshot      draws docs/page.png anew
+    python3 -m tests.web --screenshot      draws docs/page.png again
 """
 import base64
 import gzip

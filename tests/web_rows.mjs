@@ -1,4 +1,4 @@
-// What libdyncollate in JavaScript returns for a row: in Node, where it reads rows from standard input, and in a page of tests/web.py.
+// What libdyncollate in JavaScript returns for a row: in Node, for rows from standard input, and in a page of tests/web.py.
 
 function bytesOf(text) {
   const bytes = atob(text), made = new Uint8Array(bytes.length);

@@ -20,7 +20,7 @@ DONE = 0, b"", b""
 
 
 def target(folder, dyndep=b"t.dd"):
-    """A target whose modules are in this folder, which is in each file that is written."""
+    """A target whose modules are in this directory, which is in each file that is written."""
     return (b'{"version":1,"target":"t","module-dir":"%s","module-ext":".bmi","scans":["t.ddi"],"dyndep":"%s","info":"t.json",'
             b'"map":"clang"}' % (folder, dyndep))
 
@@ -66,7 +66,7 @@ class Faults(Case):
 
     def whole(self, old, left, temporaries):
         """Each file has all bytes from before, or all of the new ones, and these come first in the order of the files. Nothing
-        else is there but so many temporaries, at most, with a beginning of the new bytes."""
+        else is there, except at most this number of temporary files, with a beginning of the new bytes."""
         left = dict(left)
         found = [left.pop(name, None) for name in NEW]
         news = sum(text == NEW[name] for name, text in zip(NEW, found))
@@ -98,8 +98,8 @@ class Faults(Case):
             halves = {TEMPORARY.fullmatch(name)[1] for _, left in seen for name, text in left.items() if text}
             self.assertEqual(halves, set(NEW), "temporaries that were half written")
 
-    def test_refused(self):
-        """A call that fails, for want of space, of rights or for another reason, leaves whole files and no temporary."""
+    def test_failed_calls(self):
+        """A call that fails, because space or rights are missing or for another reason, leaves whole files and no temporary one."""
         for old in {}, OLD:
             calls = len(list(self.killed(old)))
             for error, number in itertools.product((errno.ENOSPC, errno.EACCES, errno.EIO), range(1, calls + 1)):
@@ -180,7 +180,7 @@ class Replaced(Case):
             reader.join(10)
             self.same((found, stat.S_ISFIFO(os.stat("t.dd").st_mode)), ([NEW[b"t.dd"]], True), link)
 
-    def test_a_name_too_long_for_another_beside_it(self):
+    def test_a_name_too_long_for_a_temporary_one(self):
         name = b"d" * 250
         for _ in range(2):
             self.same(self.collate(**{"t.target.json": target(b"new", name)}), DONE)
@@ -201,7 +201,7 @@ class Replaced(Case):
             with open(unread, "rb") as said:
                 self.same((ended[0], said.read(), tree()), (3, cannot("write", "a.o.modmap")[2], before), size)
 
-    def test_a_folder_that_may_not_be_written(self):
+    def test_a_directory_that_may_not_be_written(self):
         """What could be written without another name still can."""
         lay(READ | {os.fsdecode(name): text for name, text in OLD.items()})
         for name in NEW:

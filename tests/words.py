@@ -1,12 +1,16 @@
-"""The pages, the comments of the sources and the subjects of commits are in plain English, as the Rust book and the Ninja manual are.
+"""The pages, the comments of the sources, the scripts and tests, and the subjects of commits are in plain English, as the Rust book and
+the Ninja manual are.
 
     python3 -m unittest tests.words
-    python3 -m tests.words             prints each turn in the comments of `.rt` and `.antt` files
+    python3 -m tests.words             prints each turn in the comments of `.rt` and `.antt` files, and in scripts and tests
 
-TURNS has what is not written, and what is written instead. Code in a text is passed over, and so is what EXCEPTIONS has.
+TURNS has what is not written, and what is written instead, and TURNS_OF_SCRIPTS has more for scripts and tests. Of these the comments and
+the texts are read, and of the tests also the names that they define. Code in a text is passed over, and so is what EXCEPTIONS has.
 """
+import io
 import re
 import shutil
+import tokenize
 import unittest
 from pathlib import Path
 
@@ -51,22 +55,34 @@ TURNS = [
     (r"too(?=[.,;:)])", "also", "a file is read, too.", "a file is also read."),
     (r"folders?", "directory", "the folder of a file", "the directory of a file"),
 ]
+TURNS_OF_SCRIPTS = [
+    (r"(?<!\.)(?<!\bis )(?<!\bstay )(?<!\bputs )(?<!\bto )(?<!\bplace )(?<!\bdirectory )where", "if, when", "it fails where the two differ",
+     "it fails if the two differ"),
+    (r"makers?", "producer", "a file of two makers", "a file of two producers"),
+    (r"turn(?:s|ed)?\s+round", "reverses", "an import that is turned round", "an import that is reversed"),
+    (r"anew", "again", "it draws the picture anew", "it draws the picture again"),
+    (r"for\s+want\s+of", "because .. is missing", "no status for want of a file", "no status because a file is missing"),
+]
 # The turns that comments of the sources are checked for, from the first on: they call a `Folder` a folder.
 CHECKED_IN_COMMENTS = len(TURNS) - 1
-# What is written all the same: subjects of commits.
+# What is written all the same: subjects of commits, and what rt prints.
 EXCEPTIONS = [
-    "tests: a run needs no random bytes but for names of new files", "FORMATS: fewer words once more",
+    "tests: a run needs no random bytes but for names of new files", "FORMATS: fewer words once more", "must-fail edits: 3 refused",
 ]
+# The scripts and tests, and those of them that are not read yet. This file has the turns themselves.
+SCRIPTS = ["build", "dyncollate", "install", "release", "test", ".ci/run", "bench/**/*", "building/*", "cmake/*", "cross/*", "examples/generate",
+           "examples/embed/*", "explain/*", "include/*", "python/**/*", "tests/**/*", "web/*"]
+NOT_READ = re.compile(r"/__pycache__/|/out/|tests/data/|tests/words\.py$|^bench/|\.(?:bench|css|html|md|toml|typed|in|svg)$|/dictionary$|/deps$")
 # The commit after which subjects are checked.
 CHECKED_SINCE = "dfbbbcd"
-FOUND = [(re.compile(rf"\b(?:{turn})\b"), instead) for turn, instead, _, _ in TURNS]
+FOUND, FOUND_IN_SCRIPTS = ([(re.compile(rf"\b(?:{turn})\b"), instead) for turn, instead, _, _ in turns] for turns in (TURNS, TURNS_OF_SCRIPTS))
 CODE = re.compile(r"^```[^`]*^```$|^(?: {4}|\t)[^\n]*$|`[^`]*`|^\.Dl [^\n]*$|\]\([^)]*\)|" + "|".join(map(re.escape, EXCEPTIONS)), re.M)
 
 
-def wrong(text, turns=None):
+def wrong(text, found=FOUND):
     """Each turn in a text that is not written, with its line and what is written in its place."""
     plain = CODE.sub(lambda code: re.sub(r"[^\n]", " ", code[0]), text)
-    for pattern, instead in FOUND[:turns]:
+    for pattern, instead in found:
         for turn in pattern.finditer(plain):
             yield f"line {plain.count(chr(10), 0, turn.start()) + 1}: '{turn[0]}' is written: {instead}"
 
@@ -75,6 +91,52 @@ def comments(path):
     """The comments of a source, each in its line. A line without one ends a sentence."""
     mark = r"(?:^|\s)--+ ?(.*)" if path.suffix == ".antt" else r"(?:^|\s)//[/!]? ?(.*)"
     return "\n".join((re.search(mark, line) or ["", "."])[1] for line in path.read_text().splitlines())
+
+
+# A comment, or a text, of a program in C or JavaScript, and of any other script.
+PART_OF_C = re.compile(r'//[^\n]*|/\*.*?\*/|"(?:\\.|[^"\\\n])*"', re.S)
+PART_OF_SCRIPT = re.compile(r"""(?:^|(?<=\s))#[^\n]*|"(?:\\.|[^"\\\n])*"|'[^'\n]*'""", re.M)
+
+
+def is_prose(text):
+    """Whether a text has two words, so that it is more than a name."""
+    return " " in text and len(re.findall(r"[a-z]{2,}", text)) > 1
+
+
+def parts_of_python(source, has_names):
+    """The comments and texts of a script, and the names of functions, classes and constants, each with the number of its line."""
+    before = ""
+    for token in tokenize.generate_tokens(io.StringIO(source).readline):
+        line, text = token.start[0], token.string
+        if token.type == tokenize.COMMENT:
+            yield line, text.strip("#! ")
+        elif tokenize.tok_name[token.type] in ("STRING", "FSTRING_MIDDLE") and is_prose(text) and not re.match("[a-z]*[br]", text, re.I):
+            yield line, re.sub(r"\{[^{}]*\}", "", text.strip("f\"'")) + " ."
+        elif has_names and token.type == tokenize.NAME and (before in ("def", "class") or text.isupper() and token.start[1] == 0):
+            yield line, re.sub(r"_+|(?<=[a-z])(?=[A-Z])", " ", text).lower() + " ."
+        before = text
+
+
+def script_text(source, suffix, has_names):
+    """What a script or a test says, each part in its line. A line that says nothing ends a sentence."""
+    if suffix == ".py" or "python" in source.split("\n", 1)[0]:
+        parts = parts_of_python(source, has_names)
+    else:
+        pattern = PART_OF_C if suffix in (".c", ".cpp", ".h", ".hpp", ".mjs") else PART_OF_SCRIPT
+        parts = [(source.count("\n", 0, it.start()) + 1, re.sub(r"\$\w+", "", it[0].strip("/*#! \"'"))) for it in pattern.finditer(source)
+                 if it[0][0] in "#/" or is_prose(it[0])]
+    lines = [""] * (source.count("\n") + 2)
+    for number, text in parts:
+        for at, line in enumerate(text.split("\n"), number - 1):
+            lines[at] += line.strip() + " "
+    return "\n".join(line.strip() or "." for line in lines)
+
+
+def scripts():
+    """The scripts and tests, each by its name and with what it says."""
+    files = {path.relative_to(TOP).as_posix(): path for pattern in SCRIPTS for path in TOP.glob(pattern) if path.is_file()}
+    return {name: script_text(path.read_text(), path.suffix, name.startswith("tests/"))
+            for name, path in sorted(files.items()) if not NOT_READ.search(name)}
 
 
 def pages():
@@ -88,10 +150,10 @@ def sources():
 class Words(unittest.TestCase):
     def test_turns(self):
         """Each turn is found where it is, and not in what is written in its place."""
-        for (turn, _, has, mended), (pattern, _) in zip(TURNS, FOUND):
+        for (turn, _, has, mended), (pattern, _) in zip(TURNS + TURNS_OF_SCRIPTS, FOUND + FOUND_IN_SCRIPTS):
             with self.subTest(turn):
                 self.assertTrue(pattern.search(has))
-                self.assertEqual(list(wrong(mended)), [])
+                self.assertEqual(list(wrong(mended, FOUND + FOUND_IN_SCRIPTS)), [])
 
     def test_pages(self):
         for page in pages():
@@ -102,7 +164,27 @@ class Words(unittest.TestCase):
         self.assertTrue(sources())
         for path in sources():
             with self.subTest(path.relative_to(TOP).as_posix()):
-                self.assertEqual(list(wrong(comments(path), CHECKED_IN_COMMENTS)), [])
+                self.assertEqual(list(wrong(comments(path), FOUND[:CHECKED_IN_COMMENTS])), [])
+
+    def test_scripts(self):
+        said = scripts()
+        self.assertLessEqual({"build", "install", "release", "test", "building/link", "cmake/dyncollate-ninja", "cross/heap.c", "examples/generate",
+                              "explain/dyncollate-explain", "python/wheels.py", "tests/preload", "tests/fuzz/calls.c", "web/page.mjs"}, set(said))
+        for name, text in said.items():
+            with self.subTest(name):
+                self.assertEqual(list(wrong(text, FOUND + FOUND_IN_SCRIPTS)), [])
+
+    def test_parts_of_scripts(self):
+        """Comments, texts and names are read, and nothing else."""
+        for suffix, source, said in [
+                (".py", "# one rule\ndef two_rules(x=b'no bytes here', y='three rules'):\n    four = 5  # five\nSIX = r'no raw text'\n",
+                 ["one rule", "two rules . three rules .", "five", "six ."]),
+                ("", "#!/usr/bin/env python3\nx = f'one {two} rule'\n", ["/usr/bin/env python3", "one  rule ."]),
+                (".c", 'int x; // one rule\n/* two\n rules */ char *y = "three rules", *z = "four";\n', ["one rule", "two", "rules three rules"]),
+                ("", "#!/bin/sh\n# one rule\nx=$#; echo 'two rules' \"three $x rules\" 'four'\n", ["bin/sh", "one rule", "two rules three  rules"]),
+                (".awk", '# one rule\n{ x = $1; print "two rules" }\n', ["one rule", "two rules"])]:
+            with self.subTest(source):
+                self.assertEqual([it for it in script_text(source, suffix, True).split("\n") if it != "."], said)
 
     def test_subjects(self):
         """The subject of a commit has at most 72 columns, and no turn. Older commits than this check are passed over."""
@@ -119,8 +201,11 @@ class Words(unittest.TestCase):
 
 def main():
     for path in sources():
-        for one in wrong(comments(path), CHECKED_IN_COMMENTS):
+        for one in wrong(comments(path), FOUND[:CHECKED_IN_COMMENTS]):
             print(f"{path.relative_to(TOP).as_posix()} {one}")
+    for name, text in scripts().items():
+        for one in wrong(text, FOUND + FOUND_IN_SCRIPTS):
+            print(f"{name} {one}")
 
 
 if __name__ == "__main__":

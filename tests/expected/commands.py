@@ -6,7 +6,7 @@ from .documents import COUNT_LIMIT, info_of, info_text, project_of, rules_of, sp
 from .dyndeps import Statement, dyndep_of, dyndep_text
 from .edges import after, listing_of, listing_text, order_of
 from .modules import map_of, table_of
-from .paths import PathFault, Refused, path_of
+from .paths import PathFault, Rejected, path_of
 
 
 # what a run ends with: its status, what it prints on standard output and on standard error, and the files that it writes
@@ -25,13 +25,13 @@ def shown(text):
     return re.sub(rb"[\x00-\x1f\x7f]", b"?", text)
 
 
-def answered(command):
-    """The command, with a line for a refusal."""
+def with_errors(command):
+    """The command, with a line for an error."""
     def run(*given):
         try:
             return command(*given)
-        except Refused as refusal:
-            return failed(refusal.status, refusal.line)
+        except Rejected as rejection:
+            return failed(rejection.status, rejection.line)
     return run
 
 
@@ -41,52 +41,52 @@ def firsts(things):
 
 # ---- one document or listing
 
-@answered
+@with_errors
 def show(text):
     return done(dyndep_text(dyndep_of(text)))
 
 
-@answered
+@with_errors
 def effect(name, edges, dyndep):
     try:
         name = path_of(name)
     except PathFault as fault:
-        raise Refused(b"name: " + fault.text) from fault
+        raise Rejected(b"name: " + fault.text) from fault
     edges = listing_of(edges)
     return done(listing_text(after(edges, dyndep_of(dyndep), name)))
 
 
-@answered
+@with_errors
 def order(edges):
     return done(b"".join(shown(it) + b"\n" for it in order_of(listing_of(edges))))
 
 
-@answered
+@with_errors
 def one(scan, folder, ending):
     rules = rules_of(scan, folder, ending, None, b"scan 0: ")
     return done(dyndep_text(statements_of(rules, table_of(rules, [], []))))
 
 
-def statements_of(rules, maker):
-    return [Statement(rule.object, [file for _, file in rule.provides], [maker[it].file for it in firsts(rule.requires)],
+def statements_of(rules, producer):
+    return [Statement(rule.object, [file for _, file in rule.provides], [producer[it].file for it in firsts(rule.requires)],
                       bool(rule.provides)) for rule in rules]
 
 
 # ---- targets and projects
 
 def collated(spec, scans, infos):
-    """The statements of a target, its info, and the files that are written, or why it is refused."""
+    """The statements of a target, its info, and the files that are written, or why it is rejected."""
     rules = []
     for at, scan in enumerate(scans):
         rules += rules_of(scan, spec.module_dir, spec.module_ext, spec.build_dir, b"scan %d: " % at)
         if len(rules) > COUNT_LIMIT:
-            raise Refused(b"scan %d: S8 TooLarge document" % at)
+            raise Rejected(b"scan %d: S8 TooLarge document" % at)
     infos = [info_of(info, b"info %d: " % at) for at, info in enumerate(infos)]
-    maker = table_of(rules, infos, spec.private)
-    statements = statements_of(rules, maker)
+    producer = table_of(rules, infos, spec.private)
+    statements = statements_of(rules, producer)
     text = dyndep_text(statements)
-    maps = [(rule.object + b".modmap", map_of(spec.map, rule, maker)) for rule in rules] if spec.map else []
-    modules = [(name, file, [(it, maker[it].file) for it in firsts(rule.requires)], name in spec.private)
+    maps = [(rule.object + b".modmap", map_of(spec.map, rule, producer)) for rule in rules] if spec.map else []
+    modules = [(name, file, [(it, producer[it].file) for it in firsts(rule.requires)], name in spec.private)
                for rule in rules for name, file in rule.provides]
     info = info_text(spec.target, modules)
     return statements, info, maps + [(spec.info, info), (spec.dyndep, text)]
@@ -99,16 +99,16 @@ def check_edges(spec, listing, statements):
 
 
 def opened(files, name):
-    """The bytes of a file; `files` gives them by name, or None where it cannot be read."""
+    """The bytes of a file; `files` gives them by name, or None if it cannot be read."""
     text = files(name)
     if text is None:
-        raise Refused(b"cannot read " + name, 3)
+        raise Rejected(b"cannot read " + name, 3)
     return text
 
 
-@answered
+@with_errors
 def collate(document, files):
-    """`files` gives the bytes of a file by its name, or None where it cannot be read."""
+    """`files` gives the bytes of a file by its name, or None if it cannot be read."""
     spec = spec_of(document, b"target: ")
     scans = [opened(files, it) for it in spec.scans]
     infos = [opened(files, it) for it in spec.linked]
@@ -118,16 +118,16 @@ def collate(document, files):
     return done(files=written)
 
 
-@answered
+@with_errors
 def project(document, files):
-    """As `collate` of each target in order, the infos being those that earlier targets write."""
+    """As `collate` of each target in order, the info files being those that earlier targets write."""
     specs, scans, listings, links = [], [], [], []
     for at, name in enumerate(project_of(document, b"project: ")):
         where = b"target %d: " % at
         spec = spec_of(opened(files, name), where + b"target: ")
         specs.append(spec)
         if spec.map != specs[0].map:
-            raise Refused(where + b"target: S3 BadShape document member map")
+            raise Rejected(where + b"target: S3 BadShape document member map")
         links.append([latest(specs[:-1], it, where) for it in spec.linked])
         scans.append([opened(files, it) for it in spec.scans])
         listings.append(opened(files, spec.edges) if spec.edges is not None else None)
@@ -143,12 +143,12 @@ def latest(specs, text, where):
     """The latest target whose info is this text."""
     found = [at for at, it in enumerate(specs) if it.info == text]
     if not found:
-        raise Refused(where + b"K3 LinkedLater")
+        raise Rejected(where + b"K3 LinkedLater")
     return found[-1]
 
 
 def at_target(at, call, *given):
     try:
         return call(*given)
-    except Refused as refusal:
-        raise Refused(b"target %d: %s" % (at, refusal.line)) from refusal
+    except Rejected as rejection:
+        raise Rejected(b"target %d: %s" % (at, rejection.line)) from rejection

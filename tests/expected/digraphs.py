@@ -3,7 +3,7 @@ import heapq
 
 
 def repeated(things):
-    """The first thing that stands there once more, with both indexes."""
+    """The first thing that is repeated, with both indexes."""
     seen = {}
     for at, thing in enumerate(things):
         if thing in seen:
@@ -17,13 +17,13 @@ def least_cycle(needs):
     for first in range(len(needs)):
         if not needs[first]:
             continue
-        # how far each node is from the first one, along needs turned round
-        far, ring = {first: 0}, [first]
-        for node in ring:
+        # how far each node is from the first one, against the direction of needs
+        far, cycle = {first: 0}, [first]
+        for node in cycle:
             for user in range(len(needs)):
                 if node in needs[user] and user not in far:
                     far[user] = far[node] + 1
-                    ring.append(user)
+                    cycle.append(user)
         ways = [it for it in needs[first] if it in far]
         if not ways:
             continue

@@ -9,7 +9,7 @@ import math
 import re
 from collections import namedtuple
 
-from .paths import PathFault, Refused, path_of, placed
+from .paths import PathFault, Rejected, path_of, placed
 
 DOCUMENT_LIMIT = 16_777_216
 COUNT_LIMIT = 65_536
@@ -62,40 +62,40 @@ def depth(text):
 def tree_of(document, where):
     """The JSON object of a document."""
     if len(document) > DOCUMENT_LIMIT:
-        raise Refused(where + b"S8 TooLarge document")
+        raise Rejected(where + b"S8 TooLarge document")
     try:
         text = document.decode()
         tree = json.loads(text, parse_float=number, parse_int=number, parse_constant=constant, object_pairs_hook=members)
         check_texts(tree)
     except (ValueError, RecursionError) as error:
-        raise Refused(where + b"S1 NotJson document") from error
+        raise Rejected(where + b"S1 NotJson document") from error
     if depth(text) > DEPTH_LIMIT:
-        raise Refused(where + b"S1 NotJson document")
+        raise Rejected(where + b"S1 NotJson document")
     if not isinstance(tree, dict):
-        raise Refused(where + b"S3 BadShape document member document")
+        raise Rejected(where + b"S3 BadShape document member document")
     return tree
 
 
 # ---- members
 
 class Reading:
-    """An object of a document, and its place: it gives the values of members, or refuses them."""
+    """An object of a document, and its place: it gives the values of members, or rejects them."""
 
     def __init__(self, tree, where, place=b"document"):
         self.tree, self.where, self.place = tree, where, place
 
-    def refused(self, code, more=b""):
-        raise Refused(self.where + code + b" " + self.place + more)
+    def rejected(self, code, more=b""):
+        raise Rejected(self.where + code + b" " + self.place + more)
 
     def misshapen(self, member):
-        self.refused(b"S3 BadShape", b" member " + member.encode())
+        self.rejected(b"S3 BadShape", b" member " + member.encode())
 
     def is_object(self, member):
         if not isinstance(self.tree, dict):
             self.misshapen(member)
 
     def get(self, member, kind, needed=False):
-        """The value of a member; where it is absent or null None, unless it is needed."""
+        """The value of a member, or None if it is absent or null, unless it is needed."""
         value = self.tree.get(member)
         if (value is not None or needed) and not isinstance(value, kind):
             self.misshapen(member)
@@ -119,19 +119,19 @@ class Reading:
     def version(self, *versions):
         version = self.tree.get("version")
         if type(version) is not int or version not in versions:
-            self.refused(b"S2 BadVersion")
+            self.rejected(b"S2 BadVersion")
         return version
 
     def name(self, text):
         if not is_name(text):
-            self.refused(b"S6 BadName")
+            self.rejected(b"S6 BadName")
         return text
 
     def path(self, text, *given):
         try:
             return placed(text, *given)
         except PathFault as fault:
-            return self.refused(b"S7 BadPath", b" " + fault.text)
+            return self.rejected(b"S7 BadPath", b" " + fault.text)
 
 
 def is_name(text):
@@ -150,12 +150,12 @@ def document_of(text, where):
 # ---- scan documents
 
 def rules_of(text, folder, ending, build, where):
-    """The rules of a scan document, or its refusal."""
+    """The rules of a scan document, or its error."""
     document = document_of(text, where)
     document.version(0, 1)
     entries = document.entries("rules", b"rule %d", needed=True)
     if len(entries) > COUNT_LIMIT:
-        document.refused(b"S8 TooLarge")
+        document.rejected(b"S8 TooLarge")
     return [rule_of(it, folder, ending, build) for it in entries]
 
 
@@ -165,10 +165,10 @@ def rule_of(rule, folder, ending, build):
     provides = rule.entries("provides", b"provides %d")
     requires = rule.entries("requires", b"requires %d")
     if output is None:
-        rule.refused(b"S4 NoPrimaryOutput")
+        rule.rejected(b"S4 NoPrimaryOutput")
     path = rule.path(output, work, build)
     if max(len(provides), len(requires)) > COUNT_LIMIT:
-        rule.refused(b"S8 TooLarge")
+        rule.rejected(b"S8 TooLarge")
     return Rule(path, [provided_of(it, work, folder, ending, build) for it in provides], [required_of(it) for it in requires])
 
 
@@ -179,7 +179,7 @@ def provided_of(entry, work, folder, ending, build):
     is_header = entry.get("unique-on-source-path", bool)
     entry.get("is-interface", bool)
     if is_header:
-        entry.refused(b"S5 HeaderUnit")
+        entry.rejected(b"S5 HeaderUnit")
     entry.name(name)
     if file is None:
         file, work = (folder + b"/" if folder else b"") + name.replace(b":", b"-") + ending, None
@@ -195,19 +195,19 @@ def required_of(entry):
     if method not in (None, "by-name", "include-angle", "include-quote"):
         entry.misshapen("lookup-method")
     if is_header or method not in (None, "by-name"):
-        entry.refused(b"S5 HeaderUnit")
+        entry.rejected(b"S5 HeaderUnit")
     return entry.name(name)
 
 
 # ---- info files
 
 def info_of(text, where):
-    """What an info document tells, or its refusal."""
+    """What an info document tells, or its error."""
     document = document_of(text, where)
     version = document.version(1, 2)
     target = document.text("target")
     if not is_target(target):
-        document.refused(b"S6 BadName")
+        document.rejected(b"S6 BadName")
     return Info(target, [module_of(it, version) for it in document.entries("modules", b"module %d", needed=True)])
 
 
@@ -242,12 +242,12 @@ def info_text(target, modules):
 # ---- target and project documents
 
 def spec_of(text, where):
-    """What a target document asks for, or its refusal."""
+    """What a target document asks for, or its error."""
     document = document_of(text, where)
     document.version(1)
     target = document.text("target")
     if not is_target(target):
-        document.refused(b"S6 BadName")
+        document.rejected(b"S6 BadName")
     folder, ending = document.text("module-dir"), document.text("module-ext")
     build = build_of(document)
     scans, linked, private = (document.texts(it) for it in ("scans", "linked", "private"))
@@ -280,7 +280,7 @@ def build_of(document):
 
 
 def project_of(text, where):
-    """The names of a project's target documents, or the project document's refusal."""
+    """The names of a project's target documents, or the project document's error."""
     document = document_of(text, where)
     document.version(1)
     return document.texts("targets", needed=True)

@@ -3,7 +3,7 @@ import re
 from collections import namedtuple
 
 from .lines import LINE_LIMIT, assignment_of, is_word, sound_lines, value_of
-from .paths import Refused, spelled
+from .paths import Rejected, escaped
 
 VERSION = b"ninja_dyndep_version = 1\n"
 
@@ -11,22 +11,22 @@ Statement = namedtuple("Statement", "output outputs inputs restat")
 
 
 def statement_text(output, outputs, inputs, restat):
-    line = b"build " + spelled(output)
-    line += b" |" + b"".join(b" " + spelled(it) for it in outputs) if outputs else b""
+    line = b"build " + escaped(output)
+    line += b" |" + b"".join(b" " + escaped(it) for it in outputs) if outputs else b""
     line += b": dyndep"
-    line += b" |" + b"".join(b" " + spelled(it) for it in inputs) if inputs else b""
+    line += b" |" + b"".join(b" " + escaped(it) for it in inputs) if inputs else b""
     return line + b"\n" + (b"  restat = 1\n" if restat else b"")
 
 
 def dyndep_text(statements):
-    """The text of a dyndep file; the first statement whose build line is too long is refused."""
+    """The text of a dyndep file; the first statement whose build line is too long is rejected."""
     for at, it in enumerate(statements):
         if len(statement_text(it.output, it.outputs, it.inputs, False)) > LINE_LIMIT:
-            raise Refused(b"Y2 StatementTooLong statement %d" % at)
+            raise Rejected(b"Y2 StatementTooLong statement %d" % at)
     return VERSION + b"".join(statement_text(*it) for it in statements)
 
 
-# For each position of a build line: where each kind of token leads to, or the fault that it is. A word that is taken keeps
+# For each position of a build line: the next position by the kind of token, or its error. A word that is taken keeps
 # the position, except for the output and the rule.
 BUILD_LINE = {
     "start": {"word": "named", "|": b"Y9 NoOutput", ":": b"Y9 NoOutput", "||": b"Y9 NoOutput", "|@": b"Y9 NoOutput",
@@ -45,7 +45,7 @@ BUILD_LINE = {
 
 
 def statement_of(tokens, where):
-    """The statement of a build line's tokens behind the keyword, or the line's refusal."""
+    """The statement of a build line's tokens after the keyword, or the line's error."""
     position, words = "start", {"named": [], "outputs": [], "ruled": [], "inputs": []}
     for token in tokens + [None]:
         kind = "end" if token is None else "word" if is_word(token) else token.decode()
@@ -53,7 +53,7 @@ def statement_of(tokens, where):
         if then == "ruled" and token != b"dyndep":
             then = b"Y11 BadRule"
         if isinstance(then, bytes):
-            raise Refused(where + then)
+            raise Rejected(where + then)
         if kind == "word":
             words[then].append(value_of(token))
         position = then
@@ -61,7 +61,7 @@ def statement_of(tokens, where):
 
 
 def dyndep_of(text):
-    """The statements of a dyndep file, or the refusal of its first faulty line."""
+    """The statements of a dyndep file, or the error of its first faulty line."""
     statements, is_versioned, is_open = [], False, False
     for where, line, tokens in sound_lines(text):
         assigned = assignment_of(line)
@@ -74,28 +74,28 @@ def dyndep_of(text):
             statements[-1:] = [bound(statements[-1:], is_open, assigned, where)]
             is_open = False
         elif assigned and assigned[:2] == (0, b"ninja_dyndep_version"):
-            raise Refused(where + b"Y6 SecondVersion")
+            raise Rejected(where + b"Y6 SecondVersion")
         elif tokens[0] == (0, b"build"):
             statements.append(statement_of([it for _, it in tokens[1:]], where))
             is_open = True
         else:
-            raise Refused(where + b"Y8 BadLine")
+            raise Rejected(where + b"Y8 BadLine")
     if not is_versioned:
-        raise Refused(b"line %d: Y4 NoVersion" % (text.count(b"\n") + 1))
+        raise Rejected(b"line %d: Y4 NoVersion" % (text.count(b"\n") + 1))
     return statements
 
 
 def version_checked(assigned, where):
     if not assigned or assigned[:2] != (0, b"ninja_dyndep_version"):
-        raise Refused(where + b"Y4 NoVersion")
+        raise Rejected(where + b"Y4 NoVersion")
     if not re.match(rb"1(?:\Z|[^0-9.])|1\.0(?:\Z|[^0-9])", assigned[2]):
-        raise Refused(where + b"Y5 BadVersion")
+        raise Rejected(where + b"Y5 BadVersion")
 
 
 def bound(last, is_open, assigned, where):
     """The last statement with the binding of an indented line below it."""
     if not is_open:
-        raise Refused(where + b"Y7 Indent")
+        raise Rejected(where + b"Y7 Indent")
     if not assigned or assigned[1] != b"restat":
-        raise Refused(where + b"Y15 BadBinding")
+        raise Rejected(where + b"Y15 BadBinding")
     return last[0]._replace(restat=assigned[2] != b"")

@@ -4,7 +4,7 @@ import re
 from .digraphs import least_cycle, least_order, repeated
 from .dyndeps import Statement
 from .lines import LINE_LIMIT, assignment_of, sound_lines, value_of
-from .paths import PathFault, Refused, path_of, spelled
+from .paths import PathFault, Rejected, escaped, path_of
 
 
 def edge_of(rule, outputs, implicit, inputs, implicit_inputs, order_only, dyndep=None, restat=False):
@@ -21,23 +21,23 @@ def needed_by(edge):
 
 
 def edge_text(edge):
-    line = b"build" + b"".join(b" " + spelled(it) for it in edge["outputs"])
+    line = b"build" + b"".join(b" " + escaped(it) for it in edge["outputs"])
     for mark, part in ((b" |", "implicit"), (b": " + edge["rule"], "inputs"), (b" |", "implicit inputs"),
                        (b" ||", "order only")):
         if edge[part] or part == "inputs":
-            line += mark + b"".join(b" " + spelled(it) for it in edge[part])
+            line += mark + b"".join(b" " + escaped(it) for it in edge[part])
     return line + b"\n"
 
 
 def listing_text(edges):
-    """The text of a listing; the first edge whose build line is too long is refused."""
+    """The text of a listing; the first edge whose build line is too long is rejected."""
     text = []
     for edge in edges:
         line = edge_text(edge)
         if len(line) > LINE_LIMIT:
-            raise Refused(b"E9 ListingTooLong " + edge["outputs"][0])
+            raise Rejected(b"E9 ListingTooLong " + edge["outputs"][0])
         text.append(line)
-        text.append(b"  dyndep = " + spelled(edge["dyndep"]) + b"\n" if edge["dyndep"] else b"")
+        text.append(b"  dyndep = " + escaped(edge["dyndep"]) + b"\n" if edge["dyndep"] else b"")
         text.append(b"  restat = 1\n" if edge["restat"] else b"")
     return b"".join(text)
 
@@ -48,7 +48,7 @@ LETTERS = {b"|": "|", b":": ":", b"||": "o", b"|@": "@"}
 
 
 def edge_read(tokens):
-    """The edge of a build line's tokens, its paths as they are spelled, or None where the line has another form."""
+    """The edge of a build line's tokens, with unescaped paths, or None if the line has another form."""
     letters = "".join(LETTERS.get(it, "w") for it in tokens[1:])
     if not EDGE.fullmatch("b" + letters):
         return None
@@ -61,7 +61,7 @@ def edge_read(tokens):
 
 
 def divided(tokens, marks):
-    """The words before the first of these marks, and behind each of them; none where a mark is left out."""
+    """The words before the first of these marks, and after each of them: none, if a mark is left out."""
     parts = {mark: [] for mark in [b""] + marks}
     mark = b""
     for token in tokens:
@@ -76,7 +76,7 @@ PARTS = ("outputs", "implicit", "inputs", "implicit inputs", "order only")
 
 
 def listing_of(text):
-    """The edges of a listing, or the refusal of its first faulty line, or why they are no graph."""
+    """The edges of a listing, or the error of its first faulty line, or why they are no graph."""
     edges, taken = [], None
     for where, line, tokens in sound_lines(text, b"edges: "):
         if not tokens:
@@ -87,14 +87,14 @@ def listing_of(text):
             edges.append(edge_placed(edge_read([it for _, it in tokens]), where))
             taken = set()
         else:
-            raise Refused(where + b"E3 Form")
+            raise Rejected(where + b"E3 Form")
     return graph_of(edges)
 
 
 def edge_bound(edges, taken, assigned, where):
     """Gives the last edge the binding of an indented line. `taken` has the names of those that it has."""
     if taken is None or not assigned or assigned[1] not in (b"dyndep", b"restat") or assigned[1] in taken:
-        raise Refused(where + b"E3 Form")
+        raise Rejected(where + b"E3 Form")
     taken.add(assigned[1])
     if assigned[1] == b"restat":
         edges[-1]["restat"] = assigned[2] != b""
@@ -105,7 +105,7 @@ def edge_bound(edges, taken, assigned, where):
 def edge_placed(edge, where):
     """The edge with its paths made canonical."""
     if edge is None:
-        raise Refused(where + b"E3 Form")
+        raise Rejected(where + b"E3 Form")
     for part in PARTS:
         edge[part] = [listed_path(it, where) for it in edge[part]]
     return edge
@@ -115,38 +115,38 @@ def listed_path(path, where):
     try:
         return path_of(path)
     except PathFault as fault:
-        raise Refused(where + b"E3 Path " + fault.text) from fault
+        raise Rejected(where + b"E3 Path " + fault.text) from fault
 
 
 def graph_of(edges):
     twice = repeated([it for edge in edges for it in made_by(edge)])
     if twice:
-        raise Refused(b"E1 ProducedTwice " + twice[0])
+        raise Rejected(b"E1 ProducedTwice " + twice[0])
     for edge in edges:
         if edge["dyndep"] and edge["dyndep"] not in needed_by(edge):
-            raise Refused(b"E2 DyndepNotInput " + edge["outputs"][0])
+            raise Rejected(b"E2 DyndepNotInput " + edge["outputs"][0])
     return edges
 
 
 def after(edges, statements, name):
     """The edges after the effect of the statements of a dyndep file of this name, or why they have none."""
     placed = [statement_placed(at, it) for at, it in enumerate(statements)]
-    maker = {it: at for at, edge in enumerate(edges) for it in made_by(edge)}
+    producer = {it: at for at, edge in enumerate(edges) for it in made_by(edge)}
     for it in placed:
-        if it.output not in maker or edges[maker[it.output]]["dyndep"] != name:
-            raise Refused(b"E5 NotBound " + it.output)
-    on = [maker[it.output] for it in placed]
+        if it.output not in producer or edges[producer[it.output]]["dyndep"] != name:
+            raise Rejected(b"E5 NotBound " + it.output)
+    on = [producer[it.output] for it in placed]
     twice = repeated(on)
     if twice:
-        raise Refused(b"E4 StatementTwice " + placed[twice[2]].output)
+        raise Rejected(b"E4 StatementTwice " + placed[twice[2]].output)
     for at, edge in enumerate(edges):
         if edge["dyndep"] == name and at not in on:
-            raise Refused(b"E6 NotMentioned " + edge["outputs"][0])
-    made = set(maker)
+            raise Rejected(b"E6 NotMentioned " + edge["outputs"][0])
+    made = set(producer)
     for it in placed:
         for path in it.outputs:
             if path in made:
-                raise Refused(b"E7 AddedTwice " + path)
+                raise Rejected(b"E7 AddedTwice " + path)
             made.add(path)
     edges = [dict(it) for it in edges]
     for at, it in zip(on, placed):
@@ -164,7 +164,7 @@ def statement_placed(at, statement):
         try:
             paths.append(path_of(path))
         except PathFault as fault:
-            raise Refused(b"E8 BadPath statement %d path %d %s" % (at, len(paths), fault.text)) from fault
+            raise Rejected(b"E8 BadPath statement %d path %d %s" % (at, len(paths), fault.text)) from fault
     behind = 1 + len(statement.outputs)
     return Statement(paths[0], paths[1:behind], paths[behind:], statement.restat)
 
@@ -172,8 +172,8 @@ def statement_placed(at, statement):
 # ---- orders
 
 def needs_of(edges):
-    maker = {it: at for at, edge in enumerate(edges) for it in made_by(edge)}
-    return [{maker[it] for it in needed_by(edge) if it in maker} for edge in edges]
+    producer = {it: at for at, edge in enumerate(edges) for it in made_by(edge)}
+    return [{producer[it] for it in needed_by(edge) if it in producer} for edge in edges]
 
 
 def order_of(edges):
@@ -182,5 +182,5 @@ def order_of(edges):
     first = [edge["outputs"][0] for edge in edges]
     cycle = least_cycle(needs)
     if cycle:
-        raise Refused(b"cycle " + b" -> ".join(first[it] for it in cycle))
+        raise Rejected(b"cycle " + b" -> ".join(first[it] for it in cycle))
     return [first[it] for it in least_order(needs)]

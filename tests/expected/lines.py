@@ -2,7 +2,7 @@
 import re
 from collections import namedtuple
 
-from .paths import Refused
+from .paths import Rejected
 
 LINE_LIMIT = 1_048_576
 
@@ -19,7 +19,7 @@ Line = namedtuple("Line", "number text is_comment")
 
 
 def line_end(text, start):
-    """Where the line that begins there ends, or None where it has no end."""
+    """The end of the line that begins there, or None if it has no end."""
     if COMMENT.match(text, start):
         return text.find(b"\n", start) + 1 or None
     while True:
@@ -32,28 +32,28 @@ def line_end(text, start):
 
 
 def lines_of(text, where=b""):
-    """The lines of a text one by one; a line that is too long, or has no end, is refused."""
+    """The lines of a text one by one; a line that is too long, or has no end, is rejected."""
     start, number = 0, 1
     while start < len(text):
         end = line_end(text, start)
         if (len(text) if end is None else end) - start >= LINE_LIMIT + (end is not None):
-            raise Refused(b"%sline %d: N5 LineTooLong" % (where, number))
+            raise Rejected(b"%sline %d: N5 LineTooLong" % (where, number))
         if end is None:
-            raise Refused(b"%sline %d: N6 Truncated" % (where, number))
+            raise Rejected(b"%sline %d: N6 Truncated" % (where, number))
         line = text[start:end]
         yield Line(number, line[:-2] if line.endswith(b"\r\n") else line[:-1], bool(COMMENT.match(line)))
         start, number = end, number + line.count(b"\n")
 
 
 def sound_lines(text, prefix=b""):
-    """Of each line that is no comment: where it stands, its bytes and its tokens. A line with a lexical fault is refused."""
+    """The position, the bytes and the tokens of each line that is not a comment. A line with a lexical error is rejected."""
     for line in lines_of(text, prefix):
         if line.is_comment:
             continue
         where = b"%sline %d: " % (prefix, line.number)
         fault = lexical_fault(line.text)
         if fault:
-            raise Refused(where + fault)
+            raise Rejected(where + fault)
         yield where, line.text, tokens_of(line.text)
 
 
@@ -73,7 +73,7 @@ def lexical_fault(line):
 
 
 def tokens_of(line):
-    """The tokens of a line without a lexical fault: the place of each, and its bytes as they stand."""
+    """The tokens of a line without a lexical fault: the offset and the bytes of each."""
     tokens, at = [], 0
     while at < len(line):
         found = TOKEN.match(line, at)
@@ -92,6 +92,6 @@ def value_of(raw):
 
 
 def assignment_of(line):
-    """Where the name of an assignment begins, the name and the value, or None where the line is none."""
+    """The offset of the name of an assignment, the name and the value, or None if the line is not an assignment."""
     found = ASSIGNMENT.match(line)
     return (found.start("name"), found["name"], value_of(found["value"])) if found else None

@@ -4,8 +4,8 @@ import re
 PATH_LIMIT = 4096
 
 
-class Refused(Exception):
-    """The line that a run is refused with, and its status."""
+class Rejected(Exception):
+    """The line of a run that rejects its input, and its status."""
 
     def __init__(self, line, status=1):
         super().__init__(line)
@@ -34,7 +34,7 @@ def reduced(path):
 
 
 def placed(text, work=None, build=None):
-    """The canonical path of a text, which stands in a work directory and below a build directory, if there are any."""
+    """The canonical path of a text, which is relative to a work directory, and made relative to a build directory, if there are any."""
     if not text:
         raise PathFault(b"N1 Empty")
     if work and not text.startswith(b"/"):
@@ -61,12 +61,12 @@ def path_of(text):
 
 
 def canonical(text):
-    """The canonical path of a text, or None where there is none."""
+    """The canonical path of a text, or None if it has none."""
     try:
         return path_of(text)
     except PathFault:
         return None
 
 
-def spelled(path):
+def escaped(path):
     return re.sub(rb"[$ :]", lambda it: b"$" + it[0], path)

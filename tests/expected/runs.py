@@ -10,14 +10,14 @@ def read(name):
 
 
 def opened(name):
-    """The bytes of a file, or None where it cannot be read."""
+    """The bytes of a file, or None if it cannot be read."""
     try:
         return read(name)
     except (OSError, ValueError):
         return None
 
 
-def answer_of(command, *given):
+def result_of(command, *given):
     """What a call has to answer. The files of `effect` come after a name, and those of all others first."""
     call, names = getattr(commands, command), given[1:] if command == "effect" else given[:1]
     texts = [opened(name) for name in names]
@@ -43,6 +43,6 @@ def ending(answer):
 
 
 def tree():
-    """The files that are in the folder and below it."""
+    """The files that are in the directory and below it."""
     return {os.path.normpath(os.path.join(folder, name)): read(os.path.join(folder, name))
             for folder, _, names in os.walk(b".") for name in names}

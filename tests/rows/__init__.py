@@ -12,7 +12,7 @@ FAULT = re.compile(r"\b[A-Z]\d+ [A-Z]\w+|\bcycle|\bcannot \w+|\busage|\bout of m
 
 
 class Row(namedtuple("Row", "why words files status out line written")):
-    """A call: its words, its files by name, and what it answers: its status, the text on standard output, the line on standard
+    """A call: its arguments, its files by name, and its result: its status, the text on standard output, the line on standard
     error after `dyncollate: `, and the files that it writes, in their order. A long text may be a function that makes it."""
 
     @property
@@ -46,7 +46,7 @@ def writes(why, words, files, written):
     return Row(why, words, files, 0, b"", None, written)
 
 
-def refuses(why, words, files, line):
+def rejects(why, words, files, line):
     return Row(why, words, files, 1, b"", line, {})
 
 

@@ -38,7 +38,7 @@ IMPROPER = [
     ("an option for a file", ["show", "-x"]),
     ("an option for a file of three arguments", ["one", "-b", "mod", ".bmi"]),
     ("a long option for an ending", ["one", "b.ddi", "mod", "--ext"]),
-    ("a negative number for a folder", ["one", "b.ddi", "-1", ".bmi"]),
+    ("a negative number for a directory", ["one", "b.ddi", "-1", ".bmi"]),
     ("an option too many", ["show", "t.dd", "-x"]),
     ("-- before the command", ["--", "show", "t.dd"]),
     ("-- before one", ["--", "one", "b", "m", "x"]),
@@ -50,15 +50,15 @@ IMPROPER = [
 
 # why, the words, and the file of the module B, which shows what is used as directory and extension
 TAKEN = [
-    ("no folder and no ending", ["one", "b.ddi", "", ""], b"B"),
-    ("no folder, and - for an ending", ["one", "b.ddi", "", "-"], b"B-"),
+    ("no directory and no extension", ["one", "b.ddi", "", ""], b"B"),
+    ("no directory, and - for an extension", ["one", "b.ddi", "", "-"], b"B-"),
     ("- for each argument", ["one", "-", "-", "-"], b"-/B-"),
-    ("the command's name for a file, a folder with a space, and = for an ending", ["one", "one", "a b", "="], b"a$ b/B="),
+    ("the command's name for a file, a directory with a space, and = for an extension", ["one", "one", "a b", "="], b"a$ b/B="),
     ("options after --", ["one", "--", "-b", "-m", "--"], b"-m/B--"),
     ("-- between arguments", ["one", "b", "--", "-m", "x"], b"-m/Bx"),
     ("-- between arguments, and as one", ["one", "b.ddi", "--", "-m", "--"], b"-m/B--"),
     ("-- after the last argument", ["one", "b", "m", "x", "--"], b"m/Bx"),
-    ("a second -- for a folder", ["one", "b", "--", "--", "-"], b"--/B-"),
+    ("a second -- for a directory", ["one", "b", "--", "--", "-"], b"--/B-"),
 ]
 
 # why, the words; each names a file that is shown

@@ -1,5 +1,5 @@
 """Dyndep files, and what `show` prints (docs/FORMATS.md, "Lines, tokens and assignments" and "Dyndep files")."""
-from tests.rows import V, prints, refuses, unread
+from tests.rows import V, prints, rejects, unread
 
 TWO = V + b"build a.o | mod/A.bmi: dyndep | mod/B.bmi\n  restat = 1\nbuild b.o | mod/B.bmi: dyndep\n  restat = 1\n"
 ONE = V + b"build obj/b.o | mod/B.bmi: dyndep\n  restat = 1\n"
@@ -89,7 +89,7 @@ SHOWN = [
 ]
 
 # What `show` prints for the text TWO, cut to its first bytes: the last number of bytes of each kind, and the line of the error,
-# or None where these bytes are shown as they are.
+# or None if these bytes are shown as they are.
 CUT = [
     (0, b"line 1: Y4 NoVersion"), (24, b"line 1: N6 Truncated"), (25, None), (66, b"line 2: N6 Truncated"), (67, None),
     (79, b"line 3: N6 Truncated"), (80, None), (109, b"line 4: N6 Truncated"), (110, None), (122, b"line 5: N6 Truncated"),
@@ -99,7 +99,7 @@ CUT = [
 LINE = 1_048_576
 LONGEST = b"build " + b"a" * (LINE - len(b"build : dyndep\n")) + b": dyndep\n"
 
-# why, the text after the version line, the line of the error or None where it is shown as it is
+# why, the text after the version line, the line of the error or None if it is shown as it is
 LIMITS = [
     ("the longest line", LONGEST, None),
     ("a comment of a byte more", b"#" + LONGEST, b"line 2: N5 LineTooLong"),
@@ -125,7 +125,7 @@ SHOW = ["show", "t.dd"]
 
 def shows(why, text, line):
     files = {"t.dd": text}
-    return prints(why, SHOW, files, text) if line is None else refuses(why, SHOW, files, line)
+    return prints(why, SHOW, files, text) if line is None else rejects(why, SHOW, files, line)
 
 
 ROWS = ([shows(why, V + text, line) for why, text, line in FAULTS + LIMITS]

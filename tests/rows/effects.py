@@ -1,5 +1,5 @@
 """Effects of dyndep files on edge lists, and what `effect` prints (docs/FORMATS.md, "The effect of a dyndep file")."""
-from tests.rows import V, prints, refuses, unread
+from tests.rows import V, prints, rejects, unread
 from tests.rows.dyndep_files import TWO
 from tests.rows.forms import edge, statement
 from tests.rows.listings import AFTER, LIST
@@ -13,8 +13,8 @@ NINE = range(9)
 # canonical paths, and what is added is last.
 CHANGED = [
     ("* two statements", "t.dd", LIST, TWO[len(V):], AFTER),
-    ("the name and the binding in other spellings", "./t.dd", LIST.replace(b"= t.dd", b"= ./x/../t.dd"), TWO[len(V):], AFTER),
-    ("all names in other spellings", "./t.dd", b"build a.o: cxx a.cpp || ./x/../t.dd\n  dyndep = ./x/../t.dd\n",
+    ("the name and the binding in other forms", "./t.dd", LIST.replace(b"= t.dd", b"= ./x/../t.dd"), TWO[len(V):], AFTER),
+    ("all names in other forms", "./t.dd", b"build a.o: cxx a.cpp || ./x/../t.dd\n  dyndep = ./x/../t.dd\n",
      b"build .//a.o | mod/./A.bmi: dyndep\n  restat = 1\n",
      b"build a.o | mod/A.bmi: cxx a.cpp || t.dd\n  dyndep = t.dd\n  restat = 1\n"),
     ("* an implicit output", "./t.dd", edge(b"a.o | a.d: cxx a.cpp || t.dd"), b"build a.d | mod/A.bmi: dyndep\n",
@@ -40,7 +40,7 @@ def wide(start, byte):
 
 
 # why, the dyndep file's name, the edge list, the text after the version line, the line of the error
-REFUSED = [
+REJECTED = [
     ("the name above the root is looked at first", "/..", b"x\n", b"x\n", b"name: N2 AboveRoot"),
     ("the empty name", "", b"x\n", b"x\n", b"name: N1 Empty"),
     ("the listing is looked at before the dyndep file", "t.dd", b"x\n", b"x\n", b"edges: line 1: E3 Form"),
@@ -48,13 +48,13 @@ REFUSED = [
     ("a path that two edges make", "t.dd", b"build a.o: cxx a.cpp\nbuild ./a.o: cxx b.cpp\n", b"", b"E1 ProducedTwice a.o"),
     ("* no statements", "t.dd", edge(b"a.o: cxx"), b"", b"E2 DyndepNotInput a.o"),
     ("a statement", "t.dd", edge(b"a.o: cxx a.cpp"), A_STATEMENT, b"E2 DyndepNotInput a.o"),
-    ("a statement in two spellings", "t.dd", LIST, b"build a.o: dyndep\nbuild ./a.o: dyndep\n", b"E4 StatementTwice a.o"),
-    ("a statement in two spellings, and one of the other edge", "t.dd", LIST,
+    ("a statement in two forms", "t.dd", LIST, b"build a.o: dyndep\nbuild ./a.o: dyndep\n", b"E4 StatementTwice a.o"),
+    ("a statement in two forms, and one of the other edge", "t.dd", LIST,
      b"build a.o: dyndep\nbuild ./a.o: dyndep\nbuild b.o: dyndep\n", b"E4 StatementTwice a.o"),
     ("it comes before an edge without a statement", "t.dd", LIST, b"build a.o | lib: dyndep\n" * 2, b"E4 StatementTwice a.o"),
     ("an edge that names no dyndep file", "t.dd", A_EDGE + b"build b.o: cxx b.cpp || t.dd\n",
      b"build a.o | mod/A.bmi: dyndep | mod/B.bmi\nbuild b.o | mod/B.bmi: dyndep\n", b"E5 NotBound b.o"),
-    ("an edge that names no dyndep file, beside a library", "t.dd",
+    ("an edge that names no dyndep file, next to a library", "t.dd",
      A_EDGE + b"build b.o: cxx b.cpp || t.dd\nbuild lib: ar a.o b.o\n", A_STATEMENT + B_STATEMENT, b"E5 NotBound b.o"),
     ("edges that name another dyndep file", "u.dd", LIST,
      b"build a.o | mod/A.bmi: dyndep | mod/B.bmi\nbuild b.o | mod/B.bmi: dyndep\n", b"E5 NotBound a.o"),
@@ -90,6 +90,6 @@ def call(name):
 
 
 ROWS = ([prints(why, call(name), {"edges": edges, "t.dd": V + text}, out) for why, name, edges, text, out in CHANGED]
-        + [refuses(why, call(name), {"edges": edges, "t.dd": V + text}, line) for why, name, edges, text, line in REFUSED]
+        + [rejects(why, call(name), {"edges": edges, "t.dd": V + text}, line) for why, name, edges, text, line in REJECTED]
         + [unread(why, call(name), files, file) for why, name, files, file in UNREAD]
-        + [refuses("a dyndep file without a version", call("t.dd"), {"edges": LIST, "t.dd": b"x\n"}, b"line 1: Y4 NoVersion")])
+        + [rejects("a dyndep file without a version", call("t.dd"), {"edges": LIST, "t.dd": b"x\n"}, b"line 1: Y4 NoVersion")])

@@ -33,13 +33,13 @@ def module(name, file, *requires, visibility=None):
 
 
 def target(more=b"", name=b"t"):
-    """A target document with these members more. Of a member that is there twice the last one counts."""
+    """A target document with these members more. If a member is there twice, the last one counts."""
     return (b'{"version":1,"target":"%s","module-dir":"mod","module-ext":".bmi","dyndep":"%s.dd","info":"%s.json"%s}'
             % (name, name, name, more))
 
 
 def statement(output, outputs=b"", inputs=b""):
-    """A statement of a dyndep file, as the writer spells it."""
+    """A statement of a dyndep file, as the writer writes it."""
     made = b" | " + outputs if outputs else b""
     read = b" | " + inputs if inputs else b""
     return b"build %s%s: dyndep%s\n%s" % (output, made, read, b"  restat = 1\n" if outputs else b"")

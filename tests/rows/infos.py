@@ -1,5 +1,5 @@
 """Info files of the targets that a target links, and what `collate` prints (docs/FORMATS.md, "Info files")."""
-from tests.rows import V, refuses, writes
+from tests.rows import V, rejects, writes
 from tests.rows.documents import of_kind
 from tests.rows.forms import info, module, sources, statement, target
 from tests.rows.targets import CALL, LINKED, LINKED_FILES, LINKS, L_INFO, NO_MODULES
@@ -49,7 +49,7 @@ TAKEN = [
      b' {"version":1, "target":"a\\u0022b\\\\c","modules":[{"bmi":"m\\u0022d/\\\\.bmi","name":"B","requires":[],'
      b'"visibility":"private"}] } ', b"", b"main.o||B",
      {"t.json": NO_MODULES, "t.dd": V + statement(b"main.o", b"", b'm"d/\\.bmi')}),
-    ("* a ring of its own", info(module(b"A", b"a", (b"b", b"B")), module(b"B", b"b", (b"a", b"A"))), GCC, b"main.o||A",
+    ("* a cycle of its own", info(module(b"A", b"a", (b"b", b"B")), module(b"B", b"b", (b"a", b"A"))), GCC, b"main.o||A",
      {"main.o.modmap": b"A a\nB b\n", "t.json": NO_MODULES, "t.dd": V + statement(b"main.o", b"", b"a")}),
 ]
 
@@ -65,12 +65,12 @@ def linking(info, more=b"", scan=LINKED["m.ddi"]):
 
 
 def kind(why, text, fault):
-    """An info that is refused, or else taken as that of LINKED."""
-    return refuses(why, CALL, linking(text), b"info 0: " + fault) if fault else \
+    """An info file that is rejected, or otherwise taken as that of LINKED."""
+    return rejects(why, CALL, linking(text), b"info 0: " + fault) if fault else \
         writes(why, CALL, linking(text), LINKED_FILES)
 
 
 ROWS = ([kind(*row) for row in FAULTS]
         + [writes(why, CALL, linking(text, more, sources(object)), written) for why, text, more, object, written in TAKEN]
-        + [refuses(why, CALL, linking(text), line) for why, text, line in UNKNOWN]
+        + [rejects(why, CALL, linking(text), line) for why, text, line in UNKNOWN]
         + [kind(*row) for row in of_kind(L_INFO)])

@@ -1,6 +1,6 @@
 """Edge lists, and what `order` prints (docs/FORMATS.md, "Edge lists" and "The effect of a dyndep file").
 A dyndep file that no edge names and that has no statements changes no edge, so `effect` prints the same errors."""
-from tests.rows import V, prints, refuses, unread
+from tests.rows import V, prints, rejects, unread
 from tests.rows.dyndep_files import LINE
 from tests.rows.forms import edge
 
@@ -28,8 +28,8 @@ FAULTS = [
     ("a first line without its end", b"build a.o: cxx", b"edges: line 1: N6 Truncated"),
     ("a variable in another statement", b"build a: r\nrule $x\n", b"edges: line 2: N9 Variable at 5"),
     ("a variable in an output", b"build $x: cxx\n", b"edges: line 1: N9 Variable at 6"),
-    ("one path in two spellings", b"build a: r\nbuild b ./a: r\n", b"E1 ProducedTwice a"),
-    ("one in two spellings, in the first line of two edges", b"build a.o: cxx a.cpp\nbuild ./a.o: cxx b.cpp\n",
+    ("one path in two forms", b"build a: r\nbuild b ./a: r\n", b"E1 ProducedTwice a"),
+    ("one in two forms, in the first line of two edges", b"build a.o: cxx a.cpp\nbuild ./a.o: cxx b.cpp\n",
      b"E1 ProducedTwice a.o"),
     ("an implicit output", b"build a: cp b\nbuild b | ./a: cp c\n", b"E1 ProducedTwice a"),
     ("* an output and an implicit one", b"build a: r\nbuild b | ./a: r\n", b"E1 ProducedTwice a"),
@@ -86,12 +86,12 @@ WRITTEN = [
      b"build a $\n  ./b | x/../c : r.1 d $\r\n e | f || g $\n\n  restat = 1\n # a comment\n  dyndep = ./g\n",
      b"build a b | c: r.1 d e | f || g\n  dyndep = g\n  restat = 1\n"),
     ("empty lists and an empty binding", b"build a |: r | ||\n restat =\n", b"build a: r\n"),
-    ("paths in other spellings, escapes, and bytes beyond ASCII",
+    ("paths in other forms, escapes, and bytes beyond ASCII",
      b"build a: r ./obj//x/../a.o obj/a.o /w/b /w/bc/x ../../x a/../../x //w/./b/ a$ b$$c$:d\t\xff\n",
      b"build a: r obj/a.o obj/a.o /w/b /w/bc/x ../../x ../x /w/b a$ b$$c$:d\t\xff\n"),
     ("escapes in all places", b"build a$ b c | d: r e$$ | f$:g || h\n  dyndep = f$:g\n  restat = 1\n",
      b"build a$ b c | d: r e$$ | f$:g || h\n  dyndep = f$:g\n  restat = 1\n"),
-    ("a dyndep file in two spellings", edge(b"a.o: cxx a.cpp || ./t.dd", b"./x/../t.dd"), edge(b"a.o: cxx a.cpp || t.dd")),
+    ("a dyndep file in two forms", edge(b"a.o: cxx a.cpp || ./t.dd", b"./x/../t.dd"), edge(b"a.o: cxx a.cpp || t.dd")),
     ("a dyndep file in two more", edge(b"b.o: cxx b.cpp || x//../t.dd", b"./x/../t.dd"), edge(b"b.o: cxx b.cpp || t.dd")),
     ("a dyndep file that is an input", edge(b"a.o: cxx a.cpp t.dd"), edge(b"a.o: cxx a.cpp t.dd")),
     ("a dyndep file that is an implicit input", edge(b"b.o: cxx b.cpp | b.h t.dd"), edge(b"b.o: cxx b.cpp | b.h t.dd")),
@@ -115,22 +115,22 @@ def chain(count, *last):
 
 # the four edges of two cycles have the highest numbers
 AT = LONG - 4
-RINGS = chain(AT, AT + 2) + [[AT + 1], [AT, 0], [AT + 3], [AT + 2]]
+TWO_CYCLES = chain(AT, AT + 2) + [[AT + 1], [AT, 0], [AT + 3], [AT + 2]]
 
 # why, how the edge list is made, the line of the error
 LONG_CYCLES = [
-    ("a long ring", lambda: listing(chain(LONG, 0)), b"cycle " + b" -> ".join(b"n%d" % node for node in range(LONG))),
+    ("a long cycle", lambda: listing(chain(LONG, 0)), b"cycle " + b" -> ".join(b"n%d" % node for node in range(LONG))),
     ("a long chain to an edge that needs itself", lambda: listing(chain(LONG, LONG - 1)), b"cycle n%d" % (LONG - 1)),
-    ("a long chain from a ring to a ring", lambda: listing(RINGS), b"cycle n%d -> n%d" % (AT, AT + 1)),
+    ("a long chain from a cycle to a cycle", lambda: listing(TWO_CYCLES), b"cycle n%d -> n%d" % (AT, AT + 1)),
 ]
 
 ORDER, UNCHANGED = ["order", "edges"], ["effect", "no.dd", "edges", "none.dd"]
-ROWS = ([refuses(why, ORDER, {"edges": text}, line) for why, text, line in FAULTS + CYCLES + LONG_CYCLES]
-        + [refuses(why.lstrip("* "), UNCHANGED, {"edges": text, "none.dd": V}, line) for why, text, line in FAULTS]
+ROWS = ([rejects(why, ORDER, {"edges": text}, line) for why, text, line in FAULTS + CYCLES + LONG_CYCLES]
+        + [rejects(why.lstrip("* "), UNCHANGED, {"edges": text, "none.dd": V}, line) for why, text, line in FAULTS]
         + [prints(why, ORDER, {"edges": text}, b"".join(it + b"\n" for it in order.split())) for why, text, order in ORDERS]
         + [prints(why, UNCHANGED, {"edges": text, "none.dd": V}, written) for why, text, written in WRITTEN]
         + [prints("a long chain", ORDER, {"edges": lambda: listing(chain(LONG))},
                   b"".join(b"n%d\n" % node for node in reversed(range(LONG)))),
-           refuses("a line that gets too long by the space after its colon", UNCHANGED,
+           rejects("a line that gets too long by the space after its colon", UNCHANGED,
                    {"edges": b"build a: r\nbuild bb:" + b"r" * (LINE - 10) + b"\n", "none.dd": V}, b"E9 ListingTooLong bb"),
            unread("* no file", ORDER, {}, b"edges")])

@@ -1,20 +1,20 @@
 """Modules of a target and of the targets that it links: the errors that they have together, and what an object needs
 (docs/FORMATS.md, "The modules of a target" and "Module maps").
 """
-from tests.rows import V, prints, refuses
+from tests.rows import V, prints, rejects
 from tests.rows.forms import document, info, module, sources, statement, target
 from tests.rows.targets import L_INFO
 
 NAMED_A = b'{"primary-output":"%s","provides":[{"logical-name":"A","compiled-module-path":"%s"}]}'
-LONG_RING = 20_000
+LONG_CYCLE = 20_000
 
 # why, the document, the line of the error by `one`
 ONE_DOCUMENT = [
     ("* control bytes in a path", document(b'{"primary-output":"a\\u0001.o"}', b'{"primary-output":"./a\\u0001.o"}'),
      b"M1 ObjectTwice a?.o"),
-    ("control bytes in two spelled alike", sources(b"a\\tb\\u007f.o||", b"a\\tb\\u007f.o||"), b"M1 ObjectTwice a?b?.o"),
+    ("control bytes in two that look alike", sources(b"a\\tb\\u007f.o||", b"a\\tb\\u007f.o||"), b"M1 ObjectTwice a?b?.o"),
     ("a control byte, in the second object only", sources(b"a\\t.o|A|", b"a\\t.o||"), b"M1 ObjectTwice a?.o"),
-    ("one path in two spellings", sources(b"x/../a.o||", b"b.o||", b"a.o||"), b"M1 ObjectTwice a.o"),
+    ("one path in two forms", sources(b"x/../a.o||", b"b.o||", b"a.o||"), b"M1 ObjectTwice a.o"),
     ("it comes before an unknown module", sources(b"a.o||", b"a.o||X"), b"M1 ObjectTwice a.o"),
     ("of two the one whose later member comes first", sources(b"a.o||", b"b.o||", b"b.o||", b"a.o||"), b"M1 ObjectTwice b.o"),
     ("by two objects", sources(b"a.o|A|", b"b.o|A|"), b"M3 ProvidedTwice A by object a.o and object b.o"),
@@ -29,7 +29,7 @@ ONE_DOCUMENT = [
      b"M3 ProvidedTwice B by object a.o and object b.o"),
     ("with its earliest partner", sources(b"a.o|A|", b"b.o|B|", b"c.o|B A|", b"d.o|B|"),
      b"M3 ProvidedTwice B by object b.o and object c.o"),
-    ("control bytes in two makers", sources(b"a\\t.o|A|", b"a\\u007f.o|A|"),
+    ("control bytes in two producers", sources(b"a\\t.o|A|", b"a\\u007f.o|A|"),
      b"M3 ProvidedTwice A by object a?.o and object a?.o"),
     ("two names, one file", sources(b"a.o|a:b|", b"b.o|a-b|"), b"M4 BmiTwice mod/a-b.bmi by object a.o and object b.o"),
     ("a module and an object, before an unknown module", sources(b"a.o|A|", b"mod/A.bmi||X"),
@@ -63,14 +63,14 @@ A_B = info(module(b"a:b", b"lib/a-b.bmi"), target=b"k"), info(module(b"a-b", b"l
 
 # why, the sources, the info files, the line of the error by `collate`
 TOGETHER = [
-    ("one path in two spellings", [b"a.o||", b"./x/../a.o||X"], [], b"M1 ObjectTwice a.o"),
-    ("two infos of one target", [b"main.o||B"], [L_INFO, L_INFO], b"M2 InfoTwice l"),
+    ("one path in two forms", [b"a.o||", b"./x/../a.o||X"], [], b"M1 ObjectTwice a.o"),
+    ("two info files of one target", [b"main.o||B"], [L_INFO, L_INFO], b"M2 InfoTwice l"),
     ("the second and the third info", [], [info(target=b"k", version=2), B_INFO, B_INFO], b"M2 InfoTwice l"),
     ("quotation marks and backslashes in the target's name", [b"main.o||B"],
      [L_INFO.replace(b'"l"', b'"a\\u0022b\\\\c"')] * 2, b'M2 InfoTwice a"b\\c'),
     ("by the first and the third object", [b"a.o|A|", b"b.o|B|", b"c.o|A|"], [],
      b"M3 ProvidedTwice A by object a.o and object c.o"),
-    ("objects come before infos", [b"obj/b.o|B|", b"a.o|A|B", b"b.o|B|"], [L_INFO],
+    ("objects come before info files", [b"obj/b.o|B|", b"a.o|A|B", b"b.o|B|"], [L_INFO],
      b"M3 ProvidedTwice B by object obj/b.o and object b.o"),
     ("an object and an info", [b"obj/b.o|B|"], [L_INFO], b"M3 ProvidedTwice B by object obj/b.o and info l"),
     ("* a name of this target's in an info", [b"main.o|B|"], [info(module(b"B", b"x"))],
@@ -82,7 +82,7 @@ TOGETHER = [
     ("one name twice in an info, and no objects", [], [info(module(b"A", b"a"), module(b"A", b"b"))],
      b"M3 ProvidedTwice A by info l and info l"),
     ("two names, one file", [b"a.o|a:b|", b"b.o|a-b|"], [], b"M4 BmiTwice mod/a-b.bmi by object a.o and object b.o"),
-    ("two names, one file, in two infos", [], A_B, b"M4 BmiTwice lib/a-b.bmi by info k and info l"),
+    ("two names, one file, in two info files", [], A_B, b"M4 BmiTwice lib/a-b.bmi by info k and info l"),
     ("* one file twice in an info", [b"main.o||B"], [info(module(b"B", b"x"), module(b"C", b"./x"))],
      b"M4 BmiTwice x by info l and info l"),
     ("an info's file is the second object", [b"a.o||", b"b.o||"], [info(module(b"B", b"b.o"))],
@@ -138,10 +138,10 @@ NEEDS = [
      [b"main.o||a B a", b"a.o|a|A:p B", b"b.o|B|A:p", b"p.o|A:p|"], [],
      [b"A:p mod/A-p.bmi\nB mod/B.bmi\na mod/a.bmi\n", b"a mod/a.bmi\nA:p mod/A-p.bmi\nB mod/B.bmi\n",
       b"B mod/B.bmi\nA:p mod/A-p.bmi\n", b"A:p mod/A-p.bmi\n"]),
-    ("through infos", [b"main.o||A", b"a.o|A|K"],
+    ("through info files", [b"main.o||A", b"a.o|A|K"],
      [info(module(b"L", b"l/L.bmi")), info(module(b"J", b"k/J.bmi"), K, target=b"k")],
      [b"A mod/A.bmi\nK k/K.bmi\nL l/L.bmi\n", b"A mod/A.bmi\nK k/K.bmi\nL l/L.bmi\n"]),
-    ("a ring inside an info is no fault", [b"main.o||K"],
+    ("a cycle inside an info is no fault", [b"main.o||K"],
      [info(module(b"J", b"k/J.bmi", (b"k/K.bmi", b"K")), module(b"K", b"k/K.bmi", (b"k/J.bmi", b"J")), target=b"k")],
      [b"J k/J.bmi\nK k/K.bmi\n"]),
     ("private modules are needed as others are", [b"main.o||K"],
@@ -154,7 +154,7 @@ CALL = ["collate", "t.target.json"]
 
 
 def linking(its_sources, infos, more=b""):
-    """A target with these sources, and the infos that it links."""
+    """A target with these sources, and the info files that it links."""
     names = [f"{it}.json" for it in range(len(infos))]
     linked = b",".join(b'"%s"' % it.encode() for it in names)
     text = target(b',"scans":["s.ddi"],"linked":[%s]%s' % (linked, more))
@@ -167,14 +167,14 @@ def chain(count, last):
     return sources(*(b"o%d.o|m%d|m%d" % (it, it, it + 1) for it in range(at)), b"o%d.o|m%d|%s" % (at, at, last))
 
 
-CHAIN = V + b"".join(statement(b"o%d.o" % it, b"mod/m%d.bmi" % it, b"mod/m%d.bmi" % (it + 1)) for it in range(LONG_RING - 1)) \
-    + statement(b"o%d.o" % (LONG_RING - 1), b"mod/m%d.bmi" % (LONG_RING - 1))
+CHAIN = V + b"".join(statement(b"o%d.o" % it, b"mod/m%d.bmi" % it, b"mod/m%d.bmi" % (it + 1)) for it in range(LONG_CYCLE - 1)) \
+    + statement(b"o%d.o" % (LONG_CYCLE - 1), b"mod/m%d.bmi" % (LONG_CYCLE - 1))
 
 ONE = ["one", "t.ddi", "mod", ".bmi"]
-ROWS = ([refuses(why, ONE, {"t.ddi": text}, line) for why, text, line in ONE_DOCUMENT]
-        + [refuses(why, CALL, linking(its_sources, infos), line) for why, its_sources, infos, line in TOGETHER]
-        + [refuses(why, CALL, linking(its_sources, infos, b',"private":[%s]' % names), line)
+ROWS = ([rejects(why, ONE, {"t.ddi": text}, line) for why, text, line in ONE_DOCUMENT]
+        + [rejects(why, CALL, linking(its_sources, infos), line) for why, its_sources, infos, line in TOGETHER]
+        + [rejects(why, CALL, linking(its_sources, infos, b',"private":[%s]' % names), line)
            for why, its_sources, infos, names, line in PRIVATE]
-        + [prints("a chain of 20,000 objects", ONE, {"t.ddi": lambda: chain(LONG_RING, b"")}, CHAIN),
-           refuses("a ring of 20,000 objects", ONE, {"t.ddi": lambda: chain(LONG_RING, b"m0")},
-                   b"M8 ImportCycle " + b" -> ".join(b"o%d.o" % it for it in range(LONG_RING)))])
+        + [prints("a chain of 20,000 objects", ONE, {"t.ddi": lambda: chain(LONG_CYCLE, b"")}, CHAIN),
+           rejects("a cycle of 20,000 objects", ONE, {"t.ddi": lambda: chain(LONG_CYCLE, b"m0")},
+                   b"M8 ImportCycle " + b" -> ".join(b"o%d.o" % it for it in range(LONG_CYCLE)))])

@@ -1,7 +1,7 @@
 """Project documents with the files that their targets name, and what `project` prints and writes (docs/FORMATS.md, "Project
 documents"). Each row is the project of three targets below, with some files changed or missing.
 """
-from tests.rows import V, refuses, unread, writes
+from tests.rows import V, rejects, unread, writes
 from tests.rows.documents import MEGABYTE, of_kind
 from tests.rows.forms import edge, sources, statement
 
@@ -9,7 +9,7 @@ GCC = b',"map":"gcc"'
 
 
 def member(number, *linked, more=GCC):
-    """The target document of a number, which links the infos of others. Of a member that is there twice the last one counts."""
+    """The target document of a number, which links the info files of others. If a member is there twice, the last one counts."""
     return (b'{"version":1,"target":"t%d","module-dir":"mod","module-ext":".bmi","scans":["%d.ddi"],"linked":[%s],'
             b'"dyndep":"%d.dd","info":"%d.info"%s}'
             % (number, number, b",".join(b'"%d.info"' % it for it in linked), number, number, more))
@@ -50,12 +50,12 @@ NO_B = {"1.json": member(1, more=GCC + b',"info":"0.info"'), "1.ddi": sources(b"
 DONE = [
     ("* three targets", {}, WRITTEN),
     ("* no targets", {"project.json": b'{"targets":[],"version":1}'}, {}),
-    ("other members, one twice, and another spelling of a document's name",
+    ("other members, one twice, and another form of a document's name",
      {"project.json": b'{"other":[7],"target":3,"targets":["1.json"],"targets":["./0.json"],"version":1}'}, ZEROTH),
     ("a target twice", {"project.json": b'{"targets":["0.json","0.json"],"version":1}'}, ZEROTH),
     ("no maps", {"0.json": member(0, more=b',"map":null'), "1.json": member(1, 0, more=b',"map":null'),
                  "2.json": member(2, 0, 1, more=b',"map":null')}, without_maps(WRITTEN)),
-    ("of two infos of one name the latest is meant, and no file of that name is read",
+    ("of two info files of one name the latest is meant, and no file of that name is read",
      NO_B | {"0.info": b"no info"},
      {"l.o.modmap": ZEROTH["l.o.modmap"], "0.dd": ZEROTH["0.dd"], "k.o.modmap": b"K mod/K.bmi\n",
       "0.info": b'{"modules":[{"bmi":"mod/K.bmi","name":"K","requires":[],"visibility":"public"}],"target":"t1","version":2}',
@@ -74,11 +74,11 @@ DONE = [
     ("scan documents of a megabyte", {name: PROJECT[name].ljust(MEGABYTE) for name in ("0.ddi", "1.ddi", "2.ddi")}, WRITTEN),
 ]
 
-RING = edge(b"k.o: cxx k.cpp gen.h || 1.dd", b"1.dd") + b"build gen.h: gen k.o\n"
+CYCLE = edge(b"k.o: cxx k.cpp gen.h || 1.dd", b"1.dd") + b"build gen.h: gen k.o\n"
 CLANG = {f"{it}.json": PROJECT[f"{it}.json"].replace(b'"gcc"', b'"clang"') for it in range(3)}
 
 # why, the files that are changed or, if None, missing, and the line of the error
-REFUSED = [
+REJECTED = [
     ("* an info's requirement that is not linked", {"2.json": member(2, 1)}, b"target 2: M6 InfoUnknown t1 K B"),
     ("* a target that links itself", {"2.json": member(2, 2)}, b"target 2: K3 LinkedLater"),
     ("it comes before the files of the target", {"2.json": member(2, 2), "2.ddi": None}, b"target 2: K3 LinkedLater"),
@@ -87,7 +87,7 @@ REFUSED = [
      b"target 1: K3 LinkedLater"),
     ("* a target that is linked twice", {"1.json": member(1, 0, 0)}, b"target 1: M2 InfoTwice t0"),
     ("* a module that is not linked", {"2.json": member(2, 0)}, b"target 2: M5 ModuleUnknown K in main.o"),
-    ("of two infos of one name the latest is meant", NO_B | {"2.ddi": sources(b"main.o||B")},
+    ("of two info files of one name the latest is meant", NO_B | {"2.ddi": sources(b"main.o||B")},
      b"target 2: M5 ModuleUnknown B in main.o"),
     ("* a private module", {"0.json": PRIVATE_B}, b"target 1: M9 ModulePrivate B of l in object k.o"),
     ("a private module that nobody provides", {"0.json": member(0, more=GCC + b',"private":["B","X"]')},
@@ -108,9 +108,9 @@ REFUSED = [
     ("a rule without an object", {"0.ddi": b'{"version":1,"rules":[{}]}'}, b"target 0: scan 0: S4 NoPrimaryOutput rule 0"),
     ("an object twice", {"1.ddi": sources(b"k.o|K|B", b"k.o||")}, b"target 1: M1 ObjectTwice k.o"),
     ("an object and an info", {"1.ddi": sources(b"k.o|B|B")}, b"target 1: M3 ProvidedTwice B by object k.o and info t0"),
-    ("a ring", {"1.ddi": sources(b"x.o|X|Y", b"y.o|Y|X")}, b"target 1: M8 ImportCycle x.o -> y.o"),
-    ("a ring of edges of the second target", EDGED | {"0.edges": L_EDGES, "1.edges": RING}, b"target 1: cycle k.o -> gen.h"),
-    ("* a ring of edges",
+    ("a cycle", {"1.ddi": sources(b"x.o|X|Y", b"y.o|Y|X")}, b"target 1: M8 ImportCycle x.o -> y.o"),
+    ("a cycle of edges of the second target", EDGED | {"0.edges": L_EDGES, "1.edges": CYCLE}, b"target 1: cycle k.o -> gen.h"),
+    ("* a cycle of edges",
      {"2.json": member(2, 0, 1, more=GCC + b',"edges":"edges"'),
       "edges": edge(b"main.o: cxx gen.h || 2.dd", b"2.dd") + b"build gen.h: gen main.o\n"}, b"target 2: cycle main.o -> gen.h"),
     ("a faulty line of a listing", EDGED | {"0.edges": L_EDGES, "1.edges": b"rule cc\n"}, b"target 1: edges: line 1: E3 Form"),
@@ -140,7 +140,7 @@ DOCUMENTS = [
     ("version 2", b'{"targets":["0.json"],"version":2}', b"S2 BadVersion document"),
     ("version 0", b'{"targets":["0.json"],"version":0}', b"S2 BadVersion document"),
     ("version 2, before the list", b'{"targets":7,"version":2}', b"S2 BadVersion document"),
-    ("no version beside a list", b'{"targets":["0.json"]}', b"S2 BadVersion document"),
+    ("no version next to a list", b'{"targets":["0.json"]}', b"S2 BadVersion document"),
     ("no list", b'{"version":1}', b"S3 BadShape document member targets"),
     ("null for the list", b'{"targets":null,"version":1}', b"S3 BadShape document member targets"),
     ("a text for the list", b'{"targets":"0.json","version":1}', b"S3 BadShape document member targets"),
@@ -156,11 +156,11 @@ def given(others):
 
 def kind(why, text, fault):
     files = given({"project.json": text})
-    return refuses(why, CALL, files, b"project: " + fault) if fault else writes(why, CALL, files, WRITTEN)
+    return rejects(why, CALL, files, b"project: " + fault) if fault else writes(why, CALL, files, WRITTEN)
 
 
 ROWS = ([writes(why, CALL, given(others), written) for why, others, written in DONE]
-        + [refuses(why, CALL, given(others), line) for why, others, line in REFUSED]
+        + [rejects(why, CALL, given(others), line) for why, others, line in REJECTED]
         + [unread(why, CALL, given(others), name) for why, others, name in UNREAD]
         + [kind(*row) for row in DOCUMENTS]
         + [kind(*row) for row in of_kind(PROJECT["project.json"])])

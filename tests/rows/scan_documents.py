@@ -1,5 +1,5 @@
 """Scan documents, and what `one` prints (docs/FORMATS.md, "Paths" and "Scan documents")."""
-from tests.rows import V, prints, refuses, unread
+from tests.rows import V, prints, rejects, unread
 from tests.rows.documents import of_kind
 from tests.rows.forms import document, entries, sources, statement
 
@@ -126,7 +126,7 @@ COLLATED = [
     ("lists twice", b'{"rules":[{}],"version":1,"rules":[]}', b""),
     ("a path out of its work directory", document(b'{"primary-output":"../o/a.o","work-directory":"/w/b"}'),
      statement(b"/w/o/a.o")),
-    ("work directories that are relative, empty, or beside an absolute path",
+    ("work directories that are relative, empty, or next to an absolute path",
      document(b'{"primary-output":"a.o","work-directory":"../w"}', b'{"primary-output":"/x/y","work-directory":"/w"}',
               b'{"primary-output":"./a.o","work-directory":""}'),
      statement(b"../w/a.o") + statement(b"/x/y") + statement(b"a.o")),
@@ -160,11 +160,11 @@ COLLATED = [
 ]
 
 # why, the document, the directory and the extension of modules, the statements
-FOLDERS = [
-    ("* a folder of bytes that are escaped", sources(b"a.o|A|"), "my mods/$x:y", ".bmi",
+DIRECTORIES = [
+    ("* a directory of bytes that are escaped", sources(b"a.o|A|"), "my mods/$x:y", ".bmi",
      statement(b"a.o", b"my$ mods/$$x$:y/A.bmi")),
-    ("a folder of any bytes, and an ending", ONE, "my mods/$x:y", ".pcm", statement(b"obj/b.o", b"my$ mods/$$x$:y/B.pcm")),
-    ("files in order of provision, and no folder puts none before them",
+    ("a directory of any bytes, and an extension", ONE, "my mods/$x:y", ".pcm", statement(b"obj/b.o", b"my$ mods/$$x$:y/B.pcm")),
+    ("files in order of provision, and no directory puts none before them",
      document(b'{"primary-output":"./p//q.o","provides":[{"logical-name":"M:P"},{"logical-name":"A","is-interface":false}]}',
               b'{"primary-output":"m.o","provides":null,"requires":[]}'),
      "", ".bmi", statement(b"p/q.o", b"M-P.bmi A.bmi") + statement(b"m.o")),
@@ -211,10 +211,10 @@ COUNTS = [
 CALL = ["one", "t.ddi", "mod", ".bmi"]
 
 
-def answers(why, text, line):
-    """The refusal of a document, or where there is none its statements, which are none."""
+def outcome(why, text, line):
+    """The error of a document, or, if it has none, a dyndep file without statements."""
     files = {"t.ddi": text}
-    return refuses(why, CALL, files, b"scan 0: " + line) if line else prints(why, CALL, files, V)
+    return rejects(why, CALL, files, b"scan 0: " + line) if line else prints(why, CALL, files, V)
 
 
 def object_at(path, folder):
@@ -233,22 +233,22 @@ def unescaped(name):
     return name.replace(b"\\u0061", b"a")
 
 
-ROWS = ([answers(*row) for row in DOCUMENTS]
-        + [answers(why, document(rule), line) for why, rule, line in RULES]
-        + [answers(f"{path[:20]} in {folder}", object_at(path, folder), b"S7 BadPath rule 0 " + fault)
+ROWS = ([outcome(*row) for row in DOCUMENTS]
+        + [outcome(why, document(rule), line) for why, rule, line in RULES]
+        + [outcome(f"{path[:20]} in {folder}", object_at(path, folder), b"S7 BadPath rule 0 " + fault)
            for path, folder, fault in PATHS]
         + [prints(why, CALL, {"t.ddi": text}, V + out) for why, text, out in COLLATED]
         + [prints(why, ["one", "t.ddi", folder, ending], {"t.ddi": text}, V + out)
-           for why, text, folder, ending, out in FOLDERS]
+           for why, text, folder, ending, out in DIRECTORIES]
         + [prints(f"the name {name[:20]}", CALL, providing(name), V + statement(b"a.o", b"b")) for name in NAMES]
-        + [refuses(f"no name {name[:20]}", CALL, providing(name), b"scan 0: S6 BadName rule 0 provides 0") for name in NO_NAMES]
-        + [refuses(f"the name {name[:20]} required", CALL, requiring(name), b"M5 ModuleUnknown %s in a.o" % unescaped(name))
+        + [rejects(f"no name {name[:20]}", CALL, providing(name), b"scan 0: S6 BadName rule 0 provides 0") for name in NO_NAMES]
+        + [rejects(f"the name {name[:20]} required", CALL, requiring(name), b"M5 ModuleUnknown %s in a.o" % unescaped(name))
            for name in NAMES]
-        + [refuses(f"no name {name[:20]} required", CALL, requiring(name), b"scan 0: S6 BadName rule 0 requires 0")
+        + [rejects(f"no name {name[:20]} required", CALL, requiring(name), b"scan 0: S6 BadName rule 0 requires 0")
            for name in NO_NAMES]
-        + [answers(f"cut to {size} bytes", ONE[:size], b"S1 NotJson document") for size in range(1, len(ONE))]
-        + [refuses(why, CALL, {"t.ddi": text}, line) for why, text, line in COUNTS]
+        + [outcome(f"cut to {size} bytes", ONE[:size], b"S1 NotJson document") for size in range(1, len(ONE))]
+        + [rejects(why, CALL, {"t.ddi": text}, line) for why, text, line in COUNTS]
         + [prints("as many rules as may be", CALL, {"t.ddi": lambda: rules(COUNT)},
                   V + b"".join(statement(b"%d.o" % it) for it in range(COUNT)))]
-        + [answers(*row) for row in of_kind(EMPTY)]
+        + [outcome(*row) for row in of_kind(EMPTY)]
         + [unread("* no file", CALL, {}, b"t.ddi")])

@@ -1,6 +1,6 @@
 """Target documents with the files that they name, and what `collate` prints and writes (docs/FORMATS.md, "Target documents",
-"Module maps" and "Lines that the program prints"). Errors of info files and modules are in infos.py and modules.py."""
-from tests.rows import V, Row, refuses, unread, writes
+"Module maps" and "Lines that the program prints"). Errors of info files and modules are in `infos.py` and `modules.py`."""
+from tests.rows import V, Row, rejects, unread, writes
 from tests.rows.documents import MEGABYTE, of_kind
 from tests.rows.dyndep_files import ONE as ONE_STATEMENT, TWO as TWO_STATEMENTS
 from tests.rows.forms import document, edge, info, module, sources, statement, target
@@ -87,7 +87,7 @@ WRITTEN = [
     ("paths below the build directory are relative to it", b',"scans":["a.ddi"],"build-dir":"/w"',
      {"a.ddi": document(WORK % (b"../o/a.o", b"/w/b"), b'{"primary-output":"/w/o/b.o"}')},
      {"t.json": NO_MODULES, "t.dd": V + statement(b"o/a.o") + statement(b"o/b.o")}),
-    ("paths beside the build directory, at it, and above it", b',"scans":["a.ddi"],"build-dir":"/w/b"',
+    ("paths next to the build directory, at it, and above it", b',"scans":["a.ddi"],"build-dir":"/w/b"',
      {"a.ddi": document(b'{"primary-output":"/w/bc/x"}', b'{"primary-output":"/w/b"}', b'{"primary-output":"/w"}',
                         b'{"primary-output":"/w/./b/x/../y"}', b'{"primary-output":"w/b/x"}', WORK % (b"obj/a.o", b"/w/b"))},
      {"t.json": NO_MODULES, "t.dd": V + b"".join(map(statement, (b"/w/bc/x", b"/w/b", b"/w", b"y", b"w/b/x", b"obj/a.o")))}),
@@ -124,8 +124,8 @@ DOCUMENTS = [
     ("a document that is begun", b"{", b"S1 NotJson document"),
     ("another version comes before the name", b'{"version":2,"target":7}', b"S2 BadVersion document"),
     ("no name", b'{"version":1}', b"S3 BadShape document member target"),
-    ("a faulty name comes before the folder", b'{"version":1,"target":"\\n"}', b"S6 BadName document"),
-    ("no folder", b'{"version":1,"target":"t"}', b"S3 BadShape document member module-dir"),
+    ("a faulty name comes before the directory", b'{"version":1,"target":"\\n"}', b"S6 BadName document"),
+    ("no directory", b'{"version":1,"target":"t"}', b"S3 BadShape document member module-dir"),
     ("no ending", b'{"version":1,"target":"t","module-dir":""}', b"S3 BadShape document member module-ext"),
     ("a faulty name in private comes before the dyndep file",
      b'{"version":1,"target":"t","module-dir":"","module-ext":"","private":["a b"]}', b"S6 BadName document"),
@@ -157,10 +157,10 @@ def naming(scans, linked, more=b',"map":"clang"'):
 
 
 # why, the members, the files that they name, the line of the error
-REFUSED = [
-    ("scan documents come before infos", b',"scans":["a","b"],"linked":["c","d"]',
+REJECTED = [
+    ("scan documents come before info files", b',"scans":["a","b"],"linked":["c","d"]',
      {"a": TWO, "b": S4, "c": b"", "d": b""}, b"scan 1: S4 NoPrimaryOutput rule 0"),
-    ("infos come before the modules", b',"scans":["a","b"],"linked":["c","d"]',
+    ("info files come before the modules", b',"scans":["a","b"],"linked":["c","d"]',
      {"a": TWO, "b": TWO, "c": L_INFO, "d": b'{"version":3}'}, b"info 1: S2 BadVersion document"),
     ("a scan document comes before an info", naming(b'"two.ddi","begun"', b'"l.json","begun"'), ALL,
      b"scan 1: S1 NotJson document"),
@@ -168,11 +168,11 @@ REFUSED = [
      b"info 1: S1 NotJson document"),
     ("an info's version comes before the maps", naming(b'"two.ddi","unfit.ddi"', b'"v3.json"'), ALL,
      b"info 0: S2 BadVersion document"),
-    ("objects come before infos that are linked twice", naming(b'"two.ddi","two.ddi"', b'"l.json","l.json"'), ALL,
+    ("objects come before info files that are linked twice", naming(b'"two.ddi","two.ddi"', b'"l.json","l.json"'), ALL,
      b"M1 ObjectTwice a.o"),
     ("modules come before the maps", naming(b'"unfit.ddi","m.ddi"', b'"k.json","l.json"'), ALL, b"M7 InfoDisagrees k K B"),
     ("* an info twice", b',"scans":["m.ddi"],"linked":["l.json","l.json"]', LINKED, b"M2 InfoTwice l"),
-    ("infos that are linked twice come before the maps", naming(b'"unfit.ddi","m.ddi"', b'"l.json","l.json"'), ALL,
+    ("info files that are linked twice come before the maps", naming(b'"unfit.ddi","m.ddi"', b'"l.json","l.json"'), ALL,
      b"M2 InfoTwice l"),
     ("a path comes before two modules", naming(b'"unfit.ddi"', b""), ALL, b"K1 MapPath my mods/A.bmi"),
     ("a path with a space in GCC's map", b',"scans":["a.ddi"],"map":"gcc"', UNFIT_A, b"K1 MapPath my mods/A.bmi"),
@@ -210,7 +210,7 @@ REFUSED = [
 # why, the members, the files that are there, the file that cannot be read
 UNREAD = [
     ("the first of two", LINKS, {}, b"m.ddi"),
-    ("a scan document before infos", LINKS, {"l.json": L_INFO}, b"m.ddi"),
+    ("a scan document before info files", LINKS, {"l.json": L_INFO}, b"m.ddi"),
     ("an info before any document is looked at", LINKS, {"m.ddi": b""}, b"l.json"),
     ("no listing of edges", b',"scans":["two.ddi"],"edges":"t.edges"', {"two.ddi": TWO}, b"t.edges"),
     ("control bytes in a file's name", b',"scans":["a\\u0001\\tb\\u007f\\n"]', {}, b"a??b??"),
@@ -245,29 +245,29 @@ def given(members, files):
 
 
 def kind(why, text, fault):
-    """A target document that is refused, or else taken as LINKED."""
+    """A target document that is rejected, or otherwise taken as LINKED."""
     files = LINKED | {"t.target.json": text}
-    return refuses(why, CALL, files, b"target: " + fault) if fault else writes(why, CALL, files, LINKED_FILES)
+    return rejects(why, CALL, files, b"target: " + fault) if fault else writes(why, CALL, files, LINKED_FILES)
 
 
 def listed(why, listing, line):
     files = given(EDGES, {"two.ddi": TWO, "t.edges": listing})
-    return refuses(why, CALL, files, line) if line else writes(why, CALL, files, EDGED)
+    return rejects(why, CALL, files, line) if line else writes(why, CALL, files, EDGED)
 
 
 ROWS = ([writes(why, CALL, given(members, files), written) for why, members, files, written in WRITTEN]
-        + [refuses(why, CALL, given(members, files), line) for why, members, files, line in REFUSED]
-        + [refuses(why, CALL, given(b"," + members, {}), b"target: " + line) for why, members, line in MEMBERS]
-        + [refuses(why, CALL, {"t.target.json": text}, b"target: " + line) for why, text, line in DOCUMENTS]
+        + [rejects(why, CALL, given(members, files), line) for why, members, files, line in REJECTED]
+        + [rejects(why, CALL, given(b"," + members, {}), b"target: " + line) for why, members, line in MEMBERS]
+        + [rejects(why, CALL, {"t.target.json": text}, b"target: " + line) for why, text, line in DOCUMENTS]
         + [unread(why, CALL, given(members, files), name) for why, members, files, name in UNREAD]
         + [unread("* no target document", CALL, {}, b"t.target.json")]
         + [listed(*row) for row in LISTINGS]
-        + [refuses("a refusal comes before the edges", CALL, given(EDGES, {"two.ddi": S4, "t.edges": b"rule"}),
+        + [rejects("an error comes before the edges", CALL, given(EDGES, {"two.ddi": S4, "t.edges": b"rule"}),
                    b"scan 0: S4 NoPrimaryOutput rule 0"),
            Row("control bytes in the name of a file that cannot be written", CALL,
                given(LINKS + b',"info":"none\\u001b/t\\u007f"', LINKED), 3, b"", b"cannot write none?/t?", {})]
         + [writes(f"the name {name[:20]}", CALL, given(b',"target":"%s"' % name, {}),
                   {"t.json": NO_MODULES.replace(b'"t"', b'"%s"' % name), "t.dd": V}) for name in NAMES]
-        + [refuses(f"no name {name[:20]}", CALL, given(b',"target":"%s"' % name, {}), b"target: S6 BadName document")
+        + [rejects(f"no name {name[:20]}", CALL, given(b',"target":"%s"' % name, {}), b"target: S6 BadName document")
            for name in NO_NAMES]
         + [kind(*row) for row in of_kind(target(LINKS))])
