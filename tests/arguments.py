@@ -1,4 +1,4 @@
-"""The words of a call: which are proper, what each means, and which file is read."""
+"""Command lines: which are valid, what each argument means, and which file is read."""
 import os
 import unittest
 
@@ -9,13 +9,13 @@ from tests.run import run, run_as_bytes
 
 
 @each(rows.ROWS, lambda row: row.name)
-class Words(Case):
-    """Calls of these words."""
+class CommandLines(Case):
+    """Calls with these arguments."""
 
 
 class Script(Case):
     @unittest.skipIf("DYNCOLLATE" in os.environ, "another program is to be tested than the one that is built here")
     def test_dyncollate_at_the_top(self):
-        """The script at the top calls the program, which has to be current: the script would build it else."""
+        """The script at the top calls the program, which has to be current: otherwise the script would build it."""
         self.assertEqual(run(f"{TOP}/build", "--is-current"), (0, ""), "the program is not current; ./build makes it")
         self.same(run_as_bytes(f"{TOP}/dyncollate"), USAGE)

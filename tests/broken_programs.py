@@ -77,7 +77,7 @@ WORDS = [
            "arguments", "an_option"),
     Broken("-- kept as an argument", with_words('[ "$word" != -- ] || set -- "$@" --; set -- "$@" "$word"'),
            "arguments", "an_option_after"),
-    Broken("surplus arguments dropped", called_with("show|order|collate|project", '"$1" "$2"'), "arguments", "a_word_too_many"),
+    Broken("surplus arguments dropped", called_with("show|order|collate|project", '"$1" "$2"'), "arguments", "an_argument_too_many"),
     Broken("capitals in arguments ignored", with_words('set -- "$@" "$(printf %s "$word" | tr A-Z a-z)"'),
            "arguments", "a_command_in_capitals"),
     Broken("bytes that are not UTF-8 dropped", with_words('set -- "$@" "$(printf %s "$word" | LC_ALL=C tr -d "\\200-\\377")"'),

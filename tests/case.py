@@ -1,4 +1,4 @@
-"""Tests in their own directories, which call the program and compare its status, what it prints, and the files that are left."""
+"""Tests in their own directories, which call the program and compare its status, its output, and the files after the run."""
 import os
 import re
 import tempfile

@@ -304,7 +304,7 @@ class NinjaFiles(Case):
         self.restores()
 
     def test_strange_names(self):
-        """The words of the commands come out of Ninja and the shell as they are meant."""
+        """Ninja and the shell pass the arguments of the commands on unchanged."""
         build = "a 'b' && $c --after-cmake"
         self.lay(build)
         self.adopt(build)
@@ -780,7 +780,7 @@ class Steps(Case):
 # ---- Ninja for builds that are always adopted
 
 class Hook(Case):
-    """dyncollate-ninja, with a program in place of Ninja that prints its words."""
+    """dyncollate-ninja, with a program in place of Ninja that prints its arguments."""
 
     def setUp(self):
         super().setUp()

@@ -62,7 +62,7 @@ def title(situation):
 
 
 class Devices(Case):
-    """Its tests are situations."""
+    """Its tests are pairs of a method and a row."""
 
     def check(self, situation):
         method, it = situation
@@ -74,7 +74,7 @@ class Devices(Case):
         self.same(self.caller.run(*it.words, **given), wanted, what)
 
     def leaves(self, it, wanted, what="", **given):
-        """The call of a row, whose files are laid again, prints this and leaves those of the row, and what it writes."""
+        """The call of a row, after its files are written again, prints this, and then there are the files of the row and those that it writes."""
         lay(it.files)
         before = tree()
         self.same((self.caller.run(*it.words, **given), tree()), (wanted, before | it.made()), what)
@@ -402,7 +402,7 @@ NO_FILES = [".", "folder", "/", "", "loop", "dangling", "none", "folder/none", "
 
 @each(CALLS, lambda call: call[0])
 class Names(Devices):
-    """Words that name devices, directories and links, and names that no file can have."""
+    """Names of devices, directories and links, and names that no file can have."""
 
     def check(self, call):
         os.symlink("loop", "loop")

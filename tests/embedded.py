@@ -1,5 +1,5 @@
 """libdyncollate, which `./build library` leaves in crates/c_library/out, or in the directory that the environment names as LIBRARY; and
-what a function of it is given for a row."""
+the arguments of its functions for a row."""
 import functools
 import importlib
 import os
@@ -40,7 +40,7 @@ def module(name="dyncollate"):
 
 
 def calls():
-    """What the package calls the library by."""
+    """The module of the package that calls the library."""
     return module("dyncollate._library")
 
 
@@ -64,8 +64,8 @@ def is_asked(row):
 
 
 def given(row):
-    """What the function of a row's command is given: strings of bytes, and for files a dictionary. A document may name a file in
-    another way than the row does, and is given it so."""
+    """The arguments of the function for a row's command: strings of bytes, and a dictionary for files. A file is also in it by the name
+    that a document uses, if the row uses another form of it."""
     files = row.texts()
     files |= {f"./{name}": text for name, text in files.items() if any(b'"./%s"' % name.encode() in it for it in files.values())}
     passed = [files[word] if is_opened(row, index) else os.fsencode(word) for index, word in enumerate(arguments(row))]

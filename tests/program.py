@@ -33,7 +33,7 @@ def needs(product):
 
 
 class Caller:
-    """Calls a program; what it prints goes to two files that are read and emptied after each call."""
+    """Calls a program. Its output goes to two files, which are read and emptied after each call."""
 
     def __init__(self, program=PROGRAM):
         self.program = program
@@ -43,8 +43,8 @@ class Caller:
 
     def begin(self, *words, out=None, err=None, others=(), closed=(), signals=(), **more):
         """Begins a run. Standard output and standard error may go to other files, other files may be open under their numbers,
-        and files 0 to 2 may be closed. These signals have their usual effect, some of which Python turns off. The environment
-        has these variables more."""
+        and files 0 to 2 may be closed. These signals have their usual effect, also if Python ignores them. `more` are additional
+        variables of the environment."""
         files = [(os.POSIX_SPAWN_OPEN, 0, "/dev/null", os.O_RDONLY, 0),
                  (os.POSIX_SPAWN_DUP2, self.out if out is None else out, 1),
                  (os.POSIX_SPAWN_DUP2, self.err if err is None else err, 2)]
@@ -77,7 +77,7 @@ os.register_at_fork(after_in_child=caller.cache_clear)
 
 
 def emptied(file):
-    """What a file has, which is empty afterwards."""
+    """Returns the bytes of a file, and empties it."""
     text = os.pread(file, os.fstat(file).st_size, 0)
     if text:
         os.ftruncate(file, 0)
@@ -87,8 +87,8 @@ def emptied(file):
 
 @functools.lru_cache(None)
 def library(source):
-    """The name of a library that is made of a C file here, to be loaded before the C library. It is in memory as long as this
-    process."""
+    """Compiles a C file here to a library that can be loaded before the C library. Returns its name, which is valid as long as
+    this process runs."""
     with tempfile.TemporaryDirectory() as folder:
         output_of(f"{TOP}/tests/preload", f"{TOP}/tests/{source}", f"{folder}/library.so")
         file = os.memfd_create(source)

@@ -20,7 +20,7 @@ running = []
 
 
 class Outcomes(unittest.TestResult):
-    """What came of a test, in a form that another process can take: the name of a method of a result, and a text."""
+    """The outcomes of a test, in a form that another process can read: the name of a method of a result, and a text."""
 
     def __init__(self):
         super().__init__()
@@ -45,14 +45,14 @@ class Outcomes(unittest.TestResult):
 
 
 def outcomes_of(number):
-    """What comes of a test, with what its class and its module set up for it."""
+    """Runs a test, with what its class and its module set up for it. Returns its outcomes."""
     outcomes = Outcomes()
     unittest.TestSuite([running[number]])(outcomes)
     return outcomes.found or [("addError", "the test ended without an outcome")]
 
 
 def report(result, test, found):
-    """Tells a result what came of a test elsewhere."""
+    """Adds the outcomes of a test that ran in another process to a result."""
     result.startTest(test)
     for method, text in found:
         if method == "addSuccess":
@@ -65,7 +65,7 @@ def report(result, test, found):
 
 
 def count(result):
-    """Prints what came of all tests, as the last line of the process, and writes it to the file RESULTS."""
+    """Prints the counts of all tests, as the last line of the process, and writes them to the file RESULTS."""
     failed = len(result.failures) + len(result.errors) + len(result.unexpectedSuccesses)
     counts = {"passed": result.testsRun - failed - len(result.skipped), "failed": failed,
               "skipped": {test.id(): reason for test, reason in result.skipped}}
@@ -85,7 +85,7 @@ def flat(suite):
 
 
 class SideBySide(unittest.TestSuite):
-    """Its tests run in no order, but that those begin first whose attribute `seconds`, about what they take, is greatest. What
+    """The tests that take longest, by their attribute `seconds`, begin first; otherwise their order is arbitrary. What
     a class or a module sets up is set up for each of its tests."""
 
     def run(self, result, debug=False):
@@ -127,7 +127,7 @@ def what_runs(futures):
 
 
 def in_turn(ended, futures):
-    """The futures as they end, with a line every some seconds on how far they are and what runs."""
+    """Yields the futures as they end, and reports every few seconds how many have ended, and what runs."""
     began = said = time.monotonic()
     for number in range(len(futures)):
         while True:

@@ -22,7 +22,7 @@ def worked():
 
 class Tables(unittest.TestCase):
     def test_no_row_is_there_twice(self):
-        """No two rows have the same words and the same files."""
+        """No two rows have the same arguments and the same files."""
         known, twice = {}, []
         for row in all_rows():
             files = ((name, hashlib.sha256(text).digest()) for name, text in sorted(row.texts().items()))

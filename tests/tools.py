@@ -33,7 +33,7 @@ def of_versions(name, *versions):
     return [f"{name}-{it}" for it in versions] + [name]
 
 
-# The package of each tool, the names that it may have, and whether a command is one that does.
+# The package of each tool, the names that it may have, and a function that checks whether a command works.
 TOOLS = {
     "ninja": ("ninja-build", ["ninja", "ninja-build"], lambda command, _: True),
     "clang": ("clang-19", of_versions("clang++", 19, 18, 17, 16, 20, 21), makes_modules),
@@ -56,6 +56,6 @@ def tool(name):
 
 @functools.lru_cache(None)
 def version(name):
-    """The version of a tool, as numbers; those of another are to be compared with it."""
+    """The version of a tool, as numbers that can be compared."""
     text = run(tool(name), "-dumpfullversion" if name == "gcc" else "--version")[1]
     return tuple(map(int, re.search(r"\d+(\.\d+)+", text)[0].split(".")))
