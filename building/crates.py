@@ -1,4 +1,4 @@
-"""The crates of crates.txt, what is made of each, and whether that is current."""
+"""The crates of crates.txt, the products of each, and whether they are current."""
 import contextlib
 import fcntl
 import graphlib

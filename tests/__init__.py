@@ -13,19 +13,19 @@ import unittest
 def has_tests(module):
     """Whether a module defines a class with tests of its own."""
     classes = [it for it in vars(module).values() if isinstance(it, type) and it.__module__ == module.__name__]
-    # (not the default loader, which finds only those that -k selects)
+    # (The default loader finds only the tests that -k selects.)
     return any(issubclass(it, unittest.TestCase) and unittest.TestLoader().getTestCaseNames(it) for it in classes)
 
 
-def modules():
+def modules_with_tests():
     """All modules with tests, in the order of their names."""
     names = sorted(it.stem for it in pathlib.Path(__file__).parent.glob("*.py") if it.stem != "__init__")
     return [it for it in (importlib.import_module(f"tests.{name}") for name in names) if has_tests(it)]
 
 
 def load_tests(loader, *_):
-    """The tests of all modules, some at a time: with TESTS=library those of libdyncollate, with TESTS=program all others."""
+    """The tests of all modules. With TESTS=library only the tests of libdyncollate, with TESTS=program all others."""
     from tests.side_by_side import SideBySide
     wanted = os.environ.get("TESTS")
-    return SideBySide(loader.loadTestsFromModule(it) for it in modules() if not hasattr(it, "RUN_BY")
+    return SideBySide(loader.loadTestsFromModule(it) for it in modules_with_tests() if not hasattr(it, "RUN_BY")
                       if wanted not in ("library", "program") or hasattr(it, "NEEDS_LIBRARY") == (wanted == "library"))

@@ -13,8 +13,8 @@ from tests.side_by_side import SideBySide
 
 NEEDS_LIBRARY = True
 
-# The tests that a library without a fault passes, though it accepts no input, and how the libraries are broken that they catch. The last
-# three see that it accepts no input.
+# Tests that pass with a library that works but accepts no input, and the broken libraries that they catch. The last three notice that it
+# accepts no input.
 BROKEN = {
     "library.InC.test_each_allocation_fails": ["A_LEAK", "A_LEAK_IF_AN_ALLOCATION_FAILS", "A_BYTE_BEFORE_THE_ROOM"],
     "library.InC.test_threads": ["A_BYTE_AFTER_THE_INPUT"],

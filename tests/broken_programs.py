@@ -49,7 +49,7 @@ def called_with(pattern, words):
 
 
 PRINTING = [
-    Broken("what it prints on standard error", f"exec {CALL} >&2", "arguments", "names_a_file"),
+    Broken("output on standard error", f"exec {CALL} >&2", "arguments", "names_a_file"),
     Broken("errors on standard output", f"exec {CALL} 2>&1", "arguments", "no_command"),
     Broken("no line for an error", f"exec {CALL} 2> /dev/null", "arguments", "no_command"),
     Broken("an error line without its end", filtered("err", "tr -d '\\n'"), "arguments", "no_command"),
@@ -124,7 +124,7 @@ CALLS = [
     Broken("a file written if memory runs out", "a_file_without_memory", "growths.Program", "show_two"),
 ]
 
-# what a run of `collate` leaves besides what it has to write
+# files that a run of `collate` writes or removes and should not
 LEFT = [
     Broken("a file of its own left", f"{CALL}; status=$?; : > t.tmp; exit $status", "arguments", "no_command"),
     Broken("a file written though it is rejected", ended(1, ": > t.dd"), "targets", "S1"),

@@ -426,7 +426,7 @@ class Changes(Made):
 
 class Copies(Made):
     def copy(self):
-        """A copy, of which all files have new times."""
+        """A copy whose files all have new times."""
         time.sleep(0.02)
         to = self.room / "copy"
         shutil.copytree(self.top, to, copy_function=shutil.copy)
@@ -588,7 +588,7 @@ class Policy(unittest.TestCase):
 
 
 class Old(InRoom):
-    """A run of tests stops if the program or the library is older than its sources, of which ./build knows."""
+    """A run of tests stops if ./build says that the program or the library is older than its sources."""
 
     def setUp(self):
         super().setUp()

@@ -120,7 +120,7 @@ class Directory(unittest.TestCase):
         self.assertEqual(self.steps("COMPILE"), [])
 
     def reports(self, fault):
-        """A run fails, compiles nothing, and has the line of this fault of the target app."""
+        """A run fails, compiles nothing, and prints the line of this error of the target app."""
         self.fails()
         self.assertIn(f"dyncollate: {fault}", self.log.splitlines())
 
@@ -198,7 +198,7 @@ class Built:
         self.fail(f"{sorted(left)}: other bytes than by hand")
 
     def test_a_collation_alone(self):
-        """In a directory with nothing but the files that it has to read, and without environment, it writes the same bytes."""
+        """In a directory that has only the files that it reads, and without an environment, it writes the same bytes."""
         targets = sorted(it.name.removesuffix(".target.json") for it in Path("dd").glob("*.target.json"))
         if self.form == "project":
             return self.collate_alone("project", "dd/project.json", targets)
@@ -253,7 +253,7 @@ class Single:
         edit("src/main.cpp", r"^(import geometry;)", r"\1\nimport units;")
         edit("src/main.cpp", r"print\(area(.*)\); \}", r"print(scaled(area\1)); }")
 
-    def test_a_turned_import(self):
+    def test_a_reversed_import(self):
         """Both sources are compiled, and their users."""
         self.reverse_import()
         self.makes("60")
@@ -354,7 +354,7 @@ class Libs:
         self.makes("42")
 
 
-# Each example, what it is tested for besides, and the forms of manifests that it is built by.
+# Each example, the class with its own tests, and the forms of manifests that build it.
 BUILT = {"single": (Single, ["clang", "gcc", "project"]), "libs": (Libs, ["clang", "gcc", "project"])}
 
 for one, (changes, forms) in BUILT.items():
@@ -449,7 +449,7 @@ class WithClang(Directory):
         self.assertEqual(len(re.findall(r"^\[", self.log, re.M)), 4, "all three sources, and the link")
 
     def test_a_scan_by_the_compilation_database(self):
-        """It says the same as those of each source."""
+        """It says the same as the scans of each source."""
         if version("scanner") < (17,):
             self.skipTest("a scanner that reads response files in a database: not there")
         self.copy("single", "clang")
@@ -512,7 +512,7 @@ class GuideCommands(Directory):
                 for it in re.findall("^ *```sh\n(.*?)^ *```$", section, re.M | re.S)]
 
     def prints(self, *commands):
-        """The commands succeed, one after the other in one shell, and print this at last."""
+        """The commands succeed, one after the other in one shell, and print this at the end."""
         status, out = run("bash", "-ec", "\n".join(commands), env=self.environment)
         self.assertEqual(status, 0, out)
         return out.splitlines()
@@ -548,7 +548,7 @@ class GuideCommands(Directory):
 PARTS = "d/" * 60
 V = "ninja_dyndep_version = 1\n"
 
-# Who takes a dyndep file, why it is looked at, and its text. The edge of `o` names it, and an edge makes `n`. Where Ninja 1.11
+# Who takes a dyndep file, why it is tested, and its text. The edge of `o` names it, and an edge makes `n`. If Ninja 1.11
 # does not take what later versions do, that is 1.11.
 READERS = [
     ("both", "one statement", V + "build o: dyndep | in\n"),

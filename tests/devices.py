@@ -237,7 +237,7 @@ class Files(Devices):
         self.assertEqual(status, 0, printed)
 
 
-# ---- files that vanish, and names that are not those of files
+# ---- files that vanish, and names of things that are not files
 
 class Piped:
     """Meanwhile a file is a pipe. Its bytes are given in pieces, and something is done before the last one ends."""

@@ -34,7 +34,7 @@ class Rights(Case):
     row = next(it for it in ROWS if it.written)
 
     def run_under(self, mask, earlier=()):
-        """The rights of the files that a run writes; those that are there before have these rights."""
+        """The rights of the files that a run writes, if earlier files have these rights."""
         lay(self.row.texts())
         for name in earlier:
             write(name, EARLIER)

@@ -1,4 +1,4 @@
-"""dyncollate-explain: for each error of a document, of modules, edges, maps and files, which file it names and what it says."""
+"""dyncollate-explain: for each error of a document, of modules, edges, maps and files, which file it names and what it says about it."""
 import contextlib
 import gzip
 import io
@@ -278,7 +278,7 @@ class Manual(Case):
         self.assertEqual(set(listed) - explained, of_paths_and_lines | of_other_commands)
 
     def test_as_it_is_printed(self):
-        """The texts are those that mandoc prints."""
+        """mandoc prints the same texts."""
         if not shutil.which("mandoc"):
             self.skipTest("mandoc: not there")
         printed = re.sub(r".\x08", "", output_of("mandoc", "-T", "utf8", "-O", "width=999", TOP / "docs/dyncollate.1"))

@@ -120,7 +120,7 @@ class CollatedWithout(Real):
         name, target = it
         self.lay(name)
         text = document(TARGET % target)
-        # the info files are read from a directory of their own, so that dd has what is written and nothing else
+        # the info files are read from a directory of their own, so that dd has only the files that are written
         linked = ["in/" + os.path.basename(info) for info in text["linked"]]
         for info in text["linked"]:
             write("in/" + os.path.basename(info), read("expected/" + info))

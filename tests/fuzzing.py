@@ -34,7 +34,7 @@ JUMP = re.compile(r"(?:j\w+|call) +([0-9a-f]+) <")
 
 
 def encoded(row):
-    """The strings that the function of a row is given, as the targets read them."""
+    """The arguments of the function for a row, as the targets read them."""
     *strings, files = embedded.given(row) + [{}] * (row.words[0] not in ("collate", "project"))
     for name, text in files.items():
         strings += [name.encode(), text]

@@ -15,7 +15,7 @@ from tests.tools import of_versions, tool, version
 
 GENERATE = TOP / "examples/generate"
 
-# Why a list is wrong, the list, and what is said of it.
+# Why a list is wrong, the list, and the message.
 FAULTY = [
     ("a misspelt kind", "libary a a.cpp", "line 1 of the list: there is no kind libary"),
     ("a kind alone", "# a comment\n\nlibrary", "line 3 of the list: a library needs a name of letters, digits, and _ . + -"),
@@ -109,7 +109,7 @@ class Lists(Directory):
         for words in [], ["clang", "a", "b"], ["msvc"]:
             self.assertEqual(self.says(*words), (1, usage))
 
-    def test_each_linked_library_is_looked_at_once(self):
+    def test_each_linked_library_is_visited_once(self):
         """40 layers of two libraries, each linking both of the layer below: 2 ** 40 ways lead down."""
         layers = [f"library {side}{number} {side}.cpp -- {f'l{number - 1} r{number - 1}' if number else ''}"
                   for number in range(40) for side in "lr"]
@@ -191,7 +191,7 @@ class OutOfSource:
                 Path("../src/math", name).write_text(before[name])
 
     def test_the_list_has_changed(self):
-        """Ninja writes the manifest again, and compiles what is new."""
+        """Ninja writes the manifest again, and compiles the new sources."""
         self.begin()
         self.makes("42")
         Path("../src/app/more.cpp").write_text("int more() { return 1; }\n")

@@ -67,7 +67,7 @@ def test_names(crate):
 
 
 def is_current(tests):
-    """Whether these tests, which `rt ci` or `rt test` built, are those of the sources."""
+    """Whether these tests, which `rt ci` or `rt test` built, are newer than the sources."""
     if not os.access(tests, os.X_OK):
         return False
     return not output_of("find", f"{TOP}/crates", f"{TOP}/crates.txt", "-name", "out", "-prune", "-o", "-type", "f",
@@ -75,7 +75,7 @@ def is_current(tests):
 
 
 def tests_of(crate):
-    """The program of the crate's tests, which the gate or `rt test` makes, or None if it is not that of the sources."""
+    """The program of the crate's tests, which the gate or `rt test` makes, or None if it is older than the sources."""
     tests = f"{TOP}/crates/{crate}/out/{crate}_tests"
     return tests if is_current(tests) else None
 

@@ -66,7 +66,7 @@ class Install(releases.Released):
                          (1, "", f"install: nothing is installed there: there is no {record}\n"))
 
     def test_links_of_installed_pages(self):
-        """They lead to what is installed, and so do the names of files in the manual."""
+        """They lead to installed files, and so do the names of files in the manual."""
         prefix = self.room / "pages"
         self.assertEqual(call(self.home / "install", prefix)[0], 0)
         links = [(page, name) for page in (prefix / "share/doc/dyncollate").iterdir()

@@ -1,4 +1,4 @@
-"""libdyncollate against the program: each row is asked of the shared object, by the Python package. And what a call
+"""libdyncollate against the program: each row is a call of the shared object, by the Python package. And what a call
 does if there is too little room, if an allocation fails, if it is misused, and on several threads."""
 import ctypes
 import os
@@ -111,7 +111,7 @@ class Rooms(unittest.TestCase):
 
 
 SURROGATE, OVERLONG = b"\xed\xa0\x80", b"\xc0\xaf"
-# why, a call that is misused, and one next to it that is not: the command and what it is given, or for files their lengths and text
+# the reason, a misuse, and a similar call that is valid: the command and its arguments, or for files their lengths and text
 MISUSES = [
     ("an odd number of lengths", ("collate", b"{}", [1], b"a"), ("collate", b"{}", [1, 0], b"a")),
     ("lengths that end early", ("collate", b"{}", [1, 1], b"abc"), ("collate", b"{}", [1, 2], b"abc")),

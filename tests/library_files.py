@@ -104,7 +104,7 @@ class Linked(unittest.TestCase):
             self.assertEqual(output_of(built).split(), [str(10000 * major + 100 * minor + patch)] * 2)
 
     def test_calls(self):
-        """Neither a file nor a socket nor a clock: nothing but the heap."""
+        """Only the heap: no file, socket or clock."""
         called = {line.split()[-1] for line in output_of("nm", "-u", embedded.STATIC).splitlines() if line.startswith(" ")}
         self.assertTrue({"malloc", "free"} <= called <= CALLED, called)
 

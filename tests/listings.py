@@ -10,7 +10,7 @@ class Listings(Case):
 
 
 class Graph:
-    """A graph of up to three nodes, of which each bit of a number is a need."""
+    """A graph of up to three nodes. Each bit of a number is a need."""
 
     def __init__(self, count, bits):
         self.nodes = range(count)

@@ -1,4 +1,4 @@
-"""Modules of a target and of those that it links: faults, and what an object needs through others."""
+"""Modules of a target and of the targets that it links: errors, and the modules that an object needs through others."""
 from tests.case import Case, each, lay, read
 from tests.rows import V
 from tests.rows import modules as rows
@@ -65,7 +65,7 @@ class Long(Case):
     seconds = 2
 
     def test_needs_of_a_thousand_objects_in_layers(self):
-        """Each but those of the lowest of ten layers requires two of the layer below."""
+        """Each module of a layer, except the lowest of ten, requires two of the layer below."""
         collate(self, {"s.ddi": document(*map(layered, range(COUNT)))}, b',"scans":["s.ddi"],"map":"gcc"')
         for number in range(COUNT):
             wanted = [number] + sorted(reached(number), reverse=True)

@@ -1,4 +1,4 @@
-"""The Python package: what it is given and raises, its types, and its wheels, which are installed in a virtual environment."""
+"""The Python package: its arguments, errors and types, and its wheels, which are installed in a virtual environment."""
 import os
 import pickle
 import re

@@ -189,7 +189,7 @@ def shown(program, kind, seed, fault):
     return "\n".join(lines)
 
 
-# what was tried: the numbers of rounds and calls, and what is shown of those that differ
+# the numbers of rounds and calls, and the reports of calls with wrong results
 Tried = namedtuple("Tried", "rounds calls failures")
 
 

@@ -135,7 +135,7 @@ def file_of(folder, name, ending):
 
 
 def fault_of(rules, files):
-    """The line of the fault that the rules of one document have, or None."""
+    """The line of the error that the rules of one document have, or None."""
     objects = [rule["object"] for rule in rules]
     provided = [(at, name) for at, rule in enumerate(rules) for name in rule["provides"]]
     twice = repeated(objects)
@@ -166,7 +166,7 @@ def dyndep_text(rules, files):
 
 
 def scan_round(make, program):
-    """A scan document is collated to the statements of its rules, or has the fault that is there."""
+    """A scan document becomes the statements of its rules, or has the expected error."""
     names = firsts([make.word(b"abc") + make.r.choice([b"", b":", b"-"]) + make.word(b"xy") for _ in range(6)])
     if make.chance(15):
         names.append(make.r.choice(names))
@@ -270,7 +270,7 @@ def effect_round(make, program):
 # ---- projects
 
 def project_of(make):
-    """The targets of a project without a fault, and the files that have to come out."""
+    """The targets of a project without an error, and the files that it has to write."""
     form = make.r.choice([None, "gcc", "clang"])
     targets, wanted, files, producer, rule_of = [], {}, {}, {}, {}
     for at in range(make.r.randint(1, 3)):

@@ -24,7 +24,7 @@ TOP = Path(program.TOP)
 VERSION = (TOP / "VERSION").read_text().strip()
 NAME = f"dyncollate-{VERSION}-linux-x86_64"
 WHEEL = f"dyncollate-{VERSION}-py3-none-manylinux_2_17_x86_64.manylinux2014_x86_64.whl"
-# what ./release takes from the commit, and what it needs itself
+# the files that ./release takes from the commit, and the files that it needs itself
 SOURCES = ["CHANGELOG.md", "VERSION", "cmake", "explain", "docs/GUIDE.md", "docs/FORMATS.md", "docs/dyncollate.1", "docs/dyncollate.3",
            "docs/project.schema.json", "docs/target.schema.json", "examples", "include", "install", "python"]
 TOOLS = [".gitignore", "ARCHIVE.md", "build", "building", "cross", "crates.txt", "release", "web"]
@@ -326,7 +326,7 @@ class Archive(Released):
         self.assertRegex(err, r"\Arelease: another toolchain has proved what is in crates/dyncollate/out: ")
 
     def test_in_an_empty_root(self):
-        """With nothing but the C library, the program does what README shows, and collates."""
+        """With only the C library, the program prints the example of README, and collates."""
         as_root = [] if os.getuid() == 0 else ["unshare", "-r"]
         if call(*as_root, "chroot", "/", "true")[0]:
             self.skipTest("chroot is not allowed")

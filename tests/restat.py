@@ -46,7 +46,7 @@ class Restat(Case):
     seconds = 2
 
     def written(self, call, **earlier):
-        """Runs a command; returns the names of the files that it writes, of which all have their bytes afterwards."""
+        """Runs a command. Returns the names of the files that it writes. All files have their bytes afterwards."""
         for name in FILES:
             if os.path.exists(name) and not stat.S_ISFIFO(os.stat(name).st_mode):
                 os.utime(name, ns=(EARLIER, EARLIER))

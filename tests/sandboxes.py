@@ -53,14 +53,14 @@ class Sandboxed(Directory):
         return [it for it in map(os.path.normpath, names) if not os.path.isabs(it)]
 
     def of_documents(self, documents):
-        """What a collation reads besides these documents, and what it writes."""
+        """The files that a collation reads besides these documents, and the files that it writes."""
         targets = [json.loads(Path(it).read_text()) for it in documents]
         scans = [scan for it in targets for scan in it["scans"]]
         objects = [rule["primary-output"] for it in scans for rule in json.loads(Path(it).read_text())["rules"]]
         return targets, scans, [f"{it}.modmap" for it in objects] + [it[key] for it in targets for key in ("info", "dyndep")]
 
     def provided_and_needed(self, name):
-        """The files in an object's map: those that the compilation writes, and those that it may read."""
+        """The files in an object's map that the compilation writes, and the files that it may read."""
         lines = Path(f"{name}.modmap").read_text().splitlines()
         if self.form != "gcc":
             return ([it.split("=", 1)[1] for it in lines if it.startswith("-fmodule-output=")],

@@ -21,7 +21,7 @@ def least_text(text, fails):
 
 
 def least(parts, fails):
-    """The parts without those that can be left out, in runs that get shorter, and in the end one by one."""
+    """Leaves out parts, in runs that get shorter, and in the end one by one. Returns the parts that are left."""
     run, before = len(parts), None
     while run:
         at = 0

@@ -5,7 +5,7 @@ import re
 import unittest
 from pathlib import Path
 
-from tests import modules
+from tests import modules_with_tests
 
 SUBJECTS = ["arguments", "scan_documents", "infos", "targets", "projects", "modules", "dyndep_files", "listings", "effects"]
 
@@ -35,4 +35,4 @@ class Tables(unittest.TestCase):
         """The table of README.md has each module with tests, once."""
         rows = re.findall(r"^\| (`.*?) \|", Path(__file__).with_name("README.md").read_text(encoding="utf-8"), re.M)
         listed = [name for row in rows for name in re.findall(r"`(\w+)`", row)]
-        self.assertEqual(sorted(listed), [it.__name__.split(".")[-1] for it in modules()])
+        self.assertEqual(sorted(listed), [it.__name__.split(".")[-1] for it in modules_with_tests()])

@@ -1,5 +1,5 @@
 """The traps that docs/GUIDE.md speaks of: each test falls into one, by a manifest or a document that does, and gets out if
-there is a way out. A trap of other tools is looked for in the versions that have it."""
+there is a way out. A trap of other tools is tested with the versions that have it."""
 import json
 import os
 import re
@@ -50,7 +50,7 @@ class Manifests(Directory):
         self.compiled(*(it.name for it in EXAMPLES["single"].sources))
 
     def test_restat_in_a_document_and_not_in_the_rule(self):
-        """The step is done in each run, since a map is older than what it is made from."""
+        """The step runs each time, because a map is older than its inputs."""
         self.copy("single", "clang")
         edit("build.ninja", r"^(  description = COLLATE .*)\n  restat = 1", r"\1")
         self.makes("600")

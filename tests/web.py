@@ -84,7 +84,7 @@ class Build(InRoom):
         (self.room / name).chmod(0o755)
 
     def says(self, line, *before):
-        """It prints the line at last, ends with status 3, and leaves no module."""
+        """It prints the line at the end, ends with status 3, and leaves no module."""
         path = f"{self.room}/bin:{self.room}/kit/bin:/usr/bin:/bin"
         said = "".join(f"{it}\n" for it in [*before, f"web/build: {line}"])
         self.assertEqual(run_apart(self.room / "web/build", env={"PATH": path}), (3, "", said))
@@ -256,7 +256,7 @@ class Page(InRoom):
         return self.each(selector, "it.textContent.trim()")
 
     def nodes(self, kind):
-        """The labels of the nodes of a kind, of which the first line says what it is."""
+        """The labels of the nodes of a kind. The first line of a label says what the node is."""
         return sorted(self.each(f"#view .node{kind}", "it.getAttribute('aria-label').split('\\n')[0]"))
 
     def edges(self, kind=""):
@@ -348,7 +348,7 @@ class Page(InRoom):
         self.assertEqual(self.nodes(".object"), [])
 
     def test_dropped_files(self):
-        """A directory, of which the documents are read; then files besides."""
+        """A directory, whose documents are read; then further files."""
         self.page.open(PAGE.as_uri())
         folder = self.lay(CYCLE | {"obj/a.o": b"\x7fELF", "compile_commands.json": b"[]", "sub/e.ddi": sources(b"e.o||")})
         self.page.drop(str(folder))

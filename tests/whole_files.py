@@ -1,4 +1,4 @@
-"""Files are replaced whole: what is there after a run that was killed, or whose calls failed, and what others see meanwhile."""
+"""Files are replaced whole: the contents of a file after a run that was killed or whose calls failed, and while others read it."""
 import errno
 import itertools
 import os
@@ -53,7 +53,7 @@ class Faults(Case):
         output_of(f"{program.TOP}/tests/preload", f"{program.TOP}/tests/fault_at_call.c", cls.library)
 
     def run_with_fault(self, old, number, **more):
-        """The answer of a run with a fault at the call of this number, and the files that are left of those that it writes."""
+        """The result of a run with a fault at the call of this number, and the contents of the files that it writes."""
         lay(READ | {os.fsdecode(name): text for name, text in old.items()})
         before = dict(self.caller.environment)
         self.caller.environment.update(LD_PRELOAD=self.library, KILLED_AT=str(number), **more)

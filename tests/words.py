@@ -61,6 +61,9 @@ TURNS_OF_SCRIPTS = [
     (r"makers?", "producer", "a file of two makers", "a file of two producers"),
     (r"turn(?:s|ed)?\s+round", "reverses", "an import that is turned round", "an import that is reversed"),
     (r"words?\s+too|empty\s+words?|words?\s+of\s+a\s+call", "argument", "a word too many", "an argument too many"),
+    (r"looked\s+at", "checked, read", "a document is looked at", "a document is checked"),
+    (r"(?:is|are)\s+meant", "counts", "of two names the last is meant", "the last of two names counts"),
+    (r"nothing\s+but", "only", "it has nothing but the heap", "it has only the heap"),
     (r"anew", "again", "it draws the picture anew", "it draws the picture again"),
     (r"for\s+want\s+of", "because .. is missing", "no status for want of a file", "no status because a file is missing"),
 ]

@@ -9,7 +9,7 @@ from .modules import map_of, table_of
 from .paths import PathFault, Rejected, path_of
 
 
-# what a run ends with: its status, what it prints on standard output and on standard error, and the files that it writes
+# the result of a run: its status, its output on standard output and standard error, and the files that it writes
 Answer = namedtuple("Answer", "status out err files")
 
 
@@ -120,7 +120,7 @@ def collate(document, files):
 
 @with_errors
 def project(document, files):
-    """As `collate` of each target in order, the info files being those that earlier targets write."""
+    """As `collate` of each target in order, which links the info files that earlier targets write."""
     specs, scans, listings, links = [], [], [], []
     for at, name in enumerate(project_of(document, b"project: ")):
         where = b"target %d: " % at

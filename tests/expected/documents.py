@@ -35,7 +35,7 @@ def constant(text):
 
 
 def check_texts(value):
-    """Each text of a value has an encoding; objects in it were looked at as they were read."""
+    """Each text of a value has an encoding. Objects in it were checked when they were read."""
     if isinstance(value, str):
         value.encode()
     elif isinstance(value, list):

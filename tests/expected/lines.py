@@ -58,7 +58,7 @@ def sound_lines(text, prefix=b""):
 
 
 def lexical_fault(line):
-    """The first lexical fault of a line that is no comment, or None."""
+    """The first lexical error of a line that is not a comment, or None."""
     at = 0
     while at < len(line):
         unit = LEXICAL.match(line, at)
@@ -73,7 +73,7 @@ def lexical_fault(line):
 
 
 def tokens_of(line):
-    """The tokens of a line without a lexical fault: the offset and the bytes of each."""
+    """The tokens of a line without a lexical error: the offset and the bytes of each."""
     tokens, at = [], 0
     while at < len(line):
         found = TOKEN.match(line, at)

@@ -11,7 +11,7 @@ Module = namedtuple("Module", "producer name file required is_private")
 
 
 def table_of(rules, infos, kept):
-    """Who provides each name. The rules and the info files of a target, or the lowest fault that they have."""
+    """Who provides each name. Takes the rules and the info files of a target, and raises the first of their errors."""
     own = [Module((b"object", at), name, file, rule.requires, name in kept)
            for at, rule in enumerate(rules) for name, file in rule.provides]
     linked = [Module((b"info", at), it.name, it.file, it.required, it.is_private)

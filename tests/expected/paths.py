@@ -13,7 +13,7 @@ class Rejected(Exception):
 
 
 class PathFault(Exception):
-    """Why a text is no path: the fault's code and name."""
+    """Why a text is not a path: the code and name of the error."""
 
     def __init__(self, text):
         super().__init__(text)

@@ -1,4 +1,4 @@
-"""What a call of the program has to answer and to write, by the files that are there."""
+"""The output of a call of the program, and the files that it writes, according to the files that exist."""
 import os
 
 from . import commands
@@ -18,7 +18,7 @@ def opened(name):
 
 
 def result_of(command, *given):
-    """What a call has to answer. The files of `effect` come after a name, and those of all others first."""
+    """The result that a call has to have. The files of `effect` come after a name; otherwise the files come first."""
     call, names = getattr(commands, command), given[1:] if command == "effect" else given[:1]
     texts = [opened(name) for name in names]
     if None in texts:

@@ -9,7 +9,7 @@ def nested(levels, opened=b"[", closed=b"]"):
     return opened * levels + b"0" + closed * levels
 
 
-# the value of `version` in a document of version 1, and the fault or None; texts after it are further members
+# the value of `version` in a document of version 1, and the error or None; texts after it are further members
 VERSIONS = [
     (b'"1"', S2), (b"-1", S2), (b"1e400", S1), (b"1.0", S2), (b"1e0", S2), (b"true", S2), (b"null", S2), (b"[1]", S2),
     (b"-0", S2), (b"01", S1), (b"+1", S1), (b"1.", S1), (b"0x1", S1), (b"18446744073709551617", S2), (b"3", S2),
@@ -17,7 +17,7 @@ VERSIONS = [
     (b'1,"version":null', S2),
 ]
 
-# the value of a member that nobody reads, and the fault or None
+# the value of a member that nobody reads, and the error or None
 VALUES = [
     (nested(100), None), (nested(200), S1), (nested(DEPTH - 1), None), (nested(DEPTH), S1), (nested(100_000), S1),
     (nested(100, b'{"a":', b"}"), None), (nested(DEPTH - 1, b'{"a":', b"}"), None), (nested(DEPTH, b'{"a":', b"}"), S1),
@@ -30,7 +30,7 @@ VALUES = [
     (b'1,"unknown":"\\ud800"', S1), (b'"\\ud800","unknown":1', S1), (b"1/**/", S1), (b"1//\n", S1),
 ]
 
-# why, what becomes of the text of a document that is accepted, and the fault or None
+# the reason, a function that changes the text of a document that is accepted, and the error or None
 WHOLE = [
     ("no byte", lambda text: b"", S1),
     ("a mark of the byte order", lambda text: b"\xef\xbb\xbf" + text, S1),
@@ -51,7 +51,7 @@ WHOLE = [
 
 
 def of_kind(text):
-    """The rows for a kind of document of which this text is accepted: why, how a text is made, and the fault or None."""
+    """The rows for a kind of document that accepts this text: the reason, a function that changes the text, and the error or None."""
     for value, fault in VERSIONS:
         yield f"version {value[:30]}", lambda value=value: text.replace(b'"version":1', b'"version":' + value), fault
     for value, fault in VALUES:

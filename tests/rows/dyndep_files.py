@@ -24,7 +24,7 @@ FAULTS = [
     ("no rule", b"build a\n", b"line 2: Y8 BadLine"),
     ("implicit outputs and no rule", b"build a | b\n", b"line 2: Y8 BadLine"),
     ("two rules", b"build a: dyndep | b : c\n", b"line 2: Y8 BadLine"),
-    ("a fault after continuations, by its physical line", b"build a $\n $\n : dyndep\nx\n", b"line 5: Y8 BadLine"),
+    ("an error after continuations, by its physical line", b"build a $\n $\n : dyndep\nx\n", b"line 5: Y8 BadLine"),
     ("* no output", b"build : dyndep\n", b"line 2: Y9 NoOutput"),
     ("build alone", b"build\n", b"line 2: Y9 NoOutput"),
     ("* two outputs", b"build a b: dyndep\n", b"line 2: Y10 SecondOutput"),
@@ -47,11 +47,11 @@ FAULTS_OF_VERSION = [
     ("* version 1.1", b"ninja_dyndep_version = 1.1\n", b"line 1: Y5 BadVersion"),
     ("version 12", b"ninja_dyndep_version = 12\n", b"line 1: Y5 BadVersion"),
     ("version 2", b"ninja_dyndep_version = 2\n", b"line 1: Y5 BadVersion"),
-    ("a fault after lines that end in CR LF", b"ninja_dyndep_version=1.0\r\n\r\nbuild a$\r\n  b.o: dyndep | : dyndep\n",
+    ("an error after lines that end in CR LF", b"ninja_dyndep_version=1.0\r\n\r\nbuild a$\r\n  b.o: dyndep | : dyndep\n",
      b"line 3: Y8 BadLine"),
 ]
 
-# why, the whole text, what is shown of it after the version line
+# the reason, the whole text, and the lines that are shown after the version line
 SHOWN = [
     ("* two statements", TWO, TWO[len(V):]),
     ("* one statement", ONE, ONE[len(V):]),

@@ -10,7 +10,7 @@ EIGHT = b"".join(b"build %c: r\n" % it for it in b"abcdefgh")
 NINE = range(9)
 
 # why, the dyndep file's name, the listing, the text after the version line, the listing after it. Names are compared as
-# canonical paths, and what is added is last.
+# canonical paths, and added paths come last.
 CHANGED = [
     ("* two statements", "t.dd", LIST, TWO[len(V):], AFTER),
     ("the name and the binding in other forms", "./t.dd", LIST.replace(b"= t.dd", b"= ./x/../t.dd"), TWO[len(V):], AFTER),
@@ -27,7 +27,7 @@ CHANGED = [
     ("no statements and no edges", "t.dd", b"", b"", b""),
     ("* nine edges, of which one is changed", "t", EIGHT + edge(b"i: r || t", b"t"), b"build i: dyndep | a\n",
      EIGHT + edge(b"i: r | a || t", b"t")),
-    ("nine edges, each of which makes a module's file and needs that of the first", "t.dd",
+    ("nine edges, each of which makes a module's file and needs the file of the first", "t.dd",
      b"".join(edge(b"%d.o: cxx %d.cpp || t.dd" % (it, it)) for it in NINE),
      b"".join(statement(b"%d.o" % it, b"mod/%d.bmi" % it, b"mod/0.bmi") for it in NINE),
      b"".join(edge(b"%d.o | mod/%d.bmi: cxx %d.cpp | mod/0.bmi || t.dd" % (it, it, it)) + b"  restat = 1\n" for it in NINE)),
@@ -41,9 +41,9 @@ def wide(start, byte):
 
 # why, the dyndep file's name, the edge list, the text after the version line, the line of the error
 REJECTED = [
-    ("the name above the root is looked at first", "/..", b"x\n", b"x\n", b"name: N2 AboveRoot"),
+    ("the name above the root is checked first", "/..", b"x\n", b"x\n", b"name: N2 AboveRoot"),
     ("the empty name", "", b"x\n", b"x\n", b"name: N1 Empty"),
-    ("the listing is looked at before the dyndep file", "t.dd", b"x\n", b"x\n", b"edges: line 1: E3 Form"),
+    ("the edge list is checked before the dyndep file", "t.dd", b"x\n", b"x\n", b"edges: line 1: E3 Form"),
     ("another statement", "t.dd", LIST, b"rule cc\n", b"line 2: Y8 BadLine"),
     ("a path that two edges make", "t.dd", b"build a.o: cxx a.cpp\nbuild ./a.o: cxx b.cpp\n", b"", b"E1 ProducedTwice a.o"),
     ("* no statements", "t.dd", edge(b"a.o: cxx"), b"", b"E2 DyndepNotInput a.o"),
@@ -81,7 +81,7 @@ UNREAD = [
     ("* neither", "t.dd", {}, b"edges"),
     ("the listing", "t.dd", {"t.dd": V}, b"edges"),
     ("* the dyndep file", "t.dd", {"edges": LIST}, b"t.dd"),
-    ("the dyndep file, before the name is looked at", "/..", {"edges": b"x\n"}, b"t.dd"),
+    ("the dyndep file, before the name is checked", "/..", {"edges": b"x\n"}, b"t.dd"),
 ]
 
 

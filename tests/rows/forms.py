@@ -26,7 +26,7 @@ def info(*modules, version=1, target=b"l"):
 
 
 def module(name, file, *requires, visibility=None):
-    """The entry of a module in an info; what it requires are pairs of a file and a name."""
+    """The entry of a module in an info file; `required` has pairs of a file and a name."""
     needs = b",".join(b'{"bmi":"%s","name":"%s"}' % it for it in requires)
     more = b',"visibility":"%s"' % visibility if visibility else b""
     return b'{"bmi":"%s","name":"%s","requires":[%s]%s}' % (file, name, needs, more)

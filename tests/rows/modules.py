@@ -133,15 +133,15 @@ K = module(b"K", b"k/K.bmi", (b"l/L.bmi", b"L"))
 
 # why, the sources, the info files, GCC's map of each object in order
 NEEDS = [
-    ("what is provided is in order of provision", [b"main.o||", b"a.o|A A:p|"], [], [b"", b"A mod/A.bmi\nA:p mod/A-p.bmi\n"]),
-    ("what is needed through others is there once, in byte order",
+    ("provided modules are in order of provision", [b"main.o||", b"a.o|A A:p|"], [], [b"", b"A mod/A.bmi\nA:p mod/A-p.bmi\n"]),
+    ("modules that are needed through others are there once, in byte order",
      [b"main.o||a B a", b"a.o|a|A:p B", b"b.o|B|A:p", b"p.o|A:p|"], [],
      [b"A:p mod/A-p.bmi\nB mod/B.bmi\na mod/a.bmi\n", b"a mod/a.bmi\nA:p mod/A-p.bmi\nB mod/B.bmi\n",
       b"B mod/B.bmi\nA:p mod/A-p.bmi\n", b"A:p mod/A-p.bmi\n"]),
     ("through info files", [b"main.o||A", b"a.o|A|K"],
      [info(module(b"L", b"l/L.bmi")), info(module(b"J", b"k/J.bmi"), K, target=b"k")],
      [b"A mod/A.bmi\nK k/K.bmi\nL l/L.bmi\n", b"A mod/A.bmi\nK k/K.bmi\nL l/L.bmi\n"]),
-    ("a cycle inside an info is no fault", [b"main.o||K"],
+    ("a cycle inside an info is no error", [b"main.o||K"],
      [info(module(b"J", b"k/J.bmi", (b"k/K.bmi", b"K")), module(b"K", b"k/K.bmi", (b"k/J.bmi", b"J")), target=b"k")],
      [b"J k/J.bmi\nK k/K.bmi\n"]),
     ("private modules are needed as others are", [b"main.o||K"],
@@ -162,7 +162,7 @@ def linking(its_sources, infos, more=b""):
 
 
 def chain(count, last):
-    """Objects of which each requires the module of the next, and the last one this name."""
+    """Objects that each require the module of the next; the last one requires this name."""
     at = count - 1
     return sources(*(b"o%d.o|m%d|m%d" % (it, it, it + 1) for it in range(at)), b"o%d.o|m%d|%s" % (at, at, last))
 

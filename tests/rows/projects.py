@@ -55,7 +55,7 @@ DONE = [
     ("a target twice", {"project.json": b'{"targets":["0.json","0.json"],"version":1}'}, ZEROTH),
     ("no maps", {"0.json": member(0, more=b',"map":null'), "1.json": member(1, 0, more=b',"map":null'),
                  "2.json": member(2, 0, 1, more=b',"map":null')}, without_maps(WRITTEN)),
-    ("of two info files of one name the latest is meant, and no file of that name is read",
+    ("the last of two info files of one name counts, and no file of that name is read",
      NO_B | {"0.info": b"no info"},
      {"l.o.modmap": ZEROTH["l.o.modmap"], "0.dd": ZEROTH["0.dd"], "k.o.modmap": b"K mod/K.bmi\n",
       "0.info": b'{"modules":[{"bmi":"mod/K.bmi","name":"K","requires":[],"visibility":"public"}],"target":"t1","version":2}',
@@ -87,7 +87,7 @@ REJECTED = [
      b"target 1: K3 LinkedLater"),
     ("* a target that is linked twice", {"1.json": member(1, 0, 0)}, b"target 1: M2 InfoTwice t0"),
     ("* a module that is not linked", {"2.json": member(2, 0)}, b"target 2: M5 ModuleUnknown K in main.o"),
-    ("of two info files of one name the latest is meant", NO_B | {"2.ddi": sources(b"main.o||B")},
+    ("the last of two info files of one name counts", NO_B | {"2.ddi": sources(b"main.o||B")},
      b"target 2: M5 ModuleUnknown B in main.o"),
     ("* a private module", {"0.json": PRIVATE_B}, b"target 1: M9 ModulePrivate B of l in object k.o"),
     ("a private module that nobody provides", {"0.json": member(0, more=GCC + b',"private":["B","X"]')},
@@ -130,7 +130,7 @@ UNREAD = [
     ("a scan document comes before a faulty target document", {"0.ddi": None, "1.json": b"{}"}, b"0.ddi"),
     ("a listing of edges", {"1.json": EDGED["1.json"]}, b"1.edges"),
     ("a scan document comes before a listing", {"1.json": EDGED["1.json"], "1.ddi": None}, b"1.ddi"),
-    ("all are read before one is looked at", {"0.ddi": b"{}", "2.ddi": None}, b"2.ddi"),
+    ("all are read before any is checked", {"0.ddi": b"{}", "2.ddi": None}, b"2.ddi"),
 ]
 
 # why, the project document, the line of the error after `project: `

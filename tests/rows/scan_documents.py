@@ -134,7 +134,7 @@ COLLATED = [
      document(b'{"primary-output":"a.o","work-directory":"/w","provides":'
               b'[{"logical-name":"A","compiled-module-path":"./x.bmi"}]}'),
      statement(b"/w/a.o", b"/w/x.bmi")),
-    ("a partition, an empty work directory, and null for what is required",
+    ("a partition, an empty work directory, and null for the required modules",
      document(b'{"primary-output":"a.o","work-directory":"","provides":[{"logical-name":"M:P"}],"requires":null}'),
      statement(b"a.o", b"mod/M-P.bmi")),
     ("modules with a file of their own and without",
@@ -148,7 +148,7 @@ COLLATED = [
               b'{"primary-output":"a.o","work-directory":"/w","provides":'
               b'[{"logical-name":"A","compiled-module-path":"./a$.pcm"}]}'),
      statement(b"/w/main.o", b"", b"/w/a$$.pcm") + statement(b"/w/a.o", b"/w/a$$.pcm")),
-    ("what is reached through others is no input", sources(b"a.o||B", b"b.o|B|C", b"c.o|C|"),
+    ("modules that are reached through others are no inputs", sources(b"a.o||B", b"b.o|B|C", b"c.o|C|"),
      statement(b"a.o", b"", b"mod/B.bmi") + statement(b"b.o", b"mod/B.bmi", b"mod/C.bmi") + statement(b"c.o", b"mod/C.bmi")),
     ("inputs in order of first mention", sources(b"a.o|B A|", b"main.o||C A C B A", b"c.o|C|"),
      statement(b"a.o", b"mod/B.bmi mod/A.bmi") + statement(b"main.o", b"", b"mod/C.bmi mod/A.bmi mod/B.bmi")

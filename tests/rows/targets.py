@@ -38,7 +38,7 @@ PRIVATE_INFO = (b'{"modules":[{"bmi":"mod/L.bmi","name":"L","requires":[{"bmi":"
 AC = sources(b"a.o|A C|")
 WORK = b'{"primary-output":"%s","work-directory":"%s"}'
 
-# why, the members besides those that have to be, the files that they name, and the files that are written
+# the reason, the members besides the required ones, the files that they name, and the files that are written
 WRITTEN = [
     ("no other members", b"", {}, {"t.json": NO_MODULES, "t.dd": V}),
     ("null for members", b',"build-dir":null', {}, {"t.json": NO_MODULES, "t.dd": V}),
@@ -211,13 +211,13 @@ REJECTED = [
 UNREAD = [
     ("the first of two", LINKS, {}, b"m.ddi"),
     ("a scan document before info files", LINKS, {"l.json": L_INFO}, b"m.ddi"),
-    ("an info before any document is looked at", LINKS, {"m.ddi": b""}, b"l.json"),
+    ("an info before any document is checked", LINKS, {"m.ddi": b""}, b"l.json"),
     ("no listing of edges", b',"scans":["two.ddi"],"edges":"t.edges"', {"two.ddi": TWO}, b"t.edges"),
     ("control bytes in a file's name", b',"scans":["a\\u0001\\tb\\u007f\\n"]', {}, b"a??b??"),
     ("a NUL in a file's name", b',"scans":["m.ddi\\u0000"]', {"m.ddi": MAIN}, b"m.ddi?"),
 ]
 
-# The listing of edges that a target document names is looked at last.
+# The edge list that a target document names is checked last.
 A_EDGE, B_EDGE = edge(b"a.o: cxx a.cpp || t.dd"), edge(b"b.o: cxx b.cpp || t.dd")
 EDGES = b',"scans":["two.ddi"],"edges":"t.edges","build-dir":"/w"'
 EDGED = {"t.json": TWO_FILES["t.json"], "t.dd": TWO_STATEMENTS}
