@@ -74,8 +74,9 @@ EXCEPTIONS = [
     "tests: a run needs no random bytes but for names of new files", "FORMATS: fewer words once more", "must-fail edits: 3 refused",
 ]
 # Definitions whose comments have turns of scripts, or call a `Folder` a folder.
-EXCEPTED_DEFINITIONS = {"dyndep_file/specs/Faults.antt": 1, "in_memory/specs/inner/Calls.antt": 3, "in_memory/specs/inner/Facts.antt": 2,
-                        "ninja_text/specs/Scanning.antt": 1}
+EXCEPTED_DEFINITIONS = {"commands/specs/ProjectCommand.antt": 1, "dyndep_file/specs/Faults.antt": 1, "in_memory/specs/inner/Calls.antt": 3,
+                        "in_memory/specs/inner/Facts.antt": 2, "info_pool/specs/inner/Pools.antt": 1, "ninja_text/specs/Scanning.antt": 1,
+                        "ninja_text/specs/TokenLists.antt": 3}
 # The scripts and tests, and those of them that are not read yet. This file has the turns themselves.
 SCRIPTS = ["build", "dyncollate", "install", "release", "test", ".ci/run", "bench/**/*", "building/*", "cmake/*", "cross/*", "examples/generate",
            "examples/embed/*", "explain/*", "include/*", "python/**/*", "tests/**/*", "web/*"]
