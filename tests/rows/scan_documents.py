@@ -190,6 +190,8 @@ A_RULE, AN_ENTRY = b'{"primary-output":"a"},', b'{"logical-name":"A"},'
 # why, how the document is made, the line of the error
 COUNTS = [
     ("a rule too many", lambda: rules(COUNT + 1), b"scan 0: S8 TooLarge document"),
+    ("a rule too many, all of one object", lambda: document(*[b'{"primary-output":"x"}'] * (COUNT + 1)),
+     b"scan 0: S8 TooLarge document"),
     ("a rule too many, and the first one faulty", lambda: rules(COUNT + 1).replace(b"primary", b"Primary", 1),
      b"scan 0: S8 TooLarge document"),
     ("a rule too many, and the last ones faulty", lambda: document(A_RULE * (COUNT - 1) + b"{},{}"),
