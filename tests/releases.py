@@ -136,7 +136,7 @@ class Released(unittest.TestCase):
         for out in outs:
             (out / "built").write_bytes(b"crates.txt\0")
             (out / "digest").write_text(toolchain)
-        (clone / "web/out").mkdir()
+        (clone / "web/out").mkdir(exist_ok=True)
         (clone / "web/out/dyncollate.html").write_text(PAGE)
 
     @classmethod
@@ -253,7 +253,8 @@ class Archive(Released):
         built = {crate: {name: made / name for name in files} for crate, files in BUILT.items()}
         self.build(clone, built, "/aarch64")
         name = f"dyncollate-{VERSION}-linux-aarch64"
-        self.assertEqual(self.release(clone=clone, processor=""), (0, f"{NAME}.tar.gz\n{name}.tar.gz\n", ""))
+        names = [f"{NAME}.tar.gz", WHEEL, f"{name}.tar.gz", WHEEL.replace("x86_64", "aarch64"), f"dyncollate-{VERSION}.html"]
+        self.assertEqual(self.release(clone=clone, processor=""), (0, "".join(f"{it}\n" for it in names), ""))
         self.assertEqual((clone / f"{NAME}.tar.gz").read_bytes(), self.archive.read_bytes())
         with tarfile.open(clone / f"{name}.tar.gz") as tar, tarfile.open(self.archive) as other:
             self.assertEqual([it.replace(name, NAME) for it in tar.getnames()], other.getnames())
@@ -300,7 +301,7 @@ class Archive(Released):
         self.assertEqual(self.release("a", "b")[0], 2)
 
     def test_sources_that_changed_since_the_program_was_built(self):
-        """The program is built first; here the toolchain for that is missing."""
+        """The library and the program are built first; here the toolchain for that is missing."""
         clone = self.room / "changed"
         git("clone", "-q", self.clone, clone)
         self.build(clone)
@@ -311,7 +312,7 @@ class Archive(Released):
         (self.room / "bin/rt").write_text("#!/bin/sh\nexit 1\n")
         (self.room / "bin/rt").chmod(0o755)
         status, out, err = self.release(clone=clone, PATH=f"{self.room}/bin:{ENVIRONMENT['PATH']}")
-        self.assertEqual((status, out, err.splitlines()[-1]), (3, "", "release: the program is not built, so there is nothing to be released"))
+        self.assertEqual((status, out, err.splitlines()[-1]), (3, "", "release: the library is not built, so it cannot be released"))
 
     def test_another_toolchain_than_that_of_the_program(self):
         """It is not the one that proved it."""
