@@ -7,6 +7,7 @@ the Ninja manual are.
 TURNS has what is not written, and what is written instead. TURNS_OF_SCRIPTS has more, for scripts, tests and definitions. The comments and
 texts of scripts and tests are read, and the names that tests define. Code in a text is passed over, and so is what EXCEPTIONS has.
 """
+import ast
 import io
 import re
 import shutil
@@ -111,18 +112,38 @@ def is_prose(text):
     return " " in text and len(re.findall(r"[a-z]{2,}", text)) > 1
 
 
+def text_of(node, rows):
+    """The text of a string in a program, without its parts that are computed, or None. Raw strings are patterns."""
+    begins = rows[node.lineno - 1].encode()[node.col_offset:] if hasattr(node, "lineno") else b""
+    if isinstance(node, ast.JoinedStr):
+        text = "".join(it.value for it in node.values if isinstance(it, ast.Constant))
+    elif isinstance(node, ast.Constant) and isinstance(node.value, str):
+        text = re.sub(r"\{\w*\}", "", node.value)
+    else:
+        return None
+    if re.match(b"f?r", begins, re.I) or not is_prose(text):
+        return ""
+    return (text if re.match(b"f?(\"\"\"|''')", begins, re.I) else text.replace("\n", " ")) + " ."
+
+
 def parts_of_python(source, has_names):
     """The comments and texts of a script, and the names of functions, classes and constants, each with the number of its line."""
-    before = ""
     for token in tokenize.generate_tokens(io.StringIO(source).readline):
-        line, text = token.start[0], token.string
         if token.type == tokenize.COMMENT:
-            yield line, text.strip("#! ")
-        elif tokenize.tok_name[token.type] in ("STRING", "FSTRING_MIDDLE") and is_prose(text) and not re.match("[a-z]*[br]", text, re.I):
-            yield line, re.sub(r"\{[^{}]*\}", "", text.strip("f\"'")) + " ."
-        elif has_names and token.type == tokenize.NAME and (before in ("def", "class") or text.isupper() and token.start[1] == 0):
-            yield line, re.sub(r"_+|(?<=[a-z])(?=[A-Z])", " ", text).lower() + " ."
-        before = text
+            yield token.start[0], token.string.strip("#! ")
+    tree, rows = ast.parse(source), source.splitlines()
+    nodes, names = [tree], [it for node in tree.body if isinstance(node, ast.Assign) for it in node.targets if isinstance(it, ast.Name)]
+    for node in nodes:
+        if isinstance(node, (ast.FunctionDef, ast.ClassDef)):
+            names.append(node)
+        text = text_of(node, rows)
+        if text:
+            yield node.lineno, text
+        elif text is None:
+            nodes.extend(ast.iter_child_nodes(node))
+    for it in names if has_names else []:
+        name = it.id if isinstance(it, ast.Name) else it.name
+        yield it.lineno, re.sub(r"_+|(?<=[a-z])(?=[A-Z])", " ", name).strip().lower() + " ."
 
 
 def script_text(source, suffix, has_names):
@@ -193,8 +214,8 @@ class Words(unittest.TestCase):
         """Comments, texts and names are read, and nothing else."""
         for suffix, source, said in [
                 (".py", "# one rule\ndef two_rules(x=b'no bytes here', y='three rules'):\n    four = 5  # five\nSIX = r'no raw text'\n",
-                 ["one rule", "two rules . three rules .", "five", "six ."]),
-                ("", "#!/usr/bin/env python3\nx = f'one {two} rule'\n", ["/usr/bin/env python3", "one  rule ."]),
+                 ["one rule", "three rules . two rules .", "five", "six ."]),
+                ("", "#!/usr/bin/env python3\nx = f'one {two} rule'\n", ["/usr/bin/env python3", "one  rule . x ."]),
                 (".c", 'int x; // one rule\n/* two\n rules */ char *y = "three rules", *z = "four";\n', ["one rule", "two", "rules three rules"]),
                 ("", "#!/bin/sh\n# one rule\nx=$#; echo 'two rules' \"three $x rules\" 'four'\n", ["bin/sh", "one rule", "two rules three  rules"]),
                 (".awk", '# one rule\n{ x = $1; print "two rules" }\n', ["one rule", "two rules"])]:
