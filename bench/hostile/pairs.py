@@ -189,9 +189,6 @@ def measured(shape, rounds):
     with tempfile.TemporaryDirectory(prefix="dyncollate-", dir="/dev/shm" if os.path.isdir("/dev/shm") else None) as room:
         directories = made, ordinary = Path(room, "made"), Path(room, "ordinary")
         words = shape(*directories)
-        for written in (file["primary-output"] for scan in (made / "s").glob("*") for file in json.loads(scan.read_text())["rules"]):
-            for directory in directories:
-                (directory / written).parent.mkdir(parents=True, exist_ok=True)
         sizes, times = [size_of(it) for it in directories], []
         for _ in range(rounds):
             second = milliseconds(ordinary, words)
