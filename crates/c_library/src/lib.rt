@@ -5,7 +5,7 @@
 //! and of the system `malloc`, `realloc` and `free`.
 #![tactic(auto)]
 
-ghost use Rattle.std.specs.Prelude.{[], IsUtf8, ⊤};
+ghost use Rattle.std.specs.Prelude.{◌≡◌, [], IsUtf8, ⊤};
 ghost use Rattle.in_memory.specs.CollateCommand.{CollateRun};
 ghost use Rattle.in_memory.specs.Cuts.{IsCut, OfCut};
 ghost use Rattle.in_memory.specs.Effect.{EffectRun};
