@@ -262,7 +262,7 @@ def spec_of(text, where):
     if form not in (None, b"gcc", b"clang"):
         document.misshapen("map")
     return Spec(target, folder, ending, build, scans, linked, private, dyndep, path, info, form,
-                document.text("edges", needed=False), document.get("restat", bool))
+                document.text("edges", needed=False), document.tree.get("restat") is True)
 
 
 def build_of(document):
