@@ -4,6 +4,7 @@ import re
 import sys
 import tempfile
 import unittest
+from pathlib import Path
 
 from tests import embedded
 from tests.case import each
@@ -31,7 +32,8 @@ def built(folder, how):
     """Puts a library that is broken in this way into a directory, as `./build library` makes one."""
     commands = [["gcc", "-O1", "-fPIC", f"-D{how}", f"-I{TOP}/include", "-c", f"{TOP}/tests/broken_library.c", "-o", "broken.o"],
                 ["ar", "rcs", "libdyncollate.a", "broken.o"],
-                ["gcc", "-shared", "-Wl,-soname,libdyncollate.so.1", "-o", "libdyncollate.so.1", "broken.o"]]
+                ["gcc", "-shared", "-Wl,-soname,libdyncollate.so.1,--version-script=versions", "-o", "libdyncollate.so.1", "broken.o"]]
+    Path(folder, "versions").write_text("DYNCOLLATE_1 { global: dyncollate_*; local: *; };\n")
     for command in commands:
         output_of(*command, cwd=folder)
 

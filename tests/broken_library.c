@@ -59,6 +59,7 @@ static dyncollate_outcome rejected(const uint8_t *input, size_t input_size, ROOM
 #define FILES STRING(document), const size_t *lengths, size_t length_count, STRING(files)
 #define REJECTED(name) { return rejected(name, name##_size, numbers, count, text, size); }
 
+uint32_t dyncollate_version(void) { return DYNCOLLATE_VERSION; }
 dyncollate_outcome dyncollate_collate(FILES, ROOM) REJECTED(document)
 dyncollate_outcome dyncollate_project(FILES, ROOM) REJECTED(document)
 dyncollate_outcome dyncollate_one(STRING(scan), STRING(dir), STRING(ext), ROOM) REJECTED(scan)

@@ -96,7 +96,7 @@ class OnArm(Crossing):
     @unittest.skipUnless((ARM_LIBRARY / "libdyncollate.a").exists(), "there is no library for ARM; ./build library aarch64 makes it")
     def test_library(self):
         """Each allocation of each worked row fails in turn, in a program in C. tests/fuzz/calls.c checks each call."""
-        program = embedded.compiled("aarch64-linux-gnu-gcc", "-O2", "-Wl,--wrap=malloc,--wrap=realloc,--wrap=free",
+        program = embedded.compiled("aarch64-linux-gnu-gcc", "-std=c11", "-D_GNU_SOURCE", "-O2", "-Wl,--wrap=malloc,--wrap=realloc,--wrap=free",
                                     f"{TOP}/tests/failing_allocations.c", f"{TOP}/tests/fuzz/calls.c",
                                     str(ARM_LIBRARY / "libdyncollate.a"), to=self.room / "failing_allocations")
         files = {}
