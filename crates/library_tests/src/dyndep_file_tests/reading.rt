@@ -145,7 +145,7 @@ fn a_reader_is_read_to_its_end_a_failure_or_a_refusal(rt: HostRuntime) -> Result
         let input = bytewise_reader(TWO_STATEMENTS, call);
         assert!(rt; reads_as(rt.alloc(), input, Err(ReadFault::Io), call, 1)?);
     }
-    let input = bytewise_reader(b"ninja_dyndep_version = 2\nrule cc\n", 26);
+    let input = bytewise_reader(b"ninja_dyndep_version = 2\n", 26);
     let refused = Err(line_fault(1, LineFault::BadVersion));
     assert!(rt; reads_as(rt.alloc(), input, refused, 25, 0)?);
     Ok(())
