@@ -24,7 +24,7 @@ const PROVIDES_B: &[u8] =
     br#"{"version":1,"rules":[{"primary-output":"b.o","provides":[{"logical-name":"B"}]}]}"#;
 
 /// Two objects: `a.o` provides `A` and requires `B`, which `b.o` provides.
-const TWO_OBJECTS: &[u8] =
+pub(crate) const TWO_OBJECTS: &[u8] =
     br#"{"version":1,"rules":[{"primary-output":"a.o","provides":[{"logical-name":"A"}],"requires":[{"logical-name":"B"}]},{"primary-output":"b.o","provides":[{"logical-name":"B"}]}]}"#;
 
 /// The dyndep text, the info and the maps, each map after a line with its object.

@@ -1,6 +1,7 @@
 //! The commands over files that are values, on rows that take several files.
 
 mod growths;
+mod several_files;
 
 use crate::common::push_line;
 use in_memory::{
@@ -38,22 +39,6 @@ const FIRST: &[u8] =
 
 const PROVIDES_B: &[u8] =
     br#"{"version":1,"rules":[{"primary-output":"b.o","provides":[{"logical-name":"B"}]}]}"#;
-
-/// The target `t1`, which links `t0`.
-const SECOND: &[u8] =
-    br#"{"version":1,"target":"t1","module-dir":"mod","module-ext":".bmi","scans":["1.ddi"],"linked":["0.info"],"dyndep":"1.dd","info":"1.info"}"#;
-
-const PROJECT_FILES: &[u8] = b"0
-0.info
-{\"modules\":[{\"bmi\":\"mod/B.bmi\",\"name\":\"B\",\"requires\":[],\"visibility\":\"public\"}],\"target\":\"t0\",\"version\":2}0.dd
-ninja_dyndep_version = 1
-build b.o | mod/B.bmi: dyndep
-  restat = 1
-1.info
-{\"modules\":[],\"target\":\"t1\",\"version\":2}1.dd
-ninja_dyndep_version = 1
-build main.o: dyndep | mod/B.bmi
-";
 
 /// Appends the texts and the files of an answer.
 fn push_printed(out: &mut Vec<u8>, answer: &Answer) -> Result<(), AllocError> {
@@ -129,18 +114,6 @@ fn a_faulty_document_among_the_files(rt: HostRuntime) -> Result<(), Fail> {
     let files = [file("m.ddi", b"no document"), file("l.json", INFO_L)];
     let wanted = b"1\ndyncollate: scan 0: S1 NotJson document\n";
     assert!(rt; collates(rt.alloc(), &files, wanted)?);
-    Ok(())
-}
-
-#[test]
-fn two_targets_of_a_project(rt: HostRuntime) -> Result<(), Fail> {
-    let files = [
-        file("0.json", FIRST),
-        file("1.json", SECOND),
-        file("0.ddi", PROVIDES_B),
-        file("1.ddi", NEEDS_B),
-    ];
-    assert!(rt; projects(rt.alloc(), &files, PROJECT_FILES)?);
     Ok(())
 }
 
