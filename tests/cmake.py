@@ -662,25 +662,26 @@ class Steps(Case):
                 status, printed = step("t")
                 self.assertEqual((status, printed.splitlines()[-1]), (1, f"dyncollate-cmake: t/a.cpp.o.ddi: {said}"))
 
+    def failed_with(self, path):
+        """The last line of the step of each kind, if it calls the program at this path."""
+        for _ in self.both_kinds():
+            self.scan("t", "b.cpp")
+            self.adopt()
+            rules = Path("CMakeFiles/rules.ninja")
+            rules.write_text(rules.read_text().replace(program.PROGRAM, path))
+            status, printed = step("t")
+            self.assertEqual(status, 3)
+            yield printed.splitlines()[-1]
+
     def test_a_program_that_was_killed(self):
         put("killed", "#!/bin/sh\nkill -9 $$\n")
         os.chmod("killed", 0o755)
-        for _ in self.both_kinds():
-            self.scan("t", "b.cpp")
-            self.adopt()
-            rules = Path("CMakeFiles/rules.ninja")
-            rules.write_text(rules.read_text().replace(program.PROGRAM, f"{os.getcwd()}/killed"))
-            status, printed = step("t")
-            self.assertEqual((status, printed.splitlines()[-1]), (3, f"dyncollate-cmake: {os.getcwd()}/killed was killed by signal 9"))
+        killed = f"{os.getcwd()}/killed"
+        self.assertEqual([*self.failed_with(killed)], [f"dyncollate-cmake: {killed} was killed by signal 9"] * 2)
 
     def test_a_program_that_is_gone(self):
-        for _ in self.both_kinds():
-            self.scan("t", "b.cpp")
-            self.adopt()
-            rules = Path("CMakeFiles/rules.ninja")
-            rules.write_text(rules.read_text().replace(program.PROGRAM, f"{os.getcwd()}/gone"))
-            status, printed = step("t")
-            self.assertEqual((status, printed.splitlines()[-1]), (3, f"dyncollate-cmake: {os.getcwd()}/gone: No such file or directory"))
+        gone = f"{os.getcwd()}/gone"
+        self.assertEqual([*self.failed_with(gone)], [f"dyncollate-cmake: {gone}: No such file or directory"] * 2)
 
     def test_a_linked_target_that_was_not_collated(self):
         self.target("l", {})
