@@ -4,7 +4,8 @@
 //!
 //! - [`Path`] is a canonical path. [`Path::of`] and [`place`] return the path that a string means, or
 //!   the first error (`specs/Paths.antt`). The path is what rewriting steps leave of the string
-//!   (`specs/Reduction.antt`); by [`laws::one_canonical_list`] their order does not matter.
+//!   (`specs/Reduction.antt`); by [`laws::one_canonical_list`] their order does not matter. Paths
+//!   that [`Path::within`] returns share the string that they are parts of.
 //! - [`WorkDirectory`] is a work directory, and [`NameEnding`] the end of file names, each reduced
 //!   once for all paths that are made of it. The list of two texts with a slash between them is that
 //!   of their lists, one after the other (`proofs/Joins.antt`).
@@ -46,6 +47,7 @@ mod lexing;
 mod line;
 mod line_reader;
 mod paths;
+mod plain;
 mod reduction;
 mod scan;
 mod token;
