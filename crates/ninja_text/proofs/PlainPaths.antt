@@ -1,17 +1,17 @@
 -- A text of names is a canonical path.
-use Rattle.std.proofs.Common.{◌≡◌, ℕ, ◌≤◌, Bool, true, false, ◌||◌, ◌&&◌, ◌==◌, cond, if◌then◌else◌, List, [], ◌∷◌, length, refl, ◌∙◌, ap, inl, inr}
+use Rattle.std.proofs.Common.{◌≡◌, ℕ, ◌≤◌, Bool, true, false, ◌||◌, ◌&&◌, ◌==◌, cond, if◌then◌else◌, List, [], ◌∷◌, length, refl, sym, subst, ◌∙◌, ap, inl, inr}
 use Rattle.std.specs.List.{list_any, onto_first}
 use Rattle.std.proofs.lemmas.Bool.{or_parts, le-ltb, cases_Bool}
 use Rattle.std.proofs.lemmas.List.Splits.{join_with_byte-slice_split}
 use Rattle.std.proofs.lemmas.Bool.Decides.{Decides-eqb}
 use Rattle.ninja_text.specs.Escapes.{is_unwritable}
-use Rattle.ninja_text.specs.Reduction.{components, is_current, is_parent}
+use Rattle.ninja_text.specs.Reduction.{components, is_current, is_parent, reduced}
 use Rattle.ninja_text.specs.Paths.{is_empty, path_text, IsPath}
-use Rattle.ninja_text.specs.inner.PlainPaths.{AreNames, after, is_name}
+use Rattle.ninja_text.specs.inner.PlainPaths.{AreNames, IsReducedList, after, is_name}
 use Rattle.ninja_text.specs.declared.plain.Begun.{Begun}
 use Rattle.ninja_text.specs.declared.plain.Begun.TheVariants.{Nothing, Dot, TwoDots, Name}
-use Rattle.ninja_text.proofs.ReducedList.{names-fixed, and-false}
-use Rattle.ninja_text.proofs.Components.{components-lack, components-some}
+use Rattle.ninja_text.proofs.ReducedList.{IsFixed, names-fixed, fixed-reduced, reduced-fixed, in_front-parent}
+use Rattle.ninja_text.proofs.Components.{components-lack, components-some, components-at}
 use Rattle.ninja_text.proofs.Canonical.{IsClean, whole-path, clean-none, none-clean, clean-components}
 
 -- whether the rest of a list goes on with names, if this is known of the component that is being read
@@ -91,13 +91,31 @@ joined : (rooted : Bool) (list : List ℕ) → path_text rooted (components list
 joined true list = ap (λ t. 47 ∷ t) (join_with_byte-slice_split 47 list)
 joined false list = join_with_byte-slice_split 47 list
 
-pub names_path : (rooted : Bool) (list text : List ℕ) → AreNames list → cond rooted (47 ∷ list) list ≡ text → length text ≤ 4096 → IsPath text
-names_path rooted list text names same short =
+pub names_list : (list : List ℕ) → AreNames list → IsReducedList list
+names_list list names = record { reduced_is = fixed-reduced (components list) (names-fixed (components list) names.named); clean = names.clean }
+
+pub list_path : (rooted : Bool) (list text : List ℕ) → IsReducedList list → (rooted && list_any is_parent (components list)) ≡ false → cond rooted (47 ∷ list) list ≡ text → length text ≤ 4096 → IsPath text
+list_path rooted list text of inside same short =
     let first = components-some list in
     whole-path rooted (components list) text (record {
       some = ap is_empty first.2;
-      fixed = names-fixed (components list) names.named;
+      fixed = subst IsFixed of.reduced_is (reduced-fixed (components list));
       lacks = components-lack list;
-      clean = clean-components list (none-clean list names.clean);
-      inside = ap (λ b. rooted && b) (no_parents (components list) names.named) ∙ and-false rooted;
+      clean = clean-components list (none-clean list of.clean);
+      inside = inside;
     }) (joined rooted list ∙ same) (le-ltb 4096 (length text) short)
+
+pub names_path : (list text : List ℕ) → AreNames list → 47 ∷ list ≡ text → length text ≤ 4096 → IsPath text
+names_path list text names same short = list_path true list text (names_list list names) (no_parents (components list) names.named) same short
+
+-- ---- `..` in front
+
+-- a list with `..` in front
+pub parent_list : (rest list : List ℕ) → list ≡ 46 ∷ 46 ∷ 47 ∷ rest → IsReducedList rest → IsReducedList list
+parent_list rest list same of =
+    let parts : components list ≡ (46 ∷ 46 ∷ []) ∷ components rest = ap components same ∙ components-at (46 ∷ 46 ∷ []) rest (refl, (refl, tt)) in
+    record {
+      reduced_is =
+          ap reduced parts ∙ in_front-parent (46 ∷ 46 ∷ []) (reduced (components rest)) refl ∙ ap (λ l. (46 ∷ 46 ∷ []) ∷ l) of.reduced_is ∙ sym parts;
+      clean = clean-none list (subst IsClean (sym same) (refl, (refl, (refl, none-clean rest of.clean))));
+    }

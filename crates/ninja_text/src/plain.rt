@@ -1,7 +1,7 @@
 //! Whether a string is a canonical path already, as nearly every path is.
 ghost use Rattle.std.specs.Prelude.{◌≡◌, true};
 ghost use Rattle.ninja_text.specs.Paths.{IsPath};
-ghost use Rattle.ninja_text.specs.inner.PlainPaths.{AreNames, after, is_name};
+ghost use Rattle.ninja_text.specs.inner.PlainPaths.{AreNames, IsReducedList, after, is_name};
 
 use crate::paths::PATH_LIMIT;
 use crate::reduction::is_unwritable;
@@ -19,8 +19,8 @@ pub(crate) enum Begun {
     Name,
 }
 
-/// Returns whether a string is a canonical path, after a look at each byte. A canonical path that
-/// begins with `..` may be missed.
+/// Returns whether a string is a canonical path, after a look at each byte. It may miss a path with
+/// nothing but `..`.
 pub(crate) fn is_plain(text: &[u8]) -> bool
     ensures { result ≡ true → IsPath text.now }
 {
@@ -29,8 +29,19 @@ pub(crate) fn is_plain(text: &[u8]) -> bool
     }
     match text.strip_prefix(b"/") {
         Some(list) => are_names(list),
-        None => are_names(text),
+        None => are_names(without_parents(text)),
     }
+}
+
+/// Returns a list without the `..` that it begins with.
+fn without_parents(list: &[u8]) -> &[u8]
+    ensures { IsReducedList result.now → IsReducedList list.now }
+{
+    let mut rest = list;
+    while let Some(more) = rest.strip_prefix(b"../") {
+        rest = more;
+    }
+    rest
 }
 
 /// Returns whether all components of a list are names that can be escaped in a Ninja file.
@@ -39,7 +50,10 @@ fn are_names(list: &[u8]) -> bool
 {
     let mut begun = Begun::Nothing;
     for byte in list {
-        if *byte == b'/' {
+        // With most bytes the component is a name, whatever else is in it.
+        if matches!(*byte, b'0'..=b'{') {
+            begun = Begun::Name;
+        } else if *byte == b'/' {
             if !is_name(begun) {
                 return false;
             }

@@ -3,9 +3,14 @@ use Rattle.std.specs.Prelude.{◌≡◌, ℕ, Bool, true, false, ◌==◌, ◌||
 use Rattle.std.specs.List.{list_any}
 use Rattle.ninja_text.specs.Bytes.{dot}
 use Rattle.ninja_text.specs.Escapes.{is_unwritable}
-use Rattle.ninja_text.specs.Reduction.{components, is_current, is_parent}
+use Rattle.ninja_text.specs.Reduction.{components, is_current, is_parent, reduced}
 use Rattle.ninja_text.specs.declared.plain.Begun.{Begun}
 use Rattle.ninja_text.specs.declared.plain.Begun.TheVariants.{Nothing, Dot, TwoDots, Name}
+
+-- No step applies to the components, and each byte can be escaped.
+pub record IsReducedList (list : List ℕ) : Type 0 where
+  pub reduced_is : reduced (components list) ≡ components list
+  pub clean : position is_unwritable list ≡ None
 
 -- Each component is a name, and each byte can be escaped.
 pub record AreNames (list : List ℕ) : Type 0 where
