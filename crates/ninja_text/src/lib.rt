@@ -17,7 +17,8 @@
 //! - `specs/LineFormats.antt` defines, for all formats whose lines fall into classes, which value a
 //!   text stands for and which error it has, and `specs/FormatReading.antt` what a reader has read.
 //! - [`words`] returns the tokens of a line (`specs/Tokens.antt`), and [`assignment`] its name and value
-//!   (`specs/Assignments.antt`), or the first lexical error (`specs/Lexical.antt`).
+//!   (`specs/Assignments.antt`), or the first lexical error (`specs/Lexical.antt`). [`Token::path`] returns
+//!   the path of a word, which shares a copy of the line if it can.
 //! - [`laws`] proves that a text is divided into lines, and a line into tokens, in one way only, and
 //!   that readers and writers of words agree (`specs/Meanings.antt`).
 //! - [`Counted`] counts the failed calls of a reader or a writer (`specs/Counting.antt`).
@@ -31,7 +32,7 @@
 //! `must-fail/` has a wrong body of each public function, except for laws, which have no body, for
 //! [`Failure::map`], which can only pass on values of any type, and for functions whose clause is an
 //! equation that names the value, such as those that fill or return a field. The README lists them.
-//! `continuation_leaves_a_space` stands for both functions `value_into`, and
+//! `continuation_leaves_a_space` stands for the functions `value_into` and `value`, and
 //! `failed_calls_are_not_counted` for [`Counted::read`] and [`Counted::write`].
 #![tactic(auto)]
 
