@@ -1,5 +1,5 @@
 -- What is kept of directories and of the ends of names.
-use Rattle.std.proofs.Common.{◌≡◌, ℕ, suc, ◌+◌, ◌-◌, ◌*◌, ◌<◌, ◌≤◌, min, Bool, true, false, not, cond, ◌==◌, ◌||◌, ◌&&◌, List, [], ◌∷◌, ◌++◌, length, take, drop, get_or, refl, sym, ◌∙◌, ap, subst, arith, length-append, ◌⊎◌, inl, inr, Option, Some, None, Result, Err, position, nat_lt, bytes_eq, Vec, Global, IsUtf8}
+use Rattle.std.proofs.Common.{◌≡◌, ℕ, suc, ◌+◌, ◌-◌, ◌*◌, ◌<◌, ◌≤◌, min, Bool, true, false, not, cond, ◌==◌, ◌||◌, ◌&&◌, List, [], ◌∷◌, ◌++◌, length, take, drop, get_or, refl, sym, ◌∙◌, ap, subst, arith, length-append, ◌⊎◌, inl, inr, Option, Some, None, Result, Err, position, nat_lt, bytes_eq, Vec, Global, IsUtf8, IfOk}
 use Rattle.std.specs.Option.{ForSome}
 use Rattle.std.specs.Vec.{vec_len}
 use Rattle.std.specs.List.{list_any, prefix_len}
@@ -20,7 +20,7 @@ use Rattle.ninja_text.specs.inner.Joins.{IsDirectory, IsList, IsReadIn, IsListOf
 use Rattle.ninja_text.proofs.ReducedList.{IsFixed, either_way, names-fixed, fixed-reduced, reduced-fixed, reduced-each, reduced-ahead, reduced-context, and-left, and-right, current-not-name}
 use Rattle.ninja_text.proofs.Components.{components-lack, components-at, components-one, components-list, text-below}
 use Rattle.ninja_text.proofs.Canonical.{rooted-is, path-first, nothing-is, is-above, is-unwritable, is-long, clean-none, IsClean}
-use Rattle.ninja_text.proofs.Shape.{at-most, joined-text}
+use Rattle.ninja_text.proofs.Shape.{at-most, joined-text, result-text}
 use Rattle.ninja_text.proofs.Joins.{up, leads, leads-list, any-leads, name-not-parent, slashes-count, cut-list, slash-offset, lists-joined, fixed-take, fixed-drop, glued-lists, glued-nil, text-behind, leads-text, leads-glued, position-append, components-slash, components-front, in_front-plain, in_front-up, up-more, up-none, only-names}
 
 -- ---- what is kept of a directory
@@ -71,27 +71,26 @@ some-of : (list : List (List ℕ)) (n : ℕ) → (n ≡ 0 → ⊥) → n ≤ len
 some-of [] n some le = absurd (some (omega arith))
 some-of (x ∷ xs) n some le = refl
 
--- the first components of a directory's list, up to a slash
-pub directory-front : (text list slashes : List ℕ) (names : ℕ) (unwritable : Option ℕ) (count index z : ℕ)
-    → IsDirectory text list slashes names unwritable
-    → (count ≡ 0 → ⊥) → count ≤ length (parts text) → count ≤ length slashes → index ≡ length slashes - count
-    → (get_or slashes index z ≡ length (list_text (take (length (parts text) - count) (parts text)))) × (take (get_or slashes index z) list ≡ list_text (take (length (parts text) - count) (parts text)))
-directory-front text list slashes names unwritable count index z d some le has e =
-    let n = directory-count text list slashes d.list_is d.slashes_are (some-of (parts text) count some le) in
-    let kept : suc index ≡ length (parts text) - count = omega arith in
-    let same : slashes ≡ slashes_from 0 (list_text (parts text)) = d.slashes_are ∙ ap (slashes_from 0) d.list_is in (
-      ap (λ l. get_or l index z) same ∙ slash-offset (parts text) index z (parts-lack text) (omega arith)
-          ∙ ap (λ m. length (list_text (take m (parts text)))) kept,
-      ap (λ l. take (get_or l index z) list) same ∙ ap (take (get_or (slashes_from 0 (list_text (parts text))) index z)) d.list_is
-          ∙ cut-list (parts text) index z (parts-lack text) (omega arith) ∙ ap (λ m. list_text (take m (parts text))) kept,
-    )
+-- what is known of a directory from which as many components as this are removed
+module _ {text list slashes : List ℕ} {names : ℕ} {unwritable : Option ℕ} (d : IsDirectory text list slashes names unwritable) (count : ℕ) (some : count ≡ 0 → ⊥) (le : count ≤ length (parts text)) where
+  -- the first components of its list, up to a slash
+  pub directory-front : (index z : ℕ) → count ≤ length slashes → index ≡ length slashes - count
+      → (get_or slashes index z ≡ length (list_text (take (length (parts text) - count) (parts text)))) × (take (get_or slashes index z) list ≡ list_text (take (length (parts text) - count) (parts text)))
+  directory-front index z has e =
+      let n = directory-count text list slashes d.list_is d.slashes_are (some-of (parts text) count some le) in
+      let kept : suc index ≡ length (parts text) - count = omega arith in
+      let same : slashes ≡ slashes_from 0 (list_text (parts text)) = d.slashes_are ∙ ap (slashes_from 0) d.list_is in (
+        ap (λ l. get_or l index z) same ∙ slash-offset (parts text) index z (parts-lack text) (omega arith)
+            ∙ ap (λ m. length (list_text (take m (parts text)))) kept,
+        ap (λ l. take (get_or l index z) list) same ∙ ap (take (get_or (slashes_from 0 (list_text (parts text))) index z)) d.list_is
+            ∙ cut-list (parts text) index z (parts-lack text) (omega arith) ∙ ap (λ m. list_text (take m (parts text))) kept,
+      )
 
--- no component is left
-pub directory-none : (text list slashes : List ℕ) (names : ℕ) (unwritable : Option ℕ) (count : ℕ) → IsDirectory text list slashes names unwritable
-    → (count ≡ 0 → ⊥) → count ≤ length (parts text) → (count ≤ length slashes → ⊥) → [] ≡ list_text (take (length (parts text) - count) (parts text))
-directory-none text list slashes names unwritable count d some le none =
-    let n = directory-count text list slashes d.list_is d.slashes_are (some-of (parts text) count some le) in
-    ap (λ m. list_text (take m (parts text))) {x = 0} {y = length (parts text) - count} (grind arith)
+  -- no component is left
+  pub directory-none : (count ≤ length slashes → ⊥) → [] ≡ list_text (take (length (parts text) - count) (parts text))
+  directory-none none =
+      let n = directory-count text list slashes d.list_is d.slashes_are (some-of (parts text) count some le) in
+      ap (λ m. list_text (take m (parts text))) {x = 0} {y = length (parts text) - count} (grind arith)
 
 -- ---- the list of what is read in a directory
 
@@ -108,12 +107,11 @@ lists-left list q d f g e =
     lists-joined list q (length list - d) d f g (omega arith) (omega arith) (omega arith) (elim way [ inl h ↦ inl (e ∙ h) | inr h ↦ inr (omega arith) ])
 
 -- the list that is left, written out
-pub text-left : (directory text own front rest : List ℕ) (parents : ℕ) (unwritable : Option ℕ) (d : ℕ)
-    → IsReadIn directory text own parents unwritable
+text-left : {directory text own front rest : List ℕ} {parents d : ℕ} {unwritable : Option ℕ} → IsReadIn directory text own parents unwritable
     → d ≡ min parents (length (parts directory) - up (parts directory))
     → front ≡ list_text (take (length (parts directory) - d) (parts directory)) → rest ≡ drop (3 * d) own
     → glued front rest ≡ reduced_text text
-text-left directory text own front rest parents unwritable d r e f g =
+text-left {directory = directory} {rest = rest} {d = d} r e f g =
     let list = parts directory in
     let q = r.list in
     let fixed : IsFixed q = subst IsFixed r.is_list.fixed (reduced-fixed q) in
@@ -155,10 +153,10 @@ read-position [] path h = refl
 read-position (b ∷ bs) path h = sym (ap (λ t. position is_unwritable (cond t path ((b ∷ bs) ++ 47 ∷ path))) h ∙ slash-position (b ∷ bs) path)
 
 -- a path that is read in a directory, by its canonical list
-pub read-in : (directory path own : List ℕ) (parents : ℕ) (unwritable : Option ℕ) → is_rooted path ≡ false
+pub read-in : (directory path : List ℕ) {own : List ℕ} {parents : ℕ} {unwritable : Option ℕ} → is_rooted path ≡ false
     → IsList (parts path) own parents → unwritable ≡ first_in directory (position is_unwritable path)
     → IsReadIn directory (read_from (Some directory) path) own parents unwritable
-read-in directory path own parents unwritable h l e = record {
+read-in directory path h l e = record {
   list = parts path;
   is_list = l;
   whole = read-whole directory path h;
@@ -237,11 +235,11 @@ some-byte [] n lt = absurd (omega arith)
 some-byte (x ∷ xs) n lt = refl
 
 -- the fault of a list that is too long
-pub long-is : (build : Option (List ℕ)) (text list : List ℕ) (above : Bool) (unwritable : Option ℕ) → ForSome build IsPath
+long-is : (build : Option (List ℕ)) (text : List ℕ) {list : List ℕ} {above : Bool} {unwritable : Option ℕ} → ForSome build IsPath
     → ForSome build (λ b. is_rooted b ≡ true)
     → list ≡ reduced_text text → list_limit build < length list → above ≡ (is_rooted text && leads_up list) → unwritable ≡ position is_unwritable text
     → canonical_of build text ≡ Err (long_fault above unwritable)
-long-is build text list above unwritable p r e lt a u =
+long-is build text {above = above} {unwritable = unwritable} p r e lt a u =
     let longer : list_limit build < length (reduced_text text) = subst (λ l. list_limit build < length l) e lt in
     let some = some-byte (parts text) (list_limit build) longer in
     let found : (is_rooted text && list_any is_parent (parts text)) ≡ above = ap (λ b. is_rooted text && b) (sym (leads-text text)) ∙ ap (λ l. is_rooted text && leads_up l) (sym e) ∙ sym a in
@@ -293,16 +291,11 @@ begins (b ∷ bs) h =
 -- ---- what the functions know of a path
 
 -- what is kept of the text that is read
-pub listed : (directory text own front rest list : List ℕ) (parents d : ℕ) (unwritable : Option ℕ) (rooted : Bool)
-    → IsReadIn directory text own parents unwritable
+pub listed : {directory text own front rest list : List ℕ} {parents d : ℕ} {unwritable : Option ℕ} {rooted : Bool} → IsReadIn directory text own parents unwritable
     → d ≡ min parents (length (parts directory) - up (parts directory))
     → front ≡ list_text (take (length (parts directory) - d) (parts directory)) → rest ≡ drop (3 * d) own → list ≡ glued front rest → rooted ≡ is_rooted directory
     → IsListOf text rooted unwritable list
-listed directory text own front rest list parents d unwritable rooted r e f g h k = record {
-  rooted_is = k ∙ sym r.rooted;
-  unwritable_is = r.unwritable_is;
-  list_is = h ∙ text-left directory text own front rest parents unwritable d r e f g;
-}
+listed r e f g h k = record { rooted_is = k ∙ sym r.rooted; unwritable_is = r.unwritable_is; list_is = h ∙ text-left r e f g }
 
 -- two texts are no longer than both with a slash between
 pub glued-longer : (f r : List ℕ) → length f + length r ≤ length (glued f r)
@@ -322,14 +315,15 @@ first-leads (b ∷ front) rest first empty e f =
     no-length n = grind arith
 
 -- the fault of what is read, if its list is too long
-pub long-read : (build : Option (List ℕ)) (directory text own front rest first : List ℕ) (parents d : ℕ) (unwritable : Option ℕ) (rooted empty above : Bool) → ForSome build IsPath → ForSome build (λ b. is_rooted b ≡ true)
+pub long-read : (build : Option (List ℕ)) {directory text own front rest first : List ℕ} {parents d : ℕ} {unwritable : Option ℕ} {rooted empty above : Bool} → ForSome build IsPath
+    → ForSome build (λ b. is_rooted b ≡ true)
     → IsReadIn directory text own parents unwritable → d ≡ min parents (length (parts directory) - up (parts directory))
     → front ≡ list_text (take (length (parts directory) - d) (parts directory)) → rest ≡ drop (3 * d) own → rooted ≡ is_rooted directory
     → list_limit build < length front + length rest → empty ≡ (length front == 0) → first ≡ cond empty rest front → above ≡ (rooted && leads_up first)
     → canonical_of build text ≡ Err (long_fault above unwritable)
-long-read build directory text own front rest first parents d unwritable rooted empty above p q r e f g k lt em fi a =
+long-read build {text = text} {front = front} {rest = rest} {first = first} {empty = empty} p q r e f g k lt em fi a =
     let longer = glued-longer front rest in
-    long-is build text (glued front rest) above unwritable p q (text-left directory text own front rest parents unwritable d r e f g) (omega arith)
+    long-is build text p q (text-left r e f g) (omega arith)
     (a ∙ ap (λ b. b && leads_up first) (k ∙ sym r.rooted) ∙ ap (λ t. is_rooted text && t) (first-leads front rest first empty em fi)) r.unwritable_is
 
 -- a text that is read in a directory, in UTF-8
@@ -346,13 +340,14 @@ placed-is build directory path h = ap (λ t. cond t (Err Empty) (canonical_of bu
 -- ---- names and their end
 
 -- the components of a name with an end
-pub named-parts : (name text : List ℕ) (first : ℕ) (list : List ℕ) (parents : ℕ) (unwritable : Option ℕ) (e : IsEnding text first list parents unwritable) → Begins name → parts (name ++ text) ≡ in_front (name ++ take first text) (reduced e.others)
-named-parts name text first list parents unwritable e b = ap reduced (components-front name text (take first text) e.others b.lacks e.divided)
+named-parts : (name : List ℕ) {text list : List ℕ} {first parents : ℕ} {unwritable : Option ℕ} (e : IsEnding text first list parents unwritable) → Begins name
+    → parts (name ++ text) ≡ in_front (name ++ take first text) (reduced e.others)
+named-parts name {text = text} {first = first} e b = ap reduced (components-front name text (take first text) e.others b.lacks e.divided)
 
 -- an end that removes the name leaves one `..` less
-pub named-up : (name text : List ℕ) (first : ℕ) (list : List ℕ) (parents : ℕ) (unwritable : Option ℕ)
+named-up : (name : List ℕ) {text list : List ℕ} {first parents : ℕ} {unwritable : Option ℕ}
     → IsEnding text first list parents unwritable → Begins name → 0 < parents → IsList (parts (name ++ text)) (drop 3 list) (parents - 1)
-named-up name text first list parents unwritable e b lt = go (reduced e.others) refl
+named-up name {text = text} {list = list} {first = first} {parents = parents} e b lt = go (reduced e.others) refl
   where
     go : (others : List (List ℕ)) → reduced e.others ≡ others → IsList (parts (name ++ text)) (drop 3 list) (parents - 1)
     go [] h = let k = e.list_is.parents_are ∙ ap up h in absurd (omega arith)
@@ -360,7 +355,7 @@ named-up name text first list parents unwritable e b lt = go (reduced e.others) 
       | inr n ↦ let k = e.list_is.parents_are ∙ ap up h ∙ up-none c cs n in absurd (omega arith)
       | inl u ↦
           let k = e.list_is.parents_are ∙ ap up h ∙ up-more c cs u in
-          let same : parts (name ++ text) ≡ cs = named-parts name text first list parents unwritable e b ∙ ap (in_front (name ++ take first text)) h ∙ in_front-up (name ++ take first text) c cs (b.named (take first text)) u in
+          let same : parts (name ++ text) ≡ cs = named-parts name e b ∙ ap (in_front (name ++ take first text)) h ∙ in_front-up (name ++ take first text) c cs (b.named (take first text)) u in
           record {
             fixed = fixed-reduced (parts (name ++ text)) (parts-fixed (name ++ text));
             lacks = parts-lack (name ++ text);
@@ -375,13 +370,13 @@ not-leads [] h = refl
 not-leads (c ∷ cs) h = elim (either_way (is_parent c)) [ inl u ↦ let k = up-more c cs u in absurd (omega arith) | inr n ↦ n ]
 
 -- any other end stays after it
-pub named-list : (name text : List ℕ) (first : ℕ) (list : List ℕ) (unwritable : Option ℕ) (e : IsEnding text first list 0 unwritable)
+named-list : (name : List ℕ) {text list : List ℕ} {first : ℕ} {unwritable : Option ℕ} (e : IsEnding text first list 0 unwritable)
     → Begins name → IsList (parts (name ++ text)) (glued (name ++ take first text) (list_text (reduced e.others))) 0
-named-list name text first list unwritable e b =
+named-list name {text = text} {first = first} e b =
     let x = name ++ take first text in
     let named = b.named (take first text) in
     let same : parts (name ++ text) ≡ x ∷ reduced e.others =
-    named-parts name text first list 0 unwritable e b ∙ in_front-plain x (reduced e.others) named (not-leads (reduced e.others) (sym e.list_is.parents_are)) in
+    named-parts name e b ∙ in_front-plain x (reduced e.others) named (not-leads (reduced e.others) (sym e.list_is.parents_are)) in
     record {
       fixed = fixed-reduced (parts (name ++ text)) (parts-fixed (name ++ text));
       lacks = parts-lack (name ++ text);
@@ -390,9 +385,9 @@ named-list name text first list unwritable e b =
     }
 
 -- the first byte of a name with an end that cannot be escaped
-pub named-position : (name text : List ℕ) → Begins name
-    → moved None (length name) (position is_unwritable text) ≡ position is_unwritable (name ++ text)
-named-position name text b = ap (λ o. moved o (length name) (position is_unwritable text)) (sym b.clean) ∙ sym (position-append name text)
+named-position : (name text : List ℕ) {u : Option ℕ} → Begins name → u ≡ position is_unwritable text → moved None (length name) u ≡ position is_unwritable (name ++ text)
+named-position name text b e =
+    ap (moved None (length name)) e ∙ ap (λ o. moved o (length name) (position is_unwritable text)) (sym b.clean) ∙ sym (position-append name text)
 
 -- a name is not empty, and begins at no root
 pub begins-path : (name text : List ℕ) → begins_component name ≡ true → (is_rooted (name ++ text) ≡ false) × (is_empty (name ++ text) ≡ false)
@@ -404,18 +399,18 @@ take-all : (n : ℕ) (list : List (List ℕ)) → n ≡ length list → take n l
 take-all n list e = ap (λ m. take m list) e ∙ take-length list
 
 -- the fault of a name with an end, if they are too long
-pub long-named : (build : Option (List ℕ)) (directory text own : List ℕ) (unwritable : Option ℕ) → ForSome build IsPath
+pub long-named : (build : Option (List ℕ)) (directory : List ℕ) {text own : List ℕ} {unwritable : Option ℕ} → ForSome build IsPath
     → ForSome build (λ b. is_rooted b ≡ true)
     → IsReadIn directory text own 0 unwritable → list_limit build < length own
     → canonical_of build text ≡ Err (long_fault (is_rooted directory && leads_up (reduced_text directory)) unwritable)
-long-named build directory text own unwritable p q r lt =
+long-named build directory {text = text} {own = own} {unwritable = unwritable} p q r lt =
     let front = reduced_text directory in
     let whole : front ≡ list_text (take (length (parts directory) - 0) (parts directory)) = sym (ap list_text (take-all (length (parts directory) - 0) (parts directory) (omega arith))) in
-    let left : glued front own ≡ reduced_text text = text-left directory text own front own 0 unwritable 0 r (omega arith) whole refl in
+    let left : glued front own ≡ reduced_text text = text-left {d = 0} r (omega arith) whole refl in
     let longer = glued-longer front own in
     let fixed : IsFixed r.list = subst IsFixed r.is_list.fixed (reduced-fixed r.list) in
     let plain : leads_up own ≡ false = ap leads_up r.is_list.own_is ∙ leads-list r.list fixed r.is_list.lacks ∙ any-leads r.list fixed ∙ not-leads r.list (sym r.is_list.parents_are) in
-    long-is build text (glued front own) _ unwritable p q left (omega arith)
+    long-is build text p q left (omega arith)
     (ap (λ b. b && leads_up front) (sym r.rooted) ∙ ap (λ t. is_rooted text && t) (go plain front)) r.unwritable_is
   where
     go : (plain : leads_up own ≡ false) (front : List ℕ) → leads_up front ≡ leads_up (glued front own)
@@ -478,30 +473,33 @@ pub same-parents : (a b : List ℕ) → a ≡ b → prefix_len is_parent (compon
 same-parents a b e = ap (λ l. prefix_len is_parent (components l)) e
 
 -- a name with an end that removes it, as it is read in a directory
-pub read-named-up : (directory name text list own : List ℕ) (k parents : ℕ) (u unwritable : Option ℕ) → IsEnding text k list parents u
+pub read-named-up : (directory name : List ℕ) {text list own : List ℕ} {k parents : ℕ} {u unwritable : Option ℕ} → IsEnding text k list parents u
     → begins_component name ≡ true → 0 < parents → own ≡ drop 3 list
     → unwritable ≡ first_in directory (moved None (length name) u) → IsReadIn directory (read_from (Some directory) (name ++ text)) own (parents - 1) unwritable
-read-named-up directory name text list own k parents u unwritable e h lt o w =
+read-named-up directory name {text = text} {parents = parents} e h lt o w =
     let b = begins name h in
-    subst (λ own. IsReadIn directory (read_from (Some directory) (name ++ text)) own (parents - 1) unwritable) (sym o)
-    (read-in directory (name ++ text) (drop 3 list) (parents - 1) unwritable (begins-path name text h).0 (named-up name text k list parents u e b lt)
-    (w ∙ ap (λ o. first_in directory (moved None (length name) o)) e.unwritable_is ∙ ap (first_in directory) (named-position name text b)))
+    read-in directory (name ++ text) (begins-path name text h).0 (subst (λ own. IsList (parts (name ++ text)) own (parents - 1)) (sym o) (named-up name e b lt))
+    (w ∙ ap (first_in directory) (named-position name text b e.unwritable_is))
 
 -- and one with an end that does not
-pub read-named : (directory name text list own : List ℕ) (k : ℕ) (u unwritable : Option ℕ) (e : IsEnding text k list 0 u)
+pub read-named : (directory name : List ℕ) {text list own : List ℕ} {k : ℕ} {u unwritable : Option ℕ} (e : IsEnding text k list 0 u)
     → begins_component name ≡ true → own ≡ glued (name ++ take k text) (list_text (reduced e.others))
     → unwritable ≡ first_in directory (moved None (length name) u) → IsReadIn directory (read_from (Some directory) (name ++ text)) own 0 unwritable
-read-named directory name text list own k u unwritable e h o w =
+read-named directory name {text = text} e h o w =
     let b = begins name h in
-    subst (λ own. IsReadIn directory (read_from (Some directory) (name ++ text)) own 0 unwritable) (sym o)
-    (read-in directory (name ++ text) (glued (name ++ take k text) (list_text (reduced e.others))) 0 unwritable (begins-path name text h).0 (named-list name text k list u e b)
-    (w ∙ ap (λ o. first_in directory (moved None (length name) o)) e.unwritable_is ∙ ap (first_in directory) (named-position name text b)))
+    read-in directory (name ++ text) (begins-path name text h).0 (subst (λ own. IsList (parts (name ++ text)) own 0) (sym o) (named-list name e b))
+    (w ∙ ap (first_in directory) (named-position name text b e.unwritable_is))
 
 -- what is read in a directory, as `placed` says it
 pub placed-read : (build : Option (List ℕ)) (directory path : List ℕ) (result : Result (List ℕ) (Failure PathFault))
     → is_empty path ≡ false → Gives (λ path. path) result (canonical_of build (read_from (Some directory) path))
     → Gives (λ path. path) result (placed (Some directory) build path)
 placed-read build directory path result h g = subst (λ r. Gives (λ path. path) result r) (sym (placed-is build directory path h)) g
+
+-- a path of texts in UTF-8 is in UTF-8
+pub placed-text : (build : Option (List ℕ)) (directory path : List ℕ) (result : Result (List ℕ) (Failure PathFault)) → is_rooted path ≡ false
+    → Gives (λ path. path) result (canonical_of build (read_from (Some directory) path)) → IsUtf8 directory → IsUtf8 path → IfOk result IsUtf8
+placed-text build directory path result h g u v = result-text build (read_from (Some directory) path) result g (read-text directory path h u v)
 
 -- a list after another that is written out, by the test of its length
 pub glued-appended : (front rest : List ℕ) (empty : Bool) → empty ≡ (length rest == 0) → empty ≡ false → appended front rest ≡ glued front rest
@@ -515,8 +513,3 @@ glued-alone front (c ∷ cs) empty e h = let k : true ≡ false = sym h ∙ e �
   where
     no-length : (n : ℕ) → (suc n == 0) ≡ false
     no-length n = grind arith
-
--- how many components are dropped
-pub dropped : (parents names : ℕ) (list : List (List ℕ)) (d : ℕ) → d ≡ min parents names → names ≡ length list - up list
-    → d ≡ min parents (length list - up list)
-dropped parents names list d e n = e ∙ ap (min parents) n

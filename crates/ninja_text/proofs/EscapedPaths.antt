@@ -1,17 +1,17 @@
 -- Which paths can be escaped, and what the escaped form is and stands for.
 use Rattle.std.proofs.Common.{◌≡◌, ℕ, Bool, true, false, not, ◌||◌, ◌==◌, ◌+◌, cond, Some, IsTrue, ◌↔◌, List, [], ◌∷◌, length, refl, sym, ap, ◌∙◌, inl, inr, map}
 use Rattle.std.specs.Prelude.{All, position, is_some, if◌then◌else◌}
-use Rattle.std.specs.List.{list_any, position_from, flat_map, list_all, AllByRecursion}
+use Rattle.std.specs.List.{list_any, position_from, list_all, AllByRecursion}
 use Rattle.std.proofs.lemmas.Iterator.Adapters.{position_from-zero}
 use Rattle.std.proofs.lemmas.List.Elements.{All-nil, All-cons, recursion_from_All}
 use Rattle.std.proofs.lemmas.Bool.{or_parts, cases_Bool, and_from}
 use Rattle.std.proofs.lemmas.List.Folds.{list_any_none}
 use Rattle.ninja_text.specs.Escapes.{is_unwritable, is_writable, IsWritable, is_escaped, escaped_byte, escaped}
-use Rattle.std.proofs.lemmas.List.{append-nil}
 use Rattle.ninja_text.specs.declared.unit.LineUnit.{LineUnit}
 use Rattle.ninja_text.specs.declared.unit.LineUnit.TheVariants.{Escape, Byte}
-use Rattle.ninja_text.specs.Tokens.{is_piece, unit_value, value_of}
-use Rattle.ninja_text.proofs.SpelledUnits.{is_sound, unit_text, text_of_units, units_read}
+use Rattle.ninja_text.specs.Tokens.{is_piece, value_of}
+use Rattle.ninja_text.proofs.Spelling.{spells_read, escaped-spells}
+use Rattle.ninja_text.proofs.SpelledUnits.{is_sound, unit_text, text_of_units}
 
 -- ---- the test of what can be escaped means what the record says
 
@@ -65,7 +65,7 @@ none_found path none some h =
     other_way (list_any is_unwritable path) none (sym (ap is_some (position_from-zero is_unwritable path) ∙ found_from is_unwritable 0 path) ∙ h)
     ∙ some_byte path (list_any is_unwritable path) some refl
 
--- ---- the units of a path in its escaped form, and what they stand for
+-- ---- the units of a path in its escaped form
 
 -- the unit that a byte of a path is escaped as
 abbrev pub path_unit : ℕ → LineUnit
@@ -81,20 +81,13 @@ HasSpelling path = AllByRecursion (λ b. is_unwritable b ≡ false) path
 pub has_spelling : (path : List ℕ) → IsWritable path → HasSpelling path
 has_spelling path w = recursion_from_All (λ b. is_unwritable b ≡ false) path w.each
 
--- they are its escaped form, and stand for the path
+-- they are its escaped form
 byte_text : (b : ℕ) → unit_text (path_unit b) ≡ escaped_byte b
 byte_text b = elim (cases_Bool (is_escaped b)) [ inl e ↦ rw e refl | inr e ↦ rw e refl ]
 
 pub path_text : (path : List ℕ) → text_of_units (path_units path) ≡ escaped path
 path_text [] = refl
 path_text (b ∷ path) = rw (byte_text b, path_text path) refl
-
-byte_meant : (b : ℕ) → unit_value (path_unit b) ≡ b ∷ []
-byte_meant b = elim (cases_Bool (is_escaped b)) [ inl e ↦ rw e refl | inr e ↦ rw e refl ]
-
-path_meant : (path : List ℕ) → flat_map unit_value (path_units path) ≡ path
-path_meant [] = refl
-path_meant (b ∷ path) = rw (byte_meant b, path_meant path) refl
 
 -- a byte that is not escaped, and can be escaped
 record Ordinary (b : ℕ) : Type 0 where
@@ -145,7 +138,4 @@ escaped_none (b ∷ path) none =
 
 -- what is read of an escaped path is the path
 pub value_of_escaped : (path : List ℕ) → IsWritable path → value_of (escaped path) ≡ path
-value_of_escaped path w =
-    ap value_of (sym (path_text path) ∙ sym (append-nil (text_of_units (path_units path))))
-    ∙ ap (flat_map unit_value) (units_read (path_units path) [] (path_sound path (has_spelling path w)) ∙ append-nil (path_units path))
-    ∙ path_meant path
+value_of_escaped path w = spells_read (escaped path) path (escaped-spells path w.some (has_spelling path w))

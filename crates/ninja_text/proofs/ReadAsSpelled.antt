@@ -1,5 +1,5 @@
 -- What is read of words and values is what they stand for.
-use Rattle.std.proofs.Common.{inl, inr, ◌⊎◌, ◌≡◌, ℕ, ◌+◌, Bool, true, false, List, [], ◌∷◌, ◌++◌, map, refl, sym, ap, ◌∙◌, subst, ◌==◌, ◌&&◌, ◌||◌, not, IsTrue, Some, None, append_assoc}
+use Rattle.std.proofs.Common.{arith, inl, inr, ◌⊎◌, ◌≡◌, ℕ, ◌+◌, Bool, true, false, List, [], ◌∷◌, ◌++◌, map, refl, sym, ap, ◌∙◌, subst, ◌==◌, ◌&&◌, ◌||◌, not, IsTrue, Some, None, append_assoc}
 use Rattle.std.specs.Prelude.{Option, nat_lt, All, slice_range, drop}
 use Rattle.std.specs.Option.{ForSome}
 use Rattle.std.specs.List.{flat_map, list_all, AllByRecursion}
@@ -18,7 +18,6 @@ use Rattle.ninja_text.specs.Escapes.{is_escaped, is_unwritable, IsPiece, IsConti
 use Rattle.ninja_text.specs.Assignments.{AssignmentIndexes, after_run, is_name_unit, begins_with_equals, tail_units, SeenAssignment, with_bytes, assignment_of}
 use Rattle.ninja_text.specs.Meanings.{IsFaultless, IsReadAsSpelled, is_value_byte, IsValuePiece, SpellsValue, IsValueAsSpelled}
 use Rattle.ninja_text.proofs.ReducedList.{is_true}
-use Rattle.ninja_text.proofs.Spelling.{head-of, dollar-space}
 use Rattle.ninja_text.proofs.ListLemmas.{tokens_are}
 use Rattle.ninja_text.proofs.Units.{byte_len}
 use Rattle.ninja_text.proofs.SpelledUnits.{is_plain, plain}
@@ -150,12 +149,13 @@ words_read line r =
 no_space_first : (us : List LineUnit) (bytes rest : List ℕ) → AreUnitTexts us bytes → begins_with 32 us ≡ false → bytes ≡ 32 ∷ rest → ⊥
 no_space_first [] bytes rest h none e = let x : [] ≡ 32 ∷ rest = sym h ∙ e in cc
 no_space_first (Continuation len ∷ us) bytes rest h none e = elim h.2.0.1 [
-  | inl f ↦ dollar-space 36 refl (head-of 36 32 _ rest (ap (λ xs. xs ++ h.1) (sym f) ∙ sym h.5 ∙ e))
-  | inr f ↦ dollar-space 36 refl (head-of 36 32 _ rest (ap (λ xs. xs ++ h.1) (sym f) ∙ sym h.5 ∙ e))
+  | inl f ↦ let x : 36 ∷ _ ≡ 32 ∷ rest = ap (λ xs. xs ++ h.1) (sym f) ∙ sym h.5 ∙ e in let y : ◌≡◌ {A = ℕ} 36 32 = cc in omega arith
+  | inr f ↦ let x : 36 ∷ _ ≡ 32 ∷ rest = ap (λ xs. xs ++ h.1) (sym f) ∙ sym h.5 ∙ e in let y : ◌≡◌ {A = ℕ} 36 32 = cc in omega arith
 ]
-no_space_first (Escape b ∷ us) bytes rest h none e = dollar-space 36 refl (head-of 36 32 (b ∷ h.1) rest (ap (λ xs. xs ++ h.1) (sym h.2) ∙ sym h.5 ∙ e))
+no_space_first (Escape b ∷ us) bytes rest h none e = let x : 36 ∷ b ∷ h.1 ≡ 32 ∷ rest = ap (λ xs. xs ++ h.1) (sym h.2) ∙ sym h.5 ∙ e in let y : ◌≡◌ {A = ℕ} 36 32 = cc in omega arith
 no_space_first (Byte b ∷ us) bytes rest h none e =
-    let same : b ≡ 32 = head-of b 32 h.1 rest (ap (λ xs. xs ++ h.1) (sym h.2) ∙ sym h.5 ∙ e) in
+    let x : b ∷ h.1 ≡ 32 ∷ rest = ap (λ xs. xs ++ h.1) (sym h.2) ∙ sym h.5 ∙ e in
+    let same : b ≡ 32 = cc in
     let clash : false ≡ true = sym none ∙ ap (λ n. n == 32) same in cc
 
 -- a continuation in front of a value
