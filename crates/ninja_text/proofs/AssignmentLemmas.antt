@@ -16,7 +16,7 @@ any_later test u us h = elim (cases_Bool (test u)) [ inl t ↦ rw t refl | inr f
 
 -- if a word continues, a piece follows
 goes_on_piece : (us : List LineUnit) → goes_on us ≡ true → list_any is_piece us ≡ true
-goes_on_piece [] h = absurd (let x : false ≡ true = h in cc)
+goes_on_piece [] h = cc
 goes_on_piece (Continuation len ∷ us) h = any_later is_piece (Continuation len) us (goes_on_piece us h)
 goes_on_piece (Escape b ∷ us) h = refl
 goes_on_piece (Byte b ∷ us) h = rw h refl
@@ -56,8 +56,8 @@ bar_added index v us h = elim (cases_Bool (is_byte 124 v)) [
 
 -- a text without tokens has no piece of a word
 no_piece : (us : List LineUnit) (index : ℕ) → tokens_from index us ≡ [] → list_any is_piece us ≡ true → ⊥
-no_piece [] index h piece = let x : false ≡ true = piece in cc
-no_piece (u ∷ []) index h piece = none_with index u [] [] (λ e p. let x : false ≡ true = p in cc) h piece
+no_piece [] index h piece = cc
+no_piece (u ∷ []) index h piece = none_with index u [] [] (λ e p. cc) h piece
 no_piece (u ∷ v ∷ us) index h piece = elim (cases_Bool (is_byte 124 u)) [
   | inr n ↦ none_with index u (v ∷ us) (tokens_from (index + unit_len u) (v ∷ us)) (λ e p. no_piece (v ∷ us) (index + unit_len u) e p) (sym (tokens_with index u (v ∷ us) n) ∙ h) piece
   | inl b ↦ bar_added index v us (subst (λ w. tokens_from index (w ∷ v ∷ us) ≡ []) (byte_is 124 u b) h)

@@ -21,7 +21,7 @@ use Rattle.ninja_text.proofs.Scans.{end_of, line_end_scanned, scan_end_append, s
 -- an end that is found was scanned
 end_was : (r : Scanned) (e : LineEnd) → end_of r ≡ Some e → r ≡ End e.text_len e.line_len
 end_was (End t w) e h = cc
-end_was (Open s) e h = absurd (let x : None ≡ Some e = h in cc)
+end_was (Open s) e h = cc
 
 scanned_end : (bytes : List ℕ) (e : LineEnd) → line_end bytes ≡ Some e → scan_from 0 Start bytes ≡ End e.text_len e.line_len
 scanned_end bytes e h = end_was _ e (sym (line_end_scanned bytes) ∙ h)

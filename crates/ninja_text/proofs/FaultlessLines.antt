@@ -319,7 +319,7 @@ past_return bytes index end rest = record {
 -- what `$` begins, by the bytes after it
 module _ (b c : ℕ) (bytes : List ℕ) (index : ℕ) (end : LineEnd) where
   by_feed : (b == 10) ≡ true → InnerUpTo (index + 2) end (c ∷ bytes) → InnerUpTo index end (36 ∷ b ∷ c ∷ bytes)
-  by_feed f rest = subst (λ n. InnerUpTo index end (36 ∷ n ∷ c ∷ bytes)) (sym (eqb-true b 10 f)) (past_feed (c ∷ bytes) index end rest)
+  by_feed f rest = rw (eqb-true b 10 f) (past_feed (c ∷ bytes) index end rest)
 
   by_return : ((b == 13) && (c == 10)) ≡ true → InnerUpTo (index + 3) end bytes → InnerUpTo index end (36 ∷ b ∷ c ∷ bytes)
   by_return r rest =
@@ -341,7 +341,7 @@ inner_units (a ∷ b ∷ []) index end h = elim (cases_Bool (a == 36)) [
   | inr d ↦ past_byte a (b ∷ []) index end d (inner_units (b ∷ []) (index + 1) end) (rw d at h)
 ]
 inner_units (a ∷ b ∷ c ∷ bytes) index end h = elim (cases_Bool (a == 36)) [
-  | inl d ↦ subst (λ n. InnerUpTo index end (n ∷ b ∷ c ∷ bytes)) (sym (eqb-true a 36 d)) (elim (cases_Bool (b == 10)) [
+  | inl d ↦ rw (eqb-true a 36 d) (elim (cases_Bool (b == 10)) [
     | inl f ↦ by_feed b c bytes index end f (inner_units (c ∷ bytes) (index + 2) end (sym (end_continued index 2 (units (c ∷ bytes))) ∙ (rw (d, f) at h)))
     | inr f ↦ elim (cases_Bool ((b == 13) && (c == 10))) [
       | inl r ↦ by_return b c bytes index end r (inner_units bytes (index + 3) end (sym (end_continued index 3 (units bytes)) ∙ (rw (d, f, r) at h)))

@@ -255,7 +255,7 @@ module _ {S F : Type 0} (passes : S → LogicalLine → S → Type 0) (refuses :
   fault_of_line taken rest all lent new state line f split cuts waits is refused = go new.number new.bytes new.waits new.failed waits cuts is where
     go : (n : ℕ) (bytes : List ℕ) (w d : Bool) → w ≡ true → Cuts taken lent (record { number = n; bytes = bytes; waits = w; failed = d })
         → line ≡ record { text = text_of_line bytes; number = n; comment = is_comment bytes } → IsNextFault refuses of_cutter all lent state f
-    go n bytes false d w cuts l = absurd (let x : false ≡ true = w in cc)
+    go n bytes false d w cuts l = cc
     go n bytes true d w cuts l =
         let shorts = halved cuts.lines bytes cuts.short in
         let lines = halved_lines cuts.lines bytes cuts.divided.each in (

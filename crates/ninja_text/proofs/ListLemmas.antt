@@ -48,17 +48,17 @@ word_first s u us after p stop (inr goes) =
 
 no_piece : (u : LineUnit) → is_continuation u ≡ true → is_piece u ≡ false
 no_piece (Continuation len) h = refl
-no_piece (Escape b) h = absurd (let x : false ≡ true = h in cc)
-no_piece (Byte b) h = absurd (let x : false ≡ true = h in cc)
+no_piece (Escape b) h = cc
+no_piece (Byte b) h = cc
 
 goes_over : (u : LineUnit) (us : List LineUnit) → is_continuation u ≡ true → goes_on (u ∷ us) ≡ goes_on us
 goes_over (Continuation len) us h = refl
-goes_over (Escape b) us h = absurd (let x : false ≡ true = h in cc)
-goes_over (Byte b) us h = absurd (let x : false ≡ true = h in cc)
+goes_over (Escape b) us h = cc
+goes_over (Byte b) us h = cc
 
 -- a continuation in a word is passed over
 passed_over : (u : LineUnit) (us after : List LineUnit) (may_end : Bool) (start index : ℕ) → is_continuation u ≡ true → Follows false start (index + unit_len u) us after → Follows may_end start index (u ∷ us) after
-passed_over u us after may_end start index h (inl none) = absurd (let x : false ≡ true = none.1 in cc)
+passed_over u us after may_end start index h (inl none) = cc
 passed_over u us after may_end start index h (inr goes) = inr (record {
   on = goes_over u (us ++ after) h ∙ goes.on;
   word = ap (with_first_start start) (tokens_blank index u (us ++ after) (continuation_blank u h)) ∙ goes.word
@@ -80,7 +80,7 @@ follows (u ∷ us) after may_end start index stop h = elim (cases_Bool (is_piece
 -- the token at the front
 token_first : (kind : TokenKind) (s : ℕ) (own after : List LineUnit) → IsToken kind own after
     → tokens_from s (own ++ after) ≡ record { kind = kind; start = s; end = s + total_len own } ∷ tokens_from (s + total_len own) after
-token_first Word s [] after h = absurd (let x : false ≡ true = h.0 in cc)
+token_first Word s [] after h = cc
 token_first Word s (u ∷ us) after h =
     let both = and_parts (is_piece u) (may_follow true us) h.0 in
     word_first s u us after both.0 h.1 (follows us after true s (s + unit_len u) h.1 both.1)
@@ -114,7 +114,7 @@ total_len-append (u ∷ us) vs = let later = total_len-append us vs in omega ari
 blank_stops : (us : List LineUnit) → AreBlank us → goes_on us ≡ false
 blank_stops [] h = refl
 blank_stops (Continuation len ∷ us) h = blank_stops us h.1
-blank_stops (Escape b ∷ us) h = absurd (let x : false ≡ true = h.0 in cc)
+blank_stops (Escape b ∷ us) h = cc
 blank_stops (Byte b ∷ us) h = rw h.0 refl
 
 abbrev AreContinuations : List LineUnit → Type 0
@@ -124,7 +124,7 @@ AreContinuations us = AllByRecursion (λ u. is_continuation u ≡ true) us
 gap_continues : (gap us : List LineUnit) → AreBlank gap → goes_on (gap ++ us) ≡ true → AreContinuations gap × (goes_on us ≡ true)
 gap_continues [] us blank h = (tt, h)
 gap_continues (Continuation len ∷ gap) us blank h = let later = gap_continues gap us blank.1 h in ((refl, later.0), later.1)
-gap_continues (Escape b ∷ gap) us blank h = absurd (let x : false ≡ true = blank.0 in cc)
+gap_continues (Escape b ∷ gap) us blank h = cc
 gap_continues (Byte b ∷ gap) us blank h = absurd (let x : false ≡ true = rw blank.0 at h in cc)
 
 -- the token in which a word continues
@@ -142,7 +142,7 @@ goes_on_in Colon own after h g = absurd (let x : false ≡ true = subst (λ xs. 
 
 -- a word may follow a piece, past continuations
 word_over : (gap own : List LineUnit) (may_end : Bool) → AreContinuations gap → is_word own ≡ true → may_follow may_end (gap ++ own) ≡ true
-word_over [] [] may_end g w = absurd (let x : false ≡ true = w in cc)
+word_over [] [] may_end g w = cc
 word_over [] (u ∷ us) may_end g w = let both = and_parts (is_piece u) (may_follow true us) w in rw both.0 both.1
 word_over (u ∷ gap) own may_end g w = rw (no_piece u g.0, g.0) (word_over gap own false g.1 w)
 

@@ -39,7 +39,7 @@ byte_piece b p s =
     is_true _ (rw (k.no_dollar, m.0, m.1, n.1, k.no_nul, k.no_return, k.no_feed) refl)
 
 spelled : (u : LineUnit) (own : List ℕ) → is_piece u ≡ true → is_proper u ≡ true → IsUnitText u own → Spelled u own
-spelled (Continuation len) own p s h = absurd (let x : false ≡ true = p in cc)
+spelled (Continuation len) own p s h = cc
 spelled (Escape b) own p s h = record { byte = b; value = refl; piece = subst (λ xs. IsPiece xs b) (sym h) (refl, refl, is_true _ s) }
 spelled (Byte b) own p s h = record { byte = b; value = refl; piece = subst (λ xs. IsPiece xs b) (sym h) (refl, byte_piece b p s) }
 
@@ -112,7 +112,7 @@ follows (Byte b ∷ us) may_end bytes m p h = elim (cases_Bool (is_piece (Byte b
 
 -- the bytes of a word mean its units' values
 word_spells : (us : List LineUnit) (bytes : List ℕ) → is_word us ≡ true → list_all is_proper us ≡ true → AreUnitTexts us bytes → Spells bytes (flat_map unit_value us)
-word_spells [] bytes w p h = absurd (let x : false ≡ true = w in cc)
+word_spells [] bytes w p h = cc
 word_spells (u ∷ us) bytes w p h =
     let m = and_parts (is_piece u) (may_follow true us) w in
     let q = and_parts (is_proper u) (list_all is_proper us) p in
@@ -196,7 +196,7 @@ past_run text test (u ∷ us) index r = elim (cases_Bool (test u)) [
 ]
 
 past_equals : (text : List ℕ) (us : List LineUnit) (index : ℕ) → begins_with_equals us ≡ true → Remains text index us → Remains text (index + 1) (tail_units us)
-past_equals text [] index e r = absurd (let x : false ≡ true = e in cc)
+past_equals text [] index e r = cc
 past_equals text (u ∷ us) index e r = subst (λ n. Remains text (index + n) us) (byte_len 61 u e) (past_unit text index u us r)
 
 rest_read : (text : List ℕ) (index : ℕ) (us : List LineUnit) → Remains text index us → SpellsValue (drop index text) (value_of (drop index text))

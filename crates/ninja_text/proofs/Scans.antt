@@ -224,7 +224,7 @@ ended_fits n t w s b xs h =
     record { past = omega arith; within = omega arith; text = omega arith }
 
 pub scan_end_fits : (xs : List ℕ) (n t w : ℕ) (s : ScanState) → scan_from n s xs ≡ End t w → EndFits n t w xs
-scan_end_fits [] n t w s h = absurd (let e : Open s ≡ End t w = h in cc)
+scan_end_fits [] n t w s h = cc
 scan_end_fits (b ∷ xs) n t w s h = elim (cases_step (step_of s b)) [
   | inl e ↦ ended_fits n t w s b xs (rw e at h)
   | inr o ↦ let later = scan_end_fits xs (n + 1) t w o.0 (rw o.1 at h) in
@@ -233,7 +233,7 @@ scan_end_fits (b ∷ xs) n t w s h = elim (cases_step (step_of s b)) [
 
 -- the bytes up to the end are enough to find it
 pub scan_end_take : (xs : List ℕ) (n t w k : ℕ) (s : ScanState) → scan_from n s xs ≡ End t w → n + k ≡ w → scan_from n s (take k xs) ≡ End t w
-scan_end_take [] n t w k s h e = absurd (let e : Open s ≡ End t w = h in cc)
+scan_end_take [] n t w k s h e = cc
 scan_end_take (b ∷ xs) n t w zero s h e = let fits = scan_end_fits (b ∷ xs) n t w s h in absurd (omega (arith, fits.past))
 scan_end_take (b ∷ xs) n t w (suc k) s h e = elim (cases_step (step_of s b)) [
   | inl o ↦ rw o (rw o at h)

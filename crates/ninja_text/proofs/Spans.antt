@@ -1,5 +1,5 @@
 -- Where the tokens of a text and the parts of an assignment begin and end.
-use Rattle.std.proofs.Common.{inl, inr, ◌≡◌, ℕ, ◌+◌, ◌-◌, ◌<◌, ◌≤◌, true, false, ◌==◌, ◌&&◌, List, [], ◌∷◌, ◌++◌, length, take, drop, map, refl, sym, ap, ◌∙◌, subst, arith, length-drop, Bool, get_or, Some, None, zero, suc}
+use Rattle.std.proofs.Common.{inl, inr, ◌≡◌, ℕ, ◌+◌, ◌-◌, ◌<◌, ◌≤◌, true, ◌==◌, ◌&&◌, List, [], ◌∷◌, ◌++◌, length, take, drop, map, refl, sym, ap, ◌∙◌, subst, arith, length-drop, Bool, get_or, Some, None, zero, suc}
 use Rattle.std.specs.Prelude.{slice_range, Option, nat_lt}
 use Rattle.std.specs.List.{AllByRecursion}
 use Rattle.std.proofs.lemmas.Bool.{cases_Bool}
@@ -67,7 +67,7 @@ rise_first from index limit [] lt h = omega (arith, h)
 rise_first from index limit (t ∷ ts) lt h = (omega arith, omega (arith, h.0, h.1), h.2)
 
 piece_len : (u : LineUnit) → is_piece u ≡ true → 0 < unit_len u
-piece_len (Continuation len) h = absurd (let x : false ≡ true = h in cc)
+piece_len (Continuation len) h = cc
 piece_len (Escape b) h = omega arith
 piece_len (Byte b) h = omega arith
 
@@ -217,5 +217,5 @@ slice_first [] end x xs h = absurd (let e : ◌≡◌ {A = List ℕ} [] (x ∷ x
   nothing (suc n) = refl
 slice_first (y ∷ ys) end x xs h = go (end - 0) h where
   go : (n : ℕ) → take n (y ∷ ys) ≡ x ∷ xs → y ≡ x
-  go zero h = absurd (let e : ◌≡◌ {A = List ℕ} [] (x ∷ xs) = h in cc)
+  go zero h = cc
   go (suc n) h = cc

@@ -52,7 +52,7 @@ module _ {X : Type 0} (view : TokenKind → List ℕ → X) where
   written_none = record { units = []; text_is = refl; sound = refl; begins = refl; yields = no_units view }
 
   pub written_word : (word text : List ℕ) (xs : List X) → is_word word ≡ true → Written view false text xs → Written view true (word ++ text) (view Word word ∷ xs)
-  written_word [] text xs h w = absurd (let e : false ≡ true = h in cc)
+  written_word [] text xs h w = cc
   written_word (b ∷ bytes) text xs h w =
       let p = and_parts (list_all is_piece (map Byte (b ∷ bytes))) (list_all is_sound (map Byte (b ∷ bytes))) h in
       record {
@@ -118,7 +118,7 @@ pub record First (index : ℕ) (ts : List TokenAt) : Type 0 where
 
 -- the first token of what begins with a word is at its beginning
 word_first : (us : List LineUnit) (n : ℕ) → list_all is_sound us ≡ true → goes_on us ≡ true → First n (tokens_from n us)
-word_first [] n h g = absurd (let e : false ≡ true = g in cc)
+word_first [] n h g = cc
 word_first (u ∷ us) n h g =
     let p = and_parts (is_sound u) (list_all is_sound us) h in
     let piece : is_piece u ≡ true = piece_on u us p.0 g in
@@ -128,7 +128,7 @@ word_first (u ∷ us) n h g =
           record { token = record later.token { start = n }; rest = later.rest; are = piece_before n u us piece t ∙ ap (with_first_start n) later.are; at = refl }
     ] where
       piece_on : (u : LineUnit) (us : List LineUnit) → is_sound u ≡ true → goes_on (u ∷ us) ≡ true → is_piece u ≡ true
-      piece_on (Continuation len) us s g = absurd (let e : false ≡ true = s in cc)
+      piece_on (Continuation len) us s g = cc
       piece_on (Escape b) us s g = refl
       piece_on (Byte b) us s g = g
 

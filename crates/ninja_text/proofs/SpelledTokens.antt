@@ -20,7 +20,7 @@ use Rattle.ninja_text.proofs.EscapedPaths.{path_unit, path_units, path_text, pat
 
 -- a piece is no continuation and no `|`
 piece_len : (u : LineUnit) → is_piece u ≡ true → unit_len u ≡ length (unit_text u)
-piece_len (Continuation len) h = absurd (let e : false ≡ true = h in cc)
+piece_len (Continuation len) h = cc
 piece_len (Escape b) h = refl
 piece_len (Byte b) h = refl
 

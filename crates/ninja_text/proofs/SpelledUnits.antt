@@ -56,7 +56,7 @@ escaped_only P dollar space colon b h = elim (or_cases (b == 36) _ h) [
 
 -- a unit at the front is read back
 unit_first : (u : LineUnit) (x : List ℕ) → is_sound u ≡ true → units (unit_text u ++ x) ≡ u ∷ units x
-unit_first (Continuation len) x h = absurd (let e : false ≡ true = h in cc)
+unit_first (Continuation len) x h = cc
 unit_first (Escape b) x h = escaped_only (λ b. units (36 ∷ b ∷ x) ≡ Escape b ∷ units x) (units_pair 36 x refl refl) (units_pair 32 x refl refl) (units_pair 58 x refl refl) b h
 unit_first (Byte b) x h = units_byte b x (plain b h).no_dollar
 
@@ -68,12 +68,12 @@ units_read (u ∷ us) x h =
     ap units (append_assoc (unit_text u) (text_of_units us) x) ∙ unit_first u (text_of_units us ++ x) p.0 ∙ ap (λ vs. u ∷ vs) (units_read us x p.1)
 
 unit_len_is : (u : LineUnit) → is_sound u ≡ true → unit_len u ≡ length (unit_text u)
-unit_len_is (Continuation len) h = absurd (let e : false ≡ true = h in cc)
+unit_len_is (Continuation len) h = cc
 unit_len_is (Escape b) h = refl
 unit_len_is (Byte b) h = refl
 
 unit_ends_none : (n : ℕ) (u : LineUnit) (us : List LineUnit) → is_sound u ≡ true → end_from n (u ∷ us) ≡ end_from (n + unit_len u) us
-unit_ends_none n (Continuation len) us h = absurd (let e : false ≡ true = h in cc)
+unit_ends_none n (Continuation len) us h = cc
 unit_ends_none n (Escape b) us h = refl
 unit_ends_none n (Byte b) us h = let p = plain b h in rw (p.no_feed, p.no_return) refl
 

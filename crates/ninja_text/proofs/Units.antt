@@ -193,18 +193,18 @@ tokens_with s u (v ∷ us) h = rw h refl
 -- a space or a continuation adds none
 pub tokens_blank : (s : ℕ) (u : LineUnit) (us : List LineUnit) → is_blank u ≡ true → tokens_from s (u ∷ us) ≡ tokens_from (s + unit_len u) us
 tokens_blank s (Continuation len) us h = tokens_with s (Continuation len) us refl
-tokens_blank s (Escape b) us h = absurd (let x : false ≡ true = h in cc)
+tokens_blank s (Escape b) us h = cc
 tokens_blank s (Byte b) us h = subst (λ x. tokens_from s (Byte x ∷ us) ≡ tokens_from (s + 1) us) (sym (eqb-true b 32 h)) (tokens_with s (Byte 32) us refl)
 
 tokens_colon : (s : ℕ) (u : LineUnit) (us : List LineUnit) → is_byte 58 u ≡ true → tokens_from s (u ∷ us) ≡ record { kind = Colon; start = s; end = s + 1 } ∷ tokens_from (s + 1) us
-tokens_colon s (Continuation len) us h = absurd (let x : false ≡ true = h in cc)
-tokens_colon s (Escape b) us h = absurd (let x : false ≡ true = h in cc)
+tokens_colon s (Continuation len) us h = cc
+tokens_colon s (Escape b) us h = cc
 tokens_colon s (Byte b) us h = subst (λ x. tokens_from s (Byte x ∷ us) ≡ record { kind = Colon; start = s; end = s + 1 } ∷ tokens_from (s + 1) us) (sym (eqb-true b 58 h)) (tokens_with s (Byte 58) us refl)
 
 -- a piece begins a word, or is one
 pub tokens_piece : (s : ℕ) (u : LineUnit) (us : List LineUnit) → is_piece u ≡ true
     → tokens_from s (u ∷ us) ≡ (if goes_on us then with_first_start s (tokens_from (s + unit_len u) us) else (record { kind = Word; start = s; end = s + unit_len u } ∷ tokens_from (s + unit_len u) us))
-tokens_piece s (Continuation len) us h = absurd (let x : false ≡ true = h in cc)
+tokens_piece s (Continuation len) us h = cc
 tokens_piece s (Escape b) us h = tokens_with s (Escape b) us refl
 tokens_piece s (Byte b) us h = tokens_with s (Byte b) us (no_bar (b == 124) ((b == 32) || (b == 58)) h) ∙ rw h refl where
   no_bar : (bar rest : Bool) → not (rest || bar) ≡ true → bar ≡ false
@@ -214,7 +214,7 @@ tokens_piece s (Byte b) us h = tokens_with s (Byte b) us (no_bar (b == 124) ((b 
 
 -- what is neither blank, nor `:`, nor `|` is a piece
 pub piece_else : (u : LineUnit) → is_blank u ≡ false → is_byte 58 u ≡ false → is_byte 124 u ≡ false → is_piece u ≡ true
-piece_else (Continuation len) blank colon bar = absurd (let x : true ≡ false = blank in cc)
+piece_else (Continuation len) blank colon bar = cc
 piece_else (Escape b) blank colon bar = refl
 piece_else (Byte b) blank colon bar = rw (blank, colon, bar) refl
 
@@ -223,7 +223,7 @@ abbrev pub word_so_far : List ℕ → ℕ → ℕ → ℕ → List TokenAt
 word_so_far text start end index = if goes_on (units (drop index text)) then with_first_start start (tokens_at text index) else (record { kind = Word; start = start; end = end } ∷ tokens_at text index)
 
 pub goes_on_piece : (u : LineUnit) (us : List LineUnit) → is_piece u ≡ true → goes_on (u ∷ us) ≡ true
-goes_on_piece (Continuation len) us h = absurd (let x : false ≡ true = h in cc)
+goes_on_piece (Continuation len) us h = cc
 goes_on_piece (Escape b) us h = refl
 goes_on_piece (Byte b) us h = h
 
@@ -233,8 +233,8 @@ widened_again start index (t ∷ ts) = refl
 
 pub continuation_blank : (u : LineUnit) → is_continuation u ≡ true → is_blank u ≡ true
 continuation_blank (Continuation len) h = refl
-continuation_blank (Escape b) h = absurd (let x : false ≡ true = h in cc)
-continuation_blank (Byte b) h = absurd (let x : false ≡ true = h in cc)
+continuation_blank (Escape b) h = cc
+continuation_blank (Byte b) h = cc
 
 -- a unit that is at an index, and its length
 pub record Stands (text : List ℕ) (index n : ℕ) (u : LineUnit) : Type 0 where
@@ -269,8 +269,8 @@ module _ (text : List ℕ) (index n : ℕ) (u : LineUnit) (unit : Stands text in
       ∙ ap (λ b. if b then with_first_start start (tokens_at text index) else (record { kind = Word; start = start; end = end } ∷ tokens_at text index)) (sym (ap goes_on unit.first ∙ continuation_hides u h)) ∙ so_far where
         continuation_hides : (u : LineUnit) → is_continuation u ≡ true → goes_on (u ∷ units (drop (index + n) text)) ≡ goes_on (units (drop (index + n) text))
         continuation_hides (Continuation len) h = refl
-        continuation_hides (Escape b) h = absurd (let x : false ≡ true = h in cc)
-        continuation_hides (Byte b) h = absurd (let x : false ≡ true = h in cc)
+        continuation_hides (Escape b) h = cc
+        continuation_hides (Byte b) h = cc
 
 -- the unit that a byte is that is a piece of a word by itself
 pub plain_stands : (text : List ℕ) (index : ℕ) → index < length text → is_plain_piece (get_or text index 0) ≡ true → Stands text index 1 (Byte (get_or text index 0))
@@ -296,8 +296,8 @@ piece_at text index u us begins e =
     ap is_piece (sym same) ∙ begins.3
 
 pub byte_len : (c : ℕ) (u : LineUnit) → is_byte c u ≡ true → unit_len u ≡ 1
-byte_len c (Continuation len) h = absurd (let x : false ≡ true = h in cc)
-byte_len c (Escape b) h = absurd (let x : false ≡ true = h in cc)
+byte_len c (Continuation len) h = cc
+byte_len c (Escape b) h = cc
 byte_len c (Byte b) h = refl
 
 -- the token that a colon is
@@ -306,8 +306,8 @@ module _ (text : List ℕ) (s : ℕ) (u : LineUnit) (e : units (drop s text) ≡
   colon_at h = ap (tokens_from s) e ∙ tokens_colon s u _ h ∙ ap (λ k. record { kind = Colon; start = s; end = s + 1 } ∷ tokens_from (s + 1) (units (drop (s + k) text))) (byte_len 58 u h)
 
 pub byte_is : (c : ℕ) (u : LineUnit) → is_byte c u ≡ true → u ≡ Byte c
-byte_is c (Continuation len) h = absurd (let x : false ≡ true = h in cc)
-byte_is c (Escape b) h = absurd (let x : false ≡ true = h in cc)
+byte_is c (Continuation len) h = cc
+byte_is c (Escape b) h = cc
 byte_is c (Byte b) h = ap Byte (eqb-true b c h)
 
 pub at_bar : (text : List ℕ) (s : ℕ) (u : LineUnit) → units (drop s text) ≡ u ∷ units (drop (s + unit_len u) text) → is_byte 124 u ≡ true → BeginsBar text s

@@ -39,9 +39,10 @@ pub fn escape_into(path: &[u8], out: &mut Vec<u8>) -> Result<(), AllocError>
     }
     let start = out.len();
     for byte in path {
-        let appended = match *byte {
-            b'$' | b' ' | b':' => out.extend_from_slice(&[b'$', *byte]),
-            _ => out.extend_from_slice(&[*byte]),
+        let appended = if is_escaped(byte) {
+            out.extend_from_slice(&[b'$', *byte])
+        } else {
+            out.extend_from_slice(&[*byte])
         };
         if let Err(e) = appended {
             out.truncate(start);

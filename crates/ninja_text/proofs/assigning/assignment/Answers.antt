@@ -1,7 +1,9 @@
-use Rattle.std.proofs.Common.{◌-◌, length, take, drop, subst, sym, arith}
+use Rattle.std.proofs.Common.{◌≡◌, ◌-◌, ◌+◌, ◌∷◌, ap, ◌∙◌, true, length, take, drop, subst, sym, arith}
 use Rattle.std.proofs.lemmas.Grind.{common_steps}
 use Rattle.std.specs.Prelude.{slice_range}
-use Rattle.ninja_text.specs.Assignments.{LiesIn}
+use Rattle.ninja_text.specs.Assignments.{LiesIn, begins_with_equals}
+use Rattle.ninja_text.specs.Units.{units, unit_len}
+use Rattle.ninja_text.specs.declared.unit.LineUnit.TheVariants.{Byte}
 use Rattle.ninja_text.proofs.Spans.{lies_in}
 use Rattle.ninja_text.proofs.Lists.{to_the_end}
 use Rattle.ninja_text.proofs.assigning.assignment.Goals as goal
@@ -18,4 +20,8 @@ returns-clause-slices c =
     (subst (λ bytes. LiesIn text (record { name_start = start; name = slice_range text start end; raw_value = bytes })) (sym (to_the_end value text)) parts)
 
 pub returns-clause-found : goal.returns-clause-found
-returns-clause-found c = grind (arith, common_steps)
+returns-clause-found c =
+    let is : c.unit_at.result ≡ Byte 61 = cc in
+    let rest = units (drop (c.blank_end-sign.result + unit_len c.unit_at.result) c.text-text.result.now) in
+    let equals : begins_with_equals (units (drop c.blank_end-sign.result c.text-text.result.now)) ≡ true = ap begins_with_equals (c.unit_at.ensures.first ∙ ap (λ u. u ∷ rest) is) in
+    grind (arith, common_steps)
