@@ -86,7 +86,7 @@ name_piece (Byte b) h = elim (cases_Bool (b == 32)) [
   ]
 ] where
   apart : (c : ℕ) → (b == c) ≡ true → is_name_unit (Byte c) ≡ false → is_piece (Byte b) ≡ true
-  apart c same none = absurd (let x : false ≡ true = sym none ∙ subst (λ n. is_name_unit (Byte n) ≡ true) (eqb-true b c same) h in cc)
+  apart c same none = cc (sym none ∙ subst (λ n. is_name_unit (Byte n) ≡ true) (eqb-true b c same) h)
 
 run_first : (index : ℕ) (us : List LineUnit) → index < (after_run is_name_unit index us).place → list_any is_piece us ≡ true
 run_first index [] h = absurd (omega arith)

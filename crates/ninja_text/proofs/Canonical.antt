@@ -1,6 +1,7 @@
 -- A canonical text means itself.
-use Rattle.std.proofs.Common.{◌≡◌, ◌≢◌, ℕ, ◌+◌, ◌<◌, ◌≤◌, Bool, true, false, not, ◌&&◌, cond, nat_lt, ◌==◌, List, [], ◌∷◌, ◌++◌, length, Option, Some, None, Result, Ok, Err, refl, sym, ◌∙◌, ap, subst, arith, position, option_map, ◌⊎◌, inl, inr}
-use Rattle.std.specs.List.{AllByRecursion, list_any, prefix_len, onto_first}
+use Rattle.std.proofs.Common.{◌≡◌, ◌≢◌, ℕ, ◌+◌, ◌<◌, ◌≤◌, Bool, true, false, ◌&&◌, cond, nat_lt, ◌==◌, List, [], ◌∷◌, ◌++◌, length, Option, Some, None, Result, Ok, Err, refl, sym, ◌∙◌, ap, subst, arith, position, option_map, ◌⊎◌, inl, inr}
+use Rattle.std.specs.List.{AllByRecursion, list_any, position_from, onto_first}
+use Rattle.std.proofs.lemmas.Iterator.Adapters.{position_from-zero}
 use Rattle.std.proofs.lemmas.Bool.{le-ltb, lt-ltb}
 use Rattle.ninja_text.specs.declared.fault.PathFault.{PathFault}
 use Rattle.ninja_text.specs.declared.fault.PathFault.TheVariants.{Empty, AboveRoot, Unwritable, TooLong}
@@ -8,7 +9,7 @@ use Rattle.ninja_text.specs.Escapes.{is_unwritable}
 use Rattle.ninja_text.specs.Reduction.{is_parent, reduced, components}
 use Rattle.ninja_text.specs.Paths.{path_text, below, relative_or, seen_from, checked, is_empty, is_rooted, canonical_of, IsPath}
 use Rattle.ninja_text.specs.inner.ComponentLists.{list_text, LacksSlash, EachLacksSlash}
-use Rattle.ninja_text.proofs.ReducedList.{IsFixed, reduced-fixed, reduced-each, fixed-reduced, fixed-behind, in_front-current}
+use Rattle.ninja_text.proofs.ReducedList.{IsFixed, either_way, reduced-fixed, reduced-each, fixed-reduced, fixed-behind, in_front-current}
 use Rattle.ninja_text.proofs.Components.{components-lack, components-list, below-some, below-is, below-not}
 
 -- what holds of a text that has no fault
@@ -104,45 +105,24 @@ clean-text : (rooted : Bool) (list : List (List ℕ)) → AllByRecursion IsClean
 clean-text true list a = (refl, clean-list list a)
 clean-text false list a = clean-list list a
 
--- the first unwritable byte, or none
-abbrev pub run_of : List ℕ → ℕ
-run_of text = prefix_len (λ b. not (is_unwritable b)) text
+-- no unwritable byte is found in a clean text, from any index on
+none-from : (index : ℕ) (text : List ℕ) → IsClean text → position_from is_unwritable index text ≡ None
+none-from index [] a = refl
+none-from index (b ∷ bs) a = rw a.0 (none-from (index + 1) bs a.1)
 
--- a clean byte makes the run before the first unwritable byte longer by one
-pub run-step : (b : ℕ) (bs : List ℕ) → is_unwritable b ≡ false → run_of (b ∷ bs) ≡ run_of bs + 1
-run-step b bs h = ap (λ t. cond (not t) (1 + run_of bs) 0) h ∙ omega arith
-
--- an unwritable byte ends it
-pub run-stop : (b : ℕ) (bs : List ℕ) → is_unwritable b ≡ true → run_of (b ∷ bs) ≡ 0
-run-stop b bs h = ap (λ t. cond (not t) (1 + run_of bs) 0) h
-
--- the run of a clean text is all of it
-clean-run : (text : List ℕ) → IsClean text → run_of text ≡ length text
-clean-run [] a = refl
-clean-run (b ∷ bs) a = run-step b bs a.0 ∙ ap (λ n. n + 1) (clean-run bs a.1) ∙ omega arith
-
--- a text whose run is all of it is clean
-run-clean : (text : List ℕ) → (run_of text < length text → ⊥) → IsClean text
-run-clean [] h = tt
-run-clean (b ∷ bs) h = go (run-clean bs) (is_unwritable b) refl
-  where
-    go : ((run_of bs < length bs → ⊥) → IsClean bs) → (t : Bool) → is_unwritable b ≡ t → IsClean (b ∷ bs)
-    go more true e = let z = run-stop b bs e in absurd (h (omega arith))
-    go more false e = let z = run-step b bs e in (e, more (λ lt. h (omega arith)))
-
--- no unwritable byte is found in a clean text
 pub clean-none : (text : List ℕ) → IsClean text → position is_unwritable text ≡ None
-clean-none text a =
-    let e = clean-run text a in
-    ap (λ t. cond t (Some (run_of text)) None) (ap (λ n. nat_lt n (length text)) e ∙ le-ltb (length text) (length text) (omega arith))
+clean-none text a = position_from-zero is_unwritable text ∙ none-from 0 text a
 
--- a text in which no unwritable byte is found is clean
+-- a text in which none is found is clean
+clean-from : (index : ℕ) (text : List ℕ) → position_from is_unwritable index text ≡ None → IsClean text
+clean-from index [] h = tt
+clean-from index (b ∷ bs) h = elim (either_way (is_unwritable b)) [
+  | inl u ↦ absurd (let k : Some index ≡ None = rw u at h in cc)
+  | inr u ↦ (u, clean-from (index + 1) bs (rw u at h))
+]
+
 pub none-clean : (text : List ℕ) → position is_unwritable text ≡ None → IsClean text
-none-clean text h = run-clean text (λ lt. found (nat_lt (run_of text) (length text)) (lt-ltb (run_of text) (length text) lt) h)
-  where
-    found : (t : Bool) → t ≡ true → cond t (Some (run_of text)) None ≡ None → ⊥
-    found true e k = cc
-    found false e k = cc
+none-clean text h = clean-from 0 text (sym (position_from-zero is_unwritable text) ∙ h)
 
 -- a clean byte in front of the first component
 clean-onto : (b : ℕ) (parts : List (List ℕ)) → is_unwritable b ≡ false → AllByRecursion IsClean parts → AllByRecursion IsClean (onto_first b parts)

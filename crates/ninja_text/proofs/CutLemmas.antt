@@ -83,7 +83,7 @@ past_held bytes piece room e none some = elim (cases_lt (length bytes) e.line_le
   | inr le ↦
       let front : line_end (take e.line_len bytes) ≡ Some e = ap line_end (sym (take-append-le e.line_len bytes piece le)) ∙ (end_in_part room (bytes ++ piece) e some).2 in
       let found : line_end bytes ≡ Some e = ap line_end (sym (take-append-drop e.line_len bytes)) ∙ line_end-append (take e.line_len bytes) (drop e.line_len bytes) e front in
-      absurd (let clash : None ≡ Some e = sym none ∙ found in cc)
+      cc (sym none ∙ found)
 ]
 
 module _ (taken : List ℕ) (lent : List LogicalLine) (number : ℕ) (bytes : List ℕ) (cuts : Cuts taken lent (record { number = number; bytes = bytes; waits = false; failed = false })) where
@@ -206,8 +206,8 @@ front_same a b x y p q h =
 -- there is one division into lines and a rest
 pub divides_one : (bytes : List ℕ) (ls ms : List (List ℕ)) (r s : List ℕ) → Divides bytes ls r → Divides bytes ms s → (ls ≡ ms) × (r ≡ s)
 divides_one bytes [] [] r s p q = (refl, sym p.whole ∙ q.whole)
-divides_one bytes [] (m ∷ ms) r s p q = absurd (let clash : ◌≡◌ {A = Option LineEnd} None (Some _) = sym p.partial ∙ ap line_end (sym p.whole ∙ q.whole ∙ append_assoc m (joined ms) s) ∙ line_end-append m (joined ms ++ s) _ q.each.0.1 in cc)
-divides_one bytes (l ∷ ls) [] r s p q = absurd (let clash : ◌≡◌ {A = Option LineEnd} None (Some _) = sym q.partial ∙ ap line_end (sym q.whole ∙ p.whole ∙ append_assoc l (joined ls) r) ∙ line_end-append l (joined ls ++ r) _ p.each.0.1 in cc)
+divides_one bytes [] (m ∷ ms) r s p q = cc (sym p.partial ∙ ap line_end (sym p.whole ∙ q.whole ∙ append_assoc m (joined ms) s) ∙ line_end-append m (joined ms ++ s) _ q.each.0.1)
+divides_one bytes (l ∷ ls) [] r s p q = cc (sym q.partial ∙ ap line_end (sym q.whole ∙ p.whole ∙ append_assoc l (joined ls) r) ∙ line_end-append l (joined ls ++ r) _ p.each.0.1)
 divides_one bytes (l ∷ ls) (m ∷ ms) r s p q =
     let both : l ++ (joined ls ++ r) ≡ m ++ (joined ms ++ s) = sym (append_assoc l (joined ls) r) ∙ sym p.whole ∙ q.whole ∙ append_assoc m (joined ms) s in
     let same : l ≡ m = front_same l m (joined ls ++ r) (joined ms ++ s) p.each.0 q.each.0 both in

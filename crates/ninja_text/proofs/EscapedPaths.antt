@@ -1,8 +1,7 @@
 -- Which paths can be escaped, and what the escaped form is and stands for.
-use Rattle.std.proofs.Common.{◌≡◌, ℕ, Bool, true, false, not, ◌||◌, ◌==◌, ◌+◌, cond, Some, IsTrue, ◌↔◌, List, [], ◌∷◌, length, refl, sym, ap, ◌∙◌, inl, inr, map}
-use Rattle.std.specs.Prelude.{All, position, is_some, if◌then◌else◌}
-use Rattle.std.specs.List.{list_any, position_from, list_all, AllByRecursion}
-use Rattle.std.proofs.lemmas.Iterator.Adapters.{position_from-zero}
+use Rattle.std.proofs.Common.{◌≡◌, ℕ, Bool, true, false, not, ◌==◌, IsTrue, ◌↔◌, List, [], ◌∷◌, length, refl, ap, inl, inr, map}
+use Rattle.std.specs.Prelude.{All, if◌then◌else◌}
+use Rattle.std.specs.List.{list_any, list_all, AllByRecursion}
 use Rattle.std.proofs.lemmas.List.Elements.{All-nil, All-cons, recursion_from_All}
 use Rattle.std.proofs.lemmas.Bool.{or_parts, cases_Bool, and_from}
 use Rattle.std.proofs.lemmas.List.Folds.{list_any_none}
@@ -42,28 +41,9 @@ pub writable : (path : List ℕ) → IsTrue (is_writable path) ↔ IsWritable pa
 writable path = (writable_record path, writable_test path)
 
 -- the result of the test at a path that has a byte
-some_byte : (path : List ℕ) (found : Bool) → (length path == 0) ≡ false → found ≡ list_any is_unwritable path → not found ≡ is_writable path
+pub some_byte : (path : List ℕ) (found : Bool) → (length path == 0) ≡ false → found ≡ list_any is_unwritable path → not found ≡ is_writable path
 some_byte [] found h e = cc
 some_byte (b ∷ bs) found h e = ap not e
-
--- a first element that passes is found if one passes
-found_from : (p : ℕ → Bool) (i : ℕ) (bs : List ℕ) → is_some (position_from p i bs) ≡ list_any p bs
-found_from p i [] = refl
-found_from p i (b ∷ bs) =
-    elim (p b) as (λ t. is_some (cond t (Some i) (position_from p (i + 1) bs)) ≡ (t || list_any p bs)) [
-      | true ↦ refl
-      | false ↦ found_from p (i + 1) bs
-    ]
-
-other_way : (a b : Bool) → a ≡ not b → b ≡ not a
-other_way a true h = rw h refl
-other_way a false h = rw h refl
-
--- the result at such a path, by its first byte that cannot be escaped
-pub none_found : (path : List ℕ) (none : Bool) → (length path == 0) ≡ false → is_some (position is_unwritable path) ≡ not none → none ≡ is_writable path
-none_found path none some h =
-    other_way (list_any is_unwritable path) none (sym (ap is_some (position_from-zero is_unwritable path) ∙ found_from is_unwritable 0 path) ∙ h)
-    ∙ some_byte path (list_any is_unwritable path) some refl
 
 -- ---- the units of a path in its escaped form
 

@@ -245,9 +245,7 @@ none_some h = absurd (cc)
 here : (index len : ℕ) (end : LineEnd) (bytes : List ℕ) → ◌≡◌ {A = Option LineEnd} (Some (record { text_len = index; line_len = len })) (Some end) → InnerUpTo index end bytes
 here index len end bytes h =
     let same : ◌≡◌ {A = LineEnd} (record { text_len = index; line_len = len }) end = cc in
-    record { count = 0; at = sym (ap (λ e. e.text_len) same) ∙ zero_more; inner = refl } where
-      zero_more : index ≡ index + 0
-      zero_more = omega arith
+    record { count = 0; at = omega (arith, ap (λ e. e.text_len) same); inner = refl }
 
 past_byte : (b : ℕ) (bytes : List ℕ) (index : ℕ) (end : LineEnd) → (b == 36) ≡ false → (end_from (index + 1) (units bytes) ≡ Some end → InnerUpTo (index + 1) end bytes)
     → end_from index (Byte b ∷ units bytes) ≡ Some end → InnerUpTo index end (b ∷ bytes)
@@ -259,13 +257,11 @@ past_byte b bytes index end d later h = elim (cases_Bool (b == 10)) [
         let rest = later (rw (f, r) at h) in
         record {
           count = suc rest.count;
-          at = rest.at ∙ moved rest.count;
+          at = omega (arith, rest.at);
           inner = ap (list_all is_inner) (units_byte b (take rest.count bytes) d) ∙ rw (d, f) rest.inner;
         }
   ]
-] where
-  moved : (n : ℕ) → index + 1 + n ≡ index + suc n
-  moved n = omega arith
+]
 
 abbrev begins_feed : List ℕ → Bool
 begins_feed [] = false
@@ -283,11 +279,9 @@ less_feed b (suc n) (c ∷ bytes) r = r
 past_escape : (b : ℕ) (bytes : List ℕ) (index : ℕ) (end : LineEnd) → (b == 10) ≡ false → ((b == 13) && begins_feed bytes) ≡ false → InnerUpTo (index + 2) end bytes → InnerUpTo index end (36 ∷ b ∷ bytes)
 past_escape b bytes index end f r rest = record {
   count = suc (suc rest.count);
-  at = rest.at ∙ moved rest.count;
+  at = omega (arith, rest.at);
   inner = ap (list_all is_inner) (escape_units b (take rest.count bytes) f (less_feed b rest.count bytes r)) ∙ rest.inner;
-} where
-  moved : (n : ℕ) → index + 2 + n ≡ index + suc (suc n)
-  moved n = omega arith
+}
 
 inner_continued : (len : ℕ) (us : List LineUnit) → list_all is_inner us ≡ true → list_all is_inner (with_continuation len us) ≡ true
 inner_continued len [] h = refl
@@ -301,20 +295,16 @@ inner_continued len (Continuation more ∷ us) h = h
 past_feed : (bytes : List ℕ) (index : ℕ) (end : LineEnd) → InnerUpTo (index + 2) end bytes → InnerUpTo index end (36 ∷ 10 ∷ bytes)
 past_feed bytes index end rest = record {
   count = suc (suc rest.count);
-  at = rest.at ∙ moved rest.count;
+  at = omega (arith, rest.at);
   inner = ap (list_all is_inner) (units_feed (take rest.count bytes)) ∙ inner_continued 2 (units (take rest.count bytes)) rest.inner;
-} where
-  moved : (n : ℕ) → index + 2 + n ≡ index + suc (suc n)
-  moved n = omega arith
+}
 
 past_return : (bytes : List ℕ) (index : ℕ) (end : LineEnd) → InnerUpTo (index + 3) end bytes → InnerUpTo index end (36 ∷ 13 ∷ 10 ∷ bytes)
 past_return bytes index end rest = record {
   count = suc (suc (suc rest.count));
-  at = rest.at ∙ moved rest.count;
+  at = omega (arith, rest.at);
   inner = inner_continued 3 (units (take rest.count bytes)) rest.inner;
-} where
-  moved : (n : ℕ) → index + 3 + n ≡ index + suc (suc (suc n))
-  moved n = omega arith
+}
 
 -- what `$` begins, by the bytes after it
 module _ (b c : ℕ) (bytes : List ℕ) (index : ℕ) (end : LineEnd) where
@@ -401,6 +391,4 @@ pub faultless_units : (line : List ℕ) → IsFaultless line → list_all is_pro
 faultless_units line r =
     let inner = inner_units line 0 _ (rw r.no_comment at r.is_line.1) in
     all_proper (units (text_of_line line)) 0 r.no_fault
-    (ap (λ t. list_all is_inner (units t)) (ap (text_before line) r.is_line.1 ∙ ap (λ n. take n line) (inner.at ∙ from_zero inner.count)) ∙ inner.inner) where
-      from_zero : (n : ℕ) → 0 + n ≡ n
-      from_zero n = omega arith
+    (ap (λ t. list_all is_inner (units t)) (ap (text_before line) r.is_line.1 ∙ ap (λ n. take n line) (omega (arith, inner.at))) ∙ inner.inner)

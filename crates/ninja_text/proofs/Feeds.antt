@@ -34,7 +34,7 @@ moves_on front rest all n h = append_assoc front (take n rest) (drop n rest) ∙
 -- if a feed succeeds and no line waits after it, the rest is below the limit; by the first end of a line
 below_up_to : (h : CutterState) (piece : List ℕ) (n : ℕ) (new : CutterState) (o : Option LineEnd) → feed_outcome_at h piece o ≡ (Ok n, new) → new.waits ≡ false
     → (length new.bytes < line_limit) × (new.failed ≡ h.failed)
-below_up_to h piece n new (Some e) is waits = absurd (let x : true ≡ false = ap (λ p. p.1.waits) is ∙ waits in cc)
+below_up_to h piece n new (Some e) is waits = cc (ap (λ p. p.1.waits) is ∙ waits)
 below_up_to h piece n new None is waits = elim (cases_Bool (nat_le line_limit (length (h.bytes ++ piece)))) [
   | inl t ↦ absurd (let x : ◌≡◌ {A = Result ℕ CutFault} (Err _) (Ok n) = ap (λ p. p.0) (rw t at is) in cc)
   | inr f ↦ let e = rw f at is in
@@ -73,7 +73,7 @@ lends_some h new is works waits = (ap (λ k. k.waits) it, ap (λ k. k.failed) it
 
 -- if a feed fails, a line waits only if one waited before; by the first end of a line
 waits_up_to : (h : CutterState) (piece : List ℕ) (e : CutFault) (new : CutterState) (o : Option LineEnd) → feed_outcome_at h piece o ≡ (Err e, new) → new.waits ≡ h.waits
-waits_up_to h piece e new (Some at) is = absurd (let x : ◌≡◌ {A = Result ℕ CutFault} (Ok _) (Err e) = ap (λ p. p.0) is in cc)
+waits_up_to h piece e new (Some at) is = cc (ap (λ p. p.0) is)
 waits_up_to h piece e new None is = elim (cases_Bool (nat_le line_limit (length (h.bytes ++ piece)))) [
   | inl t ↦ sym (ap (λ p. p.1.waits) (rw t at is))
   | inr f ↦ absurd (let x : ◌≡◌ {A = Result ℕ CutFault} (Ok _) (Err e) = ap (λ p. p.0) (rw f at is) in cc)
@@ -105,13 +105,13 @@ too_long bytes e none some = elim (cases_lt line_limit e.line_len) [
       let found : line_end (take line_limit bytes) ≡ Some e =
       ap line_end (sym (take-append-drop e.line_len (take line_limit bytes)) ∙ ap (λ x. x ++ drop e.line_len (take line_limit bytes)) shorter)
       ∙ line_end-append (take e.line_len bytes) (drop e.line_len (take line_limit bytes)) e front in
-      absurd (let clash : ◌≡◌ {A = Option LineEnd} None (Some e) = sym none ∙ found in cc)
+      cc (sym none ∙ found)
 ]
 
 -- a feed rejects a line as too long if there is no end and the bytes reach the limit; by the first end of a line
 too_long_up_to : (h : CutterState) (piece : List ℕ) (l : ℕ) (new : CutterState) (o : Option LineEnd) → feed_outcome_at h piece o ≡ (Err (LineTooLong l), new)
     → (o ≡ None) × (line_limit ≤ length (h.bytes ++ piece)) × (l ≡ h.number)
-too_long_up_to h piece l new (Some e) is = absurd (let x : ◌≡◌ {A = Result ℕ CutFault} (Ok _) (Err (LineTooLong l)) = ap (λ p. p.0) is in cc)
+too_long_up_to h piece l new (Some e) is = cc (ap (λ p. p.0) is)
 too_long_up_to h piece l new None is = elim (cases_Bool (nat_le line_limit (length (h.bytes ++ piece)))) [
   | inl t ↦ (refl, leb-true line_limit (length (h.bytes ++ piece)) t, let x : ◌≡◌ {A = Result ℕ CutFault} (Err (LineTooLong h.number)) (Err (LineTooLong l)) = ap (λ p. p.0) (rw t at is) in cc)
   | inr f ↦ absurd (let x : ◌≡◌ {A = Result ℕ CutFault} (Ok _) (Err (LineTooLong l)) = ap (λ p. p.0) (rw f at is) in cc)
@@ -145,7 +145,7 @@ works_up_to h piece n new None is = elim (cases_Bool (nat_le line_limit (length 
 -- a feed succeeds only if the cutter has not failed, and leaves it so
 works_fed : (number : ℕ) (bytes : List ℕ) (waits failed : Bool) (piece : List ℕ) (n : ℕ) (new : CutterState)
     → feed_outcome (record { number = number; bytes = bytes; waits = waits; failed = failed }) piece ≡ (Ok n, new) → new.failed ≡ false
-works_fed number bytes waits true piece n new is = absurd (let x : ◌≡◌ {A = Result ℕ CutFault} (Err (LineTooLong number)) (Ok n) = ap (λ p. p.0) is in cc)
+works_fed number bytes waits true piece n new is = cc (ap (λ p. p.0) is)
 works_fed number bytes true false piece n new is = sym (ap (λ p. p.1.failed) is)
 works_fed number bytes false false piece n new is = works_up_to (working number bytes) piece n new (line_end (take line_limit (bytes ++ piece))) is
 

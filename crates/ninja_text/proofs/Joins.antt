@@ -1,8 +1,8 @@
 -- A path that is read in a directory: what is kept of each.
-use Rattle.std.proofs.Common.{◌≡◌, ◌≢◌, ℕ, zero, suc, ◌+◌, ◌*◌, ◌<◌, ◌≤◌, Bool, true, false, not, cond, ◌==◌, ◌||◌, ◌&&◌, List, [], ◌∷◌, ◌++◌, length, take, drop, get_or, refl, sym, ◌∙◌, ap, arith, length-append, ◌⊎◌, inl, inr, Option, Some, None, position, nat_lt, option_map}
-use Rattle.std.specs.List.{list_any, prefix_len, AllByRecursion, onto_first}
+use Rattle.std.proofs.Common.{◌≡◌, ◌≢◌, ℕ, zero, suc, ◌+◌, ◌*◌, ◌<◌, ◌≤◌, Bool, true, false, not, cond, ◌==◌, ◌||◌, ◌&&◌, List, [], ◌∷◌, ◌++◌, length, take, drop, get_or, refl, sym, ◌∙◌, ap, arith, length-append, ◌⊎◌, inl, inr, None, position}
+use Rattle.std.specs.List.{list_any, prefix_len, position_from, AllByRecursion, onto_first}
+use Rattle.std.proofs.lemmas.Iterator.Adapters.{position_from-zero}
 use Rattle.std.proofs.lemmas.List.{length-take-le, take_more, append-nil}
-use Rattle.std.proofs.lemmas.Bool.{lt-ltb}
 use Rattle.std.proofs.lemmas.List.Splits.{join_with_byte-slice_split, slice_split-cons_no}
 use Rattle.std.proofs.lemmas.Slice.Eq.{bytes_eq-Decides}
 use Rattle.std.proofs.Math.Seq.{take-append-add, take-append_seam}
@@ -13,7 +13,6 @@ use Rattle.ninja_text.specs.inner.ComponentLists.{list_text, reduced_text, leads
 use Rattle.ninja_text.specs.inner.Joins.{glued, moved}
 use Rattle.ninja_text.proofs.ReducedList.{IsFixed, current-not-name, reduced-fixed, reduced-each, either_way, fixed-reduced, fixed-tail, names-fixed, and-false, in_front-alone, in_front-stays, in_front-pair, in_front-parent}
 use Rattle.ninja_text.proofs.Components.{components-some, components-lack, list_text-append}
-use Rattle.ninja_text.proofs.Canonical.{run_of, run-step, run-stop}
 use Rattle.ninja_text.proofs.Shape.{all-names, path-some}
 
 -- a text whose components are all names is its own canonical list, written out
@@ -305,46 +304,26 @@ leads-glued (a ∷ b ∷ d ∷ t) (c ∷ u) n = refl
 
 -- ---- the first byte that cannot be escaped
 
--- the first byte, or one after it
-position-cons : (b : ℕ) (bs : List ℕ)
-    → position is_unwritable (b ∷ bs) ≡ cond (is_unwritable b) (Some 0) (option_map (λ n. n + 1) (position is_unwritable bs))
-position-cons b bs = elim (either_way (is_unwritable b)) [
-  | inl h ↦ ap (λ n. cond (nat_lt n (suc (length bs))) (Some n) None) (run-stop b bs h) ∙ ap (λ t. cond t (Some 0) None) (lt-ltb 0 (suc (length bs)) (omega arith)) ∙ ap (λ t. cond t (Some 0) (option_map (λ n. n + 1) (position is_unwritable bs))) (sym h)
-  | inr h ↦ ap (λ n. cond (nat_lt n (suc (length bs))) (Some n) None) (run-step b bs h) ∙ go (run_of bs) (length bs)
-      ∙ ap (λ t. cond t (Some 0) (option_map (λ n. n + 1) (position is_unwritable bs))) (sym h)
+-- an index that counts from elsewhere
+counted-on : (from index : ℕ) (text : List ℕ) → position_from is_unwritable (from + index) text ≡ moved None from (position_from is_unwritable index text)
+counted-on from index [] = refl
+counted-on from index (b ∷ bs) = elim (either_way (is_unwritable b)) [
+  | inl u ↦ rw u refl
+  | inr u ↦ rw u (ap (λ n. position_from is_unwritable n bs) {x = from + index + 1} {y = from + (index + 1)} (omega arith) ∙ counted-on from (index + 1) bs)
 ]
-  where
-    by : (t u : Bool) (r : ℕ) → t ≡ u → cond t (Some (r + 1)) None ≡ option_map (λ n. n + 1) (cond u (Some r) None)
-    by true true r e = refl
-    by false false r e = refl
-    by true false r e = cc
-    by false true r e = cc
 
-    go : (r l : ℕ) → cond (nat_lt (r + 1) (suc l)) (Some (r + 1)) None ≡ option_map (λ n. n + 1) (cond (nat_lt r l) (Some r) None)
-    go r l = by (nat_lt (r + 1) (suc l)) (nat_lt r l) r (grind arith)
-
--- an offset counts from a byte before
-moved-one : (first later : Option ℕ) (n : ℕ) → moved (option_map (λ n. n + 1) first) (suc n) later ≡ option_map (λ n. n + 1) (moved first n later)
-moved-one (Some p) later n = refl
-moved-one None None n = refl
-moved-one None (Some q) n = ap Some (omega arith)
+found-from : (index : ℕ) (a b : List ℕ) → position_from is_unwritable index (a ++ b) ≡ moved (position_from is_unwritable index a) (index + length a) (position_from is_unwritable 0 b)
+found-from index [] b = ap (λ n. position_from is_unwritable n b) {x = index} {y = index + 0 + 0} (omega arith) ∙ counted-on (index + 0) 0 b
+found-from index (x ∷ a) b = elim (either_way (is_unwritable x)) [
+  | inl u ↦ rw u refl
+  | inr u ↦ rw u (found-from (index + 1) a b ∙ ap (λ n. moved (position_from is_unwritable (index + 1) a) n (position_from is_unwritable 0 b)) {x = index + 1 + length a} {y = index + suc (length a)} (omega arith))
+]
 
 -- the first byte of two texts that cannot be escaped
 pub position-append : (a b : List ℕ) → position is_unwritable (a ++ b) ≡ moved (position is_unwritable a) (length a) (position is_unwritable b)
-position-append [] b = go (position is_unwritable b)
-  where
-    go : (o : Option ℕ) → o ≡ moved None 0 o
-    go None = refl
-    go (Some p) = ap Some (omega arith)
-position-append (x ∷ a) b =
-    position-cons x (a ++ b) ∙ ap (λ o. cond (is_unwritable x) (Some 0) (option_map (λ n. n + 1) o)) (position-append a b)
-    ∙ elim (either_way (is_unwritable x)) [
-      | inl h ↦ ap (λ t. cond t (Some 0) (option_map (λ n. n + 1) (moved (position is_unwritable a) (length a) (position is_unwritable b)))) h
-          ∙ ap (λ o. moved o (length (x ∷ a)) (position is_unwritable b)) (sym (position-cons x a ∙ ap (λ t. cond t (Some 0) (option_map (λ n. n + 1) (position is_unwritable a))) h))
-      | inr h ↦ ap (λ t. cond t (Some 0) (option_map (λ n. n + 1) (moved (position is_unwritable a) (length a) (position is_unwritable b)))) h
-          ∙ sym (moved-one (position is_unwritable a) (position is_unwritable b) (length a))
-          ∙ ap (λ o. moved o (length (x ∷ a)) (position is_unwritable b)) (sym (position-cons x a ∙ ap (λ t. cond t (Some 0) (option_map (λ n. n + 1) (position is_unwritable a))) h))
-    ]
+position-append a b =
+    rw (position_from-zero is_unwritable (a ++ b), position_from-zero is_unwritable a, position_from-zero is_unwritable b)
+    (found-from 0 a b ∙ ap (λ n. moved (position_from is_unwritable 0 a) n (position_from is_unwritable 0 b)) {x = 0 + length a} {y = length a} (omega arith))
 
 -- ---- components of two texts
 

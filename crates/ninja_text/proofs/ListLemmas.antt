@@ -135,10 +135,10 @@ record GoesOnIn (kind : TokenKind) (own after : List LineUnit) : Type 0 where
 
 goes_on_in : (kind : TokenKind) (own after : List LineUnit) → IsToken kind own after → goes_on (own ++ after) ≡ true → GoesOnIn kind own after
 goes_on_in Word own after h g = record { kind_is = refl; own_is = h.0; stops = h.1 }
-goes_on_in Bar own after h g = absurd (let x : false ≡ true = subst (λ xs. goes_on (xs ++ after) ≡ true) h.0 g in cc)
-goes_on_in DoubleBar own after h g = absurd (let x : false ≡ true = subst (λ xs. goes_on (xs ++ after) ≡ true) h g in cc)
-goes_on_in BarAt own after h g = absurd (let x : false ≡ true = subst (λ xs. goes_on (xs ++ after) ≡ true) h g in cc)
-goes_on_in Colon own after h g = absurd (let x : false ≡ true = subst (λ xs. goes_on (xs ++ after) ≡ true) h g in cc)
+goes_on_in Bar own after h g = cc (subst (λ xs. goes_on (xs ++ after) ≡ true) h.0 g)
+goes_on_in DoubleBar own after h g = cc (subst (λ xs. goes_on (xs ++ after) ≡ true) h g)
+goes_on_in BarAt own after h g = cc (subst (λ xs. goes_on (xs ++ after) ≡ true) h g)
+goes_on_in Colon own after h g = cc (subst (λ xs. goes_on (xs ++ after) ≡ true) h g)
 
 -- a word may follow a piece, past continuations
 word_over : (gap own : List LineUnit) (may_end : Bool) → AreContinuations gap → is_word own ≡ true → may_follow may_end (gap ++ own) ≡ true
@@ -148,7 +148,7 @@ word_over (u ∷ gap) own may_end g w = rw (no_piece u g.0, g.0) (word_over gap 
 
 -- a piece in front of the word that continues after it
 piece_joins : (index : ℕ) (u : LineUnit) (us : List LineUnit) (rest : List TokenAt) → is_piece u ≡ true → goes_on us ≡ true → LexesAs (index + unit_len u) us rest → LexesAs index (u ∷ us) (with_first_start index rest)
-piece_joins index u us [] p g h = absurd (let x : true ≡ false = sym g ∙ blank_stops us h in cc)
+piece_joins index u us [] p g h = cc (sym g ∙ blank_stops us h)
 piece_joins index u us (t ∷ ts) p g h =
     let leads = h.1 in
     let gap = gap_continues leads.gap (leads.own ++ h.0) leads.blank (ap goes_on (sym leads.whole) ∙ g) in
@@ -191,7 +191,7 @@ blank_joins index u us (t ∷ ts) b h = let leads = h.1 in (
 blank_else : (u : LineUnit) → is_piece u ≡ false → is_byte 58 u ≡ false → is_byte 124 u ≡ false → is_blank u ≡ true
 blank_else u p colon bar = elim (cases_Bool (is_blank u)) [
   | inl b ↦ b
-  | inr b ↦ absurd (let x : true ≡ false = sym (piece_else u b colon bar) ∙ p in cc)
+  | inr b ↦ cc (sym (piece_else u b colon bar) ∙ p)
 ]
 
 -- what a unit adds in front is a list of tokens again, if a `|` in front is one alone
@@ -223,7 +223,7 @@ lexes [] index = tt
 lexes (u ∷ []) index = with_unit_lexes index u [] [] (λ _. (refl, refl)) tt
 lexes (u ∷ v ∷ us) index = elim (cases_Bool (is_byte 124 u)) [
   | inr n ↦ subst (LexesAs index (u ∷ v ∷ us)) (sym (tokens_with index u (v ∷ us) n))
-      (with_unit_lexes index u (v ∷ us) _ (λ b. absurd (let x : true ≡ false = sym b ∙ n in cc)) (lexes (v ∷ us) (index + unit_len u)))
+      (with_unit_lexes index u (v ∷ us) _ (λ b. cc (sym b ∙ n)) (lexes (v ∷ us) (index + unit_len u)))
   | inl b ↦ elim (cases_Bool (is_byte 124 v)) [
     | inl d ↦ rw (b, d) (us, pair_leads index u v us DoubleBar (byte_len 124 u b) (byte_len 124 v d) (two_units (byte_is 124 u b) (byte_is 124 v d)), lexes us (index + 2))
     | inr d ↦ elim (cases_Bool (is_byte 64 v)) [

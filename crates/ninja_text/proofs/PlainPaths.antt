@@ -1,7 +1,7 @@
 -- A text of names is a canonical path.
 use Rattle.std.proofs.Common.{◌≡◌, ℕ, ◌≤◌, Bool, true, false, ◌||◌, ◌&&◌, ◌==◌, cond, if◌then◌else◌, List, [], ◌∷◌, length, refl, sym, subst, ◌∙◌, ap, inl, inr}
 use Rattle.std.specs.List.{list_any, onto_first}
-use Rattle.std.proofs.lemmas.Bool.{or_parts, le-ltb, cases_Bool}
+use Rattle.std.proofs.lemmas.Bool.{and_parts, or_parts, le-ltb, cases_Bool}
 use Rattle.std.proofs.lemmas.List.Splits.{join_with_byte-slice_split}
 use Rattle.std.proofs.lemmas.Bool.Decides.{Decides-eqb}
 use Rattle.ninja_text.specs.Escapes.{is_unwritable}
@@ -56,16 +56,12 @@ one_more Dot b (c ∷ cs) h = elim (cases_Bool (b == 46)) [ inl d ↦ rw d (rw d
 one_more TwoDots b (c ∷ cs) h = (refl, h.1)
 one_more Name b (c ∷ cs) h = (refl, h.1)
 
-both : (a b : Bool) → (a && b) ≡ true → (a ≡ true) × (b ≡ true)
-both true b h = (refl, h)
-both false b h = cc
-
 -- what was read is a list of names, and each byte can be escaped
 names_read : (begun : Begun) (text : List ℕ) → names_from begun text ≡ true → AreNamed begun (components text) × IsClean text
 names_read begun [] h = ((ended begun h, refl), tt)
 names_read begun (b ∷ bs) h = elim (cases_Bool (b == 47)) [
   | inl s ↦
-      let k = both (is_name begun) (names_from Nothing bs) (rw s at h) in
+      let k = and_parts (is_name begun) (names_from Nothing bs) (rw s at h) in
       let m = names_read Nothing bs k.1 in
       rw s ((ended begun k.0, all_named (components bs) m.0), (ap is_unwritable ((Decides-eqb b 47).0 s), m.1))
   | inr s ↦ elim (cases_Bool (is_unwritable b)) [

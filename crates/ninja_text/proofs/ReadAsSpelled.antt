@@ -85,7 +85,7 @@ longer_gap own gap c g = (own ∷ g.0, (c, g.1), ap (λ xs. own ++ xs) g.2)
 
 -- with a continuation before it
 after_gap : (len : ℕ) (us : List LineUnit) (own rest bytes : List ℕ) → bytes ≡ own ++ rest → IsContinuation own → may_follow false us ≡ true → Follows us rest → Follows (Continuation len ∷ us) bytes
-after_gap len us own rest bytes whole c m (inl none) = absurd (let x : false ≡ true = ap (may_follow false) (sym none.0) ∙ m in cc)
+after_gap len us own rest bytes whole c m (inl none) = cc (ap (may_follow false) (sym none.0) ∙ m)
 after_gap len us own rest bytes whole c m (inr p) = inr (record {
   gap = own ++ p.gap;
   rest = p.rest;

@@ -211,7 +211,7 @@ name_indented bytes a h =
 
 -- the first byte of a part that begins at the front
 pub slice_first : (text : List ℕ) (end x : ℕ) (xs : List ℕ) → slice_range text 0 end ≡ x ∷ xs → get_or text 0 0 ≡ x
-slice_first [] end x xs h = absurd (let e : ◌≡◌ {A = List ℕ} [] (x ∷ xs) = nothing (end - 0) ∙ h in cc) where
+slice_first [] end x xs h = cc (nothing (end - 0) ∙ h) where
   nothing : (n : ℕ) → ◌≡◌ {A = List ℕ} [] (take n [])
   nothing zero = refl
   nothing (suc n) = refl

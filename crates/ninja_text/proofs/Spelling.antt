@@ -52,7 +52,7 @@ gap_read gap text g none = ap (λ gap. value_of (gap ++ text)) g.2 ∙ parts_rea
 -- an escaped byte is none that is not escaped
 differs : (b n : ℕ) → is_escaped b ≡ true → is_escaped n ≡ false → (b == n) ≡ false
 differs b n h k = elim (cases_Bool (b == n)) [
-  | inl e ↦ absurd (let clash : true ≡ false = sym h ∙ ap is_escaped (eqb-true b n e) ∙ k in cc)
+  | inl e ↦ cc (sym h ∙ ap is_escaped (eqb-true b n e) ∙ k)
   | inr e ↦ e
 ]
 

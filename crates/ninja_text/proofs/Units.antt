@@ -143,6 +143,9 @@ continued_stops len b bytes s = elim (cases_Bool (b == 36)) [
   | inr d ↦ rw (units_byte b bytes d, s) refl
 ]
 
+same_continuation : {k j : ℕ} {us vs : List LineUnit} → k ≡ j → us ≡ vs → ◌≡◌ {A = List LineUnit} (Continuation k ∷ us) (Continuation j ∷ vs)
+same_continuation p q = rw (p, q) refl
+
 -- a continuation takes the spaces at the front of what follows
 pub continued_spaces : (len : ℕ) (bytes : List ℕ) → with_continuation len (units bytes) ≡ Continuation (len + spaces_at bytes) ∷ units (drop (spaces_at bytes) bytes)
 continued_spaces len [] = ap (λ k. Continuation k ∷ []) {x = len} {y = len + 0} (omega arith)
@@ -152,12 +155,7 @@ continued_spaces len (b ∷ bytes) = elim (cases_Bool (b == 32)) [
   | inr s ↦ rw s (continued_stops len b bytes s ∙ ap (λ k. Continuation k ∷ units (b ∷ bytes)) {x = len} {y = len + 0} (omega arith))
 ] where
   pushed : Continuation (len + 1 + spaces_at bytes) ∷ units (drop (spaces_at bytes) bytes) ≡ Continuation (len + (1 + spaces_at bytes)) ∷ units (drop (1 + spaces_at bytes) (32 ∷ bytes))
-  pushed = same (omega arith) (ap (λ k. units (drop k (32 ∷ bytes))) {x = suc (spaces_at bytes)} {y = 1 + spaces_at bytes} (omega arith)) where
-    same : {k j : ℕ} {us vs : List LineUnit} → k ≡ j → us ≡ vs → ◌≡◌ {A = List LineUnit} (Continuation k ∷ us) (Continuation j ∷ vs)
-    same p q = rw (p, q) refl
-
-same_continuation : {k j : ℕ} {us vs : List LineUnit} → k ≡ j → us ≡ vs → ◌≡◌ {A = List LineUnit} (Continuation k ∷ us) (Continuation j ∷ vs)
-same_continuation p q = rw (p, q) refl
+  pushed = same_continuation (omega arith) (ap (λ k. units (drop k (32 ∷ bytes))) {x = suc (spaces_at bytes)} {y = 1 + spaces_at bytes} (omega arith))
 
 -- `$` LF at the front
 pub continuation_at : (bytes : List ℕ) (n : ℕ) → 2 ≤ length bytes → get_or bytes 0 0 ≡ 36 → get_or bytes 1 0 ≡ 10 → n ≡ spaces_at (drop 2 bytes)

@@ -3,7 +3,7 @@ ghost use Rattle.std.specs.Prelude.{◌≡◌, ◌↔◌, ◌++◌, IsTrue, OnOk
 ghost use Rattle.ninja_text.specs.Bytes.{PathText};
 ghost use Rattle.ninja_text.specs.Escapes.{is_writable, is_escaped, IsWritable, escaped, escaped_byte, Spells};
 
-use crate::reduction::first_unwritable;
+use crate::reduction::is_unwritable;
 use std::alloc::AllocError;
 
 /// Returns whether a byte needs a `$` before it.
@@ -18,7 +18,7 @@ pub fn is_writable(path: &[u8]) -> bool
     ensures value { result ≡ is_writable path.now }
     ensures meaning { IsTrue result ↔ IsWritable path.now }
 {
-    !path.is_empty() && first_unwritable(path).is_none()
+    !path.is_empty() && !path.iter().any(is_unwritable)
 }
 
 /// Appends the escaped form of a path to a vector.

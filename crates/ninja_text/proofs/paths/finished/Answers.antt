@@ -1,23 +1,17 @@
-use Rattle.std.proofs.Common.{rules, ◌≡◌, ◌≤◌, ℕ, ◌==◌, ◌&&◌, Bool, false, List, length, Vec, Global, Option, None, Ok, position, ap, sym, ◌∙◌, option_copied}
-use Rattle.std.specs.Vec.{vec_len}
+use Rattle.std.proofs.Common.{rules, ◌≡◌, ◌≤◌, ℕ, ◌&&◌, Bool, false, List, length, Option, None, Ok, position, ap, sym, ◌∙◌, option_copied}
 use Rattle.std.specs.Rc.{rc_slice_items}
 use Rattle.std.specs.List.{list_any}
 use Rattle.ninja_text.specs.Escapes.{is_unwritable}
-use Rattle.ninja_text.specs.Reduction.{components, reduced, is_parent}
+use Rattle.ninja_text.specs.Reduction.{is_parent}
 use Rattle.ninja_text.specs.PathShape.{parts}
 use Rattle.ninja_text.specs.Paths.{is_empty, is_rooted, seen_from, canonical_of}
 use Rattle.ninja_text.specs.inner.ComponentLists.{leads_up, reduced_text}
-use Rattle.ninja_text.proofs.ReducedList.{reduced-fixed}
-use Rattle.ninja_text.proofs.Canonical.{nothing-is, is-empty, is-above, is-unwritable, is-long, is-path, canonical-path}
+use Rattle.ninja_text.proofs.Canonical.{is-empty, is-above, is-unwritable, is-long, is-path, canonical-path}
+use Rattle.ninja_text.proofs.Directories.{nothing}
 use Rattle.ninja_text.proofs.Joins.{leads-text}
 use Rattle.ninja_text.specs.inner.Joins.{IsListOf}
 use Rattle.ninja_text.proofs.paths.finished.Goals as goal
 use Rattle.ninja_text.proofs.paths.finished.Goals.{In_ok-from_vec}
-
--- the list is empty if its text is
-nothing : (text : List ℕ) (list : Vec ℕ Global) (empty : Bool) → list.items ≡ reduced_text text → empty ≡ (vec_len list == 0) → is_empty (reduced (components text)) ≡ empty
-nothing text list empty same e =
-    sym (e ∙ ap (λ n. n == 0) list.ok.0 ∙ ap (λ items. length items == 0) same ∙ nothing-is (reduced (components text)) (reduced-fixed (components text)))
 
 -- the tests of a list and of its text agree
 above : (text list : List ℕ) (rooted found : Bool) → rooted ≡ is_rooted text → list ≡ reduced_text text → found ≡ (rooted && leads_up list) → (is_rooted text && list_any is_parent (parts text)) ≡ found
