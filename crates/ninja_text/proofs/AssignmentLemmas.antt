@@ -29,7 +29,8 @@ none_widened index [] h = refl
 none_widened index (t ∷ ts) h = none_added h
 
 -- no token and a piece: never
-none_with : (index : ℕ) (u : LineUnit) (us : List LineUnit) (later : List TokenAt) → (later ≡ [] → list_any is_piece us ≡ true → ⊥) → with_unit index u us later ≡ [] → list_any is_piece (u ∷ us) ≡ true → ⊥
+none_with : (index : ℕ) (u : LineUnit) (us : List LineUnit) (later : List TokenAt) → (later ≡ [] → list_any is_piece us ≡ true → ⊥) →
+    with_unit index u us later ≡ [] → list_any is_piece (u ∷ us) ≡ true → ⊥
 none_with index u us later none h piece = elim (cases_Bool (is_piece u)) [
   | inl p ↦ elim (cases_Bool (goes_on us)) [
     | inl g ↦ none (none_widened index later (rw (p, g) at h)) (goes_on_piece us g)
@@ -59,7 +60,8 @@ no_piece : (us : List LineUnit) (index : ℕ) → tokens_from index us ≡ [] �
 no_piece [] index h piece = cc
 no_piece (u ∷ []) index h piece = none_with index u [] [] (λ e p. cc) h piece
 no_piece (u ∷ v ∷ us) index h piece = elim (cases_Bool (is_byte 124 u)) [
-  | inr n ↦ none_with index u (v ∷ us) (tokens_from (index + unit_len u) (v ∷ us)) (λ e p. no_piece (v ∷ us) (index + unit_len u) e p) (sym (tokens_with index u (v ∷ us) n) ∙ h) piece
+  | inr n ↦ none_with index u (v ∷ us) (tokens_from (index + unit_len u) (v ∷ us)) (λ e p. no_piece (v ∷ us) (index + unit_len u) e p)
+      (sym (tokens_with index u (v ∷ us) n) ∙ h) piece
   | inl b ↦ bar_added index v us (subst (λ w. tokens_from index (w ∷ v ∷ us) ≡ []) (byte_is 124 u b) h)
 ]
 
@@ -103,7 +105,8 @@ assignment_has_token text a h none =
     let sign = after_run is_blank past_name.place past_name.units in
     elim (cases_Bool (nat_lt name.place past_name.place && begins_with_equals sign.units)) [
       | inl t ↦ no_piece (units text) 0 none (run_any is_blank 0 (units text)
-          (run_first name.place name.units (ltb-true name.place past_name.place (and_parts (nat_lt name.place past_name.place) (begins_with_equals sign.units) t).0)))
+          (run_first name.place name.units
+          (ltb-true name.place past_name.place (and_parts (nat_lt name.place past_name.place) (begins_with_equals sign.units) t).0)))
       | inr f ↦ let x : ◌≡◌ {A = Option SeenAssignment} None (Some a) = rw f at h in cc
     ]
 

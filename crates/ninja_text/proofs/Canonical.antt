@@ -86,7 +86,8 @@ rooted-text false (x ∷ xs) w = rooted-list x xs w.fixed w.lacks
 pub reduced-text : (rooted : Bool) (list : List (List ℕ)) → IsWhole rooted list → reduced (components (path_text rooted list)) ≡ list
 reduced-text true [] w = let h = w.some in cc
 reduced-text false [] w = let h = w.some in cc
-reduced-text true (x ∷ xs) w = in_front-current [] (reduced (components (list_text (x ∷ xs)))) refl ∙ ap reduced (components-list x xs w.lacks) ∙ fixed-reduced (x ∷ xs) w.fixed
+reduced-text true (x ∷ xs) w = in_front-current [] (reduced (components (list_text (x ∷ xs)))) refl ∙ ap reduced (components-list x xs w.lacks) ∙
+    fixed-reduced (x ∷ xs) w.fixed
 reduced-text false (x ∷ xs) w = ap reduced (components-list x xs w.lacks) ∙ fixed-reduced (x ∷ xs) w.fixed
 
 -- what is made of clean parts is clean
@@ -130,7 +131,8 @@ clean-onto b [] h e = ((h, tt), tt)
 clean-onto b (part ∷ parts) h e = ((h, e.0), e.1)
 
 -- a clean byte, which is a slash or not, in front of components
-clean-cond : (t : Bool) (b : ℕ) (parts : List (List ℕ)) → is_unwritable b ≡ false → AllByRecursion IsClean parts → AllByRecursion IsClean (cond t ([] ∷ parts) (onto_first b parts))
+clean-cond : (t : Bool) (b : ℕ) (parts : List (List ℕ)) → is_unwritable b ≡ false → AllByRecursion IsClean parts →
+    AllByRecursion IsClean (cond t ([] ∷ parts) (onto_first b parts))
 clean-cond true b parts h e = (tt, e)
 clean-cond false b parts h e = clean-onto b parts h e
 
@@ -192,7 +194,8 @@ whole-list build text p f = record {
 }
 
 -- a whole list is written as a path
-pub whole-path : (rooted : Bool) (list : List (List ℕ)) (p : List ℕ) → IsWhole rooted list → path_text rooted list ≡ p → nat_lt 4096 (length p) ≡ false → IsPath p
+pub whole-path : (rooted : Bool) (list : List (List ℕ)) (p : List ℕ) → IsWhole rooted list → path_text rooted list ≡ p → nat_lt 4096 (length p) ≡ false →
+    IsPath p
 whole-path rooted list p w e short =
     let r = sym (ap is_rooted e) ∙ rooted-text rooted list w in
     let l : reduced (components p) ≡ list = sym (ap (λ t. reduced (components t)) e) ∙ reduced-text rooted list w in
@@ -205,7 +208,8 @@ whole-path rooted list p w e short =
     })
 
 -- a path is seen as it is from anywhere, unless it is absolute and there is a build directory
-seen-plain : (build : Option (List ℕ)) (rooted : Bool) (list : List (List ℕ)) → (build ≡ None) ⊎ (rooted ≡ false) → seen_from build rooted list ≡ path_text rooted list
+seen-plain : (build : Option (List ℕ)) (rooted : Bool) (list : List (List ℕ)) → (build ≡ None) ⊎ (rooted ≡ false) →
+    seen_from build rooted list ≡ path_text rooted list
 seen-plain None rooted list h = refl
 seen-plain (Some b) false list h = refl
 seen-plain (Some b) true list (inl e) = cc
@@ -214,7 +218,15 @@ seen-plain (Some b) true list (inr e) = cc
 pub path-alone : (build : Option (List ℕ)) (text : List ℕ) → (build ≡ None) ⊎ (is_rooted text ≡ false) → IsPath text → canonical_of build text ≡ Ok text
 path-alone build text h p =
     let f = facts None text text p in
-    from_facts build text text (record { some = f.some; inside = f.inside; clean = f.clean; made = seen-plain build (is_rooted text) (reduced (components text)) h ∙ f.made; short = f.short })
+    from_facts build text text
+    (record {
+      some = f.some;
+      inside = f.inside;
+      clean = f.clean;
+      made = seen-plain build (is_rooted text) (reduced (components text)) h ∙
+          f.made;
+      short = f.short;
+    })
 
 -- what a text means is a path
 pub canonical-path : (build : Option (List ℕ)) (text p : List ℕ) → canonical_of build text ≡ Ok p → IsPath p
@@ -242,7 +254,8 @@ cons-tail b xs ys e = cc
 -- ---- what the two strips of a prefix say
 
 -- a rooted path without its slash is its list, written out
-pub directory-is : (build directory : List ℕ) → IsPath build → is_rooted build ≡ true → build ≡ (47 ∷ []) ++ directory → directory ≡ list_text (reduced (components build))
+pub directory-is : (build directory : List ℕ) → IsPath build → is_rooted build ≡ true → build ≡ (47 ∷ []) ++ directory →
+    directory ≡ list_text (reduced (components build))
 directory-is build directory h r e = cons-tail 47 directory (list_text (reduced (components build))) (sym e ∙ rooted-is build h r)
 
 -- no component that is left has a slash
@@ -250,16 +263,19 @@ each-reduced : (text : List ℕ) → EachLacksSlash (reduced (components text))
 each-reduced text = reduced-each LacksSlash (components text) (components-lack text)
 
 -- if both prefixes were taken off, what is left is the list below the directory
-pub below-found : (build directory list rest r text : List ℕ) → IsPath build → directory ≡ list_text (reduced (components build)) → list ≡ list_text (reduced (components text)) → list ≡ directory ++ rest → rest ≡ (47 ∷ []) ++ r
+pub below-found : (build directory list rest r text : List ℕ) → IsPath build → directory ≡ list_text (reduced (components build)) →
+    list ≡ list_text (reduced (components text)) → list ≡ directory ++ rest → rest ≡ (47 ∷ []) ++ r
     → option_map list_text (below (reduced (components build)) (reduced (components text))) ≡ Some r
 below-found build directory list rest r text h d e k m =
     let f = path-first build h in
-    let whole : list_text (reduced (components text)) ≡ list_text (f.0 ∷ f.1) ++ 47 ∷ r = sym e ∙ k ∙ ap (λ x. x ++ rest) (d ∙ ap list_text f.2) ∙ ap (λ x. list_text (f.0 ∷ f.1) ++ x) m in
+    let whole : list_text (reduced (components text)) ≡ list_text (f.0 ∷ f.1) ++ 47 ∷ r = sym e ∙ k ∙ ap (λ x. x ++ rest) (d ∙ ap list_text f.2) ∙
+    ap (λ x. list_text (f.0 ∷ f.1) ++ x) m in
     ap (λ l. option_map list_text (below l (reduced (components text)))) f.2
     ∙ below-is f.0 f.1 (reduced (components text)) r (subst EachLacksSlash f.2 (each-reduced build)) (each-reduced text) whole
 
 -- if one of them was not there, no list is below the directory
-pub below-missed : (build directory list text : List ℕ) → IsPath build → directory ≡ list_text (reduced (components build)) → list ≡ list_text (reduced (components text)) → ((r : List ℕ) → list ≡ directory ++ 47 ∷ r → ⊥)
+pub below-missed : (build directory list text : List ℕ) → IsPath build → directory ≡ list_text (reduced (components build)) →
+    list ≡ list_text (reduced (components text)) → ((r : List ℕ) → list ≡ directory ++ 47 ∷ r → ⊥)
     → option_map list_text (below (reduced (components build)) (reduced (components text))) ≡ None
 below-missed build directory list text h d e absent =
     let f = path-first build h in
@@ -287,27 +303,38 @@ unfolding canonical_of
 go-on build text h = ap (λ b. cond b (Err Empty) (later_tests build text)) h
 
 -- an absolute path has a `..` left
-pub is-above : (build : Option (List ℕ)) (text : List ℕ) → is_empty (reduced (components text)) ≡ false → (is_rooted text && list_any is_parent (reduced (components text))) ≡ true → canonical_of build text ≡ Err AboveRoot
+pub is-above : (build : Option (List ℕ)) (text : List ℕ) → is_empty (reduced (components text)) ≡ false →
+    (is_rooted text && list_any is_parent (reduced (components text))) ≡ true → canonical_of build text ≡ Err AboveRoot
 is-above build text h k = go-on build text h ∙ ap (λ b. cond b (Err AboveRoot) (last_tests build text)) k
 
 -- none is left, and the last tests decide
-go-last : (build : Option (List ℕ)) (text : List ℕ) → is_empty (reduced (components text)) ≡ false → (is_rooted text && list_any is_parent (reduced (components text))) ≡ false → canonical_of build text ≡ last_tests build text
+go-last : (build : Option (List ℕ)) (text : List ℕ) → is_empty (reduced (components text)) ≡ false →
+    (is_rooted text && list_any is_parent (reduced (components text))) ≡ false → canonical_of build text ≡ last_tests build text
 go-last build text h k = go-on build text h ∙ ap (λ b. cond b (Err AboveRoot) (last_tests build text)) k
 
 -- a byte of the text cannot be escaped
-pub is-unwritable : (build : Option (List ℕ)) (text : List ℕ) (index : ℕ) → is_empty (reduced (components text)) ≡ false → (is_rooted text && list_any is_parent (reduced (components text))) ≡ false → position is_unwritable text ≡ Some index → canonical_of build text ≡ Err (Unwritable index)
+pub is-unwritable : (build : Option (List ℕ)) (text : List ℕ) (index : ℕ) → is_empty (reduced (components text)) ≡ false →
+    (is_rooted text && list_any is_parent (reduced (components text))) ≡ false → position is_unwritable text ≡ Some index →
+    canonical_of build text ≡ Err (Unwritable index)
 is-unwritable build text index h k m = go-last build text h k ∙ ap (λ o. checked o (seen_from build (is_rooted text) (reduced (components text)))) m
 
 -- each byte has one, and the length decides
-go-checked : (build : Option (List ℕ)) (text last : List ℕ) → is_empty (reduced (components text)) ≡ false → (is_rooted text && list_any is_parent (reduced (components text))) ≡ false → position is_unwritable text ≡ None → last ≡ seen_from build (is_rooted text) (reduced (components text)) → canonical_of build text ≡ checked None last
-go-checked build text last h k m e = go-last build text h k ∙ ap (λ o. checked o (seen_from build (is_rooted text) (reduced (components text)))) m ∙ ap (checked None) (sym e)
+go-checked : (build : Option (List ℕ)) (text last : List ℕ) → is_empty (reduced (components text)) ≡ false →
+    (is_rooted text && list_any is_parent (reduced (components text))) ≡ false → position is_unwritable text ≡ None →
+    last ≡ seen_from build (is_rooted text) (reduced (components text)) → canonical_of build text ≡ checked None last
+go-checked build text last h k m e = go-last build text h k ∙ ap (λ o. checked o (seen_from build (is_rooted text) (reduced (components text)))) m ∙
+    ap (checked None) (sym e)
 
 -- the path is too long
-pub is-long : (build : Option (List ℕ)) (text last : List ℕ) → is_empty (reduced (components text)) ≡ false → (is_rooted text && list_any is_parent (reduced (components text))) ≡ false → position is_unwritable text ≡ None → last ≡ seen_from build (is_rooted text) (reduced (components text)) → 4096 < length last → canonical_of build text ≡ Err TooLong
+pub is-long : (build : Option (List ℕ)) (text last : List ℕ) → is_empty (reduced (components text)) ≡ false →
+    (is_rooted text && list_any is_parent (reduced (components text))) ≡ false → position is_unwritable text ≡ None →
+    last ≡ seen_from build (is_rooted text) (reduced (components text)) → 4096 < length last → canonical_of build text ≡ Err TooLong
 is-long build text last h k m e lt = go-checked build text last h k m e ∙ ap (λ b. cond b (Err TooLong) (Ok last)) (lt-ltb 4096 (length last) lt)
 
 -- the path is short enough
-pub is-path : (build : Option (List ℕ)) (text last : List ℕ) → is_empty (reduced (components text)) ≡ false → (is_rooted text && list_any is_parent (reduced (components text))) ≡ false → position is_unwritable text ≡ None → last ≡ seen_from build (is_rooted text) (reduced (components text)) → length last ≤ 4096 → canonical_of build text ≡ Ok last
+pub is-path : (build : Option (List ℕ)) (text last : List ℕ) → is_empty (reduced (components text)) ≡ false →
+    (is_rooted text && list_any is_parent (reduced (components text))) ≡ false → position is_unwritable text ≡ None →
+    last ≡ seen_from build (is_rooted text) (reduced (components text)) → length last ≤ 4096 → canonical_of build text ≡ Ok last
 is-path build text last h k m e le = go-checked build text last h k m e ∙ ap (λ b. cond b (Err TooLong) (Ok last)) (le-ltb 4096 (length last) le)
 
 -- the last tests never return that no component is left

@@ -14,7 +14,8 @@ lacks-onto b [] h e = ((h, tt), tt)
 lacks-onto b (part ∷ parts) h e = ((h, e.0), e.1)
 
 -- a byte, which is a slash or not, in front of components
-lacks-cond : (t : Bool) (b : ℕ) (parts : List (List ℕ)) → (t ≡ false → (b == 47) ≡ false) → EachLacksSlash parts → EachLacksSlash (cond t ([] ∷ parts) (onto_first b parts))
+lacks-cond : (t : Bool) (b : ℕ) (parts : List (List ℕ)) → (t ≡ false → (b == 47) ≡ false) → EachLacksSlash parts →
+    EachLacksSlash (cond t ([] ∷ parts) (onto_first b parts))
 lacks-cond true b parts h e = (tt, e)
 lacks-cond false b parts h e = lacks-onto b parts (h refl) e
 
@@ -77,15 +78,18 @@ below-some (d ∷ ds) (c ∷ cs) rest e = go (below-some ds cs rest) (bytes_eq d
     go more false h = let k : None ≡ Some rest = ap (λ b. cond b (below ds cs) None) (sym h) ∙ e in cc
 
 -- two lists that are not empty, written out one after the other
-pub list_text-append : (x : List ℕ) (xs : List (List ℕ)) (y : List ℕ) (ys : List (List ℕ)) → list_text ((x ∷ xs) ++ y ∷ ys) ≡ list_text (x ∷ xs) ++ 47 ∷ list_text (y ∷ ys)
+pub list_text-append : (x : List ℕ) (xs : List (List ℕ)) (y : List ℕ) (ys : List (List ℕ)) →
+    list_text ((x ∷ xs) ++ y ∷ ys) ≡ list_text (x ∷ xs) ++ 47 ∷ list_text (y ∷ ys)
 list_text-append x [] y ys = refl
 list_text-append x (z ∷ zs) y ys = ap (λ t. x ++ 47 ∷ t) (list_text-append z zs y ys) ∙ sym (append_assoc x (47 ∷ list_text (z ∷ zs)) (47 ∷ list_text (y ∷ ys)))
 
 -- the components of a text after a list and a slash
-components-behind : (x : List ℕ) (xs : List (List ℕ)) (r : List ℕ) → EachLacksSlash (x ∷ xs) → components (list_text (x ∷ xs) ++ 47 ∷ r) ≡ (x ∷ xs) ++ components r
+components-behind : (x : List ℕ) (xs : List (List ℕ)) (r : List ℕ) → EachLacksSlash (x ∷ xs) →
+    components (list_text (x ∷ xs) ++ 47 ∷ r) ≡ (x ∷ xs) ++ components r
 components-behind x [] r e = components-at x r e.0
 components-behind x (y ∷ ys) r e =
-    ap components (append_assoc x (47 ∷ list_text (y ∷ ys)) (47 ∷ r)) ∙ components-at x (list_text (y ∷ ys) ++ 47 ∷ r) e.0 ∙ ap (λ l. x ∷ l) (components-behind y ys r e.1)
+    ap components (append_assoc x (47 ∷ list_text (y ∷ ys)) (47 ∷ r)) ∙ components-at x (list_text (y ∷ ys) ++ 47 ∷ r) e.0 ∙
+    ap (λ l. x ∷ l) (components-behind y ys r e.1)
 
 -- each text has a component
 pub components-some : (r : List ℕ) → (p : List ℕ) × (ps : List (List ℕ)) × (components r ≡ p ∷ ps)
@@ -109,10 +113,12 @@ components-some r = go (components r) refl
     go (p ∷ ps) h = (p, ps, h)
 
 -- the text begins with the directory and a slash if and only if the directory is a proper prefix
-pub below-text : (d : List ℕ) (ds : List (List ℕ)) (cs : List (List ℕ)) (r : List ℕ) → EachLacksSlash (d ∷ ds) → EachLacksSlash cs → (c : List ℕ) × (l : List (List ℕ)) × (cs ≡ c ∷ l) → list_text cs ≡ list_text (d ∷ ds) ++ 47 ∷ r → below (d ∷ ds) cs ≡ Some (components r)
+pub below-text : (d : List ℕ) (ds : List (List ℕ)) (cs : List (List ℕ)) (r : List ℕ) → EachLacksSlash (d ∷ ds) → EachLacksSlash cs →
+    (c : List ℕ) × (l : List (List ℕ)) × (cs ≡ c ∷ l) → list_text cs ≡ list_text (d ∷ ds) ++ 47 ∷ r → below (d ∷ ds) cs ≡ Some (components r)
 below-text d ds cs r each lacks some e =
     let k : cs ≡ (d ∷ ds) ++ components r =
-    some.2 ∙ sym (components-list some.0 some.1 (subst EachLacksSlash some.2 lacks)) ∙ ap (λ l. components (list_text l)) (sym some.2) ∙ ap components e ∙ components-behind d ds r each in
+    some.2 ∙ sym (components-list some.0 some.1 (subst EachLacksSlash some.2 lacks)) ∙ ap (λ l. components (list_text l)) (sym some.2) ∙ ap components e ∙
+    components-behind d ds r each in
     let p = components-some r in
     ap (below (d ∷ ds)) (k ∙ ap (λ l. (d ∷ ds) ++ l) p.2) ∙ below-front (d ∷ ds) p.0 p.1 ∙ ap Some (sym p.2)
 
@@ -125,16 +131,19 @@ text-below d ds cs rest e = let k = below-some (d ∷ ds) cs rest e in go rest k
     go (y ∷ ys) h n = ap list_text h ∙ list_text-append d ds y ys
 
 -- what is left of a text without the directory and the slash after it
-pub below-is : (d : List ℕ) (ds cs : List (List ℕ)) (r : List ℕ) → EachLacksSlash (d ∷ ds) → EachLacksSlash cs → list_text cs ≡ list_text (d ∷ ds) ++ 47 ∷ r → option_map list_text (below (d ∷ ds) cs) ≡ Some r
+pub below-is : (d : List ℕ) (ds cs : List (List ℕ)) (r : List ℕ) → EachLacksSlash (d ∷ ds) → EachLacksSlash cs → list_text cs ≡ list_text (d ∷ ds) ++ 47 ∷ r →
+    option_map list_text (below (d ∷ ds) cs) ≡ Some r
 below-is d ds [] r each lacks e = absurd (no (list_text (d ∷ ds)) e)
   where
     no : (t : List ℕ) → [] ≡ t ++ 47 ∷ r → ⊥
     no [] h = cc
     no (x ∷ xs) h = cc
-below-is d ds (c ∷ cs) r each lacks e = ap (option_map list_text) (below-text d ds (c ∷ cs) r each lacks (c, cs, refl) e) ∙ ap Some (join_with_byte-slice_split 47 r)
+below-is d ds (c ∷ cs) r each lacks e = ap (option_map list_text) (below-text d ds (c ∷ cs) r each lacks (c, cs, refl) e) ∙
+    ap Some (join_with_byte-slice_split 47 r)
 
 -- nothing is below if the text does not begin with the directory and a slash
-pub below-not : (d : List ℕ) (ds cs : List (List ℕ)) → ((r : List ℕ) → list_text cs ≡ list_text (d ∷ ds) ++ 47 ∷ r → ⊥) → option_map list_text (below (d ∷ ds) cs) ≡ None
+pub below-not : (d : List ℕ) (ds cs : List (List ℕ)) → ((r : List ℕ) → list_text cs ≡ list_text (d ∷ ds) ++ 47 ∷ r → ⊥) →
+    option_map list_text (below (d ∷ ds) cs) ≡ None
 below-not d ds cs absent = go (below (d ∷ ds) cs) refl
   where
     go : (o : Option (List (List ℕ))) → below (d ∷ ds) cs ≡ o → option_map list_text (below (d ∷ ds) cs) ≡ None

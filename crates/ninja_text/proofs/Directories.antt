@@ -72,10 +72,12 @@ some-of [] n some le = absurd (some (omega arith))
 some-of (x ∷ xs) n some le = refl
 
 -- what is known of a directory from which as many components as this are removed
-module _ {text list slashes : List ℕ} {names : ℕ} {unwritable : Option ℕ} (d : IsDirectory text list slashes names unwritable) (count : ℕ) (some : count ≡ 0 → ⊥) (le : count ≤ length (parts text)) where
+module _ {text list slashes : List ℕ} {names : ℕ} {unwritable : Option ℕ} (d : IsDirectory text list slashes names unwritable) (count : ℕ)
+    (some : count ≡ 0 → ⊥) (le : count ≤ length (parts text)) where
   -- the first components of its list, up to a slash
   pub directory-front : (index z : ℕ) → count ≤ length slashes → index ≡ length slashes - count
-      → (get_or slashes index z ≡ length (list_text (take (length (parts text) - count) (parts text)))) × (take (get_or slashes index z) list ≡ list_text (take (length (parts text) - count) (parts text)))
+      → (get_or slashes index z ≡ length (list_text (take (length (parts text) - count) (parts text)))) ×
+      (take (get_or slashes index z) list ≡ list_text (take (length (parts text) - count) (parts text)))
   directory-front index z has e =
       let n = directory-count text list slashes d.list_is d.slashes_are (some-of (parts text) count some le) in
       let kept : suc index ≡ length (parts text) - count = omega arith in
@@ -214,7 +216,8 @@ seen-or : (d : List ℕ) (ds list : List (List ℕ)) (o : Option (List (List ℕ
 seen-or d ds list None e lt = omega arith
 seen-or d ds list (Some rest) e lt =
     let whole = text-below d ds list rest e in
-    let total : length (list_text list) ≡ length (list_text (d ∷ ds)) + (1 + length (list_text rest)) = ap length whole ∙ length-append (list_text (d ∷ ds)) (47 ∷ list_text rest) ∙ omega arith in
+    let total : length (list_text list) ≡ length (list_text (d ∷ ds)) + (1 + length (list_text rest)) = ap length whole ∙
+    length-append (list_text (d ∷ ds)) (47 ∷ list_text rest) ∙ omega arith in
     omega arith
 
 -- a list that is longer than the limit is longer than a path, from wherever it is seen
@@ -242,14 +245,17 @@ long-is : (build : Option (List ℕ)) (text : List ℕ) {list : List ℕ} {above
 long-is build text {above = above} {unwritable = unwritable} p r e lt a u =
     let longer : list_limit build < length (reduced_text text) = subst (λ l. list_limit build < length l) e lt in
     let some = some-byte (parts text) (list_limit build) longer in
-    let found : (is_rooted text && list_any is_parent (parts text)) ≡ above = ap (λ b. is_rooted text && b) (sym (leads-text text)) ∙ ap (λ l. is_rooted text && leads_up l) (sym e) ∙ sym a in
+    let found : (is_rooted text && list_any is_parent (parts text)) ≡ above = ap (λ b. is_rooted text && b) (sym (leads-text text)) ∙
+    ap (λ l. is_rooted text && leads_up l) (sym e) ∙ sym a in
     go above unwritable some longer found (sym u)
   where
-    go : (above : Bool) (unwritable : Option ℕ) → is_empty (parts text) ≡ false → list_limit build < length (reduced_text text) → (is_rooted text && list_any is_parent (parts text)) ≡ above → position is_unwritable text ≡ unwritable
+    go : (above : Bool) (unwritable : Option ℕ) → is_empty (parts text) ≡ false → list_limit build < length (reduced_text text) →
+        (is_rooted text && list_any is_parent (parts text)) ≡ above → position is_unwritable text ≡ unwritable
         → canonical_of build text ≡ Err (long_fault above unwritable)
     go true unwritable some longer found none = is-above build text some found
     go false (Some i) some longer found none = is-unwritable build text i some found none
-    go false None some longer found none = is-long build text (seen_from build (is_rooted text) (parts text)) some found none refl (seen-long build (is_rooted text) (parts text) p r longer)
+    go false None some longer found none =
+        is-long build text (seen_from build (is_rooted text) (parts text)) some found none refl (seen-long build (is_rooted text) (parts text) p r longer)
 
 -- ---- a name and its end
 
@@ -291,9 +297,11 @@ begins (b ∷ bs) h =
 -- ---- what the functions know of a path
 
 -- what is kept of the text that is read
-pub listed : {directory text own front rest list : List ℕ} {parents d : ℕ} {unwritable : Option ℕ} {rooted : Bool} → IsReadIn directory text own parents unwritable
+pub listed : {directory text own front rest list : List ℕ} {parents d : ℕ} {unwritable : Option ℕ} {rooted : Bool} →
+    IsReadIn directory text own parents unwritable
     → d ≡ min parents (length (parts directory) - up (parts directory))
-    → front ≡ list_text (take (length (parts directory) - d) (parts directory)) → rest ≡ drop (3 * d) own → list ≡ glued front rest → rooted ≡ is_rooted directory
+    → front ≡ list_text (take (length (parts directory) - d) (parts directory)) → rest ≡ drop (3 * d) own → list ≡ glued front rest →
+    rooted ≡ is_rooted directory
     → IsListOf text rooted unwritable list
 listed r e f g h k = record { rooted_is = k ∙ sym r.rooted; unwritable_is = r.unwritable_is; list_is = h ∙ text-left r e f g }
 
@@ -315,7 +323,8 @@ first-leads (b ∷ front) rest first empty e f =
     no-length n = grind arith
 
 -- the fault of what is read, if its list is too long
-pub long-read : (build : Option (List ℕ)) {directory text own front rest first : List ℕ} {parents d : ℕ} {unwritable : Option ℕ} {rooted empty above : Bool} → ForSome build IsPath
+pub long-read : (build : Option (List ℕ)) {directory text own front rest first : List ℕ} {parents d : ℕ} {unwritable : Option ℕ} {rooted empty above : Bool} →
+    ForSome build IsPath
     → ForSome build (λ b. is_rooted b ≡ true)
     → IsReadIn directory text own parents unwritable → d ≡ min parents (length (parts directory) - up (parts directory))
     → front ≡ list_text (take (length (parts directory) - d) (parts directory)) → rest ≡ drop (3 * d) own → rooted ≡ is_rooted directory
@@ -355,7 +364,8 @@ named-up name {text = text} {list = list} {first = first} {parents = parents} e 
       | inr n ↦ let k = e.list_is.parents_are ∙ ap up h ∙ up-none c cs n in absurd (omega arith)
       | inl u ↦
           let k = e.list_is.parents_are ∙ ap up h ∙ up-more c cs u in
-          let same : parts (name ++ text) ≡ cs = named-parts name e b ∙ ap (in_front (name ++ take first text)) h ∙ in_front-up (name ++ take first text) c cs (b.named (take first text)) u in
+          let same : parts (name ++ text) ≡ cs = named-parts name e b ∙ ap (in_front (name ++ take first text)) h ∙
+          in_front-up (name ++ take first text) c cs (b.named (take first text)) u in
           record {
             fixed = fixed-reduced (parts (name ++ text)) (parts-fixed (name ++ text));
             lacks = parts-lack (name ++ text);
@@ -385,7 +395,8 @@ named-list name {text = text} {first = first} e b =
     }
 
 -- the first byte of a name with an end that cannot be escaped
-named-position : (name text : List ℕ) {u : Option ℕ} → Begins name → u ≡ position is_unwritable text → moved None (length name) u ≡ position is_unwritable (name ++ text)
+named-position : (name text : List ℕ) {u : Option ℕ} → Begins name → u ≡ position is_unwritable text →
+    moved None (length name) u ≡ position is_unwritable (name ++ text)
 named-position name text b e =
     ap (moved None (length name)) e ∙ ap (λ o. moved o (length name) (position is_unwritable text)) (sym b.clean) ∙ sym (position-append name text)
 
@@ -405,11 +416,13 @@ pub long-named : (build : Option (List ℕ)) (directory : List ℕ) {text own : 
     → canonical_of build text ≡ Err (long_fault (is_rooted directory && leads_up (reduced_text directory)) unwritable)
 long-named build directory {text = text} {own = own} {unwritable = unwritable} p q r lt =
     let front = reduced_text directory in
-    let whole : front ≡ list_text (take (length (parts directory) - 0) (parts directory)) = sym (ap list_text (take-all (length (parts directory) - 0) (parts directory) (omega arith))) in
+    let whole : front ≡ list_text (take (length (parts directory) - 0) (parts directory)) =
+    sym (ap list_text (take-all (length (parts directory) - 0) (parts directory) (omega arith))) in
     let left : glued front own ≡ reduced_text text = text-left {d = 0} r (omega arith) whole refl in
     let longer = glued-longer front own in
     let fixed : IsFixed r.list = subst IsFixed r.is_list.fixed (reduced-fixed r.list) in
-    let plain : leads_up own ≡ false = ap leads_up r.is_list.own_is ∙ leads-list r.list fixed r.is_list.lacks ∙ any-leads r.list fixed ∙ not-leads r.list (sym r.is_list.parents_are) in
+    let plain : leads_up own ≡ false = ap leads_up r.is_list.own_is ∙ leads-list r.list fixed r.is_list.lacks ∙ any-leads r.list fixed ∙
+    not-leads r.list (sym r.is_list.parents_are) in
     long-is build text p q left (omega arith)
     (ap (λ b. b && leads_up front) (sym r.rooted) ∙ ap (λ t. is_rooted text && t) (go plain front)) r.unwritable_is
   where

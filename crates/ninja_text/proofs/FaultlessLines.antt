@@ -52,7 +52,8 @@ longer own c = (
 )
 
 -- a continuation in front of units takes the spaces that they begin with
-continued : (len : ℕ) (us : List LineUnit) (own rest : List ℕ) → IsContinuation own → length own ≡ len → AreUnitTexts us rest → AreUnitTexts (with_continuation len us) (own ++ rest)
+continued : (len : ℕ) (us : List LineUnit) (own rest : List ℕ) → IsContinuation own → length own ≡ len → AreUnitTexts us rest →
+    AreUnitTexts (with_continuation len us) (own ++ rest)
 continued len [] own rest c is h = (own, [], (c, is), (λ e. refl), refl, ap (λ xs. own ++ xs) h)
 continued len (Byte b ∷ us) own rest c is h = elim (cases_Bool (b == 32)) [
   | inl s ↦ rw s (subst (AreUnitTexts (with_continuation (len + 1) us)) (sym (joins s))
@@ -106,11 +107,18 @@ begins_less [] vs h = refl
 begins_less (u ∷ us) vs h = h
 
 -- the bytes of some units, and those of the units after them
-pub split : (us vs : List LineUnit) (bytes : List ℕ) → AreUnitTexts (us ++ vs) bytes → (x : List ℕ) × (y : List ℕ) × AreUnitTexts us x × AreUnitTexts vs y × (bytes ≡ x ++ y)
+pub split : (us vs : List LineUnit) (bytes : List ℕ) → AreUnitTexts (us ++ vs) bytes →
+    (x : List ℕ) × (y : List ℕ) × AreUnitTexts us x × AreUnitTexts vs y × (bytes ≡ x ++ y)
 split [] vs bytes h = ([], bytes, refl, h, refl)
 split (u ∷ us) vs bytes h =
-    let later = split us vs h.1 h.4 in
-    (h.0 ++ later.0, later.1, (h.0, later.0, h.2, (λ e. begins_less us vs (h.3 e)), later.2, refl), later.3, h.5 ∙ ap (λ xs. h.0 ++ xs) later.4 ∙ sym (append_assoc h.0 later.0 later.1))
+    let later = split us vs h.1 h.4 in (
+      h.0 ++ later.0,
+      later.1,
+      (h.0, later.0, h.2, (λ e. begins_less us vs (h.3 e)), later.2, refl),
+      later.3,
+      h.5 ∙ ap (λ xs. h.0 ++ xs) later.4 ∙
+          sym (append_assoc h.0 later.0 later.1),
+    )
 
 unit_length : (u : LineUnit) (own : List ℕ) → IsUnitText u own → length own ≡ unit_len u
 unit_length (Continuation len) own h = h.1
@@ -147,11 +155,13 @@ spaces_length zero = refl
 spaces_length (suc n) = ap suc (spaces_length n)
 
 -- a continuation at the front is read back
-continuation_back : (own rest : List ℕ) (us : List LineUnit) → IsContinuation own → begins_with 32 us ≡ false → units rest ≡ us → units (own ++ rest) ≡ Continuation (length own) ∷ us
+continuation_back : (own rest : List ℕ) (us : List LineUnit) → IsContinuation own → begins_with 32 us ≡ false → units rest ≡ us →
+    units (own ++ rest) ≡ Continuation (length own) ∷ us
 continuation_back own rest us c none later = elim c.1 [
   | inl h ↦ subst (λ xs. units (xs ++ rest) ≡ Continuation (length xs) ∷ us) (sym h)
       (units_feed (spaces c.0 ++ rest) ∙ after 2 (suc (suc (length (spaces c.0)))) (omega (arith, spaces_length c.0)))
-  | inr h ↦ subst (λ xs. units (xs ++ rest) ≡ Continuation (length xs) ∷ us) (sym h) (after 3 (suc (suc (suc (length (spaces c.0))))) (omega (arith, spaces_length c.0)))
+  | inr h ↦ subst (λ xs. units (xs ++ rest) ≡ Continuation (length xs) ∷ us) (sym h)
+      (after 3 (suc (suc (suc (length (spaces c.0))))) (omega (arith, spaces_length c.0)))
 ] where
   after : (k m : ℕ) → k + c.0 ≡ m → with_continuation k (units (spaces c.0 ++ rest)) ≡ Continuation m ∷ us
   after k m is = takes c.0 k rest ∙ ap (with_continuation (k + c.0)) later ∙ takes_no_more (k + c.0) us none ∙ ap (λ n. Continuation n ∷ us) is
@@ -164,7 +174,8 @@ read_back (Continuation len ∷ us) bytes p h =
 read_back (Escape b ∷ us) bytes p h =
     let q = and_parts (is_escaped b) (list_all is_proper us) p in
     ap units (h.5 ∙ ap (λ xs. xs ++ h.1) h.2)
-    ∙ escaped_only (λ n. units (36 ∷ n ∷ h.1) ≡ Escape n ∷ units h.1) (units_pair 36 h.1 refl refl) (units_pair 32 h.1 refl refl) (units_pair 58 h.1 refl refl) b q.0
+    ∙ escaped_only (λ n. units (36 ∷ n ∷ h.1) ≡ Escape n ∷ units h.1) (units_pair 36 h.1 refl refl) (units_pair 32 h.1 refl refl) (units_pair 58 h.1 refl refl)
+    b q.0
     ∙ ap (λ vs. Escape b ∷ vs) (read_back us h.1 q.1 h.4)
 read_back (Byte b ∷ us) bytes p h =
     let q = and_parts (is_plain b) (list_all is_proper us) p in
@@ -215,7 +226,8 @@ first_part text start us vs r =
       bytes = parts.0;
       texts = parts.2;
       proper = (and_parts (list_all is_proper us) (list_all is_proper vs) (sym (list_all-append is_proper us vs) ∙ r.proper)).0;
-      slice = ap (λ t. slice_range t start (start + total_len us)) r.whole ∙ ap (take (start + total_len us - start)) (drop_at r.front r.bytes start r.front_len ∙ parts.4)
+      slice = ap (λ t. slice_range t start (start + total_len us)) r.whole ∙
+          ap (take (start + total_len us - start)) (drop_at r.front r.bytes start r.front_len ∙ parts.4)
           ∙ take_at parts.0 parts.1 (start + total_len us - start) (omega (arith, texts_length us parts.0 parts.2));
     }
 
@@ -242,12 +254,14 @@ none_some : {e : LineEnd} {A : Type 0} → ◌≡◌ {A = Option LineEnd} None (
 none_some h = absurd (cc)
 
 -- the end is at this index
-here : (index len : ℕ) (end : LineEnd) (bytes : List ℕ) → ◌≡◌ {A = Option LineEnd} (Some (record { text_len = index; line_len = len })) (Some end) → InnerUpTo index end bytes
+here : (index len : ℕ) (end : LineEnd) (bytes : List ℕ) → ◌≡◌ {A = Option LineEnd} (Some (record { text_len = index; line_len = len })) (Some end) →
+    InnerUpTo index end bytes
 here index len end bytes h =
     let same : ◌≡◌ {A = LineEnd} (record { text_len = index; line_len = len }) end = cc in
     record { count = 0; at = omega (arith, ap (λ e. e.text_len) same); inner = refl }
 
-past_byte : (b : ℕ) (bytes : List ℕ) (index : ℕ) (end : LineEnd) → (b == 36) ≡ false → (end_from (index + 1) (units bytes) ≡ Some end → InnerUpTo (index + 1) end bytes)
+past_byte : (b : ℕ) (bytes : List ℕ) (index : ℕ) (end : LineEnd) → (b == 36) ≡ false →
+    (end_from (index + 1) (units bytes) ≡ Some end → InnerUpTo (index + 1) end bytes)
     → end_from index (Byte b ∷ units bytes) ≡ Some end → InnerUpTo index end (b ∷ bytes)
 past_byte b bytes index end d later h = elim (cases_Bool (b == 10)) [
   | inl f ↦ here index (index + 1) end (b ∷ bytes) (rw f at h)
@@ -276,7 +290,8 @@ less_feed b zero bytes r = elim (cases_Bool (b == 13)) [ inl h ↦ rw h refl | i
 less_feed b (suc n) [] r = r
 less_feed b (suc n) (c ∷ bytes) r = r
 
-past_escape : (b : ℕ) (bytes : List ℕ) (index : ℕ) (end : LineEnd) → (b == 10) ≡ false → ((b == 13) && begins_feed bytes) ≡ false → InnerUpTo (index + 2) end bytes → InnerUpTo index end (36 ∷ b ∷ bytes)
+past_escape : (b : ℕ) (bytes : List ℕ) (index : ℕ) (end : LineEnd) → (b == 10) ≡ false → ((b == 13) && begins_feed bytes) ≡ false →
+    InnerUpTo (index + 2) end bytes → InnerUpTo index end (36 ∷ b ∷ bytes)
 past_escape b bytes index end f r rest = record {
   count = suc (suc rest.count);
   at = omega (arith, rest.at);

@@ -25,10 +25,13 @@ only-names text none = ap list_text (fixed-reduced (components text) (names-fixe
 slashes-behind : (start : ℕ) (a : List ℕ) (b : ℕ)
     → slashes_from start (a ++ b ∷ []) ≡ slashes_from start a ++ cond (b == 47) ((start + length a) ∷ []) []
 slashes-behind start [] b = ap (λ n. cond (b == 47) (n ∷ []) []) {x = start} {y = start + 0} (omega arith)
-slashes-behind start (x ∷ xs) b = go (x == 47) (slashes-behind (start + 1) xs b ∙ ap (λ n. slashes_from (start + 1) xs ++ cond (b == 47) (n ∷ []) []) {x = start + 1 + length xs} {y = start + suc (length xs)} (omega arith))
+slashes-behind start (x ∷ xs) b =
+    go (x == 47) (slashes-behind (start + 1) xs b ∙
+    ap (λ n. slashes_from (start + 1) xs ++ cond (b == 47) (n ∷ []) []) {x = start + 1 + length xs} {y = start + suc (length xs)} (omega arith))
   where
     go : (t : Bool) → slashes_from (start + 1) (xs ++ b ∷ []) ≡ slashes_from (start + 1) xs ++ cond (b == 47) ((start + suc (length xs)) ∷ []) []
-        → cond t (start ∷ slashes_from (start + 1) (xs ++ b ∷ [])) (slashes_from (start + 1) (xs ++ b ∷ [])) ≡ cond t (start ∷ slashes_from (start + 1) xs) (slashes_from (start + 1) xs) ++ cond (b == 47) ((start + suc (length xs)) ∷ []) []
+        → cond t (start ∷ slashes_from (start + 1) (xs ++ b ∷ [])) (slashes_from (start + 1) (xs ++ b ∷ [])) ≡
+        cond t (start ∷ slashes_from (start + 1) xs) (slashes_from (start + 1) xs) ++ cond (b == 47) ((start + suc (length xs)) ∷ []) []
     go true e = ap (λ l. start ∷ l) e
     go false e = e
 
@@ -37,7 +40,8 @@ pub slashes-step : (list : List ℕ) (i : ℕ) → i < length list
     → slashes_from 0 (take (i + 1) list) ≡ slashes_from 0 (take i list) ++ cond (get_or list i 0 == 47) (i ∷ []) []
 slashes-step list i lt =
     ap (slashes_from 0) (take_more list i 0 lt) ∙ slashes-behind 0 (take i list) (get_or list i 0)
-    ∙ ap (λ n. slashes_from 0 (take i list) ++ cond (get_or list i 0 == 47) (n ∷ []) []) {x = 0 + length (take i list)} {y = i} (omega (arith, length-take-le i list (omega arith)))
+    ∙ ap (λ n. slashes_from 0 (take i list) ++ cond (get_or list i 0 == 47) (n ∷ []) []) {x = 0 + length (take i list)} {y = i}
+    (omega (arith, length-take-le i list (omega arith)))
 
 -- a component without a slash adds none
 slashes-none : (start : ℕ) (x : List ℕ) → LacksSlash x → slashes_from start x ≡ []
@@ -117,7 +121,8 @@ name-not-parent false false h = refl
 -- a name stays in front of a list that does not begin with `..`
 pub in_front-plain : (n : List ℕ) (r : List (List ℕ)) → is_named_component n ≡ true → leads r ≡ false → in_front n r ≡ n ∷ r
 in_front-plain n [] h k = in_front-alone n (current-not-name (is_current n) (is_parent n) h)
-in_front-plain n (c ∷ cs) h k = in_front-stays n c cs (current-not-name (is_current n) (is_parent n) h) (ap (λ u. is_named_component n && u) k ∙ and-false (is_named_component n))
+in_front-plain n (c ∷ cs) h k =
+    in_front-stays n c cs (current-not-name (is_current n) (is_parent n) h) (ap (λ u. is_named_component n && u) k ∙ and-false (is_named_component n))
 
 -- a name goes with the `..` after it
 pub in_front-up : (n c : List ℕ) (cs : List (List ℕ)) → is_named_component n ≡ true → is_parent c ≡ true → in_front n (c ∷ cs) ≡ cs
@@ -135,7 +140,8 @@ past-parents : (q : List (List ℕ)) (d : ℕ) → d ≡ up q → leads (drop d 
 past-parents [] zero e = refl
 past-parents [] (suc d) e = refl
 past-parents (c ∷ cs) zero e = elim (either_way (is_parent c)) [ inl h ↦ let k = up-more c cs h in absurd (omega arith) | inr h ↦ h ]
-past-parents (c ∷ cs) (suc d) e = elim (either_way (is_parent c)) [ inl h ↦ let k = up-more c cs h in past-parents cs d (omega arith) | inr h ↦ let k = up-none c cs h in absurd (omega arith) ]
+past-parents (c ∷ cs) (suc d) e = elim (either_way (is_parent c))
+    [ inl h ↦ let k = up-more c cs h in past-parents cs d (omega arith) | inr h ↦ let k = up-none c cs h in absurd (omega arith) ]
 
 -- names, or nothing, and then a list after its `..`
 plain-joined : (m : ℕ) (ns q : List (List ℕ)) (d : ℕ) → AreNames ns → d ≡ up q → leads (take m ns ++ drop d q) ≡ false
@@ -147,7 +153,8 @@ plain-joined (suc m) (n ∷ ns) q d names e = name-not-parent (is_current n) (is
 next-parent : (q : List (List ℕ)) (d : ℕ) → d < up q → (c : List ℕ) × (drop d q ≡ c ∷ drop (suc d) q) × (is_parent c ≡ true)
 next-parent [] d lt = absurd (omega arith)
 next-parent (c ∷ cs) zero lt = elim (either_way (is_parent c)) [ inl h ↦ (c, refl, h) | inr h ↦ let k = up-none c cs h in absurd (omega arith) ]
-next-parent (c ∷ cs) (suc d) lt = elim (either_way (is_parent c)) [ inl h ↦ let k = up-more c cs h in next-parent cs d (omega arith) | inr h ↦ let k = up-none c cs h in absurd (omega arith) ]
+next-parent (c ∷ cs) (suc d) lt = elim (either_way (is_parent c))
+    [ inl h ↦ let k = up-more c cs h in next-parent cs d (omega arith) | inr h ↦ let k = up-none c cs h in absurd (omega arith) ]
 
 -- names in front of a list: each `..` that it begins with removes one
 names-joined : (ns q : List (List ℕ)) (m d : ℕ) → AreNames ns → IsFixed q → m + d ≡ length ns → d ≤ up q → (d ≡ up q) ⊎ (m ≡ 0)
@@ -177,9 +184,11 @@ lists-joined (c ∷ cs) q zero d fixed f e low le way =
 lists-joined (c ∷ cs) q (suc m) d fixed f e low le way =
     elim (either_way (is_parent c)) [
       | inl h ↦ let k = up-more c cs h in
-          ap (in_front c) (lists-joined cs q m d (fixed-tail c cs fixed) f (omega arith) (omega arith) le (elim way [ inl w ↦ inl w | inr w ↦ inr (omega arith) ]))
+          ap (in_front c) (lists-joined cs q m d (fixed-tail c cs fixed) f (omega arith) (omega arith) le
+          (elim way [ inl w ↦ inl w | inr w ↦ inr (omega arith) ]))
           ∙ in_front-parent c (take m cs ++ drop d q) h
-      | inr h ↦ let k = up-none c cs h in names-joined (c ∷ cs) q (suc m) d (all-names c cs fixed h) f e le (elim way [ inl w ↦ inl w | inr w ↦ absurd (omega arith) ])
+      | inr h ↦ let k = up-none c cs h in
+          names-joined (c ∷ cs) q (suc m) d (all-names c cs fixed h) f e le (elim way [ inl w ↦ inl w | inr w ↦ absurd (omega arith) ])
     ]
 
 -- ---- lists, written out
@@ -241,7 +250,8 @@ text-behind (suc d) (suc zero) q e le = absurd (omega arith)
 text-behind (suc d) (suc (suc zero)) q e le = absurd (omega arith)
 text-behind (suc d) (suc (suc (suc n))) [] e le = absurd (omega arith)
 text-behind (suc d) (suc (suc (suc n))) (c ∷ cs) e le = elim (either_way (is_parent c)) [
-  | inl h ↦ let k = up-more c cs h in ap (λ c. drop (suc (suc (suc n))) (list_text (c ∷ cs))) (parent-is c h) ∙ past-two d n cs (text-behind d n cs (omega arith) (omega arith))
+  | inl h ↦ let k = up-more c cs h in ap (λ c. drop (suc (suc (suc n))) (list_text (c ∷ cs))) (parent-is c h) ∙
+      past-two d n cs (text-behind d n cs (omega arith) (omega arith))
   | inr h ↦ let k = up-none c cs h in absurd (omega arith)
 ]
 
@@ -312,11 +322,14 @@ counted-on from index (b ∷ bs) = elim (either_way (is_unwritable b)) [
   | inr u ↦ rw u (ap (λ n. position_from is_unwritable n bs) {x = from + index + 1} {y = from + (index + 1)} (omega arith) ∙ counted-on from (index + 1) bs)
 ]
 
-found-from : (index : ℕ) (a b : List ℕ) → position_from is_unwritable index (a ++ b) ≡ moved (position_from is_unwritable index a) (index + length a) (position_from is_unwritable 0 b)
+found-from : (index : ℕ) (a b : List ℕ) →
+    position_from is_unwritable index (a ++ b) ≡ moved (position_from is_unwritable index a) (index + length a) (position_from is_unwritable 0 b)
 found-from index [] b = ap (λ n. position_from is_unwritable n b) {x = index} {y = index + 0 + 0} (omega arith) ∙ counted-on (index + 0) 0 b
 found-from index (x ∷ a) b = elim (either_way (is_unwritable x)) [
   | inl u ↦ rw u refl
-  | inr u ↦ rw u (found-from (index + 1) a b ∙ ap (λ n. moved (position_from is_unwritable (index + 1) a) n (position_from is_unwritable 0 b)) {x = index + 1 + length a} {y = index + suc (length a)} (omega arith))
+  | inr u ↦ rw u (found-from (index + 1) a b ∙
+      ap (λ n. moved (position_from is_unwritable (index + 1) a) n (position_from is_unwritable 0 b)) {x = index + 1 + length a} {y = index + suc (length a)}
+      (omega arith))
 ]
 
 -- the first byte of two texts that cannot be escaped

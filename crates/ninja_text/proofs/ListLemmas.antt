@@ -57,7 +57,8 @@ goes_over (Escape b) us h = cc
 goes_over (Byte b) us h = cc
 
 -- a continuation in a word is passed over
-passed_over : (u : LineUnit) (us after : List LineUnit) (may_end : Bool) (start index : ℕ) → is_continuation u ≡ true → Follows false start (index + unit_len u) us after → Follows may_end start index (u ∷ us) after
+passed_over : (u : LineUnit) (us after : List LineUnit) (may_end : Bool) (start index : ℕ) → is_continuation u ≡ true →
+    Follows false start (index + unit_len u) us after → Follows may_end start index (u ∷ us) after
 passed_over u us after may_end start index h (inl none) = cc
 passed_over u us after may_end start index h (inr goes) = inr (record {
   on = goes_over u (us ++ after) h ∙ goes.on;
@@ -66,7 +67,8 @@ passed_over u us after may_end start index h (inr goes) = inr (record {
 })
 
 -- what follows in a word, to its end
-follows : (us after : List LineUnit) (may_end : Bool) (start index : ℕ) → goes_on after ≡ false → may_follow may_end us ≡ true → Follows may_end start index us after
+follows : (us after : List LineUnit) (may_end : Bool) (start index : ℕ) → goes_on after ≡ false → may_follow may_end us ≡ true →
+    Follows may_end start index us after
 follows [] after may_end start index stop h = inl (refl, h)
 follows (u ∷ us) after may_end start index stop h = elim (cases_Bool (is_piece u)) [
   | inl p ↦ inr (record {
@@ -84,13 +86,21 @@ token_first Word s [] after h = cc
 token_first Word s (u ∷ us) after h =
     let both = and_parts (is_piece u) (may_follow true us) h.0 in
     word_first s u us after both.0 h.1 (follows us after true s (s + unit_len u) h.1 both.1)
-token_first Bar s own after h = subst (λ xs. tokens_from s (xs ++ after) ≡ record { kind = Bar; start = s; end = s + total_len xs } ∷ tokens_from (s + total_len xs) after) (sym h.0) (alone after h.1 h.2) where
-  alone : (us : List LineUnit) → begins_with 124 us ≡ false → begins_with 64 us ≡ false → tokens_from s (Byte 124 ∷ us) ≡ record { kind = Bar; start = s; end = s + 1 } ∷ tokens_from (s + 1) us
-  alone [] bar at = refl
-  alone (v ∷ us) bar at = rw (bar, at) refl
-token_first DoubleBar s own after h = subst (λ xs. tokens_from s (xs ++ after) ≡ record { kind = DoubleBar; start = s; end = s + total_len xs } ∷ tokens_from (s + total_len xs) after) (sym h) refl
-token_first BarAt s own after h = subst (λ xs. tokens_from s (xs ++ after) ≡ record { kind = BarAt; start = s; end = s + total_len xs } ∷ tokens_from (s + total_len xs) after) (sym h) refl
-token_first Colon s own after h = subst (λ xs. tokens_from s (xs ++ after) ≡ record { kind = Colon; start = s; end = s + total_len xs } ∷ tokens_from (s + total_len xs) after) (sym h) (tokens_with s (Byte 58) after refl)
+token_first Bar s own after h =
+    subst (λ xs. tokens_from s (xs ++ after) ≡ record { kind = Bar; start = s; end = s + total_len xs } ∷ tokens_from (s + total_len xs) after) (sym h.0)
+    (alone after h.1 h.2) where
+      alone : (us : List LineUnit) → begins_with 124 us ≡ false → begins_with 64 us ≡ false →
+          tokens_from s (Byte 124 ∷ us) ≡ record { kind = Bar; start = s; end = s + 1 } ∷ tokens_from (s + 1) us
+      alone [] bar at = refl
+      alone (v ∷ us) bar at = rw (bar, at) refl
+token_first DoubleBar s own after h =
+    subst (λ xs. tokens_from s (xs ++ after) ≡ record { kind = DoubleBar; start = s; end = s + total_len xs } ∷ tokens_from (s + total_len xs) after) (sym h)
+    refl
+token_first BarAt s own after h =
+    subst (λ xs. tokens_from s (xs ++ after) ≡ record { kind = BarAt; start = s; end = s + total_len xs } ∷ tokens_from (s + total_len xs) after) (sym h) refl
+token_first Colon s own after h =
+    subst (λ xs. tokens_from s (xs ++ after) ≡ record { kind = Colon; start = s; end = s + total_len xs } ∷ tokens_from (s + total_len xs) after) (sym h)
+    (tokens_with s (Byte 58) after refl)
 
 -- units are divided into one list of tokens only
 one_list : (ts : List TokenAt) (index : ℕ) (us : List LineUnit) → LexesAs index us ts → tokens_from index us ≡ ts
@@ -147,7 +157,8 @@ word_over [] (u ∷ us) may_end g w = let both = and_parts (is_piece u) (may_fol
 word_over (u ∷ gap) own may_end g w = rw (no_piece u g.0, g.0) (word_over gap own false g.1 w)
 
 -- a piece in front of the word that continues after it
-piece_joins : (index : ℕ) (u : LineUnit) (us : List LineUnit) (rest : List TokenAt) → is_piece u ≡ true → goes_on us ≡ true → LexesAs (index + unit_len u) us rest → LexesAs index (u ∷ us) (with_first_start index rest)
+piece_joins : (index : ℕ) (u : LineUnit) (us : List LineUnit) (rest : List TokenAt) → is_piece u ≡ true → goes_on us ≡ true →
+    LexesAs (index + unit_len u) us rest → LexesAs index (u ∷ us) (with_first_start index rest)
 piece_joins index u us [] p g h = cc (sym g ∙ blank_stops us h)
 piece_joins index u us (t ∷ ts) p g h =
     let leads = h.1 in
@@ -168,11 +179,13 @@ piece_joins index u us (t ∷ ts) p g h =
     )
 
 -- a unit that is a token by itself
-alone : (index : ℕ) (u : LineUnit) (us : List LineUnit) (kind : TokenKind) (end : ℕ) → end ≡ index + unit_len u → IsToken kind (u ∷ []) us → BeginsWithToken index (u ∷ us) (record { kind = kind; start = index; end = end }) us
+alone : (index : ℕ) (u : LineUnit) (us : List LineUnit) (kind : TokenKind) (end : ℕ) → end ≡ index + unit_len u → IsToken kind (u ∷ []) us →
+    BeginsWithToken index (u ∷ us) (record { kind = kind; start = index; end = end }) us
 alone index u us kind end e token = record { gap = []; own = u ∷ []; whole = refl; blank = tt; start = omega arith; end = omega arith; token = token }
 
 -- a blank unit in front
-blank_joins : (index : ℕ) (u : LineUnit) (us : List LineUnit) (rest : List TokenAt) → is_blank u ≡ true → LexesAs (index + unit_len u) us rest → LexesAs index (u ∷ us) rest
+blank_joins : (index : ℕ) (u : LineUnit) (us : List LineUnit) (rest : List TokenAt) → is_blank u ≡ true → LexesAs (index + unit_len u) us rest →
+    LexesAs index (u ∷ us) rest
 blank_joins index u us [] b h = (b, h)
 blank_joins index u us (t ∷ ts) b h = let leads = h.1 in (
   h.0,
@@ -195,7 +208,8 @@ blank_else u p colon bar = elim (cases_Bool (is_blank u)) [
 ]
 
 -- what a unit adds in front is a list of tokens again, if a `|` in front is one alone
-with_unit_lexes : (index : ℕ) (u : LineUnit) (us : List LineUnit) (rest : List TokenAt) → (is_byte 124 u ≡ true → (begins_with 124 us ≡ false) × (begins_with 64 us ≡ false))
+with_unit_lexes : (index : ℕ) (u : LineUnit) (us : List LineUnit) (rest : List TokenAt) →
+    (is_byte 124 u ≡ true → (begins_with 124 us ≡ false) × (begins_with 64 us ≡ false))
     → LexesAs (index + unit_len u) us rest → LexesAs index (u ∷ us) (with_unit index u us rest)
 with_unit_lexes index u us rest longest h = elim (cases_Bool (is_piece u)) [
   | inl p ↦ elim (cases_Bool (goes_on us)) [
@@ -203,17 +217,27 @@ with_unit_lexes index u us rest longest h = elim (cases_Bool (is_piece u)) [
     | inr g ↦ rw (p, g) (us, alone index u us Word (index + unit_len u) refl (rw p refl, g), h)
   ]
   | inr p ↦ elim (cases_Bool (is_byte 58 u)) [
-    | inl c ↦ rw (p, c) (us, alone index u us Colon (index + 1) (omega (arith, byte_len 58 u c)) (ap (λ v. v ∷ []) (byte_is 58 u c)), subst (λ n. LexesAs (index + n) us rest) (byte_len 58 u c) h)
+    | inl c ↦ rw (p, c) (
+      us,
+      alone index u us Colon (index + 1) (omega (arith, byte_len 58 u c)) (ap (λ v. v ∷ []) (byte_is 58 u c)),
+      subst (λ n. LexesAs (index + n) us rest) (byte_len 58 u c) h,
+    )
     | inr c ↦ elim (cases_Bool (is_byte 124 u)) [
-      | inl b ↦ rw (p, c, b) (us, alone index u us Bar (index + 1) (omega (arith, byte_len 124 u b)) (ap (λ v. v ∷ []) (byte_is 124 u b), (longest b).0, (longest b).1), subst (λ n. LexesAs (index + n) us rest) (byte_len 124 u b) h)
+      | inl b ↦ rw (p, c, b) (
+        us,
+        alone index u us Bar (index + 1) (omega (arith, byte_len 124 u b)) (ap (λ v. v ∷ []) (byte_is 124 u b), (longest b).0, (longest b).1),
+        subst (λ n. LexesAs (index + n) us rest) (byte_len 124 u b) h,
+      )
       | inr b ↦ rw (p, c, b) (blank_joins index u us rest (blank_else u p c b) h)
     ]
   ]
 ]
 
 -- two units that are a token
-pair_leads : (index : ℕ) (u v : LineUnit) (us : List LineUnit) (kind : TokenKind) → unit_len u ≡ 1 → unit_len v ≡ 1 → IsToken kind (u ∷ v ∷ []) us → BeginsWithToken index (u ∷ v ∷ us) (record { kind = kind; start = index; end = index + 2 }) us
-pair_leads index u v us kind one other token = record { gap = []; own = u ∷ v ∷ []; whole = refl; blank = tt; start = omega arith; end = omega arith; token = token }
+pair_leads : (index : ℕ) (u v : LineUnit) (us : List LineUnit) (kind : TokenKind) → unit_len u ≡ 1 → unit_len v ≡ 1 → IsToken kind (u ∷ v ∷ []) us →
+    BeginsWithToken index (u ∷ v ∷ us) (record { kind = kind; start = index; end = index + 2 }) us
+pair_leads index u v us kind one other token =
+    record { gap = []; own = u ∷ v ∷ []; whole = refl; blank = tt; start = omega arith; end = omega arith; token = token }
 
 two_units : {u v a b : LineUnit} → u ≡ a → v ≡ b → ◌≡◌ {A = List LineUnit} (u ∷ v ∷ []) (a ∷ b ∷ [])
 two_units p q = rw (p, q) refl
@@ -225,9 +249,14 @@ lexes (u ∷ v ∷ us) index = elim (cases_Bool (is_byte 124 u)) [
   | inr n ↦ subst (LexesAs index (u ∷ v ∷ us)) (sym (tokens_with index u (v ∷ us) n))
       (with_unit_lexes index u (v ∷ us) _ (λ b. cc (sym b ∙ n)) (lexes (v ∷ us) (index + unit_len u)))
   | inl b ↦ elim (cases_Bool (is_byte 124 v)) [
-    | inl d ↦ rw (b, d) (us, pair_leads index u v us DoubleBar (byte_len 124 u b) (byte_len 124 v d) (two_units (byte_is 124 u b) (byte_is 124 v d)), lexes us (index + 2))
+    | inl d ↦ rw (b, d) (
+      us,
+      pair_leads index u v us DoubleBar (byte_len 124 u b) (byte_len 124 v d) (two_units (byte_is 124 u b) (byte_is 124 v d)),
+      lexes us (index + 2),
+    )
     | inr d ↦ elim (cases_Bool (is_byte 64 v)) [
-      | inl a ↦ rw (b, d, a) (us, pair_leads index u v us BarAt (byte_len 124 u b) (byte_len 64 v a) (two_units (byte_is 124 u b) (byte_is 64 v a)), lexes us (index + 2))
+      | inl a ↦ rw (b, d, a)
+          (us, pair_leads index u v us BarAt (byte_len 124 u b) (byte_len 64 v a) (two_units (byte_is 124 u b) (byte_is 64 v a)), lexes us (index + 2))
       | inr a ↦ subst (λ w. LexesAs index (w ∷ v ∷ us) (tokens_from index (w ∷ v ∷ us))) (sym (byte_is 124 u b))
           (rw (d, a) (with_unit_lexes index (Byte 124) (v ∷ us) (tokens_from (index + 1) (v ∷ us)) (λ _. (d, a)) (lexes (v ∷ us) (index + 1))))
     ]

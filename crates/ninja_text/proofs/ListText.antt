@@ -19,7 +19,8 @@ list_text-behind x [] c = refl
 list_text-behind x (y ∷ ys) c = ap (λ t. x ++ 47 ∷ t) (list_text-behind y ys c) ∙ sym (append_assoc x (47 ∷ list_text (y ∷ ys)) (47 ∷ c))
 
 -- a component after a list whose first component is not empty
-pub list_text-appended : (x : List ℕ) (xs : List (List ℕ)) (c : List ℕ) → is_current x ≡ false → list_text ((x ∷ xs) ++ c ∷ []) ≡ appended (list_text (x ∷ xs)) c
+pub list_text-appended : (x : List ℕ) (xs : List (List ℕ)) (c : List ℕ) → is_current x ≡ false →
+    list_text ((x ∷ xs) ++ c ∷ []) ≡ appended (list_text (x ∷ xs)) c
 list_text-appended [] xs c h = cc
 list_text-appended (b ∷ bs) [] c h = refl
 list_text-appended (b ∷ bs) (y ∷ ys) c h = list_text-behind (b ∷ bs) (y ∷ ys) c
@@ -46,7 +47,8 @@ list_text-last [] last = refl
 list_text-last (x ∷ xs) last = list_text-behind x xs last ∙ sym (append_assoc (list_text (x ∷ xs)) (47 ∷ []) last)
 
 -- the index after the last slash is the start of the last component
-not-after : (p last : List ℕ) (start : ℕ) → LacksSlash last → start ≤ length (p ++ last) → (0 < start → get_or (p ++ last) (start - 1) 0 ≡ 47) → length p < start → ⊥
+not-after : (p last : List ℕ) (start : ℕ) → LacksSlash last → start ≤ length (p ++ last) → (0 < start → get_or (p ++ last) (start - 1) 0 ≡ 47) →
+    length p < start → ⊥
 not-after p last start h bound slash lt =
     let k : ℕ = start - 1 - length p in
     let at : start - 1 ≡ length p + k = omega arith in
@@ -55,7 +57,8 @@ not-after p last start h bound slash lt =
     lacks-at last k h (omega arith) e
 
 -- nor can the last component begin before the last slash
-not-before : (q last : List ℕ) (start : ℕ) → ((k : ℕ) → start ≤ k → k < length ((q ++ 47 ∷ []) ++ last) → get_or ((q ++ 47 ∷ []) ++ last) k 0 ≢ 47) → start ≤ length q → ⊥
+not-before : (q last : List ℕ) (start : ℕ) → ((k : ℕ) → start ≤ k → k < length ((q ++ 47 ∷ []) ++ last) → get_or ((q ++ 47 ∷ []) ++ last) k 0 ≢ 47) →
+    start ≤ length q → ⊥
 not-before q last start rest le =
     let e : (q ++ 47 ∷ []) ++ last ≡ q ++ 47 ∷ last = append_assoc q (47 ∷ []) last in
     let at : get_or (q ++ 47 ∷ last) (length q + 0) 0 ≡ 47 = get_or-append-add q (47 ∷ last) 0 0 in
@@ -95,20 +98,25 @@ start-of list init last start e h bound slash rest =
     start-is init last start h f.0 f.1 f.2
 
 -- what follows from there on is the last component
-pub last-of : (list : List ℕ) (init : List (List ℕ)) (last : List ℕ) (start : ℕ) → list ≡ list_text (init ++ last ∷ []) → start ≡ length (up_to_last init) → take (length list - start) (drop start list) ≡ last
+pub last-of : (list : List ℕ) (init : List (List ℕ)) (last : List ℕ) (start : ℕ) → list ≡ list_text (init ++ last ∷ []) → start ≡ length (up_to_last init) →
+    take (length list - start) (drop start list) ≡ last
 last-of list init last start e s =
-    to_the_end start list ∙ ap (drop start) (e ∙ list_text-last init last) ∙ ap (λ n. drop n (up_to_last init ++ last)) s ∙ drop-append_seam (up_to_last init) last
+    to_the_end start list ∙ ap (drop start) (e ∙ list_text-last init last) ∙ ap (λ n. drop n (up_to_last init ++ last)) s ∙
+    drop-append_seam (up_to_last init) last
 
 -- what is before the slash in front of it is the rest of the list
-pub init-of : (list : List ℕ) (init : List (List ℕ)) (last : List ℕ) (start n : ℕ) → list ≡ list_text (init ++ last ∷ []) → start ≡ length (up_to_last init) → n ≡ start - 1 → take n list ≡ list_text init
+pub init-of : (list : List ℕ) (init : List (List ℕ)) (last : List ℕ) (start n : ℕ) → list ≡ list_text (init ++ last ∷ []) → start ≡ length (up_to_last init) →
+    n ≡ start - 1 → take n list ≡ list_text init
 init-of list init last start n e s k =
     ap (take n) (e ∙ list_text-last init last) ∙ ap (λ m. take m (up_to_last init ++ last)) (k ∙ ap (λ m. m - 1) s) ∙ without-last init last
 
 -- the last component is not empty
-pub not-all : (list : List ℕ) (init : List (List ℕ)) (last : List ℕ) (start : ℕ) → list ≡ list_text (init ++ last ∷ []) → start ≡ length (up_to_last init) → is_current last ≡ false → start ≡ length list → ⊥
+pub not-all : (list : List ℕ) (init : List (List ℕ)) (last : List ℕ) (start : ℕ) → list ≡ list_text (init ++ last ∷ []) → start ≡ length (up_to_last init) →
+    is_current last ≡ false → start ≡ length list → ⊥
 not-all list init [] start e s h k = cc
 not-all list init (b ∷ bs) start e s h k =
-    let total : length list ≡ length (up_to_last init) + (1 + length bs) = ap length (e ∙ list_text-last init (b ∷ bs)) ∙ length-append (up_to_last init) (b ∷ bs) ∙ omega arith in
+    let total : length list ≡ length (up_to_last init) + (1 + length bs) = ap length (e ∙ list_text-last init (b ∷ bs)) ∙
+    length-append (up_to_last init) (b ∷ bs) ∙ omega arith in
     omega arith
 
 -- ---- a component after a canonical list
@@ -130,7 +138,8 @@ fixed-first x [] f = f
 fixed-first x (y ∷ ys) f = f.0
 
 -- a component that goes after a canonical list as it is
-list_text-fixed : (init : List (List ℕ)) (last c : List ℕ) → IsFixed (init ++ last ∷ []) → list_text (init ++ last ∷ c ∷ []) ≡ appended (list_text (init ++ last ∷ [])) c
+list_text-fixed : (init : List (List ℕ)) (last c : List ℕ) → IsFixed (init ++ last ∷ []) →
+    list_text (init ++ last ∷ c ∷ []) ≡ appended (list_text (init ++ last ∷ [])) c
 list_text-fixed [] last c f = list_text-appended last [] c (fixed-first last [] f)
 list_text-fixed (a ∷ init) last c f =
     ap list_text (sym (append_assoc (a ∷ init) (last ∷ []) (c ∷ []))) ∙ list_text-appended a (init ++ last ∷ []) c (fixed-first a (init ++ last ∷ []) f)
@@ -143,7 +152,8 @@ none-parent false u h = refl
 -- `..` after a list that ends in a name
 pub put-parent : (before : List (List ℕ)) (c list : List ℕ) (n : ℕ) → EachLacksSlash before → list ≡ list_text (reduced before) → is_parent c ≡ true
     → (list ≡ [] → Some n ≡ None)
-    → ((init : List (List ℕ)) (last : List ℕ) → LacksSlash last → is_current last ≡ false → list ≡ list_text (init ++ last ∷ []) → (is_parent last ≡ false) × (take n list ≡ list_text init))
+    → ((init : List (List ℕ)) (last : List ℕ) → LacksSlash last → is_current last ≡ false → list ≡ list_text (init ++ last ∷ []) →
+    (is_parent last ≡ false) × (take n list ≡ list_text init))
     → take n list ≡ list_text (reduced (before ++ c ∷ []))
 put-parent before c list n each e goes_up empty parent =
     elim (ends (reduced before)) [
@@ -158,7 +168,8 @@ put-parent before c list n each e goes_up empty parent =
 
 -- any other component, and `..` after a list that does not end in a name
 pub put-behind : (before : List (List ℕ)) (c list new : List ℕ) → EachLacksSlash before → list ≡ list_text (reduced before) → is_current c ≡ false
-    → (is_parent c ≡ false) ⊎ ((init : List (List ℕ)) (last : List ℕ) → LacksSlash last → is_current last ≡ false → list ≡ list_text (init ++ last ∷ []) → is_parent last ≡ true)
+    → (is_parent c ≡ false) ⊎
+    ((init : List (List ℕ)) (last : List ℕ) → LacksSlash last → is_current last ≡ false → list ≡ list_text (init ++ last ∷ []) → is_parent last ≡ true)
     → new ≡ appended list c
     → new ≡ list_text (reduced (before ++ c ∷ []))
 put-behind before c list new each e not_current no_pair made =
@@ -169,7 +180,8 @@ put-behind before c list new each e not_current no_pair made =
           let lacks : LacksSlash w.1 = each-last LacksSlash w.0 w.1 (subst EachLacksSlash w.2 (reduced-each LacksSlash before each)) in
           let stays : (is_named_component w.1 && is_parent c) ≡ false = elim no_pair [
             | inl k ↦ none-parent (is_named_component w.1) (is_parent c) k
-            | inr k ↦ ap (λ b. b && is_parent c) (parent-not-name (is_current w.1) (is_parent w.1) (k w.0 w.1 lacks (fixed-last w.0 w.1 fixed) (e ∙ ap list_text w.2)))
+            | inr k ↦ ap (λ b. b && is_parent c)
+                (parent-not-name (is_current w.1) (is_parent w.1) (k w.0 w.1 lacks (fixed-last w.0 w.1 fixed) (e ∙ ap list_text w.2)))
           ] in
           made ∙ ap (λ l. appended l c) (e ∙ ap list_text w.2) ∙ sym (list_text-fixed w.0 w.1 c fixed)
           ∙ ap list_text (sym (behind-stays before w.0 w.1 c w.2 not_current stays))

@@ -90,7 +90,8 @@ joined false list = join_with_byte-slice_split 47 list
 pub names_list : (list : List ℕ) → AreNames list → IsReducedList list
 names_list list names = record { reduced_is = fixed-reduced (components list) (names-fixed (components list) names.named); clean = names.clean }
 
-pub list_path : (rooted : Bool) (list text : List ℕ) → IsReducedList list → (rooted && list_any is_parent (components list)) ≡ false → cond rooted (47 ∷ list) list ≡ text → length text ≤ 4096 → IsPath text
+pub list_path : (rooted : Bool) (list text : List ℕ) → IsReducedList list → (rooted && list_any is_parent (components list)) ≡ false →
+    cond rooted (47 ∷ list) list ≡ text → length text ≤ 4096 → IsPath text
 list_path rooted list text of inside same short =
     let first = components-some list in
     whole-path rooted (components list) text (record {

@@ -75,7 +75,8 @@ at_once u us own rest bytes whole s f = inr (record {
   more = flat_map unit_value us;
   is_gap = ([], tt, refl);
   value = ap (λ vs. vs ++ flat_map unit_value us) s.value;
-  spells = subst (Spells bytes) (ap (λ vs. vs ++ flat_map unit_value us) s.value) (subst (λ xs. Spells xs (flat_map unit_value (u ∷ us))) (sym whole) (spelled_on u us own rest s f));
+  spells = subst (Spells bytes) (ap (λ vs. vs ++ flat_map unit_value us) s.value)
+      (subst (λ xs. Spells xs (flat_map unit_value (u ∷ us))) (sym whole) (spelled_on u us own rest s f));
   whole = refl;
 })
 
@@ -84,7 +85,8 @@ longer_gap : (own gap : List ℕ) → IsContinuation own → IsGap gap → IsGap
 longer_gap own gap c g = (own ∷ g.0, (c, g.1), ap (λ xs. own ++ xs) g.2)
 
 -- with a continuation before it
-after_gap : (len : ℕ) (us : List LineUnit) (own rest bytes : List ℕ) → bytes ≡ own ++ rest → IsContinuation own → may_follow false us ≡ true → Follows us rest → Follows (Continuation len ∷ us) bytes
+after_gap : (len : ℕ) (us : List LineUnit) (own rest bytes : List ℕ) → bytes ≡ own ++ rest → IsContinuation own → may_follow false us ≡ true → Follows us rest →
+    Follows (Continuation len ∷ us) bytes
 after_gap len us own rest bytes whole c m (inl none) = cc (ap (may_follow false) (sym none.0) ∙ m)
 after_gap len us own rest bytes whole c m (inr p) = inr (record {
   gap = own ++ p.gap;
@@ -97,7 +99,8 @@ after_gap len us own rest bytes whole c m (inr p) = inr (record {
   whole = whole ∙ ap (λ xs. own ++ xs) p.whole ∙ sym (append_assoc own p.gap p.rest);
 })
 
-follows : (us : List LineUnit) (may_end : Bool) (bytes : List ℕ) → may_follow may_end us ≡ true → list_all is_proper us ≡ true → AreUnitTexts us bytes → Follows us bytes
+follows : (us : List LineUnit) (may_end : Bool) (bytes : List ℕ) → may_follow may_end us ≡ true → list_all is_proper us ≡ true → AreUnitTexts us bytes →
+    Follows us bytes
 follows [] may_end bytes m p h = inl (refl, h)
 follows (Continuation len ∷ us) may_end bytes m p h = after_gap len us h.0 h.1 bytes h.5 h.2.0 m (follows us false h.1 m p h.4)
 follows (Escape b ∷ us) may_end bytes m p h =
@@ -111,7 +114,8 @@ follows (Byte b ∷ us) may_end bytes m p h = elim (cases_Bool (is_piece (Byte b
 ]
 
 -- the bytes of a word mean its units' values
-word_spells : (us : List LineUnit) (bytes : List ℕ) → is_word us ≡ true → list_all is_proper us ≡ true → AreUnitTexts us bytes → Spells bytes (flat_map unit_value us)
+word_spells : (us : List LineUnit) (bytes : List ℕ) → is_word us ≡ true → list_all is_proper us ≡ true → AreUnitTexts us bytes →
+    Spells bytes (flat_map unit_value us)
 word_spells [] bytes w p h = cc
 word_spells (u ∷ us) bytes w p h =
     let m = and_parts (is_piece u) (may_follow true us) w in
@@ -119,22 +123,27 @@ word_spells (u ∷ us) bytes w p h =
     subst (λ xs. Spells xs (flat_map unit_value (u ∷ us))) (sym h.5)
     (spelled_on u us h.0 h.1 (spelled u h.0 m.0 q.0 h.2) (follows us true h.1 m.1 q.1 h.4))
 
-part_spells : (text : List ℕ) (start : ℕ) (us : List LineUnit) → is_word us ≡ true → Part text start us → (raw : List ℕ) → raw ≡ slice_range text start (start + total_len us) → Spells raw (value_of raw)
+part_spells : (text : List ℕ) (start : ℕ) (us : List LineUnit) → is_word us ≡ true → Part text start us → (raw : List ℕ) →
+    raw ≡ slice_range text start (start + total_len us) → Spells raw (value_of raw)
 part_spells text start us w part raw is =
     subst (λ xs. Spells xs (value_of xs)) (sym (is ∙ part.slice))
-    (subst (Spells part.bytes) (sym (ap (flat_map unit_value) (read_back us part.bytes part.proper part.texts))) (word_spells us part.bytes w part.proper part.texts))
+    (subst (Spells part.bytes) (sym (ap (flat_map unit_value) (read_back us part.bytes part.proper part.texts)))
+    (word_spells us part.bytes w part.proper part.texts))
 
 is_word_of : (kind : TokenKind) (own after : List LineUnit) → kind ≡ Word → IsToken kind own after → is_word own ≡ true
 is_word_of kind own after e h = (subst (λ k. IsToken k own after) e h).0
 
-tokens_read : (text : List ℕ) (ts : List TokenAt) (index : ℕ) (us : List LineUnit) → Remains text index us → LexesAs index us ts → AllByRecursion IsReadAsSpelled (map (with_raw text) ts)
+tokens_read : (text : List ℕ) (ts : List TokenAt) (index : ℕ) (us : List LineUnit) → Remains text index us → LexesAs index us ts →
+    AllByRecursion IsReadAsSpelled (map (with_raw text) ts)
 tokens_read text [] index us r h = tt
 tokens_read text (t ∷ ts) index us r h =
     let leads = h.1 in
     let own : Remains text t.start (leads.own ++ h.0) =
-    subst (λ n. Remains text n (leads.own ++ h.0)) (sym leads.start) (past_units text index leads.gap (leads.own ++ h.0) (subst (Remains text index) leads.whole r)) in
+    subst (λ n. Remains text n (leads.own ++ h.0)) (sym leads.start)
+    (past_units text index leads.gap (leads.own ++ h.0) (subst (Remains text index) leads.whole r)) in
     let after : Remains text t.end h.0 = subst (λ n. Remains text n h.0) (sym leads.end) (past_units text t.start leads.own h.0 own) in (
-      λ word. part_spells text t.start leads.own (is_word_of t.kind leads.own h.0 word leads.token) (first_part text t.start leads.own h.0 own) _ (ap (slice_range text t.start) leads.end),
+      λ word. part_spells text t.start leads.own (is_word_of t.kind leads.own h.0 word leads.token) (first_part text t.start leads.own h.0 own) _
+          (ap (slice_range text t.start) leads.end),
       tokens_read text ts t.end h.0 after h.2,
     )
 
@@ -142,7 +151,8 @@ tokens_read text (t ∷ ts) index us r h =
 pub words_read : (line : List ℕ) → IsFaultless line → All IsReadAsSpelled (seen_tokens (text_of_line line))
 words_read line r =
     let text = text_of_line line in
-    All-from_recursion IsReadAsSpelled (seen_tokens text) (tokens_read text (tokens text) 0 (units text) (remains_all text (faultless_units line r)) (tokens_are text))
+    All-from_recursion IsReadAsSpelled (seen_tokens text)
+    (tokens_read text (tokens text) 0 (units text) (remains_all text (faultless_units line r)) (tokens_are text))
 
 -- ---- values
 
@@ -152,7 +162,8 @@ no_space_first (Continuation len ∷ us) bytes rest h none e = elim h.2.0.1 [
   | inl f ↦ let x : 36 ∷ _ ≡ 32 ∷ rest = ap (λ xs. xs ++ h.1) (sym f) ∙ sym h.5 ∙ e in let y : ◌≡◌ {A = ℕ} 36 32 = cc in omega arith
   | inr f ↦ let x : 36 ∷ _ ≡ 32 ∷ rest = ap (λ xs. xs ++ h.1) (sym f) ∙ sym h.5 ∙ e in let y : ◌≡◌ {A = ℕ} 36 32 = cc in omega arith
 ]
-no_space_first (Escape b ∷ us) bytes rest h none e = let x : 36 ∷ b ∷ h.1 ≡ 32 ∷ rest = ap (λ xs. xs ++ h.1) (sym h.2) ∙ sym h.5 ∙ e in let y : ◌≡◌ {A = ℕ} 36 32 = cc in omega arith
+no_space_first (Escape b ∷ us) bytes rest h none e = let x : 36 ∷ b ∷ h.1 ≡ 32 ∷ rest = ap (λ xs. xs ++ h.1) (sym h.2) ∙ sym h.5 ∙ e in
+    let y : ◌≡◌ {A = ℕ} 36 32 = cc in omega arith
 no_space_first (Byte b ∷ us) bytes rest h none e =
     let x : b ∷ h.1 ≡ 32 ∷ rest = ap (λ xs. xs ++ h.1) (sym h.2) ∙ sym h.5 ∙ e in
     let same : b ≡ 32 = cc in
@@ -188,7 +199,8 @@ value_spells (Byte b ∷ us) bytes p h =
     ([], h.0, h.1, ([], tt, refl), subst (λ xs. IsValuePiece xs b) (sym h.2) (refl, value_byte b q.0), (λ e. refl), value_spells us h.1 q.1 h.4, h.5)
 
 -- what remains of a text after a run of units, and after `=`
-past_run : (text : List ℕ) (test : LineUnit → Bool) (us : List LineUnit) (index : ℕ) → Remains text index us → Remains text (after_run test index us).place (after_run test index us).units
+past_run : (text : List ℕ) (test : LineUnit → Bool) (us : List LineUnit) (index : ℕ) → Remains text index us →
+    Remains text (after_run test index us).place (after_run test index us).units
 past_run text test [] index r = r
 past_run text test (u ∷ us) index r = elim (cases_Bool (test u)) [
   | inl t ↦ rw t (past_run text test us (index + unit_len u) (past_unit text index u us r))
@@ -204,7 +216,8 @@ rest_read text index us r =
     subst (λ xs. SpellsValue xs (value_of xs)) (sym (rest_is text index us r))
     (subst (SpellsValue r.bytes) (sym (ap (flat_map unit_value) (read_back us r.bytes r.proper r.texts))) (value_spells us r.bytes r.proper r.texts))
 
-value_is : (text : List ℕ) (p : AssignmentIndexes) (a : SeenAssignment) → SpellsValue (drop p.value_start text) (value_of (drop p.value_start text)) → ◌≡◌ {A = Option SeenAssignment} (Some (with_bytes text p)) (Some a) → IsValueAsSpelled a
+value_is : (text : List ℕ) (p : AssignmentIndexes) (a : SeenAssignment) → SpellsValue (drop p.value_start text) (value_of (drop p.value_start text)) →
+    ◌≡◌ {A = Option SeenAssignment} (Some (with_bytes text p)) (Some a) → IsValueAsSpelled a
 value_is text p a h e = let same : with_bytes text p ≡ a = cc in subst IsValueAsSpelled same h
 
 -- of the value of a line without fault that is an assignment
@@ -214,7 +227,8 @@ values_read line r a h =
     let name = after_run is_blank 0 (units text) in
     let past_name = after_run is_name_unit name.place name.units in
     let sign = after_run is_blank past_name.place past_name.units in
-    let at_sign = past_run text is_blank past_name.units past_name.place (past_run text is_name_unit name.units name.place (past_run text is_blank (units text) 0 (remains_all text (faultless_units line r)))) in
+    let at_sign = past_run text is_blank past_name.units past_name.place
+    (past_run text is_name_unit name.units name.place (past_run text is_blank (units text) 0 (remains_all text (faultless_units line r)))) in
     elim (cases_Bool (nat_lt name.place past_name.place && begins_with_equals sign.units)) [
       | inl t ↦
           let equals = (and_parts (nat_lt name.place past_name.place) (begins_with_equals sign.units) t).1 in

@@ -44,7 +44,8 @@ pub in_front-pair : (c d : List ℕ) (ds : List (List ℕ)) → is_current c ≡
 in_front-pair c d ds h k = ap (λ b. cond b (d ∷ ds) (cond (is_named_component c && is_parent d) ds (c ∷ d ∷ ds))) h ∙ ap (λ b. cond b ds (c ∷ d ∷ ds)) k
 
 -- any other component stays in front of the list
-pub in_front-stays : (c d : List ℕ) (ds : List (List ℕ)) → is_current c ≡ false → (is_named_component c && is_parent d) ≡ false → in_front c (d ∷ ds) ≡ c ∷ d ∷ ds
+pub in_front-stays : (c d : List ℕ) (ds : List (List ℕ)) → is_current c ≡ false → (is_named_component c && is_parent d) ≡ false →
+    in_front c (d ∷ ds) ≡ c ∷ d ∷ ds
 in_front-stays c d ds h k = ap (λ b. cond b (d ∷ ds) (cond (is_named_component c && is_parent d) ds (c ∷ d ∷ ds))) h ∙ ap (λ b. cond b ds (c ∷ d ∷ ds)) k
 
 -- and alone
@@ -53,7 +54,8 @@ in_front-alone c h = ap (λ b. cond b [] (c ∷ [])) h
 
 -- no step applies then
 pub in_front-fixed : (c : List ℕ) (r : List (List ℕ)) → IsFixed r → IsFixed (in_front c r)
-in_front-fixed c [] f = elim (either_way (is_current c)) [ inl h ↦ subst IsFixed (sym (in_front-current c [] h)) tt | inr h ↦ subst IsFixed (sym (in_front-alone c h)) h ]
+in_front-fixed c [] f = elim (either_way (is_current c))
+    [ inl h ↦ subst IsFixed (sym (in_front-current c [] h)) tt | inr h ↦ subst IsFixed (sym (in_front-alone c h)) h ]
 in_front-fixed c (d ∷ ds) f =
     elim (either_way (is_current c)) [
       | inl h ↦ subst IsFixed (sym (in_front-current c (d ∷ ds) h)) f
@@ -155,7 +157,8 @@ steps-reduced (suc n) old new h = step-reduced old h.0 h.1 ∙ steps-reduced n h
 
 -- a step after one more component
 pub step-behind : (c : List ℕ) (old new : List (List ℕ)) → ReductionStep old new → ReductionStep (c ∷ old) (c ∷ new)
-step-behind c old new s = record { front = c ∷ s.front; gone = s.gone; back = s.back; deletable = s.deletable; before = ap (λ l. c ∷ l) s.before; after = ap (λ l. c ∷ l) s.after }
+step-behind c old new s =
+    record { front = c ∷ s.front; gone = s.gone; back = s.back; deletable = s.deletable; before = ap (λ l. c ∷ l) s.before; after = ap (λ l. c ∷ l) s.after }
 
 -- the step that deletes an empty component or `.` in front
 step-current : (c : List ℕ) (cs : List (List ℕ)) → is_current c ≡ true → ReductionStep (c ∷ cs) cs
@@ -173,7 +176,14 @@ and-right false b h = cc
 
 -- the step that deletes a name and the `..` after it in front
 step-pair : (c d : List ℕ) (ds : List (List ℕ)) → (is_named_component c && is_parent d) ≡ true → ReductionStep (c ∷ d ∷ ds) ds
-step-pair c d ds h = record { front = []; gone = c ∷ d ∷ []; back = ds; deletable = (is_true _ (and-left (is_named_component c) (is_parent d) h), is_true _ (and-right (is_named_component c) (is_parent d) h)); before = refl; after = refl }
+step-pair c d ds h = record {
+  front = [];
+  gone = c ∷ d ∷ [];
+  back = ds;
+  deletable = (is_true _ (and-left (is_named_component c) (is_parent d) h), is_true _ (and-right (is_named_component c) (is_parent d) h));
+  before = refl;
+  after = refl;
+}
 
 -- no step applies to the rest of a list to which none applies
 reduced-tail : (c : List ℕ) (cs : List (List ℕ)) → IsReduced (c ∷ cs) → IsReduced cs
@@ -204,7 +214,8 @@ fixed-gone : (gone back : List (List ℕ)) → IsDeletable gone → IsFixed (gon
 fixed-gone [] back h f = h
 fixed-gone (c ∷ []) [] h f = let e = true_is (is_current c) h in cc
 fixed-gone (c ∷ []) (d ∷ ds) h f = let e = true_is (is_current c) h in let g = f.0 in cc
-fixed-gone (c ∷ d ∷ []) back h f = let e = true_is (is_named_component c) h.0 in let k = true_is (is_parent d) h.1 in let g = f.1 in let j : (is_named_component c && is_parent d) ≡ true = ap (λ b. b && is_parent d) e ∙ k in cc
+fixed-gone (c ∷ d ∷ []) back h f = let e = true_is (is_named_component c) h.0 in let k = true_is (is_parent d) h.1 in let g = f.1 in
+    let j : (is_named_component c && is_parent d) ≡ true = ap (λ b. b && is_parent d) e ∙ k in cc
 fixed-gone (c ∷ d ∷ e ∷ more) back h f = h
 
 -- to a fixed list no step applies
@@ -288,7 +299,8 @@ pub behind-current : (xs : List (List ℕ)) (c : List ℕ) → is_current c ≡ 
 behind-current xs c h = reduced-context xs (c ∷ []) [] (in_front-current c [] h) ∙ ap reduced (append-nil xs)
 
 -- `..` after a list that ends in a name goes with it
-pub behind-pair : (xs init : List (List ℕ)) (last c : List ℕ) → reduced xs ≡ init ++ last ∷ [] → is_named_component last ≡ true → is_parent c ≡ true → reduced (xs ++ c ∷ []) ≡ init
+pub behind-pair : (xs init : List (List ℕ)) (last c : List ℕ) → reduced xs ≡ init ++ last ∷ [] → is_named_component last ≡ true → is_parent c ≡ true →
+    reduced (xs ++ c ∷ []) ≡ init
 behind-pair xs init last c e h k =
     reduced-ahead xs (c ∷ [])
     ∙ ap (λ l. reduced (l ++ c ∷ [])) e
@@ -304,13 +316,15 @@ behind-pair xs init last c e h k =
     fixed-front (a ∷ b ∷ init) rest f = (f.0, f.1, fixed-front (b ∷ init) rest f.2)
 
 -- no step applies to a list with a component added at its end, if that component stays
-fixed-snoc : (init : List (List ℕ)) (last c : List ℕ) → IsFixed (init ++ last ∷ []) → is_current c ≡ false → (is_named_component last && is_parent c) ≡ false → IsFixed (init ++ last ∷ c ∷ [])
+fixed-snoc : (init : List (List ℕ)) (last c : List ℕ) → IsFixed (init ++ last ∷ []) → is_current c ≡ false → (is_named_component last && is_parent c) ≡ false →
+    IsFixed (init ++ last ∷ c ∷ [])
 fixed-snoc [] last c f h k = (f, k, h)
 fixed-snoc (a ∷ []) last c f h k = (f.0, f.1, (f.2, k, h))
 fixed-snoc (a ∷ b ∷ init) last c f h k = (f.0, f.1, fixed-snoc (b ∷ init) last c f.2 h k)
 
 -- any other component stays after a list
-pub behind-stays : (xs init : List (List ℕ)) (last c : List ℕ) → reduced xs ≡ init ++ last ∷ [] → is_current c ≡ false → (is_named_component last && is_parent c) ≡ false → reduced (xs ++ c ∷ []) ≡ init ++ last ∷ c ∷ []
+pub behind-stays : (xs init : List (List ℕ)) (last c : List ℕ) → reduced xs ≡ init ++ last ∷ [] → is_current c ≡ false →
+    (is_named_component last && is_parent c) ≡ false → reduced (xs ++ c ∷ []) ≡ init ++ last ∷ c ∷ []
 behind-stays xs init last c e h k =
     reduced-ahead xs (c ∷ [])
     ∙ ap (λ l. reduced (l ++ c ∷ [])) e
@@ -325,7 +339,8 @@ behind-none xs c e h = reduced-ahead xs (c ∷ []) ∙ ap (λ l. reduced (l ++ c
 
 -- what holds of a component and of a list holds of the one in front of the other
 pub in_front-each : (P : List ℕ → Type 0) (c : List ℕ) (r : List (List ℕ)) → P c → AllByRecursion P r → AllByRecursion P (in_front c r)
-in_front-each P c [] p a = elim (either_way (is_current c)) [ inl h ↦ subst (AllByRecursion P) (sym (in_front-current c [] h)) tt | inr h ↦ subst (AllByRecursion P) (sym (in_front-alone c h)) (p, tt) ]
+in_front-each P c [] p a = elim (either_way (is_current c))
+    [ inl h ↦ subst (AllByRecursion P) (sym (in_front-current c [] h)) tt | inr h ↦ subst (AllByRecursion P) (sym (in_front-alone c h)) (p, tt) ]
 in_front-each P c (d ∷ ds) p a =
     elim (either_way (is_current c)) [
       | inl h ↦ subst (AllByRecursion P) (sym (in_front-current c (d ∷ ds) h)) a

@@ -35,7 +35,8 @@ record Agrees (bytes : List ℕ) : Type 0 where
   dollar : (n : ℕ) → end_of (scan_from (n + 1) Dollar bytes) ≡ end_from n (units (36 ∷ bytes))
   dollar_return : (n : ℕ) → end_of (scan_from (n + 2) DollarReturn bytes) ≡ end_from n (units (36 ∷ 13 ∷ bytes))
 
-same_ends : {a b c d : ℕ} → a ≡ c → b ≡ d → ◌≡◌ {A = Option LineEnd} (Some (record { text_len = a; line_len = b })) (Some (record { text_len = c; line_len = d }))
+same_ends : {a b c d : ℕ} → a ≡ c → b ≡ d →
+    ◌≡◌ {A = Option LineEnd} (Some (record { text_len = a; line_len = b })) (Some (record { text_len = c; line_len = d }))
 same_ends p q = rw (p, q) refl
 
 -- only an LF ends a line: before another byte these states are alike
@@ -53,7 +54,8 @@ module _ (n b : ℕ) (bytes : List ℕ) (f : (b == 10) ≡ false) where
   ]
 
 -- what begins with no space and no `#` is no comment
-start_like_plain : (n b : ℕ) (bytes : List ℕ) → (b == 32) ≡ false → (b == 35) ≡ false → end_of (scan_from n Start (b ∷ bytes)) ≡ end_of (scan_from n Plain (b ∷ bytes))
+start_like_plain : (n b : ℕ) (bytes : List ℕ) → (b == 32) ≡ false → (b == 35) ≡ false →
+    end_of (scan_from n Start (b ∷ bytes)) ≡ end_of (scan_from n Plain (b ∷ bytes))
 start_like_plain n b bytes s h = elim (cases_Bool (b == 10)) [
   | inl f ↦ rw (s, h, f) refl
   | inr f ↦ elim (cases_Bool (b == 13)) [
@@ -67,7 +69,8 @@ module _ (bytes : List ℕ) (later : Agrees bytes) where
   plain_more b n = elim (cases_Bool (b == 10)) [
     | inl f ↦ subst (λ x. end_of (scan_from n Plain (x ∷ bytes)) ≡ end_from n (units (x ∷ bytes))) (sym (eqb-true b 10 f)) (rw (units_byte 10 bytes refl) refl)
     | inr f ↦ elim (cases_Bool (b == 13)) [
-      | inl r ↦ subst (λ x. end_of (scan_from n Plain (x ∷ bytes)) ≡ end_from n (units (x ∷ bytes))) (sym (eqb-true b 13 r)) (later.return n ∙ ap (end_from n) (sym (units_byte 13 bytes refl)))
+      | inl r ↦ subst (λ x. end_of (scan_from n Plain (x ∷ bytes)) ≡ end_from n (units (x ∷ bytes))) (sym (eqb-true b 13 r))
+          (later.return n ∙ ap (end_from n) (sym (units_byte 13 bytes refl)))
       | inr r ↦ elim (cases_Bool (b == 36)) [
         | inl d ↦ subst (λ x. end_of (scan_from n Plain (x ∷ bytes)) ≡ end_from n (units (x ∷ bytes))) (sym (eqb-true b 36 d)) (later.dollar n)
         | inr d ↦ rw (units_byte b bytes d, f, r, d) (later.plain (n + 1))
@@ -138,7 +141,8 @@ module _ (bytes : List ℕ) (later : AgreesInComment bytes) where
     same_scan : (b == 10) ≡ false → (b == 13) ≡ true → end_of (scan_from (n + 1) CommentReturn (b ∷ bytes)) ≡ end_of (scan_from (n + 1) Comment (b ∷ bytes))
     same_scan f r = rw (f, r) refl
 
-    same_scan_other : (b == 10) ≡ false → (b == 13) ≡ false → end_of (scan_from (n + 1) CommentReturn (b ∷ bytes)) ≡ end_of (scan_from (n + 1) Comment (b ∷ bytes))
+    same_scan_other : (b == 10) ≡ false → (b == 13) ≡ false →
+        end_of (scan_from (n + 1) CommentReturn (b ∷ bytes)) ≡ end_of (scan_from (n + 1) Comment (b ∷ bytes))
     same_scan_other f r = rw (f, r) refl
 
 agrees_in_comment : (bytes : List ℕ) → AgreesInComment bytes
@@ -152,9 +156,11 @@ agrees_in_comment (b ∷ bytes) = record {
 pub start_agrees : (bytes : List ℕ) (n : ℕ) → end_of (scan_from n Start bytes) ≡ end_from n (line_units bytes)
 start_agrees [] n = refl
 start_agrees (b ∷ bytes) n = elim (cases_Bool (b == 32)) [
-  | inl s ↦ subst (λ x. end_of (scan_from n Start (x ∷ bytes)) ≡ end_from n (line_units (x ∷ bytes))) (sym (eqb-true b 32 s)) (start_agrees bytes (n + 1) ∙ sym at_space)
+  | inl s ↦ subst (λ x. end_of (scan_from n Start (x ∷ bytes)) ≡ end_from n (line_units (x ∷ bytes))) (sym (eqb-true b 32 s))
+      (start_agrees bytes (n + 1) ∙ sym at_space)
   | inr s ↦ elim (cases_Bool (b == 35)) [
-    | inl h ↦ subst (λ x. end_of (scan_from n Start (x ∷ bytes)) ≡ end_from n (line_units (x ∷ bytes))) (sym (eqb-true b 35 h)) ((agrees_in_comment bytes).comment (n + 1))
+    | inl h ↦ subst (λ x. end_of (scan_from n Start (x ∷ bytes)) ≡ end_from n (line_units (x ∷ bytes))) (sym (eqb-true b 35 h))
+        ((agrees_in_comment bytes).comment (n + 1))
     | inr h ↦ start_like_plain n b bytes s h ∙ (agrees (b ∷ bytes)).plain n ∙ sym (rw (s, h) refl)
   ]
 ] where
@@ -185,7 +191,8 @@ ends_at index Dollar = record { text = index; text_fits = omega arith; is = refl
 ends_at index DollarReturn = record { text = index; text_fits = omega arith; is = refl }
 
 -- an open scan continues
-open_more : (index : ℕ) (s s' : ScanState) (k : ScanState → Scanned) (o : Option ScanState) → goes_on_from (scan_end index s) k o ≡ Open s' → (next : ScanState) × (o ≡ Some next) × (k next ≡ Open s')
+open_more : (index : ℕ) (s s' : ScanState) (k : ScanState → Scanned) (o : Option ScanState) → goes_on_from (scan_end index s) k o ≡ Open s' →
+    (next : ScanState) × (o ≡ Some next) × (k next ≡ Open s')
 open_more index s s' k None h = let e : Open s' ≡ End (ends_at index s).text (index + 1) = sym h ∙ (ends_at index s).is in cc
 open_more index s s' k (Some next) h = (next, refl, h)
 
@@ -194,7 +201,8 @@ scan_open_append [] ys n s s' h = let e : s ≡ s' = cc in rw (e, add-zero) refl
 scan_open_append (b ∷ xs) ys n s s' h =
     let step = open_more n s s' (λ next. scan_from (n + 1) next xs) (step_of s b) h in
     let later = scan_open_append xs ys (n + 1) step.0 s' step.2 in
-    ap (goes_on_from (scan_end n s) (λ next. scan_from (n + 1) next (xs ++ ys))) step.1 ∙ later ∙ ap (λ k. scan_from k s' ys) {x = n + 1 + length xs} {y = n + suc (length xs)} (omega arith)
+    ap (goes_on_from (scan_end n s) (λ next. scan_from (n + 1) next (xs ++ ys))) step.1 ∙ later ∙
+    ap (λ k. scan_from k s' ys) {x = n + 1 + length xs} {y = n + suc (length xs)} (omega arith)
 
 cases_step : (o : Option ScanState) → (o ≡ None) ⊎ ((next : ScanState) × (o ≡ Some next))
 cases_step None = inl refl
@@ -263,7 +271,8 @@ module _ (B P : List ℕ) (s : ScanState) (reach : ℕ) (room : length B < line_
   limited =
       ap (λ n. take n (B ++ P)) {x = line_limit} {y = length B + (line_limit - length B)} (omega arith)
       ∙ take-append-add B P (line_limit - length B)
-      ∙ ap (λ ys. B ++ ys) (sym (take_min (line_limit - length B) P) ∙ ap (λ n. take n P) {x = min (line_limit - length B) (length P)} {y = reach} (omega arith))
+      ∙ ap (λ ys. B ++ ys) (sym (take_min (line_limit - length B) P) ∙
+      ap (λ n. take n P) {x = min (line_limit - length B) (length P)} {y = reach} (omega arith))
 
   at_limit : line_end (take line_limit (B ++ P)) ≡ end_of (scan_from (length B) s (take reach P))
   at_limit = ap line_end limited ∙ line_end_scanned (B ++ take reach P)
@@ -293,7 +302,8 @@ module _ (B P : List ℕ) (s : ScanState) (reach : ℕ) (room : length B < line_
       part_fits,
       λ _. omega (arith, fits.past),
       omega (arith, taken_fits, within_limit, past_held),
-      scan_open_append B (take (w - length B) P) 0 Start s held ∙ ap (λ k. scan_from k s (take (w - length B) P)) {x = 0 + length B} {y = length B} (omega arith)
+      scan_open_append B (take (w - length B) P) 0 Start s held ∙
+          ap (λ k. scan_from k s (take (w - length B) P)) {x = 0 + length B} {y = length B} (omega arith)
           ∙ ap (scan_from (length B) s) (sym shorter) ∙ whole_scan
           ∙ ap (λ k. End t k) {x = w} {y = length (B ++ take (w - length B) P)} (omega (arith, past_held, joined_len (w - length B) B P part_fits)),
       at_limit ∙ ap end_of ended ∙ ap (λ k. Some (record { text_len = t; line_len = k })) {x = w} {y = length B + (w - length B)} (omega (arith, past_held)),
@@ -328,11 +338,14 @@ pub feeds_on : (number : ℕ) (bytes piece new : List ℕ) (taken : ℕ) (phase 
 feeds_on number bytes piece new taken (Waiting text_len) takes is =
     rw takes.4 (both {a = length bytes + taken - length bytes} {b = taken} (omega arith) (take-append-add bytes piece taken ∙ sym is)) where
       both : {a b : ℕ} {x y : List ℕ} → a ≡ b → x ≡ y
-          → ◌≡◌ {A = Result ℕ CutFault × CutterState} (Ok a, record { number = number; bytes = x; waits = true; failed = false }) (Ok b, record { number = number; bytes = y; waits = true; failed = false })
+          → ◌≡◌ {A = Result ℕ CutFault × CutterState} (Ok a, record { number = number; bytes = x; waits = true; failed = false })
+          (Ok b, record { number = number; bytes = y; waits = true; failed = false })
       both p q = rw (p, q) refl
 feeds_on number bytes piece new taken (Gathering next) takes is =
     let all : new ≡ bytes ++ piece = is ∙ ap (λ n. bytes ++ take n piece) takes.4.0 ∙ ap (λ ys. bytes ++ ys) (take-length piece) in
-    let room : nat_le line_limit (length (bytes ++ piece)) ≡ false = rw length-append (let short : length (bytes ++ take taken piece) < line_limit = takes.3.0 in let len = joined_len taken bytes piece takes.0 in grind (arith, nat_tests)) in
+    let room : nat_le line_limit (length (bytes ++ piece)) ≡ false =
+    rw length-append (let short : length (bytes ++ take taken piece) < line_limit = takes.3.0 in let len = joined_len taken bytes piece takes.0 in
+    grind (arith, nat_tests)) in
     rw (takes.4.1, room, all, takes.4.0) refl
 feeds_on number bytes piece new taken Lent takes is = absurd takes.4
 feeds_on number bytes piece new taken Failed takes is = absurd takes.4

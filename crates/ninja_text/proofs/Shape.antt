@@ -101,7 +101,8 @@ meaning text path h =
     let f = facts None text path h in
     let w = whole-list None text path f in (
       sym (ap is_rooted f.made) ∙ rooted-text (is_rooted text) (reduced (components text)) w,
-      subst (ReducesTo (components text)) (sym (reduced-text (is_rooted text) (reduced (components text)) w) ∙ ap (λ t. reduced (components t)) f.made) (reaches (components text)),
+      subst (ReducesTo (components text)) (sym (reduced-text (is_rooted text) (reduced (components text)) w) ∙ ap (λ t. reduced (components t)) f.made)
+          (reaches (components text)),
     )
 
 -- no component is left of none
@@ -110,7 +111,10 @@ is-nothing l e = ap is_empty (sym e)
 
 -- a text has no path, because no component is left, if and only if its components reduce to none
 pub empty : (text : List ℕ) → (path_of text ≡ Err Empty → ReducesTo (components text) []) × (ReducesTo (components text) [] → path_of text ≡ Err Empty)
-empty text = (λ h. go h (reduced (components text)) refl, λ r. is-empty None text (is-nothing (reduced (components text)) (reaches-only (components text) [] r)))
+empty text = (
+  λ h. go h (reduced (components text)) refl,
+  λ r. is-empty None text (is-nothing (reduced (components text)) (reaches-only (components text) [] r)),
+)
   where
     go : path_of text ≡ Err Empty → (l : List (List ℕ)) → reduced (components text) ≡ l → ReducesTo (components text) []
     go h [] e = subst (ReducesTo (components text)) e (reaches (components text))
@@ -123,8 +127,10 @@ split-text : (x t : List ℕ) → IsUtf8 (x ++ 47 ∷ t) → IsUtf8 x × IsUtf8 
 split-text x t u =
     let total : length (x ++ 47 ∷ t) ≡ length x + (1 + length t) = length-append x (47 ∷ t) ∙ omega arith in
     let at : get_or (x ++ 47 ∷ t) (length x) 0 ≡ 47 = ap (λ n. get_or (x ++ 47 ∷ t) n 0) (omega arith) ∙ get_or-append-add x (47 ∷ t) 0 0 in (
-      subst IsUtf8 (take-append_seam x (47 ∷ t)) (IsUtf8-take (x ++ 47 ∷ t) (length x) u (IsCharBoundary-before_ascii (x ++ 47 ∷ t) (length x) (omega arith) (omega arith))),
-      subst IsUtf8 (drop-append-add x (47 ∷ t) 1) (IsUtf8-drop (x ++ 47 ∷ t) (length x + 1) u (IsCharBoundary-after_ascii (x ++ 47 ∷ t) (length x) u (omega arith) (omega arith))),
+      subst IsUtf8 (take-append_seam x (47 ∷ t))
+          (IsUtf8-take (x ++ 47 ∷ t) (length x) u (IsCharBoundary-before_ascii (x ++ 47 ∷ t) (length x) (omega arith) (omega arith))),
+      subst IsUtf8 (drop-append-add x (47 ∷ t) 1)
+          (IsUtf8-drop (x ++ 47 ∷ t) (length x + 1) u (IsCharBoundary-after_ascii (x ++ 47 ∷ t) (length x) u (omega arith) (omega arith))),
     )
 
 -- so are the components of a text
@@ -180,6 +186,7 @@ pub joined-text : (w p t : List ℕ) → IsUtf8 w → IsUtf8 p → t ≡ w ++ 47
 joined-text w p t u v e = subst IsUtf8 (sym e) (IsUtf8-append w (47 ∷ p) u (slash-text p v))
 
 -- a path that is returned for a text in UTF-8 is one in UTF-8
-pub result-text : (build : Option (List ℕ)) (text : List ℕ) (result : Result (List ℕ) (Failure PathFault)) → Gives (λ path. path) result (canonical_of build text) → IsUtf8 text → IfOk result IsUtf8
+pub result-text : (build : Option (List ℕ)) (text : List ℕ) (result : Result (List ℕ) (Failure PathFault)) →
+    Gives (λ path. path) result (canonical_of build text) → IsUtf8 text → IfOk result IsUtf8
 result-text build text (Ok path) h u = canonical-text build text path h u
 result-text build text (Err e) h u = tt

@@ -71,7 +71,8 @@ piece_len (Continuation len) h = cc
 piece_len (Escape b) h = omega arith
 piece_len (Byte b) h = omega arith
 
-rise_with : (index limit : ℕ) (u : LineUnit) (us : List LineUnit) (rest : List TokenAt) → Rise (index + unit_len u) limit rest → Rise index limit (with_unit index u us rest)
+rise_with : (index limit : ℕ) (u : LineUnit) (us : List LineUnit) (rest : List TokenAt) → Rise (index + unit_len u) limit rest →
+    Rise index limit (with_unit index u us rest)
 rise_with index limit u us rest h = elim (cases_Bool (is_piece u)) [
   | inl p ↦ elim (cases_Bool (goes_on us)) [
     | inl g ↦ rw (p, g) (rise_first index (index + unit_len u) limit rest (omega (arith, piece_len u p)) h)
@@ -90,7 +91,8 @@ rise_from : (us : List LineUnit) (index limit : ℕ) → index + total us ≤ li
 rise_from [] index limit h = omega arith
 rise_from (u ∷ []) index limit h = rise_with index limit u [] [] (omega arith)
 rise_from (u ∷ v ∷ us) index limit h = elim (cases_Bool (is_byte 124 u)) [
-  | inr n ↦ subst (Rise index limit) (sym (tokens_with index u (v ∷ us) n)) (rise_with index limit u (v ∷ us) _ (rise_from (v ∷ us) (index + unit_len u) limit (omega arith)))
+  | inr n ↦ subst (Rise index limit) (sym (tokens_with index u (v ∷ us) n))
+      (rise_with index limit u (v ∷ us) _ (rise_from (v ∷ us) (index + unit_len u) limit (omega arith)))
   | inl b ↦ elim (cases_Bool (is_byte 124 v)) [
     | inl d ↦ rw (b, d) (omega arith, omega arith, rise_from us (index + 2) limit (omega (arith, byte_len 124 u b, byte_len 124 v d)))
     | inr d ↦ elim (cases_Bool (is_byte 64 v)) [
@@ -120,12 +122,14 @@ pub tokens_rise : (text : List ℕ) → RiseFrom 0 (seen_tokens text)
 tokens_rise text = rising text 0 (length text) (tokens text) (rise_all text)
 
 -- the parts of an assignment, by their indexes
-pub lies_in : (text : List ℕ) (a : AssignmentIndexes) → a.name_start < a.name_end → a.name_end ≤ a.value_start → a.name_end ≤ length text → LiesIn text (with_bytes text a)
+pub lies_in : (text : List ℕ) (a : AssignmentIndexes) → a.name_start < a.name_end → a.name_end ≤ a.value_start → a.name_end ≤ length text →
+    LiesIn text (with_bytes text a)
 lies_in text a some past within = record {
   some = rw (length-take (a.name_end - a.name_start) (drop a.name_start text), length-drop a.name_start text) (omega arith);
   between = slice_range text a.name_end a.value_start;
   whole = sym (take-append-drop a.name_start text) ∙ ap (λ xs. take a.name_start text ++ xs)
-      (drop_split text a.name_start a.name_end (omega arith) ∙ ap (λ xs. slice_range text a.name_start a.name_end ++ xs) (drop_split text a.name_end a.value_start past));
+      (drop_split text a.name_start a.name_end (omega arith) ∙
+      ap (λ xs. slice_range text a.name_start a.name_end ++ xs) (drop_split text a.name_end a.value_start past));
 }
 
 -- ---- nothing of an indented text is at its first byte
@@ -147,7 +151,8 @@ widened_starts : (index : ℕ) (rest : List TokenAt) (t : TokenAt) (ts : List To
 widened_starts index [] t ts h = none_first h
 widened_starts index (x ∷ xs) t ts h = omega (arith, first_start h)
 
-with_unit_past : (index : ℕ) (u : LineUnit) (us : List LineUnit) (rest : List TokenAt) (t : TokenAt) (ts : List TokenAt) → (rest ≡ t ∷ ts → index ≤ t.start) → with_unit index u us rest ≡ t ∷ ts → index ≤ t.start
+with_unit_past : (index : ℕ) (u : LineUnit) (us : List LineUnit) (rest : List TokenAt) (t : TokenAt) (ts : List TokenAt) → (rest ≡ t ∷ ts → index ≤ t.start) →
+    with_unit index u us rest ≡ t ∷ ts → index ≤ t.start
 with_unit_past index u us rest t ts later h = elim (cases_Bool (is_piece u)) [
   | inl p ↦ elim (cases_Bool (goes_on us)) [
     | inl g ↦ widened_starts index rest t ts (rw (p, g) at h)
@@ -166,12 +171,14 @@ tokens_past : (us : List LineUnit) (index : ℕ) (t : TokenAt) (ts : List TokenA
 tokens_past [] index t ts h = none_first h
 tokens_past (u ∷ []) index t ts h = with_unit_past index u [] [] t ts none_first h
 tokens_past (u ∷ v ∷ us) index t ts h = elim (cases_Bool (is_byte 124 u)) [
-  | inr n ↦ with_unit_past index u (v ∷ us) (tokens_from (index + unit_len u) (v ∷ us)) t ts (λ e. omega (arith, tokens_past (v ∷ us) (index + unit_len u) t ts e)) (sym (tokens_with index u (v ∷ us) n) ∙ h)
+  | inr n ↦ with_unit_past index u (v ∷ us) (tokens_from (index + unit_len u) (v ∷ us)) t ts
+      (λ e. omega (arith, tokens_past (v ∷ us) (index + unit_len u) t ts e)) (sym (tokens_with index u (v ∷ us) n) ∙ h)
   | inl b ↦ elim (cases_Bool (is_byte 124 v)) [
     | inl d ↦ omega (arith, first_start (rw (b, d) at h))
     | inr d ↦ elim (cases_Bool (is_byte 64 v)) [
       | inl a ↦ omega (arith, first_start (rw (b, d, a) at h))
-      | inr a ↦ let h' : tokens_from index (Byte 124 ∷ v ∷ us) ≡ t ∷ ts = subst (λ w. tokens_from index (w ∷ v ∷ us) ≡ t ∷ ts) (byte_is 124 u b) h in omega (arith, first_start (rw (d, a) at h'))
+      | inr a ↦ let h' : tokens_from index (Byte 124 ∷ v ∷ us) ≡ t ∷ ts = subst (λ w. tokens_from index (w ∷ v ∷ us) ≡ t ∷ ts) (byte_is 124 u b) h in
+          omega (arith, first_start (rw (d, a) at h'))
     ]
   ]
 ]
@@ -179,7 +186,8 @@ tokens_past (u ∷ v ∷ us) index t ts h = elim (cases_Bool (is_byte 124 u)) [
 -- a text that begins with a space has no token at its first byte
 pub token_indented : (bytes : List ℕ) (t : TokenAt) (ts : List TokenAt) → tokens (32 ∷ bytes) ≡ t ∷ ts → 0 < t.start
 token_indented bytes t ts h =
-    let later : tokens_from (0 + 1) (units bytes) ≡ t ∷ ts = sym (ap (tokens_from 0) (units_byte 32 bytes refl) ∙ tokens_blank 0 (Byte 32) (units bytes) refl) ∙ h in
+    let later : tokens_from (0 + 1) (units bytes) ≡ t ∷ ts = sym (ap (tokens_from 0) (units_byte 32 bytes refl) ∙ tokens_blank 0 (Byte 32) (units bytes) refl) ∙
+    h in
     omega (arith, tokens_past (units bytes) (0 + 1) t ts later)
 
 -- what an assignment has
@@ -188,7 +196,8 @@ pub record Parts (text : List ℕ) (a : SeenAssignment) : Type 0 where
   pub end : ℕ
   pub name : a.name ≡ slice_range text a.name_start end
 
-parts_from : (text : List ℕ) (p : AssignmentIndexes) (a : SeenAssignment) → p.name_start ≡ (after_run is_blank 0 (units text)).place → ◌≡◌ {A = Option SeenAssignment} (Some (with_bytes text p)) (Some a) → Parts text a
+parts_from : (text : List ℕ) (p : AssignmentIndexes) (a : SeenAssignment) → p.name_start ≡ (after_run is_blank 0 (units text)).place →
+    ◌≡◌ {A = Option SeenAssignment} (Some (with_bytes text p)) (Some a) → Parts text a
 parts_from text p a start h =
     let same : with_bytes text p ≡ a = cc in
     subst (Parts text) same (record { start = start; end = p.name_end; name = refl })
@@ -206,7 +215,8 @@ assignment_parts text a h =
 pub name_indented : (bytes : List ℕ) (a : SeenAssignment) → assignment_of (32 ∷ bytes) ≡ Some a → 0 < a.name_start
 name_indented bytes a h =
     let p = assignment_parts (32 ∷ bytes) a h in
-    let at : (after_run is_blank 0 (units (32 ∷ bytes))).place ≡ (after_run is_blank (0 + 1) (units bytes)).place = ap (λ us. (after_run is_blank 0 us).place) (units_byte 32 bytes refl) in
+    let at : (after_run is_blank 0 (units (32 ∷ bytes))).place ≡ (after_run is_blank (0 + 1) (units bytes)).place =
+    ap (λ us. (after_run is_blank 0 us).place) (units_byte 32 bytes refl) in
     omega (arith, p.start, at, run_past is_blank (0 + 1) (units bytes))
 
 -- the first byte of a part that begins at the front

@@ -26,7 +26,11 @@ module _ (us : List LineUnit) (sound : list_all is_sound us ≡ true) (said : is
     from_zero n = ap (λ k. end_from k (Byte 10 ∷ [])) {x = 0 + n} {y = n} (omega arith)
 
   pub is_line : IsLine (line_of_units us)
-  is_line = (length (text_of_units us), ends ∙ ap (λ n. Some (record { text_len = length (text_of_units us); line_len = n })) (sym (length-append (text_of_units us) (10 ∷ []))))
+  is_line = (
+    length (text_of_units us),
+    ends ∙
+        ap (λ n. Some (record { text_len = length (text_of_units us); line_len = n })) (sym (length-append (text_of_units us) (10 ∷ []))),
+  )
 
   pub text_is : text_of_line (line_of_units us) ≡ text_of_units us
   text_is = ap (text_before (line_of_units us)) ends ∙ take_at (text_of_units us) (10 ∷ []) (length (text_of_units us)) refl

@@ -51,7 +51,8 @@ module _ {X : Type 0} (view : TokenKind → List ℕ → X) where
   pub written_none : Written view false [] []
   written_none = record { units = []; text_is = refl; sound = refl; begins = refl; yields = no_units view }
 
-  pub written_word : (word text : List ℕ) (xs : List X) → is_word word ≡ true → Written view false text xs → Written view true (word ++ text) (view Word word ∷ xs)
+  pub written_word : (word text : List ℕ) (xs : List X) → is_word word ≡ true → Written view false text xs →
+      Written view true (word ++ text) (view Word word ∷ xs)
   written_word [] text xs h w = cc
   written_word (b ∷ bytes) text xs h w =
       let p = and_parts (list_all is_piece (map Byte (b ∷ bytes))) (list_all is_sound (map Byte (b ∷ bytes))) h in
@@ -64,7 +65,8 @@ module _ {X : Type 0} (view : TokenKind → List ℕ → X) where
             (word_yields view (Byte b) (map Byte bytes) w.units xs p.0 w.begins w.yields);
       }
 
-  pub written_path : (path text : List ℕ) (xs : List X) → IsWritable path → Written view false text xs → Written view true (escaped path ++ text) (view Word (escaped path) ∷ xs)
+  pub written_path : (path text : List ℕ) (xs : List X) → IsWritable path → Written view false text xs →
+      Written view true (escaped path ++ text) (view Word (escaped path) ∷ xs)
   written_path path text xs writable w = record {
     units = path_units path ++ w.units;
     text_is = text_both (path_units path) w.units (escaped path) text (path_text path) w.text_is;
@@ -77,13 +79,16 @@ module _ {X : Type 0} (view : TokenKind → List ℕ → X) where
     some (b ∷ path) writable e = cc
 
   pub written_space : {at_word : Bool} (text : List ℕ) (xs : List X) → Written view at_word text xs → Written view false (32 ∷ text) xs
-  written_space text xs w = record { units = Byte 32 ∷ w.units; text_is = ap (λ t. 32 ∷ t) w.text_is; sound = w.sound; begins = refl; yields = space_yields view w.units xs w.yields }
+  written_space text xs w =
+      record { units = Byte 32 ∷ w.units; text_is = ap (λ t. 32 ∷ t) w.text_is; sound = w.sound; begins = refl; yields = space_yields view w.units xs w.yields }
 
   pub written_colon : {at_word : Bool} (text : List ℕ) (xs : List X) → Written view at_word text xs → Written view false (58 ∷ text) (view Colon (58 ∷ []) ∷ xs)
-  written_colon text xs w = record { units = Byte 58 ∷ w.units; text_is = ap (λ t. 58 ∷ t) w.text_is; sound = w.sound; begins = refl; yields = colon_yields view w.units xs w.yields }
+  written_colon text xs w =
+      record { units = Byte 58 ∷ w.units; text_is = ap (λ t. 58 ∷ t) w.text_is; sound = w.sound; begins = refl; yields = colon_yields view w.units xs w.yields }
 
   -- a `|` and a space after it
-  pub written_bar : {at_word : Bool} (text : List ℕ) (xs : List X) → Written view at_word text xs → Written view false (124 ∷ 32 ∷ text) (view Bar (124 ∷ []) ∷ xs)
+  pub written_bar : {at_word : Bool} (text : List ℕ) (xs : List X) → Written view at_word text xs →
+      Written view false (124 ∷ 32 ∷ text) (view Bar (124 ∷ []) ∷ xs)
   written_bar text xs w = record {
     units = Byte 124 ∷ Byte 32 ∷ w.units;
     text_is = ap (λ t. 124 ∷ 32 ∷ t) w.text_is;
@@ -107,7 +112,8 @@ module _ {X : Type 0} (view : TokenKind → List ℕ → X) where
     written_line said = subst (λ t. IsLine (t ++ 10 ∷ [])) w.text_is (is_line w.units w.sound (ap (λ t. is_comment (t ++ 10 ∷ [])) w.text_is ∙ said))
 
     pub written_text : is_comment (text ++ 10 ∷ []) ≡ false → text_of_line (text ++ 10 ∷ []) ≡ text
-    written_text said = ap (λ t. text_of_line (t ++ 10 ∷ [])) (sym w.text_is) ∙ text_is w.units w.sound (ap (λ t. is_comment (t ++ 10 ∷ [])) w.text_is ∙ said) ∙ w.text_is
+    written_text said = ap (λ t. text_of_line (t ++ 10 ∷ [])) (sym w.text_is) ∙ text_is w.units w.sound (ap (λ t. is_comment (t ++ 10 ∷ [])) w.text_is ∙ said) ∙
+        w.text_is
 
 -- a first token, and its index
 pub record First (index : ℕ) (ts : List TokenAt) : Type 0 where
@@ -123,9 +129,20 @@ word_first (u ∷ us) n h g =
     let p = and_parts (is_sound u) (list_all is_sound us) h in
     let piece : is_piece u ≡ true = piece_on u us p.0 g in
     elim (cases_Bool (goes_on us)) [
-      | inr f ↦ record { token = record { kind = Word; start = n; end = n + unit_len u }; rest = tokens_from (n + unit_len u) us; are = piece_alone n u us piece f; at = refl }
+      | inr f ↦ record {
+        token = record { kind = Word; start = n; end = n + unit_len u };
+        rest = tokens_from (n + unit_len u) us;
+        are = piece_alone n u us piece f;
+        at = refl;
+      }
       | inl t ↦ let later = word_first us (n + unit_len u) p.1 t in
-          record { token = record later.token { start = n }; rest = later.rest; are = piece_before n u us piece t ∙ ap (with_first_start n) later.are; at = refl }
+          record {
+            token = record later.token { start = n };
+            rest = later.rest;
+            are = piece_before n u us piece t ∙
+                ap (with_first_start n) later.are;
+            at = refl;
+          }
     ] where
       piece_on : (u : LineUnit) (us : List LineUnit) → is_sound u ≡ true → goes_on (u ∷ us) ≡ true → is_piece u ≡ true
       piece_on (Continuation len) us s g = cc
@@ -133,4 +150,5 @@ word_first (u ∷ us) n h g =
       piece_on (Byte b) us s g = g
 
 pub written_first : {X : Type 0} (view : TokenKind → List ℕ → X) (text : List ℕ) (xs : List X) → Written view true text xs → First 0 (tokens text)
-written_first view text xs w = subst (First 0) (ap (tokens_from 0) (sym (units_are w.units w.sound)) ∙ ap tokens w.text_is) (word_first w.units 0 w.sound w.begins)
+written_first view text xs w =
+    subst (First 0) (ap (tokens_from 0) (sym (units_are w.units w.sound)) ∙ ap tokens w.text_is) (word_first w.units 0 w.sound w.begins)

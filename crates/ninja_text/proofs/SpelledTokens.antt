@@ -48,7 +48,8 @@ pub word_token : (u : LineUnit) (us vs : List LineUnit) (n : ℕ) → list_all i
 word_token u [] vs n h g =
     let p : is_piece u ≡ true = (and_parts (is_piece u) true h).0 in
     piece_alone n u vs p g
-    ∙ ap (λ e. word_and n e vs) {x = n + unit_len u} {y = n + length (unit_text u ++ [])} (ap (λ k. n + k) (piece_len u p ∙ ap length (sym (append-nil (unit_text u)))))
+    ∙ ap (λ e. word_and n e vs) {x = n + unit_len u} {y = n + length (unit_text u ++ [])}
+    (ap (λ k. n + k) (piece_len u p ∙ ap length (sym (append-nil (unit_text u)))))
 word_token u (w ∷ us) vs n h g =
     let p = and_parts (is_piece u) (list_all is_piece (w ∷ us)) h in
     let q = and_parts (is_piece w) (list_all is_piece us) p.1 in
@@ -57,12 +58,15 @@ word_token u (w ∷ us) vs n h g =
     (omega (arith, piece_len u p.0, length-append (unit_text u) (text_of_units (w ∷ us))))
 
 -- the bytes of units between others
-bytes_between : (front us vs : List LineUnit) → slice_range (text_of_units (front ++ (us ++ vs))) (length (text_of_units front)) (length (text_of_units front) + length (text_of_units us)) ≡ text_of_units us
+bytes_between : (front us vs : List LineUnit) →
+    slice_range (text_of_units (front ++ (us ++ vs))) (length (text_of_units front)) (length (text_of_units front) + length (text_of_units us)) ≡
+    text_of_units us
 bytes_between front us vs =
     let a = text_of_units front in
     let b = text_of_units us in
     let c = text_of_units vs in
-    let whole : text_of_units (front ++ (us ++ vs)) ≡ a ++ (b ++ c) = flat_map-append unit_text front (us ++ vs) ∙ ap (λ x. a ++ x) (flat_map-append unit_text us vs) in
+    let whole : text_of_units (front ++ (us ++ vs)) ≡ a ++ (b ++ c) = flat_map-append unit_text front (us ++ vs) ∙
+    ap (λ x. a ++ x) (flat_map-append unit_text us vs) in
     ap (λ t. slice_range t (length a) (length a + length b)) whole
     ∙ ap (take (length a + length b - length a)) (drop_at a (b ++ c) (length a) refl)
     ∙ take_at b c (length a + length b - length a) (omega arith)
@@ -81,7 +85,8 @@ module _ {X : Type 0} (view : TokenKind → List ℕ → X) where
       → map (viewed (text_of_units (front ++ (us ++ vs)))) (tokens_from (length (text_of_units front) + length (text_of_units us)) vs) ≡ xs
   past front us vs xs later =
       ap (λ w. map (viewed (text_of_units w)) (tokens_from (length (text_of_units front) + length (text_of_units us)) vs)) (sym (append_assoc front us vs))
-      ∙ ap (λ n. map (viewed (text_of_units ((front ++ us) ++ vs))) (tokens_from n vs)) (sym (ap length (flat_map-append unit_text front us) ∙ length-append (text_of_units front) (text_of_units us)))
+      ∙ ap (λ n. map (viewed (text_of_units ((front ++ us) ++ vs))) (tokens_from n vs))
+      (sym (ap length (flat_map-append unit_text front us) ∙ length-append (text_of_units front) (text_of_units us)))
       ∙ later (front ++ us)
 
   -- each unit, in front of units whose tokens are known
@@ -98,7 +103,8 @@ module _ {X : Type 0} (view : TokenKind → List ℕ → X) where
 
   pub space_yields : (vs : List LineUnit) (xs : List X) → Yields vs xs → Yields (Byte 32 ∷ vs) xs
   space_yields vs xs later front =
-      ap (map (viewed (text_of_units (front ++ (Byte 32 ∷ vs))))) (tokens_blank (length (text_of_units front)) (Byte 32) vs refl) ∙ past front (Byte 32 ∷ []) vs xs later
+      ap (map (viewed (text_of_units (front ++ (Byte 32 ∷ vs))))) (tokens_blank (length (text_of_units front)) (Byte 32) vs refl) ∙
+      past front (Byte 32 ∷ []) vs xs later
 
   pub colon_yields : (vs : List LineUnit) (xs : List X) → Yields vs xs → Yields (Byte 58 ∷ vs) (view Colon (58 ∷ []) ∷ xs)
   colon_yields vs xs later front =

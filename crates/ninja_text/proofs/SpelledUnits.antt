@@ -57,7 +57,8 @@ escaped_only P dollar space colon b h = elim (or_cases (b == 36) _ h) [
 -- a unit at the front is read back
 unit_first : (u : LineUnit) (x : List ℕ) → is_sound u ≡ true → units (unit_text u ++ x) ≡ u ∷ units x
 unit_first (Continuation len) x h = cc
-unit_first (Escape b) x h = escaped_only (λ b. units (36 ∷ b ∷ x) ≡ Escape b ∷ units x) (units_pair 36 x refl refl) (units_pair 32 x refl refl) (units_pair 58 x refl refl) b h
+unit_first (Escape b) x h =
+    escaped_only (λ b. units (36 ∷ b ∷ x) ≡ Escape b ∷ units x) (units_pair 36 x refl refl) (units_pair 32 x refl refl) (units_pair 58 x refl refl) b h
 unit_first (Byte b) x h = units_byte b x (plain b h).no_dollar
 
 -- they are read back, whatever follows

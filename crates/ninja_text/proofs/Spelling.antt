@@ -25,7 +25,8 @@ continuation_read : (part : List ℕ) (c : IsContinuation part) (text : List ℕ
 continuation_read part c text none =
     let spaces = replicate c.0 32 ++ text in
     elim c.1 [
-      | inl e ↦ ap (λ part. value_of (part ++ text)) e ∙ ap (flat_map unit_value) (units_feed spaces ∙ continued_spaces 2 spaces) ∙ ap value_of (past_spaces c.0 text none)
+      | inl e ↦ ap (λ part. value_of (part ++ text)) e ∙ ap (flat_map unit_value) (units_feed spaces ∙ continued_spaces 2 spaces) ∙
+          ap value_of (past_spaces c.0 text none)
       | inr e ↦ ap (λ part. value_of (part ++ text)) e ∙ ap (flat_map unit_value) (continued_spaces 3 spaces) ∙ ap value_of (past_spaces c.0 text none)
     ]
 
@@ -37,7 +38,8 @@ gap_front (part ∷ parts) text a none = elim a.0.1 [
   | inr e ↦ ap (λ part. spaces_at ((part ++ concat parts) ++ text)) e
 ]
 
-parts_read : (parts : List (List ℕ)) (text : List ℕ) → AllByRecursion IsContinuation parts → spaces_at text ≡ 0 → value_of (concat parts ++ text) ≡ value_of text
+parts_read : (parts : List (List ℕ)) (text : List ℕ) → AllByRecursion IsContinuation parts → spaces_at text ≡ 0 →
+    value_of (concat parts ++ text) ≡ value_of text
 parts_read [] text a none = refl
 parts_read (part ∷ parts) text a none =
     ap value_of (append_assoc part (concat parts) text) ∙ continuation_read part a.0 (concat parts ++ text) (gap_front parts text a.1 none)
@@ -63,7 +65,8 @@ piece_read (b ∷ []) text value h =
     ap (flat_map unit_value) (units_byte b text (or_parts (b == 36) _ (not-true _ (true_is _ h.1))).0) ∙ ap (λ b. b ∷ value_of text) h.0
 piece_read (d ∷ b ∷ []) text value h =
     let is = true_is _ h.2 in
-    ap (λ d. value_of (d ∷ b ∷ text)) h.0 ∙ ap (flat_map unit_value) (units_pair b text (differs b 10 is refl) (differs b 13 is refl)) ∙ ap (λ b. b ∷ value_of text) h.1
+    ap (λ d. value_of (d ∷ b ∷ text)) h.0 ∙ ap (flat_map unit_value) (units_pair b text (differs b 10 is refl) (differs b 13 is refl)) ∙
+    ap (λ b. b ∷ value_of text) h.1
 piece_read (d ∷ b ∷ c ∷ more) text value h = absurd h
 
 -- ---- words
@@ -108,10 +111,12 @@ piece-is b h = elim (either_way (is_escaped b)) [
 pub escaped-spells : (path : List ℕ) → path ≢ [] → AllByRecursion (λ b. is_unwritable b ≡ false) path → Spells (escaped path) path
 escaped-spells [] some clean = absurd (some refl)
 escaped-spells (b ∷ []) some clean = subst (λ l. IsPiece l b) (sym (append-nil (escaped_byte b))) (piece-is b clean.0)
-escaped-spells (b ∷ c ∷ cs) some clean = (escaped_byte b, [], escaped (c ∷ cs), piece-is b clean.0, ([], tt, refl), escaped-spells (c ∷ cs) (λ h. cc) clean.1, refl)
+escaped-spells (b ∷ c ∷ cs) some clean =
+    (escaped_byte b, [], escaped (c ∷ cs), piece-is b clean.0, ([], tt, refl), escaped-spells (c ∷ cs) (λ h. cc) clean.1, refl)
 
 -- and for nothing else
-pub escaped-means : (path : List ℕ) → IsWritable path → (value : List ℕ) → (Spells (escaped path) value → value ≡ path) × (value ≡ path → Spells (escaped path) value)
+pub escaped-means : (path : List ℕ) → IsWritable path → (value : List ℕ) →
+    (Spells (escaped path) value → value ≡ path) × (value ≡ path → Spells (escaped path) value)
 escaped-means path w value =
     let s = escaped-spells path w.some (recursion_from_All (λ b. is_unwritable b ≡ false) path w.each) in
     (λ t. spells-same (escaped path) value path t s, λ e. subst (λ v. Spells (escaped path) v) (sym e) s)
@@ -119,7 +124,8 @@ escaped-means path w value =
 -- ---- the values of assignments
 
 -- nothing is read of the gap before a piece: the piece is no space if there is one
-gap_before : (gap piece text : List ℕ) (value : ℕ) → IsGap gap → IsValuePiece piece value → (piece ≡ 32 ∷ [] → gap ≡ []) → value_of (gap ++ (piece ++ text)) ≡ value_of (piece ++ text)
+gap_before : (gap piece text : List ℕ) (value : ℕ) → IsGap gap → IsValuePiece piece value → (piece ≡ 32 ∷ [] → gap ≡ []) →
+    value_of (gap ++ (piece ++ text)) ≡ value_of (piece ++ text)
 gap_before gap [] text value g h space = absurd h
 gap_before gap (b ∷ []) text value g h space = elim (cases_Bool (b == 32)) [
   | inl e ↦ ap (λ gap. value_of (gap ++ b ∷ text)) (space (ap (λ b. b ∷ []) (eqb-true b 32 e)))

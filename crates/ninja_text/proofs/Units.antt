@@ -90,7 +90,8 @@ escape_begins_at c (d ∷ bytes) f = elim (cases_Bool ((c == 13) && (d == 10))) 
 escape_begins : (bytes : List ℕ) → begins_with_line_feed (units (36 ∷ bytes)) ≡ false
 escape_begins [] = refl
 escape_begins (c ∷ bytes) = elim (cases_Bool (c == 10)) [
-  | inl f ↦ subst (λ x. begins_with_line_feed (units (36 ∷ x ∷ bytes)) ≡ false) (sym (eqb-true c 10 f)) (rw (units_feed bytes) (continued_begins _ (units bytes)))
+  | inl f ↦ subst (λ x. begins_with_line_feed (units (36 ∷ x ∷ bytes)) ≡ false) (sym (eqb-true c 10 f))
+      (rw (units_feed bytes) (continued_begins _ (units bytes)))
   | inr f ↦ escape_begins_at c bytes f
 ]
 
@@ -122,7 +123,8 @@ continued_twice len more (Byte b ∷ us) = elim (cases_Bool (b == 32)) [
 continued_twice len more (Escape b ∷ us) = refl
 continued_twice len more (Continuation k ∷ us) = refl
 
-continued_at_pair : (len c : ℕ) (bytes : List ℕ) → (c == 10) ≡ false → with_continuation len (units (36 ∷ c ∷ bytes)) ≡ Continuation len ∷ units (36 ∷ c ∷ bytes)
+continued_at_pair : (len c : ℕ) (bytes : List ℕ) → (c == 10) ≡ false →
+    with_continuation len (units (36 ∷ c ∷ bytes)) ≡ Continuation len ∷ units (36 ∷ c ∷ bytes)
 continued_at_pair len c [] f = rw f refl
 continued_at_pair len c (d ∷ bytes) f = elim (cases_Bool ((c == 13) && (d == 10))) [
   | inl r ↦ rw (f, r) (continued_twice len 3 (units bytes))
@@ -139,7 +141,8 @@ continued_at_dollar len (c ∷ bytes) = elim (cases_Bool (c == 10)) [
 
 continued_stops : (len b : ℕ) (bytes : List ℕ) → (b == 32) ≡ false → with_continuation len (units (b ∷ bytes)) ≡ Continuation len ∷ units (b ∷ bytes)
 continued_stops len b bytes s = elim (cases_Bool (b == 36)) [
-  | inl d ↦ subst (λ x. with_continuation len (units (x ∷ bytes)) ≡ Continuation len ∷ units (x ∷ bytes)) (sym (eqb-true b 36 d)) (continued_at_dollar len bytes)
+  | inl d ↦ subst (λ x. with_continuation len (units (x ∷ bytes)) ≡ Continuation len ∷ units (x ∷ bytes)) (sym (eqb-true b 36 d))
+      (continued_at_dollar len bytes)
   | inr d ↦ rw (units_byte b bytes d, s) refl
 ]
 
@@ -147,14 +150,18 @@ same_continuation : {k j : ℕ} {us vs : List LineUnit} → k ≡ j → us ≡ v
 same_continuation p q = rw (p, q) refl
 
 -- a continuation takes the spaces at the front of what follows
-pub continued_spaces : (len : ℕ) (bytes : List ℕ) → with_continuation len (units bytes) ≡ Continuation (len + spaces_at bytes) ∷ units (drop (spaces_at bytes) bytes)
+pub continued_spaces : (len : ℕ) (bytes : List ℕ) →
+    with_continuation len (units bytes) ≡ Continuation (len + spaces_at bytes) ∷ units (drop (spaces_at bytes) bytes)
 continued_spaces len [] = ap (λ k. Continuation k ∷ []) {x = len} {y = len + 0} (omega arith)
 continued_spaces len (b ∷ bytes) = elim (cases_Bool (b == 32)) [
-  | inl s ↦ rw s (subst (λ x. with_continuation len (units (x ∷ bytes)) ≡ Continuation (len + (1 + spaces_at bytes)) ∷ units (drop (1 + spaces_at bytes) (x ∷ bytes))) (sym (eqb-true b 32 s))
+  | inl s ↦ rw s (subst
+      (λ x. with_continuation len (units (x ∷ bytes)) ≡ Continuation (len + (1 + spaces_at bytes)) ∷ units (drop (1 + spaces_at bytes) (x ∷ bytes)))
+      (sym (eqb-true b 32 s))
       (rw (units_byte 32 bytes refl) (continued_spaces (len + 1) bytes ∙ pushed)))
   | inr s ↦ rw s (continued_stops len b bytes s ∙ ap (λ k. Continuation k ∷ units (b ∷ bytes)) {x = len} {y = len + 0} (omega arith))
 ] where
-  pushed : Continuation (len + 1 + spaces_at bytes) ∷ units (drop (spaces_at bytes) bytes) ≡ Continuation (len + (1 + spaces_at bytes)) ∷ units (drop (1 + spaces_at bytes) (32 ∷ bytes))
+  pushed : Continuation (len + 1 + spaces_at bytes) ∷ units (drop (spaces_at bytes) bytes) ≡
+      Continuation (len + (1 + spaces_at bytes)) ∷ units (drop (1 + spaces_at bytes) (32 ∷ bytes))
   pushed = same_continuation (omega arith) (ap (λ k. units (drop k (32 ∷ bytes))) {x = suc (spaces_at bytes)} {y = 1 + spaces_at bytes} (omega arith))
 
 -- `$` LF at the front
@@ -166,10 +173,12 @@ continuation_at (a ∷ b ∷ rest) n long first second is =
     subst (λ x. units (x ∷ b ∷ rest) ≡ Continuation (2 + n) ∷ units (drop (2 + n) (x ∷ b ∷ rest))) (sym first)
     (subst (λ x. units (36 ∷ x ∷ rest) ≡ Continuation (2 + n) ∷ units (drop (2 + n) (36 ∷ x ∷ rest))) (sym second)
     (units_feed rest ∙ continued_spaces 2 rest
-    ∙ same_continuation (omega (arith, is)) (ap (λ k. units (drop k rest)) (sym is) ∙ ap (λ k. units (drop k (36 ∷ 10 ∷ rest))) {x = suc (suc n)} {y = 2 + n} (omega arith))))
+    ∙ same_continuation (omega (arith, is))
+    (ap (λ k. units (drop k rest)) (sym is) ∙ ap (λ k. units (drop k (36 ∷ 10 ∷ rest))) {x = suc (suc n)} {y = 2 + n} (omega arith))))
 
 -- `$` CR LF at the front
-pub return_continuation_at : (bytes : List ℕ) (n : ℕ) → 3 ≤ length bytes → get_or bytes 0 0 ≡ 36 → get_or bytes 1 0 ≡ 13 → get_or bytes 2 0 ≡ 10 → n ≡ spaces_at (drop 3 bytes)
+pub return_continuation_at : (bytes : List ℕ) (n : ℕ) → 3 ≤ length bytes → get_or bytes 0 0 ≡ 36 → get_or bytes 1 0 ≡ 13 → get_or bytes 2 0 ≡ 10 →
+    n ≡ spaces_at (drop 3 bytes)
     → units bytes ≡ Continuation (3 + n) ∷ units (drop (3 + n) bytes)
 return_continuation_at [] n long first second third is = absurd (omega arith)
 return_continuation_at (a ∷ []) n long first second third is = absurd (omega arith)
@@ -179,12 +188,14 @@ return_continuation_at (a ∷ b ∷ c ∷ rest) n long first second third is =
     (subst (λ x. units (36 ∷ x ∷ c ∷ rest) ≡ Continuation (3 + n) ∷ units (drop (3 + n) (36 ∷ x ∷ c ∷ rest))) (sym second)
     (subst (λ x. units (36 ∷ 13 ∷ x ∷ rest) ≡ Continuation (3 + n) ∷ units (drop (3 + n) (36 ∷ 13 ∷ x ∷ rest))) (sym third)
     (continued_spaces 3 rest
-    ∙ same_continuation (omega (arith, is)) (ap (λ k. units (drop k rest)) (sym is) ∙ ap (λ k. units (drop k (36 ∷ 13 ∷ 10 ∷ rest))) {x = suc (suc (suc n))} {y = 3 + n} (omega arith)))))
+    ∙ same_continuation (omega (arith, is))
+    (ap (λ k. units (drop k rest)) (sym is) ∙ ap (λ k. units (drop k (36 ∷ 13 ∷ 10 ∷ rest))) {x = suc (suc (suc n))} {y = 3 + n} (omega arith)))))
 
 -- ---- the tokens of units, by the first unit
 
 -- all but a bar add to the tokens of what follows
-pub tokens_with : (s : ℕ) (u : LineUnit) (us : List LineUnit) → is_byte 124 u ≡ false → tokens_from s (u ∷ us) ≡ with_unit s u us (tokens_from (s + unit_len u) us)
+pub tokens_with : (s : ℕ) (u : LineUnit) (us : List LineUnit) → is_byte 124 u ≡ false →
+    tokens_from s (u ∷ us) ≡ with_unit s u us (tokens_from (s + unit_len u) us)
 tokens_with s u [] h = refl
 tokens_with s u (v ∷ us) h = rw h refl
 
@@ -194,14 +205,19 @@ tokens_blank s (Continuation len) us h = tokens_with s (Continuation len) us ref
 tokens_blank s (Escape b) us h = cc
 tokens_blank s (Byte b) us h = subst (λ x. tokens_from s (Byte x ∷ us) ≡ tokens_from (s + 1) us) (sym (eqb-true b 32 h)) (tokens_with s (Byte 32) us refl)
 
-tokens_colon : (s : ℕ) (u : LineUnit) (us : List LineUnit) → is_byte 58 u ≡ true → tokens_from s (u ∷ us) ≡ record { kind = Colon; start = s; end = s + 1 } ∷ tokens_from (s + 1) us
+tokens_colon : (s : ℕ) (u : LineUnit) (us : List LineUnit) → is_byte 58 u ≡ true →
+    tokens_from s (u ∷ us) ≡ record { kind = Colon; start = s; end = s + 1 } ∷ tokens_from (s + 1) us
 tokens_colon s (Continuation len) us h = cc
 tokens_colon s (Escape b) us h = cc
-tokens_colon s (Byte b) us h = subst (λ x. tokens_from s (Byte x ∷ us) ≡ record { kind = Colon; start = s; end = s + 1 } ∷ tokens_from (s + 1) us) (sym (eqb-true b 58 h)) (tokens_with s (Byte 58) us refl)
+tokens_colon s (Byte b) us h =
+    subst (λ x. tokens_from s (Byte x ∷ us) ≡ record { kind = Colon; start = s; end = s + 1 } ∷ tokens_from (s + 1) us) (sym (eqb-true b 58 h))
+    (tokens_with s (Byte 58) us refl)
 
 -- a piece begins a word, or is one
 pub tokens_piece : (s : ℕ) (u : LineUnit) (us : List LineUnit) → is_piece u ≡ true
-    → tokens_from s (u ∷ us) ≡ (if goes_on us then with_first_start s (tokens_from (s + unit_len u) us) else (record { kind = Word; start = s; end = s + unit_len u } ∷ tokens_from (s + unit_len u) us))
+    → tokens_from s (u ∷ us) ≡
+    (if goes_on us then with_first_start s (tokens_from (s + unit_len u) us) else
+    (record { kind = Word; start = s; end = s + unit_len u } ∷ tokens_from (s + unit_len u) us))
 tokens_piece s (Continuation len) us h = cc
 tokens_piece s (Escape b) us h = tokens_with s (Escape b) us refl
 tokens_piece s (Byte b) us h = tokens_with s (Byte b) us (no_bar (b == 124) ((b == 32) || (b == 58)) h) ∙ rw h refl where
@@ -218,7 +234,9 @@ piece_else (Byte b) blank colon bar = rw (blank, colon, bar) refl
 
 -- the word from start that ends here so far, and continues if a piece follows
 abbrev pub word_so_far : List ℕ → ℕ → ℕ → ℕ → List TokenAt
-word_so_far text start end index = if goes_on (units (drop index text)) then with_first_start start (tokens_at text index) else (record { kind = Word; start = start; end = end } ∷ tokens_at text index)
+word_so_far text start end index =
+    if goes_on (units (drop index text)) then with_first_start start (tokens_at text index) else
+    (record { kind = Word; start = start; end = end } ∷ tokens_at text index)
 
 pub goes_on_piece : (u : LineUnit) (us : List LineUnit) → is_piece u ≡ true → goes_on (u ∷ us) ≡ true
 goes_on_piece (Continuation len) us h = cc
@@ -239,18 +257,22 @@ pub record Stands (text : List ℕ) (index n : ℕ) (u : LineUnit) : Type 0 wher
   pub len : n ≡ unit_len u
   pub first : units (drop index text) ≡ u ∷ units (drop (index + n) text)
 
-pub stands : (text : List ℕ) (index n : ℕ) (u : LineUnit) → n ≡ unit_len u → units (drop index text) ≡ u ∷ units (drop (index + unit_len u) text) → Stands text index n u
+pub stands : (text : List ℕ) (index n : ℕ) (u : LineUnit) → n ≡ unit_len u → units (drop index text) ≡ u ∷ units (drop (index + unit_len u) text) →
+    Stands text index n u
 stands text index n u len first = record { len = len; first = rw len first }
 
 module _ (text : List ℕ) (index n : ℕ) (u : LineUnit) (unit : Stands text index n u) where
   pub blank_adds_none : is_blank u ≡ true → tokens_at text (index + n) ≡ tokens_at text index
-  blank_adds_none h = sym (ap (tokens_from index) unit.first ∙ tokens_blank index u _ h ∙ ap (λ k. tokens_from (index + k) (units (drop (index + n) text))) (sym unit.len))
+  blank_adds_none h = sym
+      (ap (tokens_from index) unit.first ∙ tokens_blank index u _ h ∙ ap (λ k. tokens_from (index + k) (units (drop (index + n) text))) (sym unit.len))
 
   pub word_begins : is_piece u ≡ true → word_so_far text index (index + n) (index + n) ≡ tokens_at text index
-  word_begins h = sym (ap (tokens_from index) unit.first ∙ tokens_piece index u _ h ∙ ap (λ k. if goes_on (units (drop (index + n) text)) then with_first_start index (tokens_from (index + k) (units (drop (index + n) text)))
+  word_begins h = sym (ap (tokens_from index) unit.first ∙ tokens_piece index u _ h ∙
+      ap (λ k. if goes_on (units (drop (index + n) text)) then with_first_start index (tokens_from (index + k) (units (drop (index + n) text)))
       else (record { kind = Word; start = index; end = index + k } ∷ tokens_from (index + k) (units (drop (index + n) text)))) (sym unit.len))
 
-  pub word_goes_on : (start end : ℕ) → is_piece u ≡ true → word_so_far text start end index ≡ tokens_at text start → word_so_far text start (index + n) (index + n) ≡ tokens_at text start
+  pub word_goes_on : (start end : ℕ) → is_piece u ≡ true → word_so_far text start end index ≡ tokens_at text start →
+      word_so_far text start (index + n) (index + n) ≡ tokens_at text start
   word_goes_on start end h so_far =
       let on : goes_on (units (drop index text)) ≡ true = ap goes_on unit.first ∙ goes_on_piece u _ h in
       let before : with_first_start start (tokens_at text index) ≡ tokens_at text start = rw on at so_far in
@@ -261,17 +283,21 @@ module _ (text : List ℕ) (index n : ℕ) (u : LineUnit) (unit : Stands text in
           | inr g ↦ rw g refl
         ]
 
-  pub word_waits : (start end : ℕ) → is_continuation u ≡ true → word_so_far text start end index ≡ tokens_at text start → word_so_far text start end (index + n) ≡ tokens_at text start
+  pub word_waits : (start end : ℕ) → is_continuation u ≡ true → word_so_far text start end index ≡ tokens_at text start →
+      word_so_far text start end (index + n) ≡ tokens_at text start
   word_waits start end h so_far =
-      ap (λ ts. if goes_on (units (drop (index + n) text)) then with_first_start start ts else (record { kind = Word; start = start; end = end } ∷ ts)) (blank_adds_none (continuation_blank u h))
-      ∙ ap (λ b. if b then with_first_start start (tokens_at text index) else (record { kind = Word; start = start; end = end } ∷ tokens_at text index)) (sym (ap goes_on unit.first ∙ continuation_hides u h)) ∙ so_far where
+      ap (λ ts. if goes_on (units (drop (index + n) text)) then with_first_start start ts else (record { kind = Word; start = start; end = end } ∷ ts))
+      (blank_adds_none (continuation_blank u h))
+      ∙ ap (λ b. if b then with_first_start start (tokens_at text index) else (record { kind = Word; start = start; end = end } ∷ tokens_at text index))
+      (sym (ap goes_on unit.first ∙ continuation_hides u h)) ∙ so_far where
         continuation_hides : (u : LineUnit) → is_continuation u ≡ true → goes_on (u ∷ units (drop (index + n) text)) ≡ goes_on (units (drop (index + n) text))
         continuation_hides (Continuation len) h = refl
         continuation_hides (Escape b) h = cc
         continuation_hides (Byte b) h = cc
 
 -- the unit that a byte is that is a piece of a word by itself
-pub plain_stands : (text : List ℕ) (index : ℕ) → index < length text → is_plain_piece (get_or text index 0) ≡ true → Stands text index 1 (Byte (get_or text index 0))
+pub plain_stands : (text : List ℕ) (index : ℕ) → index < length text → is_plain_piece (get_or text index 0) ≡ true →
+    Stands text index 1 (Byte (get_or text index 0))
 plain_stands text index in_text plain =
     let b = get_or text index 0 in
     let own = or_parts (b == 36) _ (not-true _ plain) in
@@ -301,7 +327,8 @@ byte_len c (Byte b) h = refl
 -- the token that a colon is
 module _ (text : List ℕ) (s : ℕ) (u : LineUnit) (e : units (drop s text) ≡ u ∷ units (drop (s + unit_len u) text)) where
   pub colon_at : is_byte 58 u ≡ true → tokens_at text s ≡ record { kind = Colon; start = s; end = s + 1 } ∷ tokens_at text (s + 1)
-  colon_at h = ap (tokens_from s) e ∙ tokens_colon s u _ h ∙ ap (λ k. record { kind = Colon; start = s; end = s + 1 } ∷ tokens_from (s + 1) (units (drop (s + k) text))) (byte_len 58 u h)
+  colon_at h = ap (tokens_from s) e ∙ tokens_colon s u _ h ∙
+      ap (λ k. record { kind = Colon; start = s; end = s + 1 } ∷ tokens_from (s + 1) (units (drop (s + k) text))) (byte_len 58 u h)
 
 pub byte_is : (c : ℕ) (u : LineUnit) → is_byte c u ≡ true → u ≡ Byte c
 byte_is c (Continuation len) h = cc
@@ -315,7 +342,8 @@ at_bar text s u e bar = e ∙ ap (λ v. v ∷ units (drop (s + unit_len v) text)
 module _ (text : List ℕ) (s : ℕ) (begins : BeginsBar text s) where
   module _ (v : LineUnit) (e : units (drop (s + 1) text) ≡ v ∷ units (drop (s + 1 + unit_len v) text)) where
     after : (c : ℕ) → is_byte c v ≡ true → units (drop (s + 1) text) ≡ Byte c ∷ units (drop (s + 2) text)
-    after c h = e ∙ ap (λ w. w ∷ units (drop (s + 1 + unit_len w) text)) (byte_is c v h) ∙ ap (λ k. Byte c ∷ units (drop k text)) {x = s + 1 + 1} {y = s + 2} (omega arith)
+    after c h = e ∙ ap (λ w. w ∷ units (drop (s + 1 + unit_len w) text)) (byte_is c v h) ∙
+        ap (λ k. Byte c ∷ units (drop k text)) {x = s + 1 + 1} {y = s + 2} (omega arith)
 
     pub bar_bar : is_byte 124 v ≡ true → tokens_at text s ≡ record { kind = DoubleBar; start = s; end = s + 2 } ∷ tokens_at text (s + 2)
     bar_bar h = ap (tokens_from s) (begins ∙ ap (λ us. Byte 124 ∷ us) (after 124 h))
@@ -324,4 +352,5 @@ module _ (text : List ℕ) (s : ℕ) (begins : BeginsBar text s) where
     bar_with_at h = ap (tokens_from s) (begins ∙ ap (λ us. Byte 124 ∷ us) (after 64 h))
 
     pub bar_single : is_byte 124 v ≡ false → is_byte 64 v ≡ false → tokens_at text s ≡ record { kind = Bar; start = s; end = s + 1 } ∷ tokens_at text (s + 1)
-    bar_single bar at = ap (tokens_from s) (begins ∙ ap (λ us. Byte 124 ∷ us) e) ∙ rw (bar, at) refl ∙ ap (λ us. record { kind = Bar; start = s; end = s + 1 } ∷ tokens_from (s + 1) us) (sym e)
+    bar_single bar at = ap (tokens_from s) (begins ∙ ap (λ us. Byte 124 ∷ us) e) ∙ rw (bar, at) refl ∙
+        ap (λ us. record { kind = Bar; start = s; end = s + 1 } ∷ tokens_from (s + 1) us) (sym e)

@@ -14,7 +14,8 @@ returns-clause-slices c =
     let start = c.blank_end-name_start.result in
     let end = c.name_end-name_end.result in
     let value = c.blank_end-value_start.result in
-    let parts = lies_in text (record { name_start = start; name_end = end; value_start = value }) (omega arith) (omega (arith, c.blank_end-sign.ensures.within.0, c.blank_end-value_start.ensures.within.0)) c.name_end-name_end.ensures.within.1 in
+    let parts = lies_in text (record { name_start = start; name_end = end; value_start = value }) (omega arith)
+    (omega (arith, c.blank_end-sign.ensures.within.0, c.blank_end-value_start.ensures.within.0)) c.name_end-name_end.ensures.within.1 in
     subst (λ whole. LiesIn whole (record { name_start = start; name = slice_range text start end; raw_value = take (length text - value) (drop value text) }))
     c.text-text.ensures
     (subst (λ bytes. LiesIn text (record { name_start = start; name = slice_range text start end; raw_value = bytes })) (sym (to_the_end value text)) parts)
@@ -23,5 +24,6 @@ pub returns-clause-found : goal.returns-clause-found
 returns-clause-found c =
     let is : c.unit_at.result ≡ Byte 61 = cc in
     let rest = units (drop (c.blank_end-sign.result + unit_len c.unit_at.result) c.text-text.result.now) in
-    let equals : begins_with_equals (units (drop c.blank_end-sign.result c.text-text.result.now)) ≡ true = ap begins_with_equals (c.unit_at.ensures.first ∙ ap (λ u. u ∷ rest) is) in
+    let equals : begins_with_equals (units (drop c.blank_end-sign.result c.text-text.result.now)) ≡ true =
+    ap begins_with_equals (c.unit_at.ensures.first ∙ ap (λ u. u ∷ rest) is) in
     grind (arith, common_steps)

@@ -14,7 +14,9 @@ own-path path bytes same h = subst (λ b. path_of b ≡ Ok path) same h
 pub returns-in_err-strip_prefix : goal.returns-in_err-strip_prefix
 returns-in_err-strip_prefix c text e =
     let canonical = own-path c.args.build.now c.bytes.result.now c.bytes.ensures.text c.bytes.ensures.canonical in
-    let d = directory-is c.args.build.now c.in_ok-directory.directory.now canonical c.requires (sym c.bytes.ensures.text ∙ strip_prefix_is Decides-eqb c.bytes.result.now (47 ∷ []) (Some c.in_ok-directory.directory) c.in_ok-directory.ensures.cases) in
+    let d = directory-is c.args.build.now c.in_ok-directory.directory.now canonical c.requires
+    (sym c.bytes.ensures.text ∙ strip_prefix_is Decides-eqb c.bytes.result.now (47 ∷ []) (Some c.in_ok-directory.directory) c.in_ok-directory.ensures.cases)
+    in
     below-missed c.args.build.now c.in_ok-directory.directory.now c.args.list.now text canonical d e
     (λ r. strip_prefix_is Decides-eqb c.args.list.now c.in_ok-directory.directory.now None c.in_err-strip_prefix.ensures.cases (47 ∷ r))
     ∙ ap (option_map {T = Bor (List ℕ)} {U = List ℕ} (λ r. r.now)) (sym c.from_residual-in_err-strip_prefix.ensures)
@@ -35,10 +37,14 @@ same-rest (b ∷ d) x y e = same-rest d x y (let k : d ++ x ≡ d ++ y = cc in k
 pub returns : goal.returns
 returns c text e =
     let canonical = own-path c.args.build.now c.bytes.result.now c.bytes.ensures.text c.bytes.ensures.canonical in
-    let d = directory-is c.args.build.now c.in_ok-directory.directory.now canonical c.requires (sym c.bytes.ensures.text ∙ strip_prefix_is Decides-eqb c.bytes.result.now (47 ∷ []) (Some c.in_ok-directory.directory) c.in_ok-directory.ensures.cases) in
-    let front : c.args.list.now ≡ c.in_ok-directory.directory.now ++ c.in_ok-strip_prefix.field-0.now = strip_prefix_is Decides-eqb c.args.list.now c.in_ok-directory.directory.now (Some c.in_ok-strip_prefix.field-0) c.in_ok-strip_prefix.ensures.cases in
+    let d = directory-is c.args.build.now c.in_ok-directory.directory.now canonical c.requires
+    (sym c.bytes.ensures.text ∙ strip_prefix_is Decides-eqb c.bytes.result.now (47 ∷ []) (Some c.in_ok-directory.directory) c.in_ok-directory.ensures.cases)
+    in
+    let front : c.args.list.now ≡ c.in_ok-directory.directory.now ++ c.in_ok-strip_prefix.field-0.now =
+    strip_prefix_is Decides-eqb c.args.list.now c.in_ok-directory.directory.now (Some c.in_ok-strip_prefix.field-0) c.in_ok-strip_prefix.ensures.cases in
     last-strip c.args.build.now c.in_ok-directory.directory.now c.args.list.now c.in_ok-strip_prefix.field-0.now text c.strip_prefix-3.result (
       λ r k. below-found c.args.build.now c.in_ok-directory.directory.now c.args.list.now c.in_ok-strip_prefix.field-0.now r text canonical d e front k,
-      λ absent. below-missed c.args.build.now c.in_ok-directory.directory.now c.args.list.now text canonical d e (λ r k. absent r (same-rest c.in_ok-directory.directory.now c.in_ok-strip_prefix.field-0.now (47 ∷ r) (sym front ∙ k))),
+      λ absent. below-missed c.args.build.now c.in_ok-directory.directory.now c.args.list.now text canonical d e
+          (λ r k. absent r (same-rest c.in_ok-directory.directory.now c.in_ok-strip_prefix.field-0.now (47 ∷ r) (sym front ∙ k))),
     )
     (strip_prefix_is Decides-eqb c.in_ok-strip_prefix.field-0.now (47 ∷ []) c.strip_prefix-3.result c.strip_prefix-3.ensures.cases)

@@ -13,7 +13,8 @@ returns-then-is_literal-clause-ok c =
 pub loop-index-preserved : goal.loop-index-preserved
 loop-index-preserved c =
     let added : c.match-unit.out.items ≡ c.loop-index.out.items ++ unit_value c.unit_at-unit.result = elim c.match-unit.branch [
-      | in-Continuation w ↦ ap (λ v. v.items) w.out-is ∙ sym (append-nil c.loop-index.out.items) ∙ ap (λ u. c.loop-index.out.items ++ unit_value u) (sym w.in-Continuation.is)
+      | in-Continuation w ↦ ap (λ v. v.items) w.out-is ∙ sym (append-nil c.loop-index.out.items) ∙
+          ap (λ u. c.loop-index.out.items ++ unit_value u) (sym w.in-Continuation.is)
       | in-Escape2 w ↦ grind (arith, common_steps)
     ] in
     grind (arith, common_steps)

@@ -28,13 +28,18 @@ whole c =
 
 pub finished-requires-clause-some : goal.finished-requires-clause-some
 finished-requires-clause-some c =
-    let at = goal.at.finished-requires-clause-some c in
-    (_, listed c.requires.some.1 (dropped at.After-min-dropped) c.without_last-front.ensures c.without_parents-rest.ensures (whole at.Joined-not-is_empty-2) (c.is_rooted-rooted.ensures ∙ ap is_rooted c.self.view_is))
+    let at = goal.at.finished-requires-clause-some c in (
+      _,
+      listed c.requires.some.1 (dropped at.After-min-dropped) c.without_last-front.ensures c.without_parents-rest.ensures (whole at.Joined-not-is_empty-2)
+          (c.is_rooted-rooted.ensures ∙ ap is_rooted c.self.view_is),
+    )
 
 pub returns : goal.returns
 returns c text r =
     let at = goal.at.returns c in
-    c.finished.ensures text (listed r (dropped at.After-min-dropped) c.without_last-front.ensures c.without_parents-rest.ensures (whole at.Joined-not-is_empty-2) (c.is_rooted-rooted.ensures ∙ ap is_rooted c.self.view_is))
+    c.finished.ensures text
+    (listed r (dropped at.After-min-dropped) c.without_last-front.ensures c.without_parents-rest.ensures (whole at.Joined-not-is_empty-2)
+    (c.is_rooted-rooted.ensures ∙ ap is_rooted c.self.view_is))
 
 pub returns-then-saturating_add-list_limit : goal.returns-then-saturating_add-list_limit
 returns-then-saturating_add-list_limit c text r =
@@ -44,7 +49,9 @@ returns-then-saturating_add-list_limit c text r =
       | then-is_empty w ↦ ap (λ b. b.now) w.first-is ∙ ap (λ t. cond t rest front) (sym w.if-is_empty.true)
       | else-is_empty w ↦ ap (λ b. b.now) w.first-is ∙ ap (λ t. cond t rest front) (sym w.if-is_empty.false)
     ] in
-    long-read (option_copied c.args.build) c.list_limit.ensures.path c.requires.build r (dropped (goal.at.returns-then-saturating_add-list_limit c).After-min-dropped)
+    long-read (option_copied c.args.build) c.list_limit.ensures.path c.requires.build r
+    (dropped (goal.at.returns-then-saturating_add-list_limit c).After-min-dropped)
     c.without_last-front.ensures c.without_parents-rest.ensures (c.is_rooted-rooted.ensures ∙ ap is_rooted c.self.view_is)
-    (omega (arith, c.saturating_add.ensures, c.if-saturating_add-list_limit.true, c.list_limit.ensures.value)) c.is_empty.ensures first c.is_above_root-above.ensures
+    (omega (arith, c.saturating_add.ensures, c.if-saturating_add-list_limit.true, c.list_limit.ensures.value)) c.is_empty.ensures first
+    c.is_above_root-above.ensures
     ∙ ap Err (sym c.long_fault.ensures)

@@ -8,17 +8,22 @@ use Rattle.ninja_text.proofs.work_directory.WorkDirectory.place_named.Goals as g
 use Rattle.ninja_text.proofs.work_directory.WorkDirectory.place_named.Goals.{After-without_parents-own, After-deref-in-Some}
 
 -- what is kept of an ending, as it is seen
-kept : {text seen list : List ℕ} {first parents n : ℕ} {unwritable : Option ℕ} → IsEnding text first list parents unwritable → text ≡ seen → parents ≡ n → IsEnding seen first list n unwritable
+kept : {text seen list : List ℕ} {first parents n : ℕ} {unwritable : Option ℕ} → IsEnding text first list parents unwritable → text ≡ seen → parents ≡ n →
+    IsEnding seen first list n unwritable
 kept {seen = seen} {list = list} {first = first} {parents = m} {unwritable = unwritable} e same parents =
     subst (λ n. IsEnding seen first list n unwritable) parents (subst (λ text. IsEnding text first list m unwritable) same e)
 
 -- the name and the ending are read in the directory without the name, or with it
-above : (c : After-without_parents-own) → IsReadIn c.args.self.now (read_from (Some c.args.self.now) (c.args.name.now ++ c.args.ending.now)) c.without_parents-own.result.now (c.ending.inside.parents - 1) c.in_ok-unwritable.unwritable
+above : (c : After-without_parents-own) →
+    IsReadIn c.args.self.now (read_from (Some c.args.self.now) (c.args.name.now ++ c.args.ending.now)) c.without_parents-own.result.now
+    (c.ending.inside.parents - 1) c.in_ok-unwritable.unwritable
 above c =
     read-named-up c.args.self.now c.args.name.now (kept c.ending.invariant c.ending.view_is refl) c.requires.name c.if-ending-gt0.true
     (c.without_parents-own.ensures ∙ ap (drop 3) c.deref.ensures.value) c.in_ok-unwritable.ensures
 
-named : (c : After-deref-in-Some) → IsReadIn c.args.self.now (read_from (Some c.args.self.now) (c.args.name.now ++ c.args.ending.now)) c.deref-in-Some.result.now 0 c.in_ok-unwritable.unwritable
+named : (c : After-deref-in-Some) →
+    IsReadIn c.args.self.now (read_from (Some c.args.self.now) (c.args.name.now ++ c.args.ending.now)) c.deref-in-Some.result.now 0
+    c.in_ok-unwritable.unwritable
 named c =
     let e = kept {n = 0} c.ending.invariant c.ending.view_is (omega (arith, c.if-ending-gt0.false)) in
     let own = rw c.in-Some.is at (c.in_ok-own.ensures (take c.ending.inside.first c.args.ending.now) e.others e.divided) in
@@ -40,7 +45,8 @@ pub returns-then-ending-gt0-clause-text : goal.returns-then-ending-gt0-clause-te
 returns-then-ending-gt0-clause-text c u v w =
     let begins = begins-path c.args.name.now c.args.ending.now c.requires.name in
     placed-text (option_copied c.args.build) c.args.self.now (c.args.name.now ++ c.args.ending.now) c.joined.result begins.0
-    (c.joined.ensures _ (above (goal.at.returns-then-ending-gt0-clause-text c).After-without_parents-own)) u (IsUtf8-append c.args.name.now c.args.ending.now v w)
+    (c.joined.ensures _ (above (goal.at.returns-then-ending-gt0-clause-text c).After-without_parents-own)) u
+    (IsUtf8-append c.args.name.now c.args.ending.now v w)
 
 pub returns-in-Some-clause-meaning : goal.returns-in-Some-clause-meaning
 returns-in-Some-clause-meaning c =
