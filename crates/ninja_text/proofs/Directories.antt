@@ -1,4 +1,5 @@
 -- What is kept of directories and of the ends of names.
+use Rattle.ninja_text.specs.Bytes.{Bytes}
 use Rattle.std.proofs.Common.{◌≡◌, ℕ, suc, ◌+◌, ◌-◌, ◌*◌, ◌<◌, ◌≤◌, min, Bool, true, false, not, cond, ◌==◌, ◌||◌, ◌&&◌, List, [], ◌∷◌, ◌++◌, length, take, drop, get_or, refl, sym, ◌∙◌, ap, subst, arith, length-append, ◌⊎◌, inl, inr, Option, Some, None, Result, Err, position, nat_lt, bytes_eq, Vec, Global, IsUtf8, IfOk}
 use Rattle.std.specs.Option.{ForSome}
 use Rattle.std.specs.Vec.{vec_len}
@@ -26,33 +27,33 @@ use Rattle.ninja_text.proofs.Joins.{up, leads, leads-list, any-leads, name-not-p
 -- ---- what is kept of a directory
 
 -- the list of a text has no slash in a component
-pub parts-lack : (text : List ℕ) → EachLacksSlash (parts text)
+pub parts-lack : (text : Bytes) → EachLacksSlash (parts text)
 parts-lack text = reduced-each LacksSlash (components text) (components-lack text)
 
-pub parts-fixed : (text : List ℕ) → IsFixed (parts text)
+pub parts-fixed : (text : Bytes) → IsFixed (parts text)
 parts-fixed text = reduced-fixed (components text)
 
 -- the `..` of a list, written out
-up-text : (list : List (List ℕ)) → EachLacksSlash list → prefix_len is_parent (components (list_text list)) ≡ up list
+up-text : (list : List Bytes) → EachLacksSlash list → prefix_len is_parent (components (list_text list)) ≡ up list
 up-text [] h = refl
 up-text (x ∷ xs) h = ap up (components-list x xs h)
 
-pub parents-text : (list : List ℕ) (text : List ℕ) → list ≡ reduced_text text → prefix_len is_parent (components list) ≡ up (parts text)
+pub parents-text : (list : Bytes) (text : Bytes) → list ≡ reduced_text text → prefix_len is_parent (components list) ≡ up (parts text)
 parents-text list text e = ap (λ l. prefix_len is_parent (components l)) e ∙ up-text (parts text) (parts-lack text)
 
 -- a list is empty if its text is
-pub nothing : (text : List ℕ) (list : Vec ℕ Global) (empty : Bool) → list.items ≡ reduced_text text → empty ≡ (vec_len list == 0)
+pub nothing : (text : Bytes) (list : Vec ℕ Global) (empty : Bool) → list.items ≡ reduced_text text → empty ≡ (vec_len list == 0)
     → is_empty (parts text) ≡ empty
 nothing text list empty same e =
     sym (e ∙ ap (λ n. n == 0) list.ok.0 ∙ ap (λ items. length items == 0) same ∙ nothing-is (parts text) (parts-fixed text))
 
 -- an empty list has no component
-pub none-of : (list : List (List ℕ)) → is_empty list ≡ true → length list ≡ 0
+pub none-of : (list : List Bytes) → is_empty list ≡ true → length list ≡ 0
 none-of [] h = refl
 none-of (x ∷ xs) h = cc
 
 -- one slash less than components
-pub count-of : (list : List (List ℕ)) → EachLacksSlash list → is_empty list ≡ false → length (slashes_from 0 (list_text list)) + 1 ≡ length list
+pub count-of : (list : List Bytes) → EachLacksSlash list → is_empty list ≡ false → length (slashes_from 0 (list_text list)) + 1 ≡ length list
 count-of [] h e = cc
 count-of (x ∷ xs) h e = let k = slashes-count 0 x xs h in omega arith
 
@@ -63,11 +64,11 @@ directory-count text list slashes l s e =
     ap (λ l. length l + 1) (s ∙ ap (slashes_from 0) l) ∙ count-of (parts text) (parts-lack text) e
 
 -- the `..` are components
-pub up-within : (list : List (List ℕ)) → up list ≤ length list
+pub up-within : (list : List Bytes) → up list ≤ length list
 up-within list = prefix_len-le-length is_parent list
 
 -- a list with that many components
-some-of : (list : List (List ℕ)) (n : ℕ) → (n ≡ 0 → ⊥) → n ≤ length list → is_empty list ≡ false
+some-of : (list : List Bytes) (n : ℕ) → (n ≡ 0 → ⊥) → n ≤ length list → is_empty list ≡ false
 some-of [] n some le = absurd (some (omega arith))
 some-of (x ∷ xs) n some le = refl
 
@@ -101,7 +102,7 @@ min-way : (a b : ℕ) → (min a b ≡ a) ⊎ (min a b ≡ b)
 min-way a b = elim (either_way (nat_lt b a)) [ inl h ↦ inr (grind arith) | inr h ↦ let k = at-most b a h in inl (omega arith) ]
 
 -- the components that are left of a directory and of what is read in it
-pub lists-left : (list q : List (List ℕ)) (d : ℕ) → IsFixed list → IsFixed q → d ≡ min (up q) (length list - up list)
+pub lists-left : (list q : List Bytes) (d : ℕ) → IsFixed list → IsFixed q → d ≡ min (up q) (length list - up list)
     → reduced (list ++ q) ≡ take (length list - d) list ++ drop d q
 lists-left list q d f g e =
     let within = up-within list in
@@ -109,7 +110,7 @@ lists-left list q d f g e =
     lists-joined list q (length list - d) d f g (omega arith) (omega arith) (omega arith) (elim way [ inl h ↦ inl (e ∙ h) | inr h ↦ inr (omega arith) ])
 
 -- the list that is left, written out
-text-left : {directory text own front rest : List ℕ} {parents d : ℕ} {unwritable : Option ℕ} → IsReadIn directory text own parents unwritable
+text-left : {directory text own front rest : Bytes} {parents d : ℕ} {unwritable : Option ℕ} → IsReadIn directory text own parents unwritable
     → d ≡ min parents (length (parts directory) - up (parts directory))
     → front ≡ list_text (take (length (parts directory) - d) (parts directory)) → rest ≡ drop (3 * d) own
     → glued front rest ≡ reduced_text text
@@ -126,7 +127,7 @@ text-left {directory = directory} {rest = rest} {d = d} r e f g =
 -- ---- what is read in a directory
 
 -- the text that is read in a directory
-pub read-whole : (directory path : List ℕ) → is_rooted path ≡ false
+pub read-whole : (directory path : Bytes) → is_rooted path ≡ false
     → parts (read_from (Some directory) path) ≡ reduced (parts directory ++ parts path)
 read-whole [] path h = sym (fixed-reduced (parts path) (parts-fixed path))
 read-whole (b ∷ bs) path h =
@@ -134,12 +135,12 @@ read-whole (b ∷ bs) path h =
     ∙ reduced-ahead (components (b ∷ bs)) (components path)
     ∙ reduced-context (parts (b ∷ bs)) (components path) (parts path) (sym (fixed-reduced (parts path) (parts-fixed path)))
 
-pub read-rooted : (directory path : List ℕ) → is_rooted path ≡ false → is_rooted (read_from (Some directory) path) ≡ is_rooted directory
+pub read-rooted : (directory path : Bytes) → is_rooted path ≡ false → is_rooted (read_from (Some directory) path) ≡ is_rooted directory
 read-rooted [] path h = h
 read-rooted (b ∷ bs) path h = ap (λ t. is_rooted (cond t path ((b ∷ bs) ++ 47 ∷ path))) h
 
 -- the first byte of two texts with a slash between that cannot be escaped
-slash-position : (a b : List ℕ) → position is_unwritable (a ++ 47 ∷ b) ≡ moved (position is_unwritable a) (length a + 1) (position is_unwritable b)
+slash-position : (a b : Bytes) → position is_unwritable (a ++ 47 ∷ b) ≡ moved (position is_unwritable a) (length a + 1) (position is_unwritable b)
 slash-position a b =
     position-append a (47 ∷ b) ∙ ap (moved (position is_unwritable a) (length a)) (position-append (47 ∷ []) b)
     ∙ go (position is_unwritable a) (position is_unwritable b)
@@ -149,13 +150,13 @@ slash-position a b =
     go None None = refl
     go None (Some j) = ap Some (omega arith)
 
-pub read-position : (directory path : List ℕ) → is_rooted path ≡ false
+pub read-position : (directory path : Bytes) → is_rooted path ≡ false
     → first_in directory (position is_unwritable path) ≡ position is_unwritable (read_from (Some directory) path)
 read-position [] path h = refl
 read-position (b ∷ bs) path h = sym (ap (λ t. position is_unwritable (cond t path ((b ∷ bs) ++ 47 ∷ path))) h ∙ slash-position (b ∷ bs) path)
 
 -- a path that is read in a directory, by its canonical list
-pub read-in : (directory path : List ℕ) {own : List ℕ} {parents : ℕ} {unwritable : Option ℕ} → is_rooted path ≡ false
+pub read-in : (directory path : Bytes) {own : Bytes} {parents : ℕ} {unwritable : Option ℕ} → is_rooted path ≡ false
     → IsList (parts path) own parents → unwritable ≡ first_in directory (position is_unwritable path)
     → IsReadIn directory (read_from (Some directory) path) own parents unwritable
 read-in directory path h l e = record {
@@ -172,7 +173,7 @@ moved-none None = refl
 moved-none (Some p) = ap Some (omega arith)
 
 -- no `..` among names
-names-up : (list : List (List ℕ)) → list_any (λ c. is_current c || is_parent c) list ≡ false → up list ≡ 0
+names-up : (list : List Bytes) → list_any (λ c. is_current c || is_parent c) list ≡ false → up list ≡ 0
 names-up [] h = refl
 names-up (c ∷ cs) h = up-none c cs (go (is_current c) (is_parent c) (list_any (λ c. is_current c || is_parent c) cs) h)
   where
@@ -187,7 +188,7 @@ names-up (c ∷ cs) h = up-none c cs (go (is_current c) (is_parent c) (list_any 
     go i false more k = refl
 
 -- a path of names is its own canonical list
-pub list-of-names : (path : List ℕ) → list_any (λ c. is_current c || is_parent c) (components path) ≡ false → IsList (parts path) path 0
+pub list-of-names : (path : Bytes) → list_any (λ c. is_current c || is_parent c) (components path) ≡ false → IsList (parts path) path 0
 list-of-names path none = record {
   fixed = fixed-reduced (parts path) (parts-fixed path);
   lacks = parts-lack path;
@@ -195,11 +196,11 @@ list-of-names path none = record {
   parents_are = sym (ap up (names-fixed-reduced path none) ∙ names-up (components path) none);
 }
   where
-    names-fixed-reduced : (path : List ℕ) → list_any (λ c. is_current c || is_parent c) (components path) ≡ false → parts path ≡ components path
+    names-fixed-reduced : (path : Bytes) → list_any (λ c. is_current c || is_parent c) (components path) ≡ false → parts path ≡ components path
     names-fixed-reduced path none = fixed-reduced (components path) (names-fixed (components path) none)
 
 -- the canonical list of a path
-pub list-of-path : (path own : List ℕ) (parents : ℕ) → own ≡ reduced_text path → parents ≡ prefix_len is_parent (components own)
+pub list-of-path : (path own : Bytes) (parents : ℕ) → own ≡ reduced_text path → parents ≡ prefix_len is_parent (components own)
     → IsList (parts path) own parents
 list-of-path path own parents e k = record {
   fixed = fixed-reduced (parts path) (parts-fixed path);
@@ -211,7 +212,7 @@ list-of-path path own parents e k = record {
 -- ---- a list that is too long
 
 -- what is seen of a list is at most the build directory shorter
-seen-or : (d : List ℕ) (ds list : List (List ℕ)) (o : Option (List (List ℕ))) → below (d ∷ ds) list ≡ o
+seen-or : (d : Bytes) (ds list : List Bytes) (o : Option (List Bytes)) → below (d ∷ ds) list ≡ o
     → 4096 + length (list_text (d ∷ ds)) + 1 < length (list_text list) → 4096 < length (relative_or list o)
 seen-or d ds list None e lt = omega arith
 seen-or d ds list (Some rest) e lt =
@@ -221,7 +222,7 @@ seen-or d ds list (Some rest) e lt =
     omega arith
 
 -- a list that is longer than the limit is longer than a path, from wherever it is seen
-seen-long : (build : Option (List ℕ)) (rooted : Bool) (list : List (List ℕ)) → ForSome build IsPath
+seen-long : (build : Option Bytes) (rooted : Bool) (list : List Bytes) → ForSome build IsPath
     → ForSome build (λ b. is_rooted b ≡ true) → list_limit build < length (list_text list) → 4096 < length (seen_from build rooted list)
 seen-long None true list p r lt = omega arith
 seen-long None false list p r lt = lt
@@ -233,12 +234,12 @@ seen-long (Some b) true list p r lt =
     subst (λ l. 4096 < length (relative_or list (below l list))) (sym f.2) (seen-or f.0 f.1 list (below (f.0 ∷ f.1) list) refl (omega arith))
 
 -- a list that has a byte
-some-byte : (list : List (List ℕ)) (n : ℕ) → n < length (list_text list) → is_empty list ≡ false
+some-byte : (list : List Bytes) (n : ℕ) → n < length (list_text list) → is_empty list ≡ false
 some-byte [] n lt = absurd (omega arith)
 some-byte (x ∷ xs) n lt = refl
 
 -- the fault of a list that is too long
-long-is : (build : Option (List ℕ)) (text : List ℕ) {list : List ℕ} {above : Bool} {unwritable : Option ℕ} → ForSome build IsPath
+long-is : (build : Option Bytes) (text : Bytes) {list : Bytes} {above : Bool} {unwritable : Option ℕ} → ForSome build IsPath
     → ForSome build (λ b. is_rooted b ≡ true)
     → list ≡ reduced_text text → list_limit build < length list → above ≡ (is_rooted text && leads_up list) → unwritable ≡ position is_unwritable text
     → canonical_of build text ≡ Err (long_fault above unwritable)
@@ -266,14 +267,14 @@ and-left-false false true h = refl
 and-left-false false false h = refl
 
 -- what is tested of the beginning of a name
-pub record Begins (name : List ℕ) : Type 0 where
+pub record Begins (name : Bytes) : Type 0 where
   pub relative : is_rooted name ≡ false
   pub lacks : LacksSlash name
   pub clean : position is_unwritable name ≡ None
-  pub named : (first : List ℕ) → is_named_component (name ++ first) ≡ true
+  pub named : (first : Bytes) → is_named_component (name ++ first) ≡ true
 
 -- a text that begins a name
-pub begins : (name : List ℕ) → begins_component name ≡ true → Begins name
+pub begins : (name : Bytes) → begins_component name ≡ true → Begins name
 begins [] h = cc
 begins (b ∷ bs) h =
     let dotless = not-true (b == 46) (and-left (not (b == 46)) (not (list_any (λ b. b == 47 || is_unwritable b) (b ∷ bs))) h) in
@@ -286,7 +287,7 @@ begins (b ∷ bs) h =
           ∙ ap not (and-left-false (b == 46) (bytes_eq (bs ++ first) (46 ∷ [])) dotless);
     }
   where
-    none-each : (l : List ℕ) → list_any (λ b. b == 47 || is_unwritable b) l ≡ false → LacksSlash l × IsClean l
+    none-each : (l : Bytes) → list_any (λ b. b == 47 || is_unwritable b) l ≡ false → LacksSlash l × IsClean l
     none-each [] h = (tt, tt)
     none-each (c ∷ cs) h =
         let k = or_parts (c == 47 || is_unwritable c) (list_any (λ b. b == 47 || is_unwritable b) cs) h in
@@ -297,7 +298,7 @@ begins (b ∷ bs) h =
 -- ---- what the functions know of a path
 
 -- what is kept of the text that is read
-pub listed : {directory text own front rest list : List ℕ} {parents d : ℕ} {unwritable : Option ℕ} {rooted : Bool} →
+pub listed : {directory text own front rest list : Bytes} {parents d : ℕ} {unwritable : Option ℕ} {rooted : Bool} →
     IsReadIn directory text own parents unwritable
     → d ≡ min parents (length (parts directory) - up (parts directory))
     → front ≡ list_text (take (length (parts directory) - d) (parts directory)) → rest ≡ drop (3 * d) own → list ≡ glued front rest →
@@ -306,13 +307,13 @@ pub listed : {directory text own front rest list : List ℕ} {parents d : ℕ} {
 listed r e f g h k = record { rooted_is = k ∙ sym r.rooted; unwritable_is = r.unwritable_is; list_is = h ∙ text-left r e f g }
 
 -- two texts are no longer than both with a slash between
-pub glued-longer : (f r : List ℕ) → length f + length r ≤ length (glued f r)
+pub glued-longer : (f r : Bytes) → length f + length r ≤ length (glued f r)
 glued-longer [] r = omega arith
 glued-longer (b ∷ f) [] = omega arith
 glued-longer (b ∷ f) (c ∷ r) = let l = length-append (b ∷ f) (47 ∷ c ∷ r) in omega arith
 
 -- the first of two texts that is not empty decides whether both lead up
-pub first-leads : (front rest first : List ℕ) (empty : Bool) → empty ≡ (length front == 0) → first ≡ cond empty rest front
+pub first-leads : (front rest first : Bytes) (empty : Bool) → empty ≡ (length front == 0) → first ≡ cond empty rest front
     → leads_up first ≡ leads_up (glued front rest)
 first-leads [] rest first empty e f = ap leads_up (f ∙ ap (λ t. cond t rest []) e)
 first-leads (b ∷ front) rest first empty e f =
@@ -323,7 +324,7 @@ first-leads (b ∷ front) rest first empty e f =
     no-length n = grind arith
 
 -- the fault of what is read, if its list is too long
-pub long-read : (build : Option (List ℕ)) {directory text own front rest first : List ℕ} {parents d : ℕ} {unwritable : Option ℕ} {rooted empty above : Bool} →
+pub long-read : (build : Option Bytes) {directory text own front rest first : Bytes} {parents d : ℕ} {unwritable : Option ℕ} {rooted empty above : Bool} →
     ForSome build IsPath
     → ForSome build (λ b. is_rooted b ≡ true)
     → IsReadIn directory text own parents unwritable → d ≡ min parents (length (parts directory) - up (parts directory))
@@ -336,12 +337,12 @@ long-read build {text = text} {front = front} {rest = rest} {first = first} {emp
     (a ∙ ap (λ b. b && leads_up first) (k ∙ sym r.rooted) ∙ ap (λ t. is_rooted text && t) (first-leads front rest first empty em fi)) r.unwritable_is
 
 -- a text that is read in a directory, in UTF-8
-pub read-text : (directory path : List ℕ) → is_rooted path ≡ false → IsUtf8 directory → IsUtf8 path → IsUtf8 (read_from (Some directory) path)
+pub read-text : (directory path : Bytes) → is_rooted path ≡ false → IsUtf8 directory → IsUtf8 path → IsUtf8 (read_from (Some directory) path)
 read-text [] path h u v = v
 read-text (b ∷ bs) path h u v = joined-text (b ∷ bs) path (read_from (Some (b ∷ bs)) path) u v (ap (λ t. cond t path ((b ∷ bs) ++ 47 ∷ path)) h)
 
 -- what `placed` says of a path that is not empty
-pub placed-is : (build : Option (List ℕ)) (directory path : List ℕ) → is_empty path ≡ false
+pub placed-is : (build : Option Bytes) (directory path : Bytes) → is_empty path ≡ false
     → placed (Some directory) build path ≡ canonical_of build (read_from (Some directory) path)
 unfolding placed
 placed-is build directory path h = ap (λ t. cond t (Err Empty) (canonical_of build (read_from (Some directory) path))) h
@@ -349,16 +350,16 @@ placed-is build directory path h = ap (λ t. cond t (Err Empty) (canonical_of bu
 -- ---- names and their end
 
 -- the components of a name with an end
-named-parts : (name : List ℕ) {text list : List ℕ} {first parents : ℕ} {unwritable : Option ℕ} (e : IsEnding text first list parents unwritable) → Begins name
+named-parts : (name : Bytes) {text list : Bytes} {first parents : ℕ} {unwritable : Option ℕ} (e : IsEnding text first list parents unwritable) → Begins name
     → parts (name ++ text) ≡ in_front (name ++ take first text) (reduced e.others)
 named-parts name {text = text} {first = first} e b = ap reduced (components-front name text (take first text) e.others b.lacks e.divided)
 
 -- an end that removes the name leaves one `..` less
-named-up : (name : List ℕ) {text list : List ℕ} {first parents : ℕ} {unwritable : Option ℕ}
+named-up : (name : Bytes) {text list : Bytes} {first parents : ℕ} {unwritable : Option ℕ}
     → IsEnding text first list parents unwritable → Begins name → 0 < parents → IsList (parts (name ++ text)) (drop 3 list) (parents - 1)
 named-up name {text = text} {list = list} {first = first} {parents = parents} e b lt = go (reduced e.others) refl
   where
-    go : (others : List (List ℕ)) → reduced e.others ≡ others → IsList (parts (name ++ text)) (drop 3 list) (parents - 1)
+    go : (others : List Bytes) → reduced e.others ≡ others → IsList (parts (name ++ text)) (drop 3 list) (parents - 1)
     go [] h = let k = e.list_is.parents_are ∙ ap up h in absurd (omega arith)
     go (c ∷ cs) h = elim (either_way (is_parent c)) [
       | inr n ↦ let k = e.list_is.parents_are ∙ ap up h ∙ up-none c cs n in absurd (omega arith)
@@ -375,12 +376,12 @@ named-up name {text = text} {list = list} {first = first} {parents = parents} e 
     ]
 
 -- no `..` at the beginning
-not-leads : (list : List (List ℕ)) → up list ≡ 0 → leads list ≡ false
+not-leads : (list : List Bytes) → up list ≡ 0 → leads list ≡ false
 not-leads [] h = refl
 not-leads (c ∷ cs) h = elim (either_way (is_parent c)) [ inl u ↦ let k = up-more c cs u in absurd (omega arith) | inr n ↦ n ]
 
 -- any other end stays after it
-named-list : (name : List ℕ) {text list : List ℕ} {first : ℕ} {unwritable : Option ℕ} (e : IsEnding text first list 0 unwritable)
+named-list : (name : Bytes) {text list : Bytes} {first : ℕ} {unwritable : Option ℕ} (e : IsEnding text first list 0 unwritable)
     → Begins name → IsList (parts (name ++ text)) (glued (name ++ take first text) (list_text (reduced e.others))) 0
 named-list name {text = text} {first = first} e b =
     let x = name ++ take first text in
@@ -395,22 +396,22 @@ named-list name {text = text} {first = first} e b =
     }
 
 -- the first byte of a name with an end that cannot be escaped
-named-position : (name text : List ℕ) {u : Option ℕ} → Begins name → u ≡ position is_unwritable text →
+named-position : (name text : Bytes) {u : Option ℕ} → Begins name → u ≡ position is_unwritable text →
     moved None (length name) u ≡ position is_unwritable (name ++ text)
 named-position name text b e =
     ap (moved None (length name)) e ∙ ap (λ o. moved o (length name) (position is_unwritable text)) (sym b.clean) ∙ sym (position-append name text)
 
 -- a name is not empty, and begins at no root
-pub begins-path : (name text : List ℕ) → begins_component name ≡ true → (is_rooted (name ++ text) ≡ false) × (is_empty (name ++ text) ≡ false)
+pub begins-path : (name text : Bytes) → begins_component name ≡ true → (is_rooted (name ++ text) ≡ false) × (is_empty (name ++ text) ≡ false)
 begins-path [] text h = cc
 begins-path (b ∷ bs) text h = ((begins (b ∷ bs) h).relative, refl)
 
 -- all components of a list
-take-all : (n : ℕ) (list : List (List ℕ)) → n ≡ length list → take n list ≡ list
+take-all : (n : ℕ) (list : List Bytes) → n ≡ length list → take n list ≡ list
 take-all n list e = ap (λ m. take m list) e ∙ take-length list
 
 -- the fault of a name with an end, if they are too long
-pub long-named : (build : Option (List ℕ)) (directory : List ℕ) {text own : List ℕ} {unwritable : Option ℕ} → ForSome build IsPath
+pub long-named : (build : Option Bytes) (directory : Bytes) {text own : Bytes} {unwritable : Option ℕ} → ForSome build IsPath
     → ForSome build (λ b. is_rooted b ≡ true)
     → IsReadIn directory text own 0 unwritable → list_limit build < length own
     → canonical_of build text ≡ Err (long_fault (is_rooted directory && leads_up (reduced_text directory)) unwritable)
@@ -426,12 +427,12 @@ long-named build directory {text = text} {own = own} {unwritable = unwritable} p
     long-is build text p q left (omega arith)
     (ap (λ b. b && leads_up front) (sym r.rooted) ∙ ap (λ t. is_rooted text && t) (go plain front)) r.unwritable_is
   where
-    go : (plain : leads_up own ≡ false) (front : List ℕ) → leads_up front ≡ leads_up (glued front own)
+    go : (plain : leads_up own ≡ false) (front : Bytes) → leads_up front ≡ leads_up (glued front own)
     go plain [] = sym plain
     go plain (b ∷ bs) = sym (leads-glued (b ∷ bs) own (λ h. let k : b ∷ bs ≡ [] = h in cc))
 
 -- what is kept of an end with a slash
-pub ending-some : (text rest list : List ℕ) (first parents : ℕ) (unwritable : Option ℕ) → first ≤ length text
+pub ending-some : (text rest list : Bytes) (first parents : ℕ) (unwritable : Option ℕ) → first ≤ length text
     → LacksSlash (take first text) → text ≡ take first text ++ 47 ∷ rest → list ≡ reduced_text rest
     → parents ≡ prefix_len is_parent (components list) → unwritable ≡ position is_unwritable text
     → IsEnding text first list parents unwritable
@@ -444,7 +445,7 @@ ending-some text rest list first parents unwritable within lacks e l p u = recor
 }
 
 -- and of one without
-pub ending-none : (text list : List ℕ) (first parents : ℕ) (unwritable : Option ℕ) → first ≤ length text → LacksSlash (take first text)
+pub ending-none : (text list : Bytes) (first parents : ℕ) (unwritable : Option ℕ) → first ≤ length text → LacksSlash (take first text)
     → first ≡ length text → list ≡ [] → parents ≡ prefix_len is_parent (components list) → unwritable ≡ position is_unwritable text
     → IsEnding text first list parents unwritable
 ending-none text list first parents unwritable within lacks e l p u = record {
@@ -456,8 +457,8 @@ ending-none text list first parents unwritable within lacks e l p u = record {
 }
 
 -- the parts of an end, as its components are given
-pub ending-same : (text list : List ℕ) (k parents : ℕ) (unwritable : Option ℕ) → IsEnding text k list parents unwritable
-    → (first : List ℕ) (others : List (List ℕ)) → components text ≡ first ∷ others → (take k text ≡ first) × (list ≡ list_text (reduced others))
+pub ending-same : (text list : Bytes) (k parents : ℕ) (unwritable : Option ℕ) → IsEnding text k list parents unwritable
+    → (first : Bytes) (others : List Bytes) → components text ≡ first ∷ others → (take k text ≡ first) × (list ≡ list_text (reduced others))
 ending-same text list k parents unwritable e first others h =
     let same : take k text ∷ e.others ≡ first ∷ others = sym e.divided ∙ h in
     let heads : take k text ≡ first = cc in
@@ -465,8 +466,8 @@ ending-same text list k parents unwritable e first others h =
     (heads, e.list_is.own_is ∙ ap (λ l. list_text (reduced l)) tails)
 
 -- a name with an end is longer than the limit if its parts are
-pub after-longer : (name text list : List ℕ) (k parents : ℕ) (unwritable : Option ℕ) (limit : ℕ) → IsEnding text k list parents unwritable
-    → limit < length name + length (take k text) + length list → (first : List ℕ) (others : List (List ℕ))
+pub after-longer : (name text list : Bytes) (k parents : ℕ) (unwritable : Option ℕ) (limit : ℕ) → IsEnding text k list parents unwritable
+    → limit < length name + length (take k text) + length list → (first : Bytes) (others : List Bytes)
     → components text ≡ first ∷ others → limit < length (glued (name ++ first) (list_text (reduced others)))
 after-longer name text list k parents unwritable limit e lt first others h =
     let same = ending-same text list k parents unwritable e first others h in
@@ -477,16 +478,16 @@ after-longer name text list k parents unwritable limit e lt first others h =
     omega arith
 
 -- a text that is not empty, by the test of its length
-pub some-text : (text : List ℕ) (empty : Bool) → empty ≡ (length text == 0) → empty ≡ false → is_empty text ≡ false
+pub some-text : (text : Bytes) (empty : Bool) → empty ≡ (length text == 0) → empty ≡ false → is_empty text ≡ false
 some-text [] empty e h = let k : true ≡ false = sym e ∙ h in cc
 some-text (b ∷ bs) empty e h = refl
 
 -- equal lists have the same `..`
-pub same-parents : (a b : List ℕ) → a ≡ b → prefix_len is_parent (components a) ≡ prefix_len is_parent (components b)
+pub same-parents : (a b : Bytes) → a ≡ b → prefix_len is_parent (components a) ≡ prefix_len is_parent (components b)
 same-parents a b e = ap (λ l. prefix_len is_parent (components l)) e
 
 -- a name with an end that removes it, as it is read in a directory
-pub read-named-up : (directory name : List ℕ) {text list own : List ℕ} {k parents : ℕ} {u unwritable : Option ℕ} → IsEnding text k list parents u
+pub read-named-up : (directory name : Bytes) {text list own : Bytes} {k parents : ℕ} {u unwritable : Option ℕ} → IsEnding text k list parents u
     → begins_component name ≡ true → 0 < parents → own ≡ drop 3 list
     → unwritable ≡ first_in directory (moved None (length name) u) → IsReadIn directory (read_from (Some directory) (name ++ text)) own (parents - 1) unwritable
 read-named-up directory name {text = text} {parents = parents} e h lt o w =
@@ -495,7 +496,7 @@ read-named-up directory name {text = text} {parents = parents} e h lt o w =
     (w ∙ ap (first_in directory) (named-position name text b e.unwritable_is))
 
 -- and one with an end that does not
-pub read-named : (directory name : List ℕ) {text list own : List ℕ} {k : ℕ} {u unwritable : Option ℕ} (e : IsEnding text k list 0 u)
+pub read-named : (directory name : Bytes) {text list own : Bytes} {k : ℕ} {u unwritable : Option ℕ} (e : IsEnding text k list 0 u)
     → begins_component name ≡ true → own ≡ glued (name ++ take k text) (list_text (reduced e.others))
     → unwritable ≡ first_in directory (moved None (length name) u) → IsReadIn directory (read_from (Some directory) (name ++ text)) own 0 unwritable
 read-named directory name {text = text} e h o w =
@@ -504,23 +505,23 @@ read-named directory name {text = text} e h o w =
     (w ∙ ap (first_in directory) (named-position name text b e.unwritable_is))
 
 -- what is read in a directory, as `placed` says it
-pub placed-read : (build : Option (List ℕ)) (directory path : List ℕ) (result : Result (List ℕ) (Failure PathFault))
+pub placed-read : (build : Option Bytes) (directory path : Bytes) (result : Result Bytes (Failure PathFault))
     → is_empty path ≡ false → Gives (λ path. path) result (canonical_of build (read_from (Some directory) path))
     → Gives (λ path. path) result (placed (Some directory) build path)
 placed-read build directory path result h g = subst (λ r. Gives (λ path. path) result r) (sym (placed-is build directory path h)) g
 
 -- a path of texts in UTF-8 is in UTF-8
-pub placed-text : (build : Option (List ℕ)) (directory path : List ℕ) (result : Result (List ℕ) (Failure PathFault)) → is_rooted path ≡ false
+pub placed-text : (build : Option Bytes) (directory path : Bytes) (result : Result Bytes (Failure PathFault)) → is_rooted path ≡ false
     → Gives (λ path. path) result (canonical_of build (read_from (Some directory) path)) → IsUtf8 directory → IsUtf8 path → IfOk result IsUtf8
 placed-text build directory path result h g u v = result-text build (read_from (Some directory) path) result g (read-text directory path h u v)
 
 -- a list after another that is written out, by the test of its length
-pub glued-appended : (front rest : List ℕ) (empty : Bool) → empty ≡ (length rest == 0) → empty ≡ false → appended front rest ≡ glued front rest
+pub glued-appended : (front rest : Bytes) (empty : Bool) → empty ≡ (length rest == 0) → empty ≡ false → appended front rest ≡ glued front rest
 glued-appended [] rest empty e h = refl
 glued-appended (b ∷ bs) [] empty e h = let k : true ≡ false = sym e ∙ h in cc
 glued-appended (b ∷ bs) (c ∷ cs) empty e h = refl
 
-pub glued-alone : (front rest : List ℕ) (empty : Bool) → empty ≡ (length rest == 0) → empty ≡ true → front ≡ glued front rest
+pub glued-alone : (front rest : Bytes) (empty : Bool) → empty ≡ (length rest == 0) → empty ≡ true → front ≡ glued front rest
 glued-alone front [] empty e h = sym (glued-nil front)
 glued-alone front (c ∷ cs) empty e h = let k : true ≡ false = sym h ∙ e ∙ no-length (length cs) in cc
   where

@@ -1,4 +1,5 @@
 -- Which paths can be escaped, and what the escaped form is and stands for.
+use Rattle.ninja_text.specs.Bytes.{Bytes}
 use Rattle.std.proofs.Common.{◌≡◌, ℕ, Bool, true, false, not, ◌==◌, IsTrue, ◌↔◌, List, [], ◌∷◌, length, refl, ap, inl, inr, map}
 use Rattle.std.specs.Prelude.{All, if◌then◌else◌}
 use Rattle.std.specs.List.{list_any, list_all, AllByRecursion}
@@ -15,7 +16,7 @@ use Rattle.ninja_text.proofs.SpelledUnits.{is_sound, unit_text, text_of_units}
 -- ---- the test of what can be escaped means what the record says
 
 -- if no element passes the test, each fails it
-none_passes : (p : ℕ → Bool) (bs : List ℕ) → list_any p bs ≡ false → All (λ b. p b ≡ false) bs
+none_passes : (p : ℕ → Bool) (bs : Bytes) → list_any p bs ≡ false → All (λ b. p b ≡ false) bs
 none_passes p [] h = All-nil (λ b. p b ≡ false)
 none_passes p (b ∷ bs) h =
     let both = or_parts (p b) (list_any p bs) h in
@@ -27,21 +28,21 @@ not-false true h = cc
 not-false false h = refl
 
 -- if the test holds, the record does
-writable_record : (path : List ℕ) → IsTrue (is_writable path) → IsWritable path
+writable_record : (path : Bytes) → IsTrue (is_writable path) → IsWritable path
 writable_record [] h = cc
 writable_record (b ∷ bs) h = record { some = λ e. cc; each = none_passes is_unwritable (b ∷ bs) (not-false (list_any is_unwritable (b ∷ bs)) h) }
 
 -- if the record holds, the test does
-writable_test : (path : List ℕ) → IsWritable path → IsTrue (is_writable path)
+writable_test : (path : Bytes) → IsWritable path → IsTrue (is_writable path)
 writable_test [] w = absurd (w.some refl)
 writable_test (b ∷ bs) w = ap not (list_any_none is_unwritable (b ∷ bs) w.each)
 
 -- so the test means what the record says
-pub writable : (path : List ℕ) → IsTrue (is_writable path) ↔ IsWritable path
+pub writable : (path : Bytes) → IsTrue (is_writable path) ↔ IsWritable path
 writable path = (writable_record path, writable_test path)
 
 -- the result of the test at a path that has a byte
-pub some_byte : (path : List ℕ) (found : Bool) → (length path == 0) ≡ false → found ≡ list_any is_unwritable path → not found ≡ is_writable path
+pub some_byte : (path : Bytes) (found : Bool) → (length path == 0) ≡ false → found ≡ list_any is_unwritable path → not found ≡ is_writable path
 some_byte [] found h e = cc
 some_byte (b ∷ bs) found h e = ap not e
 
@@ -51,21 +52,21 @@ some_byte (b ∷ bs) found h e = ap not e
 abbrev pub path_unit : ℕ → LineUnit
 path_unit b = if is_escaped b then Escape b else Byte b
 
-abbrev pub path_units : List ℕ → List LineUnit
+abbrev pub path_units : Bytes → List LineUnit
 path_units path = map path_unit path
 
 -- no byte that cannot be escaped
-abbrev HasSpelling : List ℕ → Type 0
+abbrev HasSpelling : Bytes → Type 0
 HasSpelling path = AllByRecursion (λ b. is_unwritable b ≡ false) path
 
-pub has_spelling : (path : List ℕ) → IsWritable path → HasSpelling path
+pub has_spelling : (path : Bytes) → IsWritable path → HasSpelling path
 has_spelling path w = recursion_from_All (λ b. is_unwritable b ≡ false) path w.each
 
 -- they are its escaped form
 byte_text : (b : ℕ) → unit_text (path_unit b) ≡ escaped_byte b
 byte_text b = elim (cases_Bool (is_escaped b)) [ inl e ↦ rw e refl | inr e ↦ rw e refl ]
 
-pub path_text : (path : List ℕ) → text_of_units (path_units path) ≡ escaped path
+pub path_text : (path : Bytes) → text_of_units (path_units path) ≡ escaped path
 path_text [] = refl
 path_text (b ∷ path) = rw (byte_text b, path_text path) refl
 
@@ -95,7 +96,7 @@ byte_sound b u = elim (cases_Bool (is_escaped b)) [
 ]
 
 -- the units of a path are sound, and pieces of a word
-pub path_sound : (path : List ℕ) → HasSpelling path → list_all is_sound (path_units path) ≡ true
+pub path_sound : (path : Bytes) → HasSpelling path → list_all is_sound (path_units path) ≡ true
 path_sound [] can = refl
 path_sound (b ∷ path) can = and_from _ _ (byte_sound b can.0) (path_sound path can.1)
 
@@ -105,17 +106,17 @@ byte_piece b u = elim (cases_Bool (is_escaped b)) [
   | inr e ↦ let o = ordinary b e u in rw e (rw (o.no_space, o.no_colon, o.no_bar) refl)
 ]
 
-pub path_pieces : (path : List ℕ) → HasSpelling path → list_all is_piece (path_units path) ≡ true
+pub path_pieces : (path : Bytes) → HasSpelling path → list_all is_piece (path_units path) ≡ true
 path_pieces [] can = refl
 path_pieces (b ∷ path) can = and_from _ _ (byte_piece b can.0) (path_pieces path can.1)
 
 -- a path without such a byte is its own escaped form
-pub escaped_none : (path : List ℕ) → list_any is_escaped path ≡ false → escaped path ≡ path
+pub escaped_none : (path : Bytes) → list_any is_escaped path ≡ false → escaped path ≡ path
 escaped_none [] none = refl
 escaped_none (b ∷ path) none =
     let p = or_parts (is_escaped b) (list_any is_escaped path) none in
     rw p.0 (ap (λ bytes. b ∷ bytes) (escaped_none path p.1))
 
 -- what is read of an escaped path is the path
-pub value_of_escaped : (path : List ℕ) → IsWritable path → value_of (escaped path) ≡ path
+pub value_of_escaped : (path : Bytes) → IsWritable path → value_of (escaped path) ≡ path
 value_of_escaped path w = spells_read (escaped path) path (escaped-spells path w.some (has_spelling path w))

@@ -1,4 +1,5 @@
 -- The bytes that a text's units are, and the units of a line without a lexical fault.
+use Rattle.ninja_text.specs.Bytes.{Bytes}
 use Rattle.std.proofs.Common.{inl, inr, ◌≡◌, ℕ, suc, zero, ◌+◌, ◌-◌, Bool, true, false, List, [], ◌∷◌, ◌++◌, length, take, drop, replicate, refl, sym, ap, ◌∙◌, subst, arith, ◌==◌, ◌&&◌, length-append, append_assoc, ◌||◌, not, Some, None}
 use Rattle.std.specs.Prelude.{slice_range, Option}
 use Rattle.std.specs.List.{list_all}
@@ -20,7 +21,7 @@ use Rattle.ninja_text.specs.Meanings.{IsFaultless}
 -- ---- the bytes that the units of a text are, one unit after another
 
 -- bytes that are this unit
-abbrev pub IsUnitText : LineUnit → List ℕ → Type 0
+abbrev pub IsUnitText : LineUnit → Bytes → Type 0
 IsUnitText (Continuation len) bytes = IsContinuation bytes × (length bytes ≡ len)
 IsUnitText (Escape b) bytes = bytes ≡ 36 ∷ b ∷ []
 IsUnitText (Byte b) bytes = bytes ≡ b ∷ []
@@ -30,19 +31,19 @@ abbrev TakesSpaces : LineUnit → List LineUnit → Type 0
 TakesSpaces u us = is_continuation u ≡ true → begins_with 32 us ≡ false
 
 -- Bytes that are these units, one after another. Each continuation has all the spaces that follow it.
-abbrev pub AreUnitTexts : List LineUnit → List ℕ → Type 0
+abbrev pub AreUnitTexts : List LineUnit → Bytes → Type 0
 AreUnitTexts [] bytes = bytes ≡ []
-AreUnitTexts (u ∷ us) bytes = (own : List ℕ) × (rest : List ℕ) × IsUnitText u own × TakesSpaces u us × AreUnitTexts us rest × (bytes ≡ own ++ rest)
+AreUnitTexts (u ∷ us) bytes = (own : Bytes) × (rest : Bytes) × IsUnitText u own × TakesSpaces u us × AreUnitTexts us rest × (bytes ≡ own ++ rest)
 
 -- that many spaces, and one more
-abbrev spaces : ℕ → List ℕ
+abbrev spaces : ℕ → Bytes
 spaces n = replicate n 32
 
 one_more : (n : ℕ) → spaces n ++ 32 ∷ [] ≡ 32 ∷ spaces n
 one_more zero = refl
 one_more (suc n) = ap (λ xs. 32 ∷ xs) (one_more n)
 
-longer : (own : List ℕ) → IsContinuation own → IsContinuation (own ++ 32 ∷ [])
+longer : (own : Bytes) → IsContinuation own → IsContinuation (own ++ 32 ∷ [])
 longer own c = (
   suc c.0,
   elim c.1 [
@@ -52,7 +53,7 @@ longer own c = (
 )
 
 -- a continuation in front of units takes the spaces that they begin with
-continued : (len : ℕ) (us : List LineUnit) (own rest : List ℕ) → IsContinuation own → length own ≡ len → AreUnitTexts us rest →
+continued : (len : ℕ) (us : List LineUnit) (own rest : Bytes) → IsContinuation own → length own ≡ len → AreUnitTexts us rest →
     AreUnitTexts (with_continuation len us) (own ++ rest)
 continued len [] own rest c is h = (own, [], (c, is), (λ e. refl), refl, ap (λ xs. own ++ xs) h)
 continued len (Byte b ∷ us) own rest c is h = elim (cases_Bool (b == 32)) [
@@ -80,7 +81,7 @@ return_text a b c d r =
     (0, inr (ap (λ n. n ∷ b ∷ c ∷ []) (eqb-true a 36 d) ∙ ap (λ n. 36 ∷ n ∷ c ∷ []) (eqb-true b 13 p.0) ∙ ap (λ n. 36 ∷ 13 ∷ n ∷ []) (eqb-true c 10 p.1)))
 
 -- the units of a text are its bytes
-pub unit_texts : (bytes : List ℕ) → AreUnitTexts (units bytes) bytes
+pub unit_texts : (bytes : Bytes) → AreUnitTexts (units bytes) bytes
 unit_texts [] = refl
 unit_texts (a ∷ []) = (a ∷ [], [], refl, no_continuation, refl, refl)
 unit_texts (a ∷ b ∷ []) = elim (cases_Bool (a == 36)) [
@@ -107,8 +108,8 @@ begins_less [] vs h = refl
 begins_less (u ∷ us) vs h = h
 
 -- the bytes of some units, and those of the units after them
-pub split : (us vs : List LineUnit) (bytes : List ℕ) → AreUnitTexts (us ++ vs) bytes →
-    (x : List ℕ) × (y : List ℕ) × AreUnitTexts us x × AreUnitTexts vs y × (bytes ≡ x ++ y)
+pub split : (us vs : List LineUnit) (bytes : Bytes) → AreUnitTexts (us ++ vs) bytes →
+    (x : Bytes) × (y : Bytes) × AreUnitTexts us x × AreUnitTexts vs y × (bytes ≡ x ++ y)
 split [] vs bytes h = ([], bytes, refl, h, refl)
 split (u ∷ us) vs bytes h =
     let later = split us vs h.1 h.4 in (
@@ -120,12 +121,12 @@ split (u ∷ us) vs bytes h =
           sym (append_assoc h.0 later.0 later.1),
     )
 
-unit_length : (u : LineUnit) (own : List ℕ) → IsUnitText u own → length own ≡ unit_len u
+unit_length : (u : LineUnit) (own : Bytes) → IsUnitText u own → length own ≡ unit_len u
 unit_length (Continuation len) own h = h.1
 unit_length (Escape b) own h = ap length h
 unit_length (Byte b) own h = ap length h
 
-pub texts_length : (us : List LineUnit) (bytes : List ℕ) → AreUnitTexts us bytes → length bytes ≡ total_len us
+pub texts_length : (us : List LineUnit) (bytes : Bytes) → AreUnitTexts us bytes → length bytes ≡ total_len us
 texts_length [] bytes h = ap length h
 texts_length (u ∷ us) bytes h =
     ap length h.5 ∙ length-append h.0 h.1 ∙ ap (λ n. n + length h.1) (unit_length u h.0 h.2) ∙ ap (λ n. unit_len u + n) (texts_length us h.1 h.4)
@@ -137,7 +138,7 @@ is_proper (Escape b) = is_escaped b
 is_proper (Byte b) = is_plain b
 
 -- a continuation takes spaces
-takes : (n k : ℕ) (rest : List ℕ) → with_continuation k (units (spaces n ++ rest)) ≡ with_continuation (k + n) (units rest)
+takes : (n k : ℕ) (rest : Bytes) → with_continuation k (units (spaces n ++ rest)) ≡ with_continuation (k + n) (units rest)
 takes zero k rest = ap (λ m. with_continuation m (units rest)) {x = k} {y = k + 0} (omega arith)
 takes (suc n) k rest =
     ap (with_continuation k) (units_byte 32 (spaces n ++ rest) refl) ∙ takes n (k + 1) rest
@@ -155,7 +156,7 @@ spaces_length zero = refl
 spaces_length (suc n) = ap suc (spaces_length n)
 
 -- a continuation at the front is read back
-continuation_back : (own rest : List ℕ) (us : List LineUnit) → IsContinuation own → begins_with 32 us ≡ false → units rest ≡ us →
+continuation_back : (own rest : Bytes) (us : List LineUnit) → IsContinuation own → begins_with 32 us ≡ false → units rest ≡ us →
     units (own ++ rest) ≡ Continuation (length own) ∷ us
 continuation_back own rest us c none later = elim c.1 [
   | inl h ↦ subst (λ xs. units (xs ++ rest) ≡ Continuation (length xs) ∷ us) (sym h)
@@ -167,7 +168,7 @@ continuation_back own rest us c none later = elim c.1 [
   after k m is = takes c.0 k rest ∙ ap (with_continuation (k + c.0)) later ∙ takes_no_more (k + c.0) us none ∙ ap (λ n. Continuation n ∷ us) is
 
 -- proper units are read back
-pub read_back : (us : List LineUnit) (bytes : List ℕ) → list_all is_proper us ≡ true → AreUnitTexts us bytes → units bytes ≡ us
+pub read_back : (us : List LineUnit) (bytes : Bytes) → list_all is_proper us ≡ true → AreUnitTexts us bytes → units bytes ≡ us
 read_back [] bytes p h = ap units h
 read_back (Continuation len ∷ us) bytes p h =
     ap units h.5 ∙ continuation_back h.0 h.1 us h.2.0 (h.3 refl) (read_back us h.1 p h.4) ∙ ap (λ n. Continuation n ∷ us) h.2.1
@@ -182,19 +183,19 @@ read_back (Byte b ∷ us) bytes p h =
     ap units (h.5 ∙ ap (λ xs. xs ++ h.1) h.2) ∙ units_byte b h.1 (plain b q.0).no_dollar ∙ ap (λ vs. Byte b ∷ vs) (read_back us h.1 q.1 h.4)
 
 -- The text from an index on is these units, all of them proper.
-pub record Remains (text : List ℕ) (index : ℕ) (us : List LineUnit) : Type 0 where
-  pub front : List ℕ
-  pub bytes : List ℕ
+pub record Remains (text : Bytes) (index : ℕ) (us : List LineUnit) : Type 0 where
+  pub front : Bytes
+  pub bytes : Bytes
   pub whole : text ≡ front ++ bytes
   pub front_len : length front ≡ index
   pub texts : AreUnitTexts us bytes
   pub proper : list_all is_proper us ≡ true
 
-pub remains_all : (text : List ℕ) → list_all is_proper (units text) ≡ true → Remains text 0 (units text)
+pub remains_all : (text : Bytes) → list_all is_proper (units text) ≡ true → Remains text 0 (units text)
 remains_all text proper = record { front = []; bytes = text; whole = refl; front_len = refl; texts = unit_texts text; proper = proper }
 
 -- past the first of them, and past more
-pub past_unit : (text : List ℕ) (index : ℕ) (u : LineUnit) (us : List LineUnit) → Remains text index (u ∷ us) → Remains text (index + unit_len u) us
+pub past_unit : (text : Bytes) (index : ℕ) (u : LineUnit) (us : List LineUnit) → Remains text index (u ∷ us) → Remains text (index + unit_len u) us
 past_unit text index u us r =
     let h = r.texts in
     record {
@@ -206,20 +207,20 @@ past_unit text index u us r =
       proper = (and_parts (is_proper u) (list_all is_proper us) r.proper).1;
     }
 
-pub past_units : (text : List ℕ) (index : ℕ) (us vs : List LineUnit) → Remains text index (us ++ vs) → Remains text (index + total_len us) vs
+pub past_units : (text : Bytes) (index : ℕ) (us vs : List LineUnit) → Remains text index (us ++ vs) → Remains text (index + total_len us) vs
 past_units text index [] vs r = subst (λ n. Remains text n vs) {x = index} {y = index + 0} (omega arith) r
 past_units text index (u ∷ us) vs r =
     subst (λ n. Remains text n vs) {x = index + unit_len u + total_len us} {y = index + (unit_len u + total_len us)} (omega arith)
     (past_units text (index + unit_len u) us vs (past_unit text index u (us ++ vs) r))
 
 -- the bytes of the first of them
-pub record Part (text : List ℕ) (start : ℕ) (us : List LineUnit) : Type 0 where
-  pub bytes : List ℕ
+pub record Part (text : Bytes) (start : ℕ) (us : List LineUnit) : Type 0 where
+  pub bytes : Bytes
   pub texts : AreUnitTexts us bytes
   pub proper : list_all is_proper us ≡ true
   pub slice : slice_range text start (start + total_len us) ≡ bytes
 
-pub first_part : (text : List ℕ) (start : ℕ) (us vs : List LineUnit) → Remains text start (us ++ vs) → Part text start us
+pub first_part : (text : Bytes) (start : ℕ) (us vs : List LineUnit) → Remains text start (us ++ vs) → Part text start us
 first_part text start us vs r =
     let parts = split us vs r.bytes r.texts in
     record {
@@ -232,7 +233,7 @@ first_part text start us vs r =
     }
 
 -- the rest of the text
-pub rest_is : (text : List ℕ) (index : ℕ) (us : List LineUnit) (r : Remains text index us) → drop index text ≡ r.bytes
+pub rest_is : (text : Bytes) (index : ℕ) (us : List LineUnit) (r : Remains text index us) → drop index text ≡ r.bytes
 rest_is text index us r = ap (drop index) r.whole ∙ drop_at r.front r.bytes index r.front_len
 
 -- ---- the units of a line without a lexical fault
@@ -245,7 +246,7 @@ is_inner (Escape b) = true
 is_inner (Byte b) = not (b == 36) && not (b == 10)
 
 -- The units up to the end, which is past this index, are such.
-record InnerUpTo (index : ℕ) (end : LineEnd) (bytes : List ℕ) : Type 0 where
+record InnerUpTo (index : ℕ) (end : LineEnd) (bytes : Bytes) : Type 0 where
   count : ℕ
   at : end.text_len ≡ index + count
   inner : list_all is_inner (units (take count bytes)) ≡ true
@@ -254,13 +255,13 @@ none_some : {e : LineEnd} {A : Type 0} → ◌≡◌ {A = Option LineEnd} None (
 none_some h = absurd (cc)
 
 -- the end is at this index
-here : (index len : ℕ) (end : LineEnd) (bytes : List ℕ) → ◌≡◌ {A = Option LineEnd} (Some (record { text_len = index; line_len = len })) (Some end) →
+here : (index len : ℕ) (end : LineEnd) (bytes : Bytes) → ◌≡◌ {A = Option LineEnd} (Some (record { text_len = index; line_len = len })) (Some end) →
     InnerUpTo index end bytes
 here index len end bytes h =
     let same : ◌≡◌ {A = LineEnd} (record { text_len = index; line_len = len }) end = cc in
     record { count = 0; at = omega (arith, ap (λ e. e.text_len) same); inner = refl }
 
-past_byte : (b : ℕ) (bytes : List ℕ) (index : ℕ) (end : LineEnd) → (b == 36) ≡ false →
+past_byte : (b : ℕ) (bytes : Bytes) (index : ℕ) (end : LineEnd) → (b == 36) ≡ false →
     (end_from (index + 1) (units bytes) ≡ Some end → InnerUpTo (index + 1) end bytes)
     → end_from index (Byte b ∷ units bytes) ≡ Some end → InnerUpTo index end (b ∷ bytes)
 past_byte b bytes index end d later h = elim (cases_Bool (b == 10)) [
@@ -277,20 +278,20 @@ past_byte b bytes index end d later h = elim (cases_Bool (b == 10)) [
   ]
 ]
 
-abbrev begins_feed : List ℕ → Bool
+abbrev begins_feed : Bytes → Bool
 begins_feed [] = false
 begins_feed (c ∷ bytes) = c == 10
 
-escape_units : (b : ℕ) (bytes : List ℕ) → (b == 10) ≡ false → ((b == 13) && begins_feed bytes) ≡ false → units (36 ∷ b ∷ bytes) ≡ Escape b ∷ units bytes
+escape_units : (b : ℕ) (bytes : Bytes) → (b == 10) ≡ false → ((b == 13) && begins_feed bytes) ≡ false → units (36 ∷ b ∷ bytes) ≡ Escape b ∷ units bytes
 escape_units b [] f r = rw f refl
 escape_units b (c ∷ bytes) f r = rw (f, r) refl
 
-less_feed : (b n : ℕ) (bytes : List ℕ) → ((b == 13) && begins_feed bytes) ≡ false → ((b == 13) && begins_feed (take n bytes)) ≡ false
+less_feed : (b n : ℕ) (bytes : Bytes) → ((b == 13) && begins_feed bytes) ≡ false → ((b == 13) && begins_feed (take n bytes)) ≡ false
 less_feed b zero bytes r = elim (cases_Bool (b == 13)) [ inl h ↦ rw h refl | inr h ↦ rw h refl ]
 less_feed b (suc n) [] r = r
 less_feed b (suc n) (c ∷ bytes) r = r
 
-past_escape : (b : ℕ) (bytes : List ℕ) (index : ℕ) (end : LineEnd) → (b == 10) ≡ false → ((b == 13) && begins_feed bytes) ≡ false →
+past_escape : (b : ℕ) (bytes : Bytes) (index : ℕ) (end : LineEnd) → (b == 10) ≡ false → ((b == 13) && begins_feed bytes) ≡ false →
     InnerUpTo (index + 2) end bytes → InnerUpTo index end (36 ∷ b ∷ bytes)
 past_escape b bytes index end f r rest = record {
   count = suc (suc rest.count);
@@ -307,14 +308,14 @@ inner_continued len (Byte b ∷ us) h = elim (cases_Bool (b == 32)) [
 inner_continued len (Escape b ∷ us) h = h
 inner_continued len (Continuation more ∷ us) h = h
 
-past_feed : (bytes : List ℕ) (index : ℕ) (end : LineEnd) → InnerUpTo (index + 2) end bytes → InnerUpTo index end (36 ∷ 10 ∷ bytes)
+past_feed : (bytes : Bytes) (index : ℕ) (end : LineEnd) → InnerUpTo (index + 2) end bytes → InnerUpTo index end (36 ∷ 10 ∷ bytes)
 past_feed bytes index end rest = record {
   count = suc (suc rest.count);
   at = omega (arith, rest.at);
   inner = ap (list_all is_inner) (units_feed (take rest.count bytes)) ∙ inner_continued 2 (units (take rest.count bytes)) rest.inner;
 }
 
-past_return : (bytes : List ℕ) (index : ℕ) (end : LineEnd) → InnerUpTo (index + 3) end bytes → InnerUpTo index end (36 ∷ 13 ∷ 10 ∷ bytes)
+past_return : (bytes : Bytes) (index : ℕ) (end : LineEnd) → InnerUpTo (index + 3) end bytes → InnerUpTo index end (36 ∷ 13 ∷ 10 ∷ bytes)
 past_return bytes index end rest = record {
   count = suc (suc (suc rest.count));
   at = omega (arith, rest.at);
@@ -322,7 +323,7 @@ past_return bytes index end rest = record {
 }
 
 -- what `$` begins, by the bytes after it
-module _ (b c : ℕ) (bytes : List ℕ) (index : ℕ) (end : LineEnd) where
+module _ (b c : ℕ) (bytes : Bytes) (index : ℕ) (end : LineEnd) where
   by_feed : (b == 10) ≡ true → InnerUpTo (index + 2) end (c ∷ bytes) → InnerUpTo index end (36 ∷ b ∷ c ∷ bytes)
   by_feed f rest = rw (eqb-true b 10 f) (past_feed (c ∷ bytes) index end rest)
 
@@ -332,7 +333,7 @@ module _ (b c : ℕ) (bytes : List ℕ) (index : ℕ) (end : LineEnd) where
       subst (λ n. InnerUpTo index end (36 ∷ n ∷ c ∷ bytes)) (sym (eqb-true b 13 p.0))
       (subst (λ n. InnerUpTo index end (36 ∷ 13 ∷ n ∷ bytes)) (sym (eqb-true c 10 p.1)) (past_return bytes index end rest))
 
-inner_units : (bytes : List ℕ) (index : ℕ) (end : LineEnd) → end_from index (units bytes) ≡ Some end → InnerUpTo index end bytes
+inner_units : (bytes : Bytes) (index : ℕ) (end : LineEnd) → end_from index (units bytes) ≡ Some end → InnerUpTo index end bytes
 inner_units [] index end h = none_some h
 inner_units (a ∷ []) index end h = elim (cases_Bool (a == 36)) [
   | inl d ↦ none_some (subst (λ n. end_from index (Byte n ∷ []) ≡ Some end) (eqb-true a 36 d) h)
@@ -402,7 +403,7 @@ all_proper (u ∷ us) index h i =
     and_from _ _ (unit_proper index u f.0 p.0) (all_proper us (index + unit_len u) f.1 p.1)
 
 -- the units of the text of a line that has no fault
-pub faultless_units : (line : List ℕ) → IsFaultless line → list_all is_proper (units (text_of_line line)) ≡ true
+pub faultless_units : (line : Bytes) → IsFaultless line → list_all is_proper (units (text_of_line line)) ≡ true
 faultless_units line r =
     let inner = inner_units line 0 _ (rw r.no_comment at r.is_line.1) in
     all_proper (units (text_of_line line)) 0 r.no_fault

@@ -1,4 +1,5 @@
 -- Readers of a format's lines: what is returned is read, and what is rejected is the first fault in the bytes.
+use Rattle.ninja_text.specs.Bytes.{Bytes}
 use Rattle.std.proofs.Common.{inl, inr, ◌⊎◌, ◌≡◌, ℕ, ◌<◌, ◌≤◌, length, take, drop, List, [], ◌∷◌, ◌++◌, Option, None, Some, Ok, Err, refl, sym, ap, subst, append_assoc, arith}
 use Rattle.std.specs.Prelude.{Result}
 use Rattle.std.specs.List.{AllByRecursion}
@@ -26,7 +27,7 @@ module _ {C V : Type 0} (format : LineFormat C V) where
   texts_push (l ∷ lines) (d ∷ classes) line c p is = (p.0, texts_push lines classes line c p.1 is)
 
   -- the classes of the texts returned are those of the lines
-  pub lines_classed : (before : List ℕ) (lines : List (List ℕ)) (classes : List C) → AllByRecursion (λ line. length line ≤ line_limit) lines
+  pub lines_classed : (before : Bytes) (lines : List Bytes) (classes : List C) → AllByRecursion (λ line. length line ≤ line_limit) lines
       → AreTextsOfClasses format (logical_lines before lines) classes → AreOfClasses format lines classes
   lines_classed before [] [] short texts = tt
   lines_classed before [] (c ∷ classes) short texts = texts
@@ -34,14 +35,14 @@ module _ {C V : Type 0} (format : LineFormat C V) where
   lines_classed before (line ∷ lines) (c ∷ classes) short texts = ((short.0, texts.0), lines_classed (before ++ line) lines classes short.1 texts.1)
 
   -- whole lines that were returned are of their classes
-  begins_classed : (bytes : List ℕ) (lent : List LogicalLine) (number : ℕ) (rest : List ℕ) (classes : List C) (begins : BeginsWith bytes lent number rest) →
+  begins_classed : (bytes : Bytes) (lent : List LogicalLine) (number : ℕ) (rest : Bytes) (classes : List C) (begins : BeginsWith bytes lent number rest) →
       AreTextsOfClasses format lent classes
       → AreOfClasses format begins.lines classes
   begins_classed bytes lent number rest classes begins texts = lines_classed
       [] begins.lines classes begins.short (subst (λ l. AreTextsOfClasses format l classes) begins.lent_are texts)
 
   -- and with nothing after them stand for what their classes do
-  pub all_lent : (bytes : List ℕ) (lent : List LogicalLine) (number : ℕ) (classes : List C) (value : V) → BeginsWith bytes lent number [] →
+  pub all_lent : (bytes : Bytes) (lent : List LogicalLine) (number : ℕ) (classes : List C) (value : V) → BeginsWith bytes lent number [] →
       AreTextsOfClasses format lent classes → format.grammar classes value
       → StandsForValue format bytes value
   all_lent bytes lent number classes value begins texts grammar = record {
@@ -53,11 +54,11 @@ module _ {C V : Type 0} (format : LineFormat C V) where
   }
 
   -- what comes after whole lines that were returned, with which some text begins
-  module _ {F : Type 0} (faults : LineFaults C F) (bytes : List ℕ) (lent : List LogicalLine) (number : ℕ) (rest : List ℕ) (classes : List C)
+  module _ {F : Type 0} (faults : LineFaults C F) (bytes : Bytes) (lent : List LogicalLine) (number : ℕ) (rest : Bytes) (classes : List C)
       (begins : BeginsWith bytes lent number rest)
       (texts : AreTextsOfClasses format lent classes) (begun : Begins format classes) where
     -- a line with which none continues, and which has a fault
-    pub faulty_next : (line after : List ℕ) (fault : F) → rest ≡ line ++ after → IsLine line → IsFaultyAfter format classes line →
+    pub faulty_next : (line after : Bytes) (fault : F) → rest ≡ line ++ after → IsLine line → IsFaultyAfter format classes line →
         faults.of_line classes line fault → FaultyLine format faults bytes number fault
     faulty_next line after fault split is faulty reason = record {
       before = begins.lines;
@@ -87,11 +88,11 @@ module _ {C V : Type 0} (format : LineFormat C V) where
     }
 
     -- bytes that reach the limit without an end within it: they are a line that is too long, or such an end
-    pub faulty_at_limit : (fault : F) → ((line : List ℕ) → line_limit < length line → faults.of_line classes line fault) → faults.of_end classes rest fault →
+    pub faulty_at_limit : (fault : F) → ((line : Bytes) → line_limit < length line → faults.of_line classes line fault) → faults.of_end classes rest fault →
         IsTooLong rest
         → FaultyLine format faults bytes number fault ⊎ FaultyEnd format faults bytes number fault
     faulty_at_limit fault of_line of_end long = by_end (line_end rest) refl where
-      short_enough : (line : List ℕ) (c : C) → IsOfClass format line c → length line ≤ line_limit
+      short_enough : (line : Bytes) (c : C) → IsOfClass format line c → length line ≤ line_limit
       short_enough line c is = is.0
 
       by_end : (o : Option LineEnd) → line_end rest ≡ o → FaultyLine format faults bytes number fault ⊎ FaultyEnd format faults bytes number fault
@@ -120,17 +121,17 @@ module _ {C V S E : Type 0} (format : LineFormat C V) (leads : List C → S → 
           subst (λ l. AreReadTo format leads l new) (append_assoc lent (line ∷ []) more) (read_on (lent ++ line ∷ []) more mid new next on)
 
       -- by what the next line's fault says of the bytes
-      module _ (is_fault_in : List ℕ → E → Type 0)
-          (refused : (bytes : List ℕ) (lent : List LogicalLine) (state : S) (fault : E) → AreReadTo format leads lent state →
+      module _ (is_fault_in : Bytes → E → Type 0)
+          (refused : (bytes : Bytes) (lent : List LogicalLine) (state : S) (fault : E) → AreReadTo format leads lent state →
           IsNextFault refuses of_cutter bytes lent state fault → is_fault_in bytes fault) where
-        failure_in : (bytes : List ℕ) (lent : List LogicalLine) (old : S) (failure : Failure E) → AreReadTo format leads lent old →
+        failure_in : (bytes : Bytes) (lent : List LogicalLine) (old : S) (failure : Failure E) → AreReadTo format leads lent old →
             HasFailureBehind passes refuses of_cutter bytes lent old failure
             → ForFault (is_fault_in bytes) failure
         failure_in bytes lent old (Fault f) read (more, mid, on, next) = refused bytes (lent ++ more) mid f (read_on lent more old mid read on) next
         failure_in bytes lent old Memory read h = tt
 
         -- what reading a piece returns and leaves
-        pub fed : (bytes all : List ℕ) (old : LinesRead S E) (result : Result Unit (Failure E)) (new : LinesRead S E) → HasRead format leads bytes old
+        pub fed : (bytes all : Bytes) (old : LinesRead S E) (result : Result Unit (Failure E)) (new : LinesRead S E) → HasRead format leads bytes old
             → ((lent : List LogicalLine) → HasLentAll bytes lent old → FeedsLines passes refuses of_cutter all lent old.state result new)
             → Reads (HasRead format leads) is_fault_in all result new
         fed bytes all old (Ok u) new has feeds =
@@ -142,7 +143,7 @@ module _ {C V S E : Type 0} (format : LineFormat C V) (leads : List C → S → 
 
     -- what was fed to a reader that has rejected none has no faulty line, and no end that reaches the limit
     pub none_refused : {F : Type 0} (faults : LineFaults C F) → IsDecided format faults →
-        ((classes : List C) (state : S) → leads classes state → Begins format classes) → (bytes : List ℕ) (r : LinesRead S E) → HasRead format leads bytes r →
+        ((classes : List C) (state : S) → leads classes state → Begins format classes) → (bytes : Bytes) (r : LinesRead S E) → HasRead format leads bytes r →
         (n : ℕ) (fault : F)
         → (FaultyLine format faults bytes n fault ⊎ ((e : FaultyEnd format faults bytes n fault) × (line_limit ≤ length e.rest))) → ⊥
     none_refused faults decided begun bytes r has n fault refused = go refused where

@@ -1,4 +1,5 @@
 -- Lists by their indexes, and the results of calls that extend them one after another.
+use Rattle.ninja_text.specs.Bytes.{Bytes}
 use Rattle.std.proofs.Common.{◌≡◌, ℕ, ◌<◌, Bool, ◌&&◌, ◌==◌, true, false, cond, List, ◌++◌, ◌∙◌, ap, append_assoc, Option, Some, None, arith, Ok, Err, IfOk, sym, subst, zero, suc, ◌+◌, [], ◌∷◌, drop, length, refl, slice_get, ◌-◌, ◌⊎◌, map, take, ap₂, inl, inr, ⊎_elim, length-drop, get_or, true≢false, bytes_eq, not}
 use Rattle.std.specs.Io.KnownBytes.{Appends}
 use Rattle.std.specs.Prelude.{Result, MatchResult, is_ok}
@@ -13,7 +14,7 @@ use Rattle.ninja_text.specs.Firsts.{AllDiffer}
 -- ---- known bytes that grow in several writes
 
 -- one extension and then another are one
-pub Appends-trans : (a b c : Option (List ℕ)) (x y : List ℕ) → Appends a b x → Appends b c y → Appends a c (x ++ y)
+pub Appends-trans : (a b c : Option Bytes) (x y : Bytes) → Appends a b x → Appends b c y → Appends a c (x ++ y)
 Appends-trans None b c x y h k = tt
 Appends-trans (Some p) None c x y h k = absurd h
 Appends-trans (Some p) (Some q) None x y h k = absurd k
@@ -36,7 +37,7 @@ with_other_error P Q (Err e) (Err d) h same p = tt
 -- ---- calls of a writer, one after the other
 
 -- one more call after the others
-takes-one-more : {W : Type 0} (writes : Call W) (text : List ℕ) (out : W) (index : ℕ) (turns : List (W × ℕ)) (last : W) (end : ℕ) (next : W) (n : ℕ)
+takes-one-more : {W : Type 0} (writes : Call W) (text : Bytes) (out : W) (index : ℕ) (turns : List (W × ℕ)) (last : W) (end : ℕ) (next : W) (n : ℕ)
     → TakesInTurn writes text out index turns last end → 0 < n → writes last next (Ok n) (drop end text)
     → TakesInTurn writes text out index (turns ++ (next, n) ∷ []) next (end + n)
 takes-one-more writes text out index [] last end next n h some call =
@@ -44,7 +45,7 @@ takes-one-more writes text out index [] last end next n h some call =
 takes-one-more writes text out index (turn ∷ turns) last end next n h some call =
     (h.0, h.1, takes-one-more writes text turn.0 (index + turn.1) turns last end next n h.2 some call)
 
-pub taken-one-more : {W : Type 0} (writes : Call W) (text : List ℕ) (out last next : W) (taken n : ℕ)
+pub taken-one-more : {W : Type 0} (writes : Call W) (text : Bytes) (out last next : W) (taken n : ℕ)
     → IsTakenInTurn writes out last text taken → 0 < n → writes last next (Ok n) (drop taken text)
     → IsTakenInTurn writes out next text (taken + n)
 taken-one-more writes text out last next taken n h some call =
@@ -247,7 +248,7 @@ differ_push xs y all new = record { differ = differ }
         (from_push xs y j x at_j)
 
 -- what a search by texts does not find is not there
-pub not_among : {X : Type 0} (f : X → List ℕ) (ks : List X) (x : X) → list_any (λ k. bytes_eq (f x) (f k)) ks ≡ false → (k : ℕ) →
+pub not_among : {X : Type 0} (f : X → Bytes) (ks : List X) (x : X) → list_any (λ k. bytes_eq (f x) (f k)) ks ≡ false → (k : ℕ) →
     slice_get (map f ks) k ≡ Some (f x) → ⊥
 not_among f ks x none k at =
     let from = from_map f ks k (f x) at in

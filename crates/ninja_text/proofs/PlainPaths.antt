@@ -1,4 +1,5 @@
 -- A text of names is a canonical path.
+use Rattle.ninja_text.specs.Bytes.{Bytes}
 use Rattle.std.proofs.Common.{◌≡◌, ℕ, ◌≤◌, Bool, true, false, ◌||◌, ◌&&◌, ◌==◌, cond, if◌then◌else◌, List, [], ◌∷◌, length, refl, sym, subst, ◌∙◌, ap, inl, inr}
 use Rattle.std.specs.List.{list_any, onto_first}
 use Rattle.std.proofs.lemmas.Bool.{and_parts, or_parts, le-ltb, cases_Bool}
@@ -15,24 +16,24 @@ use Rattle.ninja_text.proofs.Components.{components-lack, components-some, compo
 use Rattle.ninja_text.proofs.Canonical.{IsClean, whole-path, clean-none, none-clean, clean-components}
 
 -- whether the rest of a list goes on with names, if this is known of the component that is being read
-abbrev pub names_from : Begun → List ℕ → Bool
+abbrev pub names_from : Begun → Bytes → Bool
 names_from begun [] = is_name begun
 names_from begun (b ∷ bs) =
     if b == 47 then is_name begun && names_from Nothing bs else (if is_unwritable b then false else names_from (after begun b) bs)
 
 -- no name: an empty component, `.` or `..`
-abbrev no_name : List ℕ → Bool
+abbrev no_name : Bytes → Bool
 no_name c = is_current c || is_parent c
 
 -- a component whose bytes so far are these; all names are alike
-abbrev begun_with : Begun → List ℕ → List ℕ
+abbrev begun_with : Begun → Bytes → Bytes
 begun_with Nothing c = c
 begun_with Dot c = 46 ∷ c
 begun_with TwoDots c = 46 ∷ 46 ∷ c
 begun_with Name c = 97 ∷ c
 
 -- the first component, with what is before it, is a name, and so are the others
-abbrev AreNamed : Begun → List (List ℕ) → Type 0
+abbrev AreNamed : Begun → List Bytes → Type 0
 AreNamed begun [] = ⊥
 AreNamed begun (c ∷ cs) = (no_name (begun_with begun c) ≡ false) × (list_any no_name cs ≡ false)
 
@@ -44,12 +45,12 @@ ended TwoDots h = cc
 ended Name h = refl
 
 -- if nothing is before the first component, all are names
-all_named : (cs : List (List ℕ)) → AreNamed Nothing cs → list_any no_name cs ≡ false
+all_named : (cs : List Bytes) → AreNamed Nothing cs → list_any no_name cs ≡ false
 all_named [] h = absurd h
 all_named (c ∷ cs) h = ap (λ b. b || list_any no_name cs) h.0 ∙ h.1
 
 -- a byte in front of the first component
-one_more : (begun : Begun) (b : ℕ) (cs : List (List ℕ)) → AreNamed (after begun b) cs → AreNamed begun (onto_first b cs)
+one_more : (begun : Begun) (b : ℕ) (cs : List Bytes) → AreNamed (after begun b) cs → AreNamed begun (onto_first b cs)
 one_more begun b [] h = absurd h
 one_more Nothing b (c ∷ cs) h = elim (cases_Bool (b == 46)) [ inl d ↦ rw d (rw d at h) | inr d ↦ rw d (refl, h.1) ]
 one_more Dot b (c ∷ cs) h = elim (cases_Bool (b == 46)) [ inl d ↦ rw d (rw d at h) | inr d ↦ rw d (refl, h.1) ]
@@ -57,7 +58,7 @@ one_more TwoDots b (c ∷ cs) h = (refl, h.1)
 one_more Name b (c ∷ cs) h = (refl, h.1)
 
 -- what was read is a list of names, and each byte can be escaped
-names_read : (begun : Begun) (text : List ℕ) → names_from begun text ≡ true → AreNamed begun (components text) × IsClean text
+names_read : (begun : Begun) (text : Bytes) → names_from begun text ≡ true → AreNamed begun (components text) × IsClean text
 names_read begun [] h = ((ended begun h, refl), tt)
 names_read begun (b ∷ bs) h = elim (cases_Bool (b == 47)) [
   | inl s ↦
@@ -70,12 +71,12 @@ names_read begun (b ∷ bs) h = elim (cases_Bool (b == 47)) [
   ]
 ]
 
-pub are_names : (list : List ℕ) → names_from Nothing list ≡ true → AreNames list
+pub are_names : (list : Bytes) → names_from Nothing list ≡ true → AreNames list
 are_names list h = let m = names_read Nothing list h in record { named = all_named (components list) m.0; clean = clean-none list m.1 }
 
 -- ---- a text of names is a path
 
-no_parents : (cs : List (List ℕ)) → list_any no_name cs ≡ false → list_any is_parent cs ≡ false
+no_parents : (cs : List Bytes) → list_any no_name cs ≡ false → list_any is_parent cs ≡ false
 no_parents [] h = refl
 no_parents (c ∷ cs) h =
     let p = or_parts (no_name c) (list_any no_name cs) h in
@@ -83,14 +84,14 @@ no_parents (c ∷ cs) h =
     rw q.1 (no_parents cs p.1)
 
 -- components joined by slashes are the text that they were taken from
-joined : (rooted : Bool) (list : List ℕ) → path_text rooted (components list) ≡ cond rooted (47 ∷ list) list
+joined : (rooted : Bool) (list : Bytes) → path_text rooted (components list) ≡ cond rooted (47 ∷ list) list
 joined true list = ap (λ t. 47 ∷ t) (join_with_byte-slice_split 47 list)
 joined false list = join_with_byte-slice_split 47 list
 
-pub names_list : (list : List ℕ) → AreNames list → IsReducedList list
+pub names_list : (list : Bytes) → AreNames list → IsReducedList list
 names_list list names = record { reduced_is = fixed-reduced (components list) (names-fixed (components list) names.named); clean = names.clean }
 
-pub list_path : (rooted : Bool) (list text : List ℕ) → IsReducedList list → (rooted && list_any is_parent (components list)) ≡ false →
+pub list_path : (rooted : Bool) (list text : Bytes) → IsReducedList list → (rooted && list_any is_parent (components list)) ≡ false →
     cond rooted (47 ∷ list) list ≡ text → length text ≤ 4096 → IsPath text
 list_path rooted list text of inside same short =
     let first = components-some list in
@@ -102,13 +103,13 @@ list_path rooted list text of inside same short =
       inside = inside;
     }) (joined rooted list ∙ same) (le-ltb 4096 (length text) short)
 
-pub names_path : (list text : List ℕ) → AreNames list → 47 ∷ list ≡ text → length text ≤ 4096 → IsPath text
+pub names_path : (list text : Bytes) → AreNames list → 47 ∷ list ≡ text → length text ≤ 4096 → IsPath text
 names_path list text names same short = list_path true list text (names_list list names) (no_parents (components list) names.named) same short
 
 -- ---- `..` in front
 
 -- a list with `..` in front
-pub parent_list : (rest list : List ℕ) → list ≡ 46 ∷ 46 ∷ 47 ∷ rest → IsReducedList rest → IsReducedList list
+pub parent_list : (rest list : Bytes) → list ≡ 46 ∷ 46 ∷ 47 ∷ rest → IsReducedList rest → IsReducedList list
 parent_list rest list same of =
     let parts : components list ≡ (46 ∷ 46 ∷ []) ∷ components rest = ap components same ∙ components-at (46 ∷ 46 ∷ []) rest (refl, (refl, tt)) in
     record {

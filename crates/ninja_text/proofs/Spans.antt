@@ -1,4 +1,5 @@
 -- Where the tokens of a text and the parts of an assignment begin and end.
+use Rattle.ninja_text.specs.Bytes.{Bytes}
 use Rattle.std.proofs.Common.{inl, inr, ◌≡◌, ℕ, ◌+◌, ◌-◌, ◌<◌, ◌≤◌, true, ◌==◌, ◌&&◌, List, [], ◌∷◌, ◌++◌, length, take, drop, map, refl, sym, ap, ◌∙◌, subst, arith, length-drop, Bool, get_or, Some, None, zero, suc}
 use Rattle.std.specs.Prelude.{slice_range, Option, nat_lt}
 use Rattle.std.specs.List.{AllByRecursion}
@@ -29,7 +30,7 @@ total_with_continuation len (Escape b ∷ us) = refl
 total_with_continuation len (Continuation more ∷ us) = refl
 
 -- the units of a text are all of its bytes
-total_units : (bytes : List ℕ) → total (units bytes) ≡ length bytes
+total_units : (bytes : Bytes) → total (units bytes) ≡ length bytes
 total_units [] = refl
 total_units (a ∷ []) = refl
 total_units (a ∷ b ∷ []) = elim (cases_Bool (a == 36)) [
@@ -104,25 +105,25 @@ rise_from (u ∷ v ∷ us) index limit h = elim (cases_Bool (is_byte 124 u)) [
 ]
 
 -- the tokens of a text rise within it
-rise_all : (text : List ℕ) → Rise 0 (length text) (tokens text)
+rise_all : (text : Bytes) → Rise 0 (length text) (tokens text)
 rise_all text = rise_from (units text) 0 (length text) (omega (arith, total_units text))
 
-slices_of : (text : List ℕ) (index : ℕ) (ts : List TokenAt) → Rise index (length text) ts → AllByRecursion (IsSlice text) (map (with_raw text) ts)
+slices_of : (text : Bytes) (index : ℕ) (ts : List TokenAt) → Rise index (length text) ts → AllByRecursion (IsSlice text) (map (with_raw text) ts)
 slices_of text index [] h = tt
 slices_of text index (t ∷ ts) h = (record { some = h.1; within = rise_within t.end (length text) ts h.2; raw = refl }, slices_of text t.end ts h.2)
 
-rising : (text : List ℕ) (index limit : ℕ) (ts : List TokenAt) → Rise index limit ts → RiseFrom index (map (with_raw text) ts)
+rising : (text : Bytes) (index limit : ℕ) (ts : List TokenAt) → Rise index limit ts → RiseFrom index (map (with_raw text) ts)
 rising text index limit [] h = tt
 rising text index limit (t ∷ ts) h = (h.0, rising text t.end limit ts h.2)
 
-pub tokens_are_slices : (text : List ℕ) → AllByRecursion (IsSlice text) (seen_tokens text)
+pub tokens_are_slices : (text : Bytes) → AllByRecursion (IsSlice text) (seen_tokens text)
 tokens_are_slices text = slices_of text 0 (tokens text) (rise_all text)
 
-pub tokens_rise : (text : List ℕ) → RiseFrom 0 (seen_tokens text)
+pub tokens_rise : (text : Bytes) → RiseFrom 0 (seen_tokens text)
 tokens_rise text = rising text 0 (length text) (tokens text) (rise_all text)
 
 -- the parts of an assignment, by their indexes
-pub lies_in : (text : List ℕ) (a : AssignmentIndexes) → a.name_start < a.name_end → a.name_end ≤ a.value_start → a.name_end ≤ length text →
+pub lies_in : (text : Bytes) (a : AssignmentIndexes) → a.name_start < a.name_end → a.name_end ≤ a.value_start → a.name_end ≤ length text →
     LiesIn text (with_bytes text a)
 lies_in text a some past within = record {
   some = rw (length-take (a.name_end - a.name_start) (drop a.name_start text), length-drop a.name_start text) (omega arith);
@@ -184,25 +185,25 @@ tokens_past (u ∷ v ∷ us) index t ts h = elim (cases_Bool (is_byte 124 u)) [
 ]
 
 -- a text that begins with a space has no token at its first byte
-pub token_indented : (bytes : List ℕ) (t : TokenAt) (ts : List TokenAt) → tokens (32 ∷ bytes) ≡ t ∷ ts → 0 < t.start
+pub token_indented : (bytes : Bytes) (t : TokenAt) (ts : List TokenAt) → tokens (32 ∷ bytes) ≡ t ∷ ts → 0 < t.start
 token_indented bytes t ts h =
     let later : tokens_from (0 + 1) (units bytes) ≡ t ∷ ts = sym (ap (tokens_from 0) (units_byte 32 bytes refl) ∙ tokens_blank 0 (Byte 32) (units bytes) refl) ∙
     h in
     omega (arith, tokens_past (units bytes) (0 + 1) t ts later)
 
 -- what an assignment has
-pub record Parts (text : List ℕ) (a : SeenAssignment) : Type 0 where
+pub record Parts (text : Bytes) (a : SeenAssignment) : Type 0 where
   pub start : a.name_start ≡ (after_run is_blank 0 (units text)).place
   pub end : ℕ
   pub name : a.name ≡ slice_range text a.name_start end
 
-parts_from : (text : List ℕ) (p : AssignmentIndexes) (a : SeenAssignment) → p.name_start ≡ (after_run is_blank 0 (units text)).place →
+parts_from : (text : Bytes) (p : AssignmentIndexes) (a : SeenAssignment) → p.name_start ≡ (after_run is_blank 0 (units text)).place →
     ◌≡◌ {A = Option SeenAssignment} (Some (with_bytes text p)) (Some a) → Parts text a
 parts_from text p a start h =
     let same : with_bytes text p ≡ a = cc in
     subst (Parts text) same (record { start = start; end = p.name_end; name = refl })
 
-pub assignment_parts : (text : List ℕ) (a : SeenAssignment) → assignment_of text ≡ Some a → Parts text a
+pub assignment_parts : (text : Bytes) (a : SeenAssignment) → assignment_of text ≡ Some a → Parts text a
 assignment_parts text a h =
     let name = after_run is_blank 0 (units text) in
     let past_name = after_run is_name_unit name.place name.units in
@@ -212,7 +213,7 @@ assignment_parts text a h =
       | inr f ↦ absurd (let x : ◌≡◌ {A = Option SeenAssignment} None (Some a) = rw f at h in cc)
     ]
 
-pub name_indented : (bytes : List ℕ) (a : SeenAssignment) → assignment_of (32 ∷ bytes) ≡ Some a → 0 < a.name_start
+pub name_indented : (bytes : Bytes) (a : SeenAssignment) → assignment_of (32 ∷ bytes) ≡ Some a → 0 < a.name_start
 name_indented bytes a h =
     let p = assignment_parts (32 ∷ bytes) a h in
     let at : (after_run is_blank 0 (units (32 ∷ bytes))).place ≡ (after_run is_blank (0 + 1) (units bytes)).place =
@@ -220,9 +221,9 @@ name_indented bytes a h =
     omega (arith, p.start, at, run_past is_blank (0 + 1) (units bytes))
 
 -- the first byte of a part that begins at the front
-pub slice_first : (text : List ℕ) (end x : ℕ) (xs : List ℕ) → slice_range text 0 end ≡ x ∷ xs → get_or text 0 0 ≡ x
+pub slice_first : (text : Bytes) (end x : ℕ) (xs : Bytes) → slice_range text 0 end ≡ x ∷ xs → get_or text 0 0 ≡ x
 slice_first [] end x xs h = cc (nothing (end - 0) ∙ h) where
-  nothing : (n : ℕ) → ◌≡◌ {A = List ℕ} [] (take n [])
+  nothing : (n : ℕ) → ◌≡◌ {A = Bytes} [] (take n [])
   nothing zero = refl
   nothing (suc n) = refl
 slice_first (y ∷ ys) end x xs h = go (end - 0) h where

@@ -1,4 +1,5 @@
 -- Texts put together from words, paths, spaces and signs, and what their tokens are: for crates that write Ninja files.
+use Rattle.ninja_text.specs.Bytes.{Bytes}
 use Rattle.std.proofs.Common.{inl, inr, ◌≡◌, ℕ, ◌+◌, Bool, true, false, List, [], ◌∷◌, ◌++◌, map, refl, sym, ap, ◌∙◌, subst, None, ◌&&◌}
 use Rattle.std.specs.List.{list_all}
 use Rattle.std.proofs.lemmas.List.Folds.{list_all-append}
@@ -20,7 +21,7 @@ use Rattle.ninja_text.proofs.SpelledTokens.{Yields, no_units, word_yields, space
 use Rattle.ninja_text.proofs.SpelledLines.{units_are, lexical_none, is_line, text_is}
 
 -- The text has no fault, no end and no continuation, and its tokens are seen so; at_word says whether it begins with a word.
-pub record Written {X : Type 0} (view : TokenKind → List ℕ → X) (at_word : Bool) (text : List ℕ) (xs : List X) : Type 0 where
+pub record Written {X : Type 0} (view : TokenKind → Bytes → X) (at_word : Bool) (text : Bytes) (xs : List X) : Type 0 where
   units : List LineUnit
   text_is : text_of_units units ≡ text
   sound : list_all is_sound units ≡ true
@@ -28,11 +29,11 @@ pub record Written {X : Type 0} (view : TokenKind → List ℕ → X) (at_word :
   yields : Yields view units xs
 
 -- bytes that are a word by themselves
-abbrev pub is_word : List ℕ → Bool
+abbrev pub is_word : Bytes → Bool
 is_word [] = false
 is_word (b ∷ bytes) = list_all is_piece (map Byte (b ∷ bytes)) && list_all is_sound (map Byte (b ∷ bytes))
 
-bytes_text : (bytes : List ℕ) → text_of_units (map Byte bytes) ≡ bytes
+bytes_text : (bytes : Bytes) → text_of_units (map Byte bytes) ≡ bytes
 bytes_text [] = refl
 bytes_text (b ∷ bytes) = ap (λ bs. b ∷ bs) (bytes_text bytes)
 
@@ -43,15 +44,15 @@ pieces_begin (u ∷ us) vs some h = goes_on_piece u (us ++ vs) (and_parts (is_pi
 sound_both : (us vs : List LineUnit) → list_all is_sound us ≡ true → list_all is_sound vs ≡ true → list_all is_sound (us ++ vs) ≡ true
 sound_both us vs p q = list_all-append is_sound us vs ∙ and_from _ _ p q
 
-text_both : (us vs : List LineUnit) (x y : List ℕ) → text_of_units us ≡ x → text_of_units vs ≡ y → text_of_units (us ++ vs) ≡ x ++ y
+text_both : (us vs : List LineUnit) (x y : Bytes) → text_of_units us ≡ x → text_of_units vs ≡ y → text_of_units (us ++ vs) ≡ x ++ y
 text_both us vs x y p q = flat_map-append unit_text us vs ∙ ap (λ t. t ++ text_of_units vs) p ∙ ap (λ t. x ++ t) q
 
-module _ {X : Type 0} (view : TokenKind → List ℕ → X) where
+module _ {X : Type 0} (view : TokenKind → Bytes → X) where
   -- what precedes a text: nothing more, a word, a path, a space, a sign
   pub written_none : Written view false [] []
   written_none = record { units = []; text_is = refl; sound = refl; begins = refl; yields = no_units view }
 
-  pub written_word : (word text : List ℕ) (xs : List X) → is_word word ≡ true → Written view false text xs →
+  pub written_word : (word text : Bytes) (xs : List X) → is_word word ≡ true → Written view false text xs →
       Written view true (word ++ text) (view Word word ∷ xs)
   written_word [] text xs h w = cc
   written_word (b ∷ bytes) text xs h w =
@@ -65,7 +66,7 @@ module _ {X : Type 0} (view : TokenKind → List ℕ → X) where
             (word_yields view (Byte b) (map Byte bytes) w.units xs p.0 w.begins w.yields);
       }
 
-  pub written_path : (path text : List ℕ) (xs : List X) → IsWritable path → Written view false text xs →
+  pub written_path : (path text : Bytes) (xs : List X) → IsWritable path → Written view false text xs →
       Written view true (escaped path ++ text) (view Word (escaped path) ∷ xs)
   written_path path text xs writable w = record {
     units = path_units path ++ w.units;
@@ -74,20 +75,20 @@ module _ {X : Type 0} (view : TokenKind → List ℕ → X) where
     begins = pieces_begin (path_units path) w.units (some path writable) (path_pieces path (has_spelling path writable));
     yields = path_yields view path w.units xs writable w.begins w.yields;
   } where
-    some : (path : List ℕ) → IsWritable path → path_units path ≡ [] → ⊥
+    some : (path : Bytes) → IsWritable path → path_units path ≡ [] → ⊥
     some [] writable e = writable.some refl
     some (b ∷ path) writable e = cc
 
-  pub written_space : {at_word : Bool} (text : List ℕ) (xs : List X) → Written view at_word text xs → Written view false (32 ∷ text) xs
+  pub written_space : {at_word : Bool} (text : Bytes) (xs : List X) → Written view at_word text xs → Written view false (32 ∷ text) xs
   written_space text xs w =
       record { units = Byte 32 ∷ w.units; text_is = ap (λ t. 32 ∷ t) w.text_is; sound = w.sound; begins = refl; yields = space_yields view w.units xs w.yields }
 
-  pub written_colon : {at_word : Bool} (text : List ℕ) (xs : List X) → Written view at_word text xs → Written view false (58 ∷ text) (view Colon (58 ∷ []) ∷ xs)
+  pub written_colon : {at_word : Bool} (text : Bytes) (xs : List X) → Written view at_word text xs → Written view false (58 ∷ text) (view Colon (58 ∷ []) ∷ xs)
   written_colon text xs w =
       record { units = Byte 58 ∷ w.units; text_is = ap (λ t. 58 ∷ t) w.text_is; sound = w.sound; begins = refl; yields = colon_yields view w.units xs w.yields }
 
   -- a `|` and a space after it
-  pub written_bar : {at_word : Bool} (text : List ℕ) (xs : List X) → Written view at_word text xs →
+  pub written_bar : {at_word : Bool} (text : Bytes) (xs : List X) → Written view at_word text xs →
       Written view false (124 ∷ 32 ∷ text) (view Bar (124 ∷ []) ∷ xs)
   written_bar text xs w = record {
     units = Byte 124 ∷ Byte 32 ∷ w.units;
@@ -98,7 +99,7 @@ module _ {X : Type 0} (view : TokenKind → List ℕ → X) where
   }
 
   -- what such a text is, by itself and as a line
-  module _ {at_word : Bool} (text : List ℕ) (xs : List X) (w : Written view at_word text xs) where
+  module _ {at_word : Bool} (text : Bytes) (xs : List X) (w : Written view at_word text xs) where
     pub written_tokens : map (λ t. view t.kind (raw text t)) (tokens text) ≡ xs
     written_tokens =
         ap (λ t. map (λ k. view k.kind (raw t k)) (tokens t)) (sym w.text_is)
@@ -149,6 +150,6 @@ word_first (u ∷ us) n h g =
       piece_on (Escape b) us s g = refl
       piece_on (Byte b) us s g = g
 
-pub written_first : {X : Type 0} (view : TokenKind → List ℕ → X) (text : List ℕ) (xs : List X) → Written view true text xs → First 0 (tokens text)
+pub written_first : {X : Type 0} (view : TokenKind → Bytes → X) (text : Bytes) (xs : List X) → Written view true text xs → First 0 (tokens text)
 written_first view text xs w =
     subst (First 0) (ap (tokens_from 0) (sym (units_are w.units w.sound)) ∙ ap tokens w.text_is) (word_first w.units 0 w.sound w.begins)

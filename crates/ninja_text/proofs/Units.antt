@@ -1,4 +1,5 @@
 -- The units of a text and their tokens, by the first unit.
+use Rattle.ninja_text.specs.Bytes.{Bytes}
 use Rattle.std.proofs.Common.{get_or, ◌≤◌, inl, inr, suc, subst, ◌≡◌, ℕ, ◌+◌, List, [], ◌∷◌, length, drop, refl, sym, ap, ◌∙◌, false, ◌==◌, ◌&&◌, ◌||◌, arith, map, None, ◌<◌, Bool, true, not, add-one}
 use Rattle.std.specs.List.{flat_map, list_any}
 use Rattle.std.proofs.lemmas.Bool.{cases_Bool, eqb-true, or_parts, not-true}
@@ -17,29 +18,29 @@ use Rattle.ninja_text.specs.inner.TokenStarts.{BeginsPiece, BeginsBar}
 
 -- ---- the first unit of a text, by its first bytes
 
-pub units_byte : (b : ℕ) (bytes : List ℕ) → (b == 36) ≡ false → units (b ∷ bytes) ≡ Byte b ∷ units bytes
+pub units_byte : (b : ℕ) (bytes : Bytes) → (b == 36) ≡ false → units (b ∷ bytes) ≡ Byte b ∷ units bytes
 units_byte b [] h = refl
 units_byte b (c ∷ []) h = rw h refl
 units_byte b (c ∷ d ∷ bytes) h = rw h refl
 
 -- if there is no `$`, each byte is a unit by itself
-pub units_bytes : (bytes : List ℕ) → list_any is_dollar bytes ≡ false → units bytes ≡ map Byte bytes
+pub units_bytes : (bytes : Bytes) → list_any is_dollar bytes ≡ false → units bytes ≡ map Byte bytes
 units_bytes [] none = refl
 units_bytes (b ∷ bytes) none =
     let p = or_parts (is_dollar b) (list_any is_dollar bytes) none in
     units_byte b bytes p.0 ∙ ap (λ us. Byte b ∷ us) (units_bytes bytes p.1)
 
 -- and it stands for itself
-pub bytes_meant : (bytes : List ℕ) → flat_map unit_value (map Byte bytes) ≡ bytes
+pub bytes_meant : (bytes : Bytes) → flat_map unit_value (map Byte bytes) ≡ bytes
 bytes_meant [] = refl
 bytes_meant (b ∷ bytes) = ap (λ bs. b ∷ bs) (bytes_meant bytes)
 
 -- so its value is itself
-pub plain_value : (bytes : List ℕ) → list_any is_dollar bytes ≡ false → value_of bytes ≡ bytes
+pub plain_value : (bytes : Bytes) → list_any is_dollar bytes ≡ false → value_of bytes ≡ bytes
 plain_value bytes none = ap (flat_map unit_value) (units_bytes bytes none) ∙ bytes_meant bytes
 
 -- a text without a suspect byte has no `$`
-pub no_dollar : (bytes : List ℕ) → list_any is_suspect bytes ≡ false → list_any is_dollar bytes ≡ false
+pub no_dollar : (bytes : Bytes) → list_any is_suspect bytes ≡ false → list_any is_dollar bytes ≡ false
 no_dollar [] none = refl
 no_dollar (b ∷ bytes) none =
     let p = or_parts (is_suspect b) (list_any is_suspect bytes) none in
@@ -47,7 +48,7 @@ no_dollar (b ∷ bytes) none =
     rw d.0 (no_dollar bytes p.1)
 
 -- nor is any of its bytes a fault
-pub no_fault_among : (index : ℕ) (bytes : List ℕ) → list_any is_suspect bytes ≡ false → first_fault index (map Byte bytes) ≡ None
+pub no_fault_among : (index : ℕ) (bytes : Bytes) → list_any is_suspect bytes ≡ false → first_fault index (map Byte bytes) ≡ None
 no_fault_among index [] none = refl
 no_fault_among index (b ∷ bytes) none =
     let p = or_parts (is_suspect b) (list_any is_suspect bytes) none in
@@ -56,18 +57,18 @@ no_fault_among index (b ∷ bytes) none =
     rw (n.0, n.1) (no_fault_among (index + 1) bytes p.1)
 
 -- so it has no lexical fault
-pub no_suspect : (bytes : List ℕ) → list_any is_suspect bytes ≡ false → lexical_fault bytes ≡ None
+pub no_suspect : (bytes : Bytes) → list_any is_suspect bytes ≡ false → lexical_fault bytes ≡ None
 no_suspect bytes none = ap (first_fault 0) (units_bytes bytes (no_dollar bytes none)) ∙ no_fault_among 0 bytes none
 
-pub units_feed : (bytes : List ℕ) → units (36 ∷ 10 ∷ bytes) ≡ with_continuation 2 (units bytes)
+pub units_feed : (bytes : Bytes) → units (36 ∷ 10 ∷ bytes) ≡ with_continuation 2 (units bytes)
 units_feed [] = refl
 units_feed (c ∷ bytes) = refl
 
-pub units_pair : (b : ℕ) (bytes : List ℕ) → (b == 10) ≡ false → (b == 13) ≡ false → units (36 ∷ b ∷ bytes) ≡ Escape b ∷ units bytes
+pub units_pair : (b : ℕ) (bytes : Bytes) → (b == 10) ≡ false → (b == 13) ≡ false → units (36 ∷ b ∷ bytes) ≡ Escape b ∷ units bytes
 units_pair b [] feed return = rw feed refl
 units_pair b (c ∷ bytes) feed return = rw (feed, return) refl
 
-pub units_return : (b : ℕ) (bytes : List ℕ) → (b == 10) ≡ false → units (36 ∷ 13 ∷ b ∷ bytes) ≡ Escape 13 ∷ units (b ∷ bytes)
+pub units_return : (b : ℕ) (bytes : Bytes) → (b == 10) ≡ false → units (36 ∷ 13 ∷ b ∷ bytes) ≡ Escape 13 ∷ units (b ∷ bytes)
 units_return b bytes feed = rw feed refl
 
 -- a continuation comes first, however many spaces it takes
@@ -80,14 +81,14 @@ continued_begins len (Byte b ∷ us) = elim (cases_Bool (b == 32)) [
 continued_begins len (Escape b ∷ us) = refl
 continued_begins len (Continuation more ∷ us) = refl
 
-escape_begins_at : (c : ℕ) (bytes : List ℕ) → (c == 10) ≡ false → begins_with_line_feed (units (36 ∷ c ∷ bytes)) ≡ false
+escape_begins_at : (c : ℕ) (bytes : Bytes) → (c == 10) ≡ false → begins_with_line_feed (units (36 ∷ c ∷ bytes)) ≡ false
 escape_begins_at c [] f = rw f refl
 escape_begins_at c (d ∷ bytes) f = elim (cases_Bool ((c == 13) && (d == 10))) [
   | inl r ↦ rw (f, r) (continued_begins _ (units bytes))
   | inr r ↦ rw (f, r) refl
 ]
 
-escape_begins : (bytes : List ℕ) → begins_with_line_feed (units (36 ∷ bytes)) ≡ false
+escape_begins : (bytes : Bytes) → begins_with_line_feed (units (36 ∷ bytes)) ≡ false
 escape_begins [] = refl
 escape_begins (c ∷ bytes) = elim (cases_Bool (c == 10)) [
   | inl f ↦ subst (λ x. begins_with_line_feed (units (36 ∷ x ∷ bytes)) ≡ false) (sym (eqb-true c 10 f))
@@ -96,7 +97,7 @@ escape_begins (c ∷ bytes) = elim (cases_Bool (c == 10)) [
 ]
 
 -- only an LF is a unit that is an LF
-pub units_begin : (b : ℕ) (bytes : List ℕ) → (b == 10) ≡ false → begins_with_line_feed (units (b ∷ bytes)) ≡ false
+pub units_begin : (b : ℕ) (bytes : Bytes) → (b == 10) ≡ false → begins_with_line_feed (units (b ∷ bytes)) ≡ false
 units_begin b bytes h = elim (cases_Bool (b == 36)) [
   | inl d ↦ subst (λ x. begins_with_line_feed (units (x ∷ bytes)) ≡ false) (sym (eqb-true b 36 d)) (escape_begins bytes)
   | inr d ↦ rw (units_byte b bytes d) h
@@ -123,7 +124,7 @@ continued_twice len more (Byte b ∷ us) = elim (cases_Bool (b == 32)) [
 continued_twice len more (Escape b ∷ us) = refl
 continued_twice len more (Continuation k ∷ us) = refl
 
-continued_at_pair : (len c : ℕ) (bytes : List ℕ) → (c == 10) ≡ false →
+continued_at_pair : (len c : ℕ) (bytes : Bytes) → (c == 10) ≡ false →
     with_continuation len (units (36 ∷ c ∷ bytes)) ≡ Continuation len ∷ units (36 ∷ c ∷ bytes)
 continued_at_pair len c [] f = rw f refl
 continued_at_pair len c (d ∷ bytes) f = elim (cases_Bool ((c == 13) && (d == 10))) [
@@ -131,7 +132,7 @@ continued_at_pair len c (d ∷ bytes) f = elim (cases_Bool ((c == 13) && (d == 1
   | inr r ↦ rw (f, r) refl
 ]
 
-continued_at_dollar : (len : ℕ) (bytes : List ℕ) → with_continuation len (units (36 ∷ bytes)) ≡ Continuation len ∷ units (36 ∷ bytes)
+continued_at_dollar : (len : ℕ) (bytes : Bytes) → with_continuation len (units (36 ∷ bytes)) ≡ Continuation len ∷ units (36 ∷ bytes)
 continued_at_dollar len [] = refl
 continued_at_dollar len (c ∷ bytes) = elim (cases_Bool (c == 10)) [
   | inl f ↦ subst (λ x. with_continuation len (units (36 ∷ x ∷ bytes)) ≡ Continuation len ∷ units (36 ∷ x ∷ bytes)) (sym (eqb-true c 10 f))
@@ -139,7 +140,7 @@ continued_at_dollar len (c ∷ bytes) = elim (cases_Bool (c == 10)) [
   | inr f ↦ continued_at_pair len c bytes f
 ]
 
-continued_stops : (len b : ℕ) (bytes : List ℕ) → (b == 32) ≡ false → with_continuation len (units (b ∷ bytes)) ≡ Continuation len ∷ units (b ∷ bytes)
+continued_stops : (len b : ℕ) (bytes : Bytes) → (b == 32) ≡ false → with_continuation len (units (b ∷ bytes)) ≡ Continuation len ∷ units (b ∷ bytes)
 continued_stops len b bytes s = elim (cases_Bool (b == 36)) [
   | inl d ↦ subst (λ x. with_continuation len (units (x ∷ bytes)) ≡ Continuation len ∷ units (x ∷ bytes)) (sym (eqb-true b 36 d))
       (continued_at_dollar len bytes)
@@ -150,7 +151,7 @@ same_continuation : {k j : ℕ} {us vs : List LineUnit} → k ≡ j → us ≡ v
 same_continuation p q = rw (p, q) refl
 
 -- a continuation takes the spaces at the front of what follows
-pub continued_spaces : (len : ℕ) (bytes : List ℕ) →
+pub continued_spaces : (len : ℕ) (bytes : Bytes) →
     with_continuation len (units bytes) ≡ Continuation (len + spaces_at bytes) ∷ units (drop (spaces_at bytes) bytes)
 continued_spaces len [] = ap (λ k. Continuation k ∷ []) {x = len} {y = len + 0} (omega arith)
 continued_spaces len (b ∷ bytes) = elim (cases_Bool (b == 32)) [
@@ -165,7 +166,7 @@ continued_spaces len (b ∷ bytes) = elim (cases_Bool (b == 32)) [
   pushed = same_continuation (omega arith) (ap (λ k. units (drop k (32 ∷ bytes))) {x = suc (spaces_at bytes)} {y = 1 + spaces_at bytes} (omega arith))
 
 -- `$` LF at the front
-pub continuation_at : (bytes : List ℕ) (n : ℕ) → 2 ≤ length bytes → get_or bytes 0 0 ≡ 36 → get_or bytes 1 0 ≡ 10 → n ≡ spaces_at (drop 2 bytes)
+pub continuation_at : (bytes : Bytes) (n : ℕ) → 2 ≤ length bytes → get_or bytes 0 0 ≡ 36 → get_or bytes 1 0 ≡ 10 → n ≡ spaces_at (drop 2 bytes)
     → units bytes ≡ Continuation (2 + n) ∷ units (drop (2 + n) bytes)
 continuation_at [] n long first second is = absurd (omega arith)
 continuation_at (a ∷ []) n long first second is = absurd (omega arith)
@@ -177,7 +178,7 @@ continuation_at (a ∷ b ∷ rest) n long first second is =
     (ap (λ k. units (drop k rest)) (sym is) ∙ ap (λ k. units (drop k (36 ∷ 10 ∷ rest))) {x = suc (suc n)} {y = 2 + n} (omega arith))))
 
 -- `$` CR LF at the front
-pub return_continuation_at : (bytes : List ℕ) (n : ℕ) → 3 ≤ length bytes → get_or bytes 0 0 ≡ 36 → get_or bytes 1 0 ≡ 13 → get_or bytes 2 0 ≡ 10 →
+pub return_continuation_at : (bytes : Bytes) (n : ℕ) → 3 ≤ length bytes → get_or bytes 0 0 ≡ 36 → get_or bytes 1 0 ≡ 13 → get_or bytes 2 0 ≡ 10 →
     n ≡ spaces_at (drop 3 bytes)
     → units bytes ≡ Continuation (3 + n) ∷ units (drop (3 + n) bytes)
 return_continuation_at [] n long first second third is = absurd (omega arith)
@@ -233,7 +234,7 @@ piece_else (Escape b) blank colon bar = refl
 piece_else (Byte b) blank colon bar = rw (blank, colon, bar) refl
 
 -- the word from start that ends here so far, and continues if a piece follows
-abbrev pub word_so_far : List ℕ → ℕ → ℕ → ℕ → List TokenAt
+abbrev pub word_so_far : Bytes → ℕ → ℕ → ℕ → List TokenAt
 word_so_far text start end index =
     if goes_on (units (drop index text)) then with_first_start start (tokens_at text index) else
     (record { kind = Word; start = start; end = end } ∷ tokens_at text index)
@@ -253,15 +254,15 @@ continuation_blank (Escape b) h = cc
 continuation_blank (Byte b) h = cc
 
 -- a unit that is at an index, and its length
-pub record Stands (text : List ℕ) (index n : ℕ) (u : LineUnit) : Type 0 where
+pub record Stands (text : Bytes) (index n : ℕ) (u : LineUnit) : Type 0 where
   pub len : n ≡ unit_len u
   pub first : units (drop index text) ≡ u ∷ units (drop (index + n) text)
 
-pub stands : (text : List ℕ) (index n : ℕ) (u : LineUnit) → n ≡ unit_len u → units (drop index text) ≡ u ∷ units (drop (index + unit_len u) text) →
+pub stands : (text : Bytes) (index n : ℕ) (u : LineUnit) → n ≡ unit_len u → units (drop index text) ≡ u ∷ units (drop (index + unit_len u) text) →
     Stands text index n u
 stands text index n u len first = record { len = len; first = rw len first }
 
-module _ (text : List ℕ) (index n : ℕ) (u : LineUnit) (unit : Stands text index n u) where
+module _ (text : Bytes) (index n : ℕ) (u : LineUnit) (unit : Stands text index n u) where
   pub blank_adds_none : is_blank u ≡ true → tokens_at text (index + n) ≡ tokens_at text index
   blank_adds_none h = sym
       (ap (tokens_from index) unit.first ∙ tokens_blank index u _ h ∙ ap (λ k. tokens_from (index + k) (units (drop (index + n) text))) (sym unit.len))
@@ -296,7 +297,7 @@ module _ (text : List ℕ) (index n : ℕ) (u : LineUnit) (unit : Stands text in
         continuation_hides (Byte b) h = cc
 
 -- the unit that a byte is that is a piece of a word by itself
-pub plain_stands : (text : List ℕ) (index : ℕ) → index < length text → is_plain_piece (get_or text index 0) ≡ true →
+pub plain_stands : (text : Bytes) (index : ℕ) → index < length text → is_plain_piece (get_or text index 0) ≡ true →
     Stands text index 1 (Byte (get_or text index 0))
 plain_stands text index in_text plain =
     let b = get_or text index 0 in
@@ -313,7 +314,7 @@ plain_piece b plain =
     rw (space.0, colon.0, colon.1) refl
 
 -- two readings of the unit at one index are one
-pub piece_at : (text : List ℕ) (index : ℕ) (u : LineUnit) (us : List LineUnit) → BeginsPiece text index → units (drop index text) ≡ u ∷ us → is_piece u ≡ true
+pub piece_at : (text : Bytes) (index : ℕ) (u : LineUnit) (us : List LineUnit) → BeginsPiece text index → units (drop index text) ≡ u ∷ us → is_piece u ≡ true
 piece_at text index u us begins e =
     let both : begins.0 ∷ begins.1 ≡ u ∷ us = sym begins.2 ∙ e in
     let same : begins.0 ≡ u = cc in
@@ -325,7 +326,7 @@ byte_len c (Escape b) h = cc
 byte_len c (Byte b) h = refl
 
 -- the token that a colon is
-module _ (text : List ℕ) (s : ℕ) (u : LineUnit) (e : units (drop s text) ≡ u ∷ units (drop (s + unit_len u) text)) where
+module _ (text : Bytes) (s : ℕ) (u : LineUnit) (e : units (drop s text) ≡ u ∷ units (drop (s + unit_len u) text)) where
   pub colon_at : is_byte 58 u ≡ true → tokens_at text s ≡ record { kind = Colon; start = s; end = s + 1 } ∷ tokens_at text (s + 1)
   colon_at h = ap (tokens_from s) e ∙ tokens_colon s u _ h ∙
       ap (λ k. record { kind = Colon; start = s; end = s + 1 } ∷ tokens_from (s + 1) (units (drop (s + k) text))) (byte_len 58 u h)
@@ -335,11 +336,11 @@ byte_is c (Continuation len) h = cc
 byte_is c (Escape b) h = cc
 byte_is c (Byte b) h = ap Byte (eqb-true b c h)
 
-pub at_bar : (text : List ℕ) (s : ℕ) (u : LineUnit) → units (drop s text) ≡ u ∷ units (drop (s + unit_len u) text) → is_byte 124 u ≡ true → BeginsBar text s
+pub at_bar : (text : Bytes) (s : ℕ) (u : LineUnit) → units (drop s text) ≡ u ∷ units (drop (s + unit_len u) text) → is_byte 124 u ≡ true → BeginsBar text s
 at_bar text s u e bar = e ∙ ap (λ v. v ∷ units (drop (s + unit_len v) text)) (byte_is 124 u bar)
 
 -- the token that a bar begins, by the unit after it
-module _ (text : List ℕ) (s : ℕ) (begins : BeginsBar text s) where
+module _ (text : Bytes) (s : ℕ) (begins : BeginsBar text s) where
   module _ (v : LineUnit) (e : units (drop (s + 1) text) ≡ v ∷ units (drop (s + 1 + unit_len v) text)) where
     after : (c : ℕ) → is_byte c v ≡ true → units (drop (s + 1) text) ≡ Byte c ∷ units (drop (s + 2) text)
     after c h = e ∙ ap (λ w. w ∷ units (drop (s + 1 + unit_len w) text)) (byte_is c v h) ∙

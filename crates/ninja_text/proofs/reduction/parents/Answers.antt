@@ -1,3 +1,4 @@
+use Rattle.ninja_text.specs.Bytes.{Bytes}
 use Rattle.std.proofs.Common.{rules, ◌≡◌, ℕ, ◌+◌, ◌<◌, cond, List, length, get_or, drop, ap, sym, ◌∙◌, eqb, arith, true, false}
 use borrow.Author.Tests.{tests}
 use Rattle.std.specs.List.{prefix_len}
@@ -8,17 +9,17 @@ use Rattle.ninja_text.specs.Reduction.{components, is_parent}
 use Rattle.ninja_text.proofs.reduction.parents.Goals as goal
 
 -- the `..` from an index on
-parents-from : (cs : List (List ℕ)) (n : ℕ) (c : List ℕ) → (n < length cs) × (c ≡ get_or cs n c)
+parents-from : (cs : List Bytes) (n : ℕ) (c : Bytes) → (n < length cs) × (c ≡ get_or cs n c)
     → prefix_len is_parent (drop n cs) ≡ cond (is_parent c) (1 + prefix_len is_parent (drop (n + 1) cs)) 0
 parents-from cs n c h =
     at_drop_more (prefix_len is_parent) cs n c h.0 ∙ ap (λ x. cond (is_parent x) (1 + prefix_len is_parent (drop (n + 1) cs)) 0) (sym h.1)
 
 -- none, if none is at the index
-parents-end : (cs : List (List ℕ)) (n : ℕ) (c : List ℕ) → (n < length cs) × (c ≡ get_or cs n c) → is_parent c ≡ false → prefix_len is_parent (drop n cs) ≡ 0
+parents-end : (cs : List Bytes) (n : ℕ) (c : Bytes) → (n < length cs) × (c ≡ get_or cs n c) → is_parent c ≡ false → prefix_len is_parent (drop n cs) ≡ 0
 parents-end cs n c h k = parents-from cs n c h ∙ ap (λ b. cond b (1 + prefix_len is_parent (drop (n + 1) cs)) 0) k
 
 -- one more, if one is there
-parents-next : (cs : List (List ℕ)) (n : ℕ) (c : List ℕ) → (n < length cs) × (c ≡ get_or cs n c) → is_parent c ≡ true →
+parents-next : (cs : List Bytes) (n : ℕ) (c : Bytes) → (n < length cs) × (c ≡ get_or cs n c) → is_parent c ≡ true →
     prefix_len is_parent (drop n cs) ≡ 1 + prefix_len is_parent (drop (n + 1) cs)
 parents-next cs n c h k = parents-from cs n c h ∙ ap (λ b. cond b (1 + prefix_len is_parent (drop (n + 1) cs)) 0) k
 
