@@ -9,7 +9,7 @@ use Rattle.ninja_text.specs.declared.fault.PathFault.TheVariants.{Empty, AboveRo
 use Rattle.ninja_text.specs.Escapes.{is_unwritable}
 use Rattle.ninja_text.specs.Reduction.{is_parent, reduced, components}
 use Rattle.ninja_text.specs.Paths.{path_text, below, relative_or, seen_from, checked, is_empty, is_rooted, canonical_of, IsPath}
-use Rattle.ninja_text.specs.inner.ComponentLists.{list_text, LacksSlash, EachLacksSlash}
+use Rattle.ninja_text.specs.inner.ComponentLists.{Components, list_text, LacksSlash, EachLacksSlash}
 use Rattle.ninja_text.proofs.ReducedList.{IsFixed, either_way, reduced-fixed, reduced-each, fixed-reduced, fixed-behind, in_front-current}
 use Rattle.ninja_text.proofs.Components.{components-lack, components-list, below-some, below-is, below-not}
 
@@ -63,7 +63,7 @@ abbrev pub IsClean : Bytes → Type 0
 IsClean text = AllByRecursion (λ b. is_unwritable b ≡ false) text
 
 -- a component list, canonical, with no unwritable byte, and the path that it is written as
-pub record IsWhole (rooted : Bool) (list : List Bytes) : Type 0 where
+pub record IsWhole (rooted : Bool) (list : Components) : Type 0 where
   pub some : is_empty list ≡ false
   pub fixed : IsFixed list
   pub lacks : EachLacksSlash list
@@ -71,20 +71,20 @@ pub record IsWhole (rooted : Bool) (list : List Bytes) : Type 0 where
   pub inside : (rooted && list_any is_parent list) ≡ false
 
 -- a list that is written out begins with no slash
-rooted-list : (x : Bytes) (xs : List Bytes) → IsFixed (x ∷ xs) → EachLacksSlash (x ∷ xs) → is_rooted (list_text (x ∷ xs)) ≡ false
+rooted-list : (x : Bytes) (xs : Components) → IsFixed (x ∷ xs) → EachLacksSlash (x ∷ xs) → is_rooted (list_text (x ∷ xs)) ≡ false
 rooted-list [] [] f e = cc
 rooted-list [] (y ∷ ys) f e = let g = f.0 in cc
 rooted-list (b ∷ bs) [] f e = e.0.0
 rooted-list (b ∷ bs) (y ∷ ys) f e = e.0.0
 
 -- a path begins at the root if it is written so
-pub rooted-text : (rooted : Bool) (list : List Bytes) → IsWhole rooted list → is_rooted (path_text rooted list) ≡ rooted
+pub rooted-text : (rooted : Bool) (list : Components) → IsWhole rooted list → is_rooted (path_text rooted list) ≡ rooted
 rooted-text true list w = refl
 rooted-text false [] w = let h = w.some in cc
 rooted-text false (x ∷ xs) w = rooted-list x xs w.fixed w.lacks
 
 -- a whole list that is written out has that very list
-pub reduced-text : (rooted : Bool) (list : List Bytes) → IsWhole rooted list → reduced (components (path_text rooted list)) ≡ list
+pub reduced-text : (rooted : Bool) (list : Components) → IsWhole rooted list → reduced (components (path_text rooted list)) ≡ list
 reduced-text true [] w = let h = w.some in cc
 reduced-text false [] w = let h = w.some in cc
 reduced-text true (x ∷ xs) w = in_front-current [] (reduced (components (list_text (x ∷ xs)))) refl ∙ ap reduced (components-list x xs w.lacks) ∙
@@ -97,13 +97,13 @@ clean-append [] b h k = k
 clean-append (x ∷ a) b h k = (h.0, clean-append a b h.1 k)
 
 -- so is a list that is written out
-clean-list : (list : List Bytes) → AllByRecursion IsClean list → IsClean (list_text list)
+clean-list : (list : Components) → AllByRecursion IsClean list → IsClean (list_text list)
 clean-list [] a = tt
 clean-list (x ∷ []) a = a.0
 clean-list (x ∷ y ∷ ys) a = clean-append x (47 ∷ list_text (y ∷ ys)) a.0 (refl, clean-list (y ∷ ys) a.1)
 
 -- so is a path
-clean-text : (rooted : Bool) (list : List Bytes) → AllByRecursion IsClean list → IsClean (path_text rooted list)
+clean-text : (rooted : Bool) (list : Components) → AllByRecursion IsClean list → IsClean (path_text rooted list)
 clean-text true list a = (refl, clean-list list a)
 clean-text false list a = clean-list list a
 
@@ -127,12 +127,12 @@ pub none-clean : (text : Bytes) → position is_unwritable text ≡ None → IsC
 none-clean text h = clean-from 0 text (sym (position_from-zero is_unwritable text) ∙ h)
 
 -- a clean byte in front of the first component
-clean-onto : (b : ℕ) (parts : List Bytes) → is_unwritable b ≡ false → AllByRecursion IsClean parts → AllByRecursion IsClean (onto_first b parts)
+clean-onto : (b : ℕ) (parts : Components) → is_unwritable b ≡ false → AllByRecursion IsClean parts → AllByRecursion IsClean (onto_first b parts)
 clean-onto b [] h e = ((h, tt), tt)
 clean-onto b (part ∷ parts) h e = ((h, e.0), e.1)
 
 -- a clean byte, which is a slash or not, in front of components
-clean-cond : (t : Bool) (b : ℕ) (parts : List Bytes) → is_unwritable b ≡ false → AllByRecursion IsClean parts →
+clean-cond : (t : Bool) (b : ℕ) (parts : Components) → is_unwritable b ≡ false → AllByRecursion IsClean parts →
     AllByRecursion IsClean (cond t ([] ∷ parts) (onto_first b parts))
 clean-cond true b parts h e = (tt, e)
 clean-cond false b parts h e = clean-onto b parts h e
@@ -145,24 +145,24 @@ clean-components (b ∷ bs) a = clean-cond (b == 47) b (components bs) a.0 (clea
 -- ---- what is left of a text that has no fault
 
 -- what holds of each component holds of the rest
-below-each : (P : Bytes → Type 0) (ds cs : List Bytes) → AllByRecursion P (ds ++ cs) → AllByRecursion P cs
+below-each : (P : Bytes → Type 0) (ds cs : Components) → AllByRecursion P (ds ++ cs) → AllByRecursion P cs
 below-each P [] cs a = a
 below-each P (d ∷ ds) cs a = below-each P ds cs a.1
 
 -- a list that is not empty
-pub some-list : (list : List Bytes) → list ≢ [] → is_empty list ≡ false
+pub some-list : (list : Components) → list ≢ [] → is_empty list ≡ false
 some-list [] n = absurd (n refl)
 some-list (x ∷ xs) n = refl
 
 -- what is seen from the build directory is a whole list, written out
 pub record Seen (path : Bytes) : Type 0 where
   pub rooted : Bool
-  pub list : List Bytes
+  pub list : Components
   pub whole : IsWhole rooted list
   pub is : path_text rooted list ≡ path
 
 -- what is left below a build directory is a whole relative list
-seen-rest : (dirs : List Bytes) (list rest : List Bytes) → IsWhole true list → below dirs list ≡ Some rest → IsWhole false rest
+seen-rest : (dirs : Components) (list rest : Components) → IsWhole true list → below dirs list ≡ Some rest → IsWhole false rest
 seen-rest dirs list rest w h =
     let k = below-some dirs list rest h in
     record {
@@ -174,12 +174,12 @@ seen-rest dirs list rest w h =
     }
 
 -- what is left below it, or all of the absolute list
-seen-or : (dirs list : List Bytes) (o : Option (List Bytes)) → IsWhole true list → below dirs list ≡ o → Seen (relative_or list o)
+seen-or : (dirs list : Components) (o : Option Components) → IsWhole true list → below dirs list ≡ o → Seen (relative_or list o)
 seen-or dirs list None w h = record { rooted = true; list = list; whole = w; is = refl }
 seen-or dirs list (Some rest) w h = record { rooted = false; list = rest; whole = seen-rest dirs list rest w h; is = refl }
 
 -- a whole list is written as one, from wherever it is seen
-seen-whole : (build : Option Bytes) (rooted : Bool) (list : List Bytes) → IsWhole rooted list → Seen (seen_from build rooted list)
+seen-whole : (build : Option Bytes) (rooted : Bool) (list : Components) → IsWhole rooted list → Seen (seen_from build rooted list)
 seen-whole None rooted list w = record { rooted = rooted; list = list; whole = w; is = refl }
 seen-whole (Some b) true list w = seen-or (reduced (components b)) list (below (reduced (components b)) list) w refl
 seen-whole (Some b) false list w = record { rooted = false; list = list; whole = w; is = refl }
@@ -195,7 +195,7 @@ whole-list build text p f = record {
 }
 
 -- a whole list is written as a path
-pub whole-path : (rooted : Bool) (list : List Bytes) (p : Bytes) → IsWhole rooted list → path_text rooted list ≡ p → nat_lt 4096 (length p) ≡ false →
+pub whole-path : (rooted : Bool) (list : Components) (p : Bytes) → IsWhole rooted list → path_text rooted list ≡ p → nat_lt 4096 (length p) ≡ false →
     IsPath p
 whole-path rooted list p w e short =
     let r = sym (ap is_rooted e) ∙ rooted-text rooted list w in
@@ -209,7 +209,7 @@ whole-path rooted list p w e short =
     })
 
 -- a path is seen as it is from anywhere, unless it is absolute and there is a build directory
-seen-plain : (build : Option Bytes) (rooted : Bool) (list : List Bytes) → (build ≡ None) ⊎ (rooted ≡ false) →
+seen-plain : (build : Option Bytes) (rooted : Bool) (list : Components) → (build ≡ None) ⊎ (rooted ≡ false) →
     seen_from build rooted list ≡ path_text rooted list
 seen-plain None rooted list h = refl
 seen-plain (Some b) false list h = refl
@@ -241,10 +241,10 @@ pub rooted-is : (p : Bytes) → IsPath p → is_rooted p ≡ true → p ≡ 47 �
 rooted-is p h r = let f = facts None p p h in sym f.made ∙ ap (λ b. path_text b (reduced (components p))) r
 
 -- the list of a rooted path has a first component
-pub path-first : (p : Bytes) → IsPath p → (d : Bytes) × (ds : List Bytes) × (reduced (components p) ≡ d ∷ ds)
+pub path-first : (p : Bytes) → IsPath p → (d : Bytes) × (ds : Components) × (reduced (components p) ≡ d ∷ ds)
 path-first p h = go (reduced (components p)) (facts None p p h).some
   where
-    go : (l : List Bytes) → is_empty l ≡ false → (d : Bytes) × (ds : List Bytes) × (l ≡ d ∷ ds)
+    go : (l : Components) → is_empty l ≡ false → (d : Bytes) × (ds : Components) × (l ≡ d ∷ ds)
     go [] e = cc
     go (d ∷ ds) e = (d, ds, refl)
 
@@ -356,7 +356,7 @@ some-not-empty build text h e = go (is_rooted text && list_any is_parent (reduce
     go false k = checked-not-empty (position is_unwritable text) (seen_from build (is_rooted text) (reduced (components text))) k
 
 -- a list is empty if its text is
-pub nothing-is : (list : List Bytes) → IsFixed list → (length (list_text list) == 0) ≡ is_empty list
+pub nothing-is : (list : Components) → IsFixed list → (length (list_text list) == 0) ≡ is_empty list
 nothing-is [] f = refl
 nothing-is ([] ∷ []) f = cc
 nothing-is ([] ∷ y ∷ ys) f = let g = f.0 in cc

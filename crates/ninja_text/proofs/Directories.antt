@@ -16,7 +16,7 @@ use Rattle.ninja_text.specs.Reduction.{components, is_current, is_parent, is_nam
 use Rattle.ninja_text.specs.Paths.{is_empty, is_rooted, read_from, below, relative_or, seen_from, canonical_of, IsPath, placed}
 use Rattle.ninja_text.specs.NameBeginnings.{begins_component}
 use Rattle.ninja_text.specs.PathShape.{parts}
-use Rattle.ninja_text.specs.inner.ComponentLists.{appended, list_text, reduced_text, leads_up, slashes_from, LacksSlash, EachLacksSlash}
+use Rattle.ninja_text.specs.inner.ComponentLists.{Components, appended, list_text, reduced_text, leads_up, slashes_from, LacksSlash, EachLacksSlash}
 use Rattle.ninja_text.specs.inner.Joins.{IsDirectory, IsList, IsReadIn, IsListOf, IsEnding, list_limit, glued, long_fault, moved, first_in}
 use Rattle.ninja_text.proofs.ReducedList.{IsFixed, either_way, names-fixed, fixed-reduced, reduced-fixed, reduced-each, reduced-ahead, reduced-context, and-left, and-right, current-not-name}
 use Rattle.ninja_text.proofs.Components.{components-lack, components-at, components-one, components-list, text-below}
@@ -34,7 +34,7 @@ pub parts-fixed : (text : Bytes) → IsFixed (parts text)
 parts-fixed text = reduced-fixed (components text)
 
 -- the `..` of a list, written out
-up-text : (list : List Bytes) → EachLacksSlash list → prefix_len is_parent (components (list_text list)) ≡ up list
+up-text : (list : Components) → EachLacksSlash list → prefix_len is_parent (components (list_text list)) ≡ up list
 up-text [] h = refl
 up-text (x ∷ xs) h = ap up (components-list x xs h)
 
@@ -48,12 +48,12 @@ nothing text list empty same e =
     sym (e ∙ ap (λ n. n == 0) list.ok.0 ∙ ap (λ items. length items == 0) same ∙ nothing-is (parts text) (parts-fixed text))
 
 -- an empty list has no component
-pub none-of : (list : List Bytes) → is_empty list ≡ true → length list ≡ 0
+pub none-of : (list : Components) → is_empty list ≡ true → length list ≡ 0
 none-of [] h = refl
 none-of (x ∷ xs) h = cc
 
 -- one slash less than components
-pub count-of : (list : List Bytes) → EachLacksSlash list → is_empty list ≡ false → length (slashes_from 0 (list_text list)) + 1 ≡ length list
+pub count-of : (list : Components) → EachLacksSlash list → is_empty list ≡ false → length (slashes_from 0 (list_text list)) + 1 ≡ length list
 count-of [] h e = cc
 count-of (x ∷ xs) h e = let k = slashes-count 0 x xs h in omega arith
 
@@ -64,11 +64,11 @@ directory-count text list slashes l s e =
     ap (λ l. length l + 1) (s ∙ ap (slashes_from 0) l) ∙ count-of (parts text) (parts-lack text) e
 
 -- the `..` are components
-pub up-within : (list : List Bytes) → up list ≤ length list
+pub up-within : (list : Components) → up list ≤ length list
 up-within list = prefix_len-le-length is_parent list
 
 -- a list with that many components
-some-of : (list : List Bytes) (n : ℕ) → (n ≡ 0 → ⊥) → n ≤ length list → is_empty list ≡ false
+some-of : (list : Components) (n : ℕ) → (n ≡ 0 → ⊥) → n ≤ length list → is_empty list ≡ false
 some-of [] n some le = absurd (some (omega arith))
 some-of (x ∷ xs) n some le = refl
 
@@ -102,7 +102,7 @@ min-way : (a b : ℕ) → (min a b ≡ a) ⊎ (min a b ≡ b)
 min-way a b = elim (either_way (nat_lt b a)) [ inl h ↦ inr (grind arith) | inr h ↦ let k = at-most b a h in inl (omega arith) ]
 
 -- the components that are left of a directory and of what is read in it
-pub lists-left : (list q : List Bytes) (d : ℕ) → IsFixed list → IsFixed q → d ≡ min (up q) (length list - up list)
+pub lists-left : (list q : Components) (d : ℕ) → IsFixed list → IsFixed q → d ≡ min (up q) (length list - up list)
     → reduced (list ++ q) ≡ take (length list - d) list ++ drop d q
 lists-left list q d f g e =
     let within = up-within list in
@@ -173,7 +173,7 @@ moved-none None = refl
 moved-none (Some p) = ap Some (omega arith)
 
 -- no `..` among names
-names-up : (list : List Bytes) → list_any (λ c. is_current c || is_parent c) list ≡ false → up list ≡ 0
+names-up : (list : Components) → list_any (λ c. is_current c || is_parent c) list ≡ false → up list ≡ 0
 names-up [] h = refl
 names-up (c ∷ cs) h = up-none c cs (go (is_current c) (is_parent c) (list_any (λ c. is_current c || is_parent c) cs) h)
   where
@@ -212,7 +212,7 @@ list-of-path path own parents e k = record {
 -- ---- a list that is too long
 
 -- what is seen of a list is at most the build directory shorter
-seen-or : (d : Bytes) (ds list : List Bytes) (o : Option (List Bytes)) → below (d ∷ ds) list ≡ o
+seen-or : (d : Bytes) (ds list : Components) (o : Option Components) → below (d ∷ ds) list ≡ o
     → 4096 + length (list_text (d ∷ ds)) + 1 < length (list_text list) → 4096 < length (relative_or list o)
 seen-or d ds list None e lt = omega arith
 seen-or d ds list (Some rest) e lt =
@@ -222,7 +222,7 @@ seen-or d ds list (Some rest) e lt =
     omega arith
 
 -- a list that is longer than the limit is longer than a path, from wherever it is seen
-seen-long : (build : Option Bytes) (rooted : Bool) (list : List Bytes) → ForSome build IsPath
+seen-long : (build : Option Bytes) (rooted : Bool) (list : Components) → ForSome build IsPath
     → ForSome build (λ b. is_rooted b ≡ true) → list_limit build < length (list_text list) → 4096 < length (seen_from build rooted list)
 seen-long None true list p r lt = omega arith
 seen-long None false list p r lt = lt
@@ -234,7 +234,7 @@ seen-long (Some b) true list p r lt =
     subst (λ l. 4096 < length (relative_or list (below l list))) (sym f.2) (seen-or f.0 f.1 list (below (f.0 ∷ f.1) list) refl (omega arith))
 
 -- a list that has a byte
-some-byte : (list : List Bytes) (n : ℕ) → n < length (list_text list) → is_empty list ≡ false
+some-byte : (list : Components) (n : ℕ) → n < length (list_text list) → is_empty list ≡ false
 some-byte [] n lt = absurd (omega arith)
 some-byte (x ∷ xs) n lt = refl
 
@@ -359,7 +359,7 @@ named-up : (name : Bytes) {text list : Bytes} {first parents : ℕ} {unwritable 
     → IsEnding text first list parents unwritable → Begins name → 0 < parents → IsList (parts (name ++ text)) (drop 3 list) (parents - 1)
 named-up name {text = text} {list = list} {first = first} {parents = parents} e b lt = go (reduced e.others) refl
   where
-    go : (others : List Bytes) → reduced e.others ≡ others → IsList (parts (name ++ text)) (drop 3 list) (parents - 1)
+    go : (others : Components) → reduced e.others ≡ others → IsList (parts (name ++ text)) (drop 3 list) (parents - 1)
     go [] h = let k = e.list_is.parents_are ∙ ap up h in absurd (omega arith)
     go (c ∷ cs) h = elim (either_way (is_parent c)) [
       | inr n ↦ let k = e.list_is.parents_are ∙ ap up h ∙ up-none c cs n in absurd (omega arith)
@@ -376,7 +376,7 @@ named-up name {text = text} {list = list} {first = first} {parents = parents} e 
     ]
 
 -- no `..` at the beginning
-not-leads : (list : List Bytes) → up list ≡ 0 → leads list ≡ false
+not-leads : (list : Components) → up list ≡ 0 → leads list ≡ false
 not-leads [] h = refl
 not-leads (c ∷ cs) h = elim (either_way (is_parent c)) [ inl u ↦ let k = up-more c cs u in absurd (omega arith) | inr n ↦ n ]
 
@@ -407,7 +407,7 @@ begins-path [] text h = cc
 begins-path (b ∷ bs) text h = ((begins (b ∷ bs) h).relative, refl)
 
 -- all components of a list
-take-all : (n : ℕ) (list : List Bytes) → n ≡ length list → take n list ≡ list
+take-all : (n : ℕ) (list : Components) → n ≡ length list → take n list ≡ list
 take-all n list e = ap (λ m. take m list) e ∙ take-length list
 
 -- the fault of a name with an end, if they are too long
@@ -458,7 +458,7 @@ ending-none text list first parents unwritable within lacks e l p u = record {
 
 -- the parts of an end, as its components are given
 pub ending-same : (text list : Bytes) (k parents : ℕ) (unwritable : Option ℕ) → IsEnding text k list parents unwritable
-    → (first : Bytes) (others : List Bytes) → components text ≡ first ∷ others → (take k text ≡ first) × (list ≡ list_text (reduced others))
+    → (first : Bytes) (others : Components) → components text ≡ first ∷ others → (take k text ≡ first) × (list ≡ list_text (reduced others))
 ending-same text list k parents unwritable e first others h =
     let same : take k text ∷ e.others ≡ first ∷ others = sym e.divided ∙ h in
     let heads : take k text ≡ first = cc in
@@ -467,7 +467,7 @@ ending-same text list k parents unwritable e first others h =
 
 -- a name with an end is longer than the limit if its parts are
 pub after-longer : (name text list : Bytes) (k parents : ℕ) (unwritable : Option ℕ) (limit : ℕ) → IsEnding text k list parents unwritable
-    → limit < length name + length (take k text) + length list → (first : Bytes) (others : List Bytes)
+    → limit < length name + length (take k text) + length list → (first : Bytes) (others : Components)
     → components text ≡ first ∷ others → limit < length (glued (name ++ first) (list_text (reduced others)))
 after-longer name text list k parents unwritable limit e lt first others h =
     let same = ending-same text list k parents unwritable e first others h in

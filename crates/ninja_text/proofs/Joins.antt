@@ -10,7 +10,7 @@ use Rattle.std.proofs.Math.Seq.{take-append-add, take-append_seam}
 use Rattle.ninja_text.specs.Escapes.{is_unwritable}
 use Rattle.ninja_text.specs.Reduction.{components, is_current, is_parent, is_named_component, in_front, reduced}
 use Rattle.ninja_text.specs.PathShape.{parts}
-use Rattle.ninja_text.specs.inner.ComponentLists.{list_text, reduced_text, leads_up, slashes_from, LacksSlash, EachLacksSlash}
+use Rattle.ninja_text.specs.inner.ComponentLists.{Components, list_text, reduced_text, leads_up, slashes_from, LacksSlash, EachLacksSlash}
 use Rattle.ninja_text.specs.inner.Joins.{glued, moved}
 use Rattle.ninja_text.proofs.ReducedList.{IsFixed, current-not-name, reduced-fixed, reduced-each, either_way, fixed-reduced, fixed-tail, names-fixed, and-false, in_front-alone, in_front-stays, in_front-pair, in_front-parent}
 use Rattle.ninja_text.proofs.Components.{components-some, components-lack, list_text-append}
@@ -57,14 +57,14 @@ slashes-at start (b ∷ bs) t h =
     ∙ slashes-at (start + 1) bs t h.1 ∙ ap (λ n. n ∷ slashes_from (n + 1) t) {x = start + 1 + length bs} {y = start + suc (length bs)} (omega arith)
 
 -- a list has a slash between each two components
-pub slashes-count : (start : ℕ) (x : Bytes) (xs : List Bytes) → EachLacksSlash (x ∷ xs)
+pub slashes-count : (start : ℕ) (x : Bytes) (xs : Components) → EachLacksSlash (x ∷ xs)
     → length (slashes_from start (list_text (x ∷ xs))) ≡ length xs
 slashes-count start x [] h = ap length (slashes-none start x h.0)
 slashes-count start x (y ∷ ys) h =
     ap length (slashes-at start x (list_text (y ∷ ys)) h.0) ∙ ap suc (slashes-count (start + length x + 1) y ys h.1)
 
 -- the first components end where the slash after them is
-slashes-end : (start : ℕ) (x : Bytes) (xs : List Bytes) (m z : ℕ) → EachLacksSlash (x ∷ xs) → m < length xs
+slashes-end : (start : ℕ) (x : Bytes) (xs : Components) (m z : ℕ) → EachLacksSlash (x ∷ xs) → m < length xs
     → get_or (slashes_from start (list_text (x ∷ xs))) m z ≡ start + length (list_text (take (suc m) (x ∷ xs)))
 slashes-end start x [] m z h lt = absurd (omega arith)
 slashes-end start x (y ∷ ys) zero z h lt = ap (λ l. get_or l 0 z) (slashes-at start x (list_text (y ∷ ys)) h.0)
@@ -75,7 +75,7 @@ slashes-end start x (y ∷ ys) (suc m) z h lt =
     ∙ slashes-end (start + length x + 1) y ys m z h.1 (omega arith) ∙ omega arith
 
 -- the text up to there is that of the first components
-cut-text : (m : ℕ) (x : Bytes) (xs : List Bytes)
+cut-text : (m : ℕ) (x : Bytes) (xs : Components)
     → take (length (list_text (take (suc m) (x ∷ xs)))) (list_text (x ∷ xs)) ≡ list_text (take (suc m) (x ∷ xs))
 cut-text zero x [] = ap (λ l. take (length x) l) (sym (append-nil x)) ∙ take-append_seam x []
 cut-text (suc m) x [] = ap (λ l. take (length x) l) (sym (append-nil x)) ∙ take-append_seam x []
@@ -86,14 +86,14 @@ cut-text (suc m) x (y ∷ ys) =
     ∙ ap (λ l. x ++ 47 ∷ l) (cut-text m y ys)
 
 -- the first components of a list, by the slash after them
-pub cut-list : (list : List Bytes) (m z : ℕ) → EachLacksSlash list → suc m < length list
+pub cut-list : (list : Components) (m z : ℕ) → EachLacksSlash list → suc m < length list
     → take (get_or (slashes_from 0 (list_text list)) m z) (list_text list) ≡ list_text (take (suc m) list)
 cut-list [] m z h lt = absurd (omega arith)
 cut-list (x ∷ xs) m z h lt =
     ap (λ n. take n (list_text (x ∷ xs))) (slashes-end 0 x xs m z h (omega arith) ∙ omega arith) ∙ cut-text m x xs
 
 -- a slash is where the components before it end
-pub slash-offset : (list : List Bytes) (m z : ℕ) → EachLacksSlash list → suc m < length list
+pub slash-offset : (list : Components) (m z : ℕ) → EachLacksSlash list → suc m < length list
     → get_or (slashes_from 0 (list_text list)) m z ≡ length (list_text (take (suc m) list))
 slash-offset [] m z h lt = absurd (omega arith)
 slash-offset (x ∷ xs) m z h lt = slashes-end 0 x xs m z h (omega arith) ∙ omega arith
@@ -101,16 +101,16 @@ slash-offset (x ∷ xs) m z h lt = slashes-end 0 x xs m z h (omega arith) ∙ om
 -- ---- the list of a directory and of what is read in it
 
 -- how many `..` a list begins with
-abbrev pub up : List Bytes → ℕ
+abbrev pub up : Components → ℕ
 up list = prefix_len is_parent list
 
 -- a list begins with `..`
-abbrev pub leads : List Bytes → Bool
+abbrev pub leads : Components → Bool
 leads [] = false
 leads (c ∷ cs) = is_parent c
 
 -- each component is a name
-abbrev pub AreNames : List Bytes → Type 0
+abbrev pub AreNames : Components → Type 0
 AreNames list = AllByRecursion (λ n. is_named_component n ≡ true) list
 
 -- a name is no `..`
@@ -120,24 +120,24 @@ name-not-parent false true h = cc
 name-not-parent false false h = refl
 
 -- a name stays in front of a list that does not begin with `..`
-pub in_front-plain : (n : Bytes) (r : List Bytes) → is_named_component n ≡ true → leads r ≡ false → in_front n r ≡ n ∷ r
+pub in_front-plain : (n : Bytes) (r : Components) → is_named_component n ≡ true → leads r ≡ false → in_front n r ≡ n ∷ r
 in_front-plain n [] h k = in_front-alone n (current-not-name (is_current n) (is_parent n) h)
 in_front-plain n (c ∷ cs) h k =
     in_front-stays n c cs (current-not-name (is_current n) (is_parent n) h) (ap (λ u. is_named_component n && u) k ∙ and-false (is_named_component n))
 
 -- a name goes with the `..` after it
-pub in_front-up : (n c : Bytes) (cs : List Bytes) → is_named_component n ≡ true → is_parent c ≡ true → in_front n (c ∷ cs) ≡ cs
+pub in_front-up : (n c : Bytes) (cs : Components) → is_named_component n ≡ true → is_parent c ≡ true → in_front n (c ∷ cs) ≡ cs
 in_front-up n c cs h k = in_front-pair n c cs (current-not-name (is_current n) (is_parent n) h) (ap (λ b. b && is_parent c) h ∙ k)
 
 -- one more `..`, or none
-pub up-more : (c : Bytes) (cs : List Bytes) → is_parent c ≡ true → up (c ∷ cs) ≡ suc (up cs)
+pub up-more : (c : Bytes) (cs : Components) → is_parent c ≡ true → up (c ∷ cs) ≡ suc (up cs)
 up-more c cs h = ap (λ b. cond b (1 + up cs) 0) h ∙ omega arith
 
-pub up-none : (c : Bytes) (cs : List Bytes) → is_parent c ≡ false → up (c ∷ cs) ≡ 0
+pub up-none : (c : Bytes) (cs : Components) → is_parent c ≡ false → up (c ∷ cs) ≡ 0
 up-none c cs h = ap (λ b. cond b (1 + up cs) 0) h
 
 -- after its `..` a list does not begin with one
-past-parents : (q : List Bytes) (d : ℕ) → d ≡ up q → leads (drop d q) ≡ false
+past-parents : (q : Components) (d : ℕ) → d ≡ up q → leads (drop d q) ≡ false
 past-parents [] zero e = refl
 past-parents [] (suc d) e = refl
 past-parents (c ∷ cs) zero e = elim (either_way (is_parent c)) [ inl h ↦ let k = up-more c cs h in absurd (omega arith) | inr h ↦ h ]
@@ -145,20 +145,20 @@ past-parents (c ∷ cs) (suc d) e = elim (either_way (is_parent c))
     [ inl h ↦ let k = up-more c cs h in past-parents cs d (omega arith) | inr h ↦ let k = up-none c cs h in absurd (omega arith) ]
 
 -- names, or nothing, and then a list after its `..`
-plain-joined : (m : ℕ) (ns q : List Bytes) (d : ℕ) → AreNames ns → d ≡ up q → leads (take m ns ++ drop d q) ≡ false
+plain-joined : (m : ℕ) (ns q : Components) (d : ℕ) → AreNames ns → d ≡ up q → leads (take m ns ++ drop d q) ≡ false
 plain-joined zero ns q d names e = past-parents q d e
 plain-joined (suc m) [] q d names e = past-parents q d e
 plain-joined (suc m) (n ∷ ns) q d names e = name-not-parent (is_current n) (is_parent n) names.0
 
 -- an early component of the `..` of a list
-next-parent : (q : List Bytes) (d : ℕ) → d < up q → (c : Bytes) × (drop d q ≡ c ∷ drop (suc d) q) × (is_parent c ≡ true)
+next-parent : (q : Components) (d : ℕ) → d < up q → (c : Bytes) × (drop d q ≡ c ∷ drop (suc d) q) × (is_parent c ≡ true)
 next-parent [] d lt = absurd (omega arith)
 next-parent (c ∷ cs) zero lt = elim (either_way (is_parent c)) [ inl h ↦ (c, refl, h) | inr h ↦ let k = up-none c cs h in absurd (omega arith) ]
 next-parent (c ∷ cs) (suc d) lt = elim (either_way (is_parent c))
     [ inl h ↦ let k = up-more c cs h in next-parent cs d (omega arith) | inr h ↦ let k = up-none c cs h in absurd (omega arith) ]
 
 -- names in front of a list: each `..` that it begins with removes one
-names-joined : (ns q : List Bytes) (m d : ℕ) → AreNames ns → IsFixed q → m + d ≡ length ns → d ≤ up q → (d ≡ up q) ⊎ (m ≡ 0)
+names-joined : (ns q : Components) (m d : ℕ) → AreNames ns → IsFixed q → m + d ≡ length ns → d ≤ up q → (d ≡ up q) ⊎ (m ≡ 0)
     → reduced (ns ++ q) ≡ take m ns ++ drop d q
 names-joined [] q zero zero names f e le way = fixed-reduced q f
 names-joined [] q zero (suc d) names f e le way = absurd (omega arith)
@@ -174,7 +174,7 @@ names-joined (n ∷ ns) q (suc m) d names f e le way =
     ∙ in_front-plain n (take m ns ++ drop d q) names.0 (plain-joined m ns q d names.1 all)
 
 -- a canonical list in front of another: each `..` that the other begins with removes a name
-pub lists-joined : (list q : List Bytes) (m d : ℕ) → IsFixed list → IsFixed q → m + d ≡ length list → up list ≤ m → d ≤ up q
+pub lists-joined : (list q : Components) (m d : ℕ) → IsFixed list → IsFixed q → m + d ≡ length list → up list ≤ m → d ≤ up q
     → (d ≡ up q) ⊎ (m ≡ up list) → reduced (list ++ q) ≡ take m list ++ drop d q
 lists-joined [] q m d fixed f e low le way = names-joined [] q m d tt f e le (elim way [ inl h ↦ inl h | inr h ↦ inr h ])
 lists-joined (c ∷ cs) q zero d fixed f e low le way =
@@ -195,7 +195,7 @@ lists-joined (c ∷ cs) q (suc m) d fixed f e low le way =
 -- ---- lists, written out
 
 -- the first components of a canonical list
-pub fixed-take : (m : ℕ) (list : List Bytes) → IsFixed list → IsFixed (take m list)
+pub fixed-take : (m : ℕ) (list : Components) → IsFixed list → IsFixed (take m list)
 fixed-take zero list f = tt
 fixed-take (suc m) [] f = tt
 fixed-take (suc zero) (c ∷ []) f = f
@@ -204,7 +204,7 @@ fixed-take (suc zero) (c ∷ d ∷ ds) f = f.0
 fixed-take (suc (suc m)) (c ∷ d ∷ ds) f = (f.0, f.1, fixed-take (suc m) (d ∷ ds) f.2)
 
 -- the last ones
-pub fixed-drop : (m : ℕ) (list : List Bytes) → IsFixed list → IsFixed (drop m list)
+pub fixed-drop : (m : ℕ) (list : Components) → IsFixed list → IsFixed (drop m list)
 fixed-drop zero list f = f
 fixed-drop (suc m) [] f = tt
 fixed-drop (suc m) (c ∷ cs) f = fixed-drop m cs (fixed-tail c cs f)
@@ -221,7 +221,7 @@ glued-nil [] = refl
 glued-nil (b ∷ t) = refl
 
 -- two canonical lists are written out one after the other
-pub glued-lists : (xs ys : List Bytes) → IsFixed xs → IsFixed ys → glued (list_text xs) (list_text ys) ≡ list_text (xs ++ ys)
+pub glued-lists : (xs ys : Components) → IsFixed xs → IsFixed ys → glued (list_text xs) (list_text ys) ≡ list_text (xs ++ ys)
 glued-lists [] ys f g = refl
 glued-lists (x ∷ xs) [] f g = glued-nil (list_text (x ∷ xs)) ∙ ap list_text (sym (append-nil (x ∷ xs)))
 glued-lists (x ∷ xs) (y ∷ ys) f g =
@@ -237,13 +237,13 @@ none-behind zero = refl
 none-behind (suc d) = refl
 
 -- two dots and the slash after them are three bytes
-past-two : (d n : ℕ) (cs : List Bytes) → drop n (list_text cs) ≡ list_text (drop d cs)
+past-two : (d n : ℕ) (cs : Components) → drop n (list_text cs) ≡ list_text (drop d cs)
     → drop (suc (suc (suc n))) (list_text ((46 ∷ 46 ∷ []) ∷ cs)) ≡ list_text (drop d cs)
 past-two d n [] e = sym (none-behind d)
 past-two d n (y ∷ ys) e = e
 
 -- without three bytes for each, a list has some `..` less
-pub text-behind : (d n : ℕ) (q : List Bytes) → n ≡ 3 * d → d ≤ up q → drop n (list_text q) ≡ list_text (drop d q)
+pub text-behind : (d n : ℕ) (q : Components) → n ≡ 3 * d → d ≤ up q → drop n (list_text q) ≡ list_text (drop d q)
 text-behind zero zero q e le = refl
 text-behind zero (suc n) q e le = absurd (omega arith)
 text-behind (suc d) zero q e le = absurd (omega arith)
@@ -259,12 +259,12 @@ text-behind (suc d) (suc (suc (suc n))) (c ∷ cs) e le = elim (either_way (is_p
 -- ---- a list that leads up
 
 -- after a name no component is `..`
-no-parent : (list : List Bytes) → AreNames list → list_any is_parent list ≡ false
+no-parent : (list : Components) → AreNames list → list_any is_parent list ≡ false
 no-parent [] h = refl
 no-parent (c ∷ cs) h = ap (λ b. b || list_any is_parent cs) (name-not-parent (is_current c) (is_parent c) h.0) ∙ no-parent cs h.1
 
 -- a canonical list has a `..` if it begins with one
-pub any-leads : (list : List Bytes) → IsFixed list → list_any is_parent list ≡ leads list
+pub any-leads : (list : Components) → IsFixed list → list_any is_parent list ≡ leads list
 any-leads [] f = refl
 any-leads (c ∷ cs) f = elim (either_way (is_parent c)) [
   | inl h ↦ ap (λ b. b || list_any is_parent cs) h ∙ sym h
@@ -300,7 +300,7 @@ leads-front (a ∷ b ∷ d ∷ r) t h n =
     ∙ ap (λ t. a == 46 && t) (sym (and-false (b == 46)))
 
 -- a canonical list leads up if it has a `..`
-pub leads-list : (list : List Bytes) → IsFixed list → EachLacksSlash list → leads_up (list_text list) ≡ list_any is_parent list
+pub leads-list : (list : Components) → IsFixed list → EachLacksSlash list → leads_up (list_text list) ≡ list_any is_parent list
 leads-list [] f h = refl
 leads-list (c ∷ []) f h = leads-alone c h.0 ∙ sym (any-leads (c ∷ []) f)
 leads-list (c ∷ y ∷ ys) f h = leads-front c (list_text (y ∷ ys)) h.0 f.0 ∙ sym (any-leads (c ∷ y ∷ ys) f)
@@ -342,7 +342,7 @@ position-append a b =
 -- ---- components of two texts
 
 -- a byte in front of the first component of two lists
-onto-append : (b : ℕ) (xs ys : List Bytes) → xs ≢ [] → onto_first b (xs ++ ys) ≡ onto_first b xs ++ ys
+onto-append : (b : ℕ) (xs ys : Components) → xs ≢ [] → onto_first b (xs ++ ys) ≡ onto_first b xs ++ ys
 onto-append b [] ys n = absurd (n refl)
 onto-append b (x ∷ xs) ys n = refl
 
@@ -351,7 +351,7 @@ not-none : (r : Bytes) → components r ≢ []
 not-none r e = let p = components-some r in let k : p.0 ∷ p.1 ≡ [] = sym p.2 ∙ e in cc
 
 -- a byte, which is a slash or not, in front of two lists
-slash-cond : (t : Bool) (x : ℕ) (xs ys all : List Bytes) → xs ≢ [] → all ≡ xs ++ ys
+slash-cond : (t : Bool) (x : ℕ) (xs ys all : Components) → xs ≢ [] → all ≡ xs ++ ys
     → cond t ([] ∷ all) (onto_first x all) ≡ cond t ([] ∷ xs) (onto_first x xs) ++ ys
 slash-cond true x xs ys all n e = ap (λ l. [] ∷ l) e
 slash-cond false x xs ys all n e = ap (onto_first x) e ∙ onto-append x xs ys n
@@ -362,7 +362,7 @@ components-slash [] b = refl
 components-slash (x ∷ a) b = slash-cond (x == 47) x (components a) (components b) (components (a ++ 47 ∷ b)) (not-none a) (components-slash a b)
 
 -- a text without a slash in front of the first component
-pub components-front : (a t first : Bytes) (others : List Bytes) → LacksSlash a → components t ≡ first ∷ others
+pub components-front : (a t first : Bytes) (others : Components) → LacksSlash a → components t ≡ first ∷ others
     → components (a ++ t) ≡ (a ++ first) ∷ others
 components-front [] t first others h e = e
 components-front (b ∷ bs) t first others h e = slice_split-cons_no (λ b. b == 47) b (bs ++ t) h.0 ∙ ap (onto_first b) (components-front bs t first others h.1 e)

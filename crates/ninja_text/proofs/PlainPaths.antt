@@ -1,4 +1,5 @@
 -- A text of names is a canonical path.
+use Rattle.ninja_text.specs.inner.ComponentLists.{Components}
 use Rattle.ninja_text.specs.Bytes.{Bytes}
 use Rattle.std.proofs.Common.{◌≡◌, ℕ, ◌≤◌, Bool, true, false, ◌||◌, ◌&&◌, ◌==◌, cond, if◌then◌else◌, List, [], ◌∷◌, length, refl, sym, subst, ◌∙◌, ap, inl, inr}
 use Rattle.std.specs.List.{list_any, onto_first}
@@ -33,7 +34,7 @@ begun_with TwoDots c = 46 ∷ 46 ∷ c
 begun_with Name c = 97 ∷ c
 
 -- the first component, with what is before it, is a name, and so are the others
-abbrev AreNamed : Begun → List Bytes → Type 0
+abbrev AreNamed : Begun → Components → Type 0
 AreNamed begun [] = ⊥
 AreNamed begun (c ∷ cs) = (no_name (begun_with begun c) ≡ false) × (list_any no_name cs ≡ false)
 
@@ -45,12 +46,12 @@ ended TwoDots h = cc
 ended Name h = refl
 
 -- if nothing is before the first component, all are names
-all_named : (cs : List Bytes) → AreNamed Nothing cs → list_any no_name cs ≡ false
+all_named : (cs : Components) → AreNamed Nothing cs → list_any no_name cs ≡ false
 all_named [] h = absurd h
 all_named (c ∷ cs) h = ap (λ b. b || list_any no_name cs) h.0 ∙ h.1
 
 -- a byte in front of the first component
-one_more : (begun : Begun) (b : ℕ) (cs : List Bytes) → AreNamed (after begun b) cs → AreNamed begun (onto_first b cs)
+one_more : (begun : Begun) (b : ℕ) (cs : Components) → AreNamed (after begun b) cs → AreNamed begun (onto_first b cs)
 one_more begun b [] h = absurd h
 one_more Nothing b (c ∷ cs) h = elim (cases_Bool (b == 46)) [ inl d ↦ rw d (rw d at h) | inr d ↦ rw d (refl, h.1) ]
 one_more Dot b (c ∷ cs) h = elim (cases_Bool (b == 46)) [ inl d ↦ rw d (rw d at h) | inr d ↦ rw d (refl, h.1) ]
@@ -76,7 +77,7 @@ are_names list h = let m = names_read Nothing list h in record { named = all_nam
 
 -- ---- a text of names is a path
 
-no_parents : (cs : List Bytes) → list_any no_name cs ≡ false → list_any is_parent cs ≡ false
+no_parents : (cs : Components) → list_any no_name cs ≡ false → list_any is_parent cs ≡ false
 no_parents [] h = refl
 no_parents (c ∷ cs) h =
     let p = or_parts (no_name c) (list_any no_name cs) h in

@@ -15,7 +15,7 @@ use Rattle.ninja_text.specs.Escapes.{is_unwritable, IsWritable}
 use Rattle.ninja_text.specs.Reduction.{is_current, is_parent, is_named_component, reduced, ReducesTo, components}
 use Rattle.ninja_text.specs.Paths.{path_text, below, relative_or, seen_from, is_empty, is_rooted, canonical_of, path_of, IsPath}
 use Rattle.ninja_text.specs.PathShape.{parts, names, IsShaped}
-use Rattle.ninja_text.specs.inner.ComponentLists.{list_text}
+use Rattle.ninja_text.specs.inner.ComponentLists.{Components, list_text}
 use Rattle.ninja_text.proofs.ReducedList.{IsFixed, fixed-tail, name-of, either_way, reduced-fixed, reduced-each, reaches, reaches-only}
 use Rattle.ninja_text.proofs.Components.{below-some}
 use Rattle.ninja_text.proofs.Canonical.{facts, none-clean, whole-list, rooted-text, reduced-text, is-empty, some-not-empty}
@@ -27,14 +27,14 @@ pub and-other : (n u : Bool) → n ≡ true → (n && u) ≡ false → u ≡ fal
 and-other n u h k = sym (ap (λ b. b && u) h) ∙ k
 
 -- after a name there are only names
-pub all-names : (c : Bytes) (cs : List Bytes) → IsFixed (c ∷ cs) → is_parent c ≡ false → AllByRecursion (λ n. is_named_component n ≡ true) (c ∷ cs)
+pub all-names : (c : Bytes) (cs : Components) → IsFixed (c ∷ cs) → is_parent c ≡ false → AllByRecursion (λ n. is_named_component n ≡ true) (c ∷ cs)
 all-names c [] f h = (name-of (is_current c) (is_parent c) f h, tt)
 all-names c (d ∷ ds) f h =
     let n = name-of (is_current c) (is_parent c) f.0 h in
     (n, all-names d ds f.2 (and-other (is_named_component c) (is_parent d) n f.1))
 
 -- after the `..` in front there are only names
-pub behind-parents : (l : List Bytes) → IsFixed l → AllByRecursion (λ n. is_named_component n ≡ true) (drop (prefix_len is_parent l) l)
+pub behind-parents : (l : Components) → IsFixed l → AllByRecursion (λ n. is_named_component n ≡ true) (drop (prefix_len is_parent l) l)
 behind-parents [] f = tt
 behind-parents (c ∷ cs) f = elim (either_way (is_parent c)) [
   | inl h ↦
@@ -46,7 +46,7 @@ behind-parents (c ∷ cs) f = elim (either_way (is_parent c)) [
 ]
 
 -- no `..` is in front if there is none
-no-parents : (l : List Bytes) → list_any is_parent l ≡ false → prefix_len is_parent l ≡ 0
+no-parents : (l : Components) → list_any is_parent l ≡ false → prefix_len is_parent l ≡ 0
 no-parents [] h = refl
 no-parents (c ∷ cs) h = elim (either_way (is_parent c)) [
   | inl k ↦ absurd (both (list_any is_parent cs) (sym (ap (λ b. b || list_any is_parent cs) k) ∙ h))
@@ -57,7 +57,7 @@ no-parents (c ∷ cs) h = elim (either_way (is_parent c)) [
     both b e = cc
 
 -- a list that has a component
-pub empty-not : (l : List Bytes) → is_empty l ≡ false → l ≢ []
+pub empty-not : (l : Components) → is_empty l ≡ false → l ≢ []
 empty-not [] h e = cc
 empty-not (c ∷ cs) h e = cc
 
@@ -66,7 +66,7 @@ pub at-most : (m n : ℕ) → nat_lt m n ≡ false → n ≤ m
 at-most m n h = grind arith
 
 -- a path has a byte
-pub path-some : (rooted : Bool) (l : List Bytes) → IsFixed l → is_empty l ≡ false → path_text rooted l ≢ []
+pub path-some : (rooted : Bool) (l : Components) → IsFixed l → is_empty l ≡ false → path_text rooted l ≢ []
 path-some true l f h e = cc
 path-some false [] f h e = cc
 path-some false ([] ∷ []) f h e = cc
@@ -107,7 +107,7 @@ meaning text path h =
     )
 
 -- no component is left of none
-is-nothing : (l : List Bytes) → [] ≡ l → is_empty l ≡ true
+is-nothing : (l : Components) → [] ≡ l → is_empty l ≡ true
 is-nothing l e = ap is_empty (sym e)
 
 -- a text has no path, because no component is left, if and only if its components reduce to none
@@ -117,7 +117,7 @@ empty text = (
   λ r. is-empty None text (is-nothing (reduced (components text)) (reaches-only (components text) [] r)),
 )
   where
-    go : path_of text ≡ Err Empty → (l : List Bytes) → reduced (components text) ≡ l → ReducesTo (components text) []
+    go : path_of text ≡ Err Empty → (l : Components) → reduced (components text) ≡ l → ReducesTo (components text) []
     go h [] e = subst (ReducesTo (components text)) e (reaches (components text))
     go h (c ∷ cs) e = absurd (some-not-empty None text (ap is_empty e) h)
 
@@ -135,7 +135,7 @@ split-text x t u =
     )
 
 -- so are the components of a text
-parts-text : (list : List Bytes) → IsUtf8 (list_text list) → AllByRecursion IsUtf8 list
+parts-text : (list : Components) → IsUtf8 (list_text list) → AllByRecursion IsUtf8 list
 parts-text [] u = tt
 parts-text (x ∷ []) u = (u, tt)
 parts-text (x ∷ y ∷ ys) u = let s = split-text x (list_text (y ∷ ys)) u in (s.0, parts-text (y ∷ ys) s.1)
@@ -150,28 +150,28 @@ slash-text : (t : Bytes) → IsUtf8 t → IsUtf8 (47 ∷ t)
 slash-text t u = IsUtf8-append (47 ∷ []) t (IsUtf8-from_ascii (47 ∷ []) slash-ascii) u
 
 -- a list of texts, written out, is a text
-text-parts : (list : List Bytes) → AllByRecursion IsUtf8 list → IsUtf8 (list_text list)
+text-parts : (list : Components) → AllByRecursion IsUtf8 list → IsUtf8 (list_text list)
 text-parts [] a = IsUtf8-nil
 text-parts (x ∷ []) a = a.0
 text-parts (x ∷ y ∷ ys) a = IsUtf8-append x (47 ∷ list_text (y ∷ ys)) a.0 (slash-text (list_text (y ∷ ys)) (text-parts (y ∷ ys) a.1))
 
 -- so is a path
-path-text : (rooted : Bool) (list : List Bytes) → AllByRecursion IsUtf8 list → IsUtf8 (path_text rooted list)
+path-text : (rooted : Bool) (list : Components) → AllByRecursion IsUtf8 list → IsUtf8 (path_text rooted list)
 path-text true list a = slash-text (list_text list) (text-parts list a)
 path-text false list a = text-parts list a
 
 -- what is left below a directory are texts
-rest-each : (ds cs : List Bytes) → AllByRecursion IsUtf8 (ds ++ cs) → AllByRecursion IsUtf8 cs
+rest-each : (ds cs : Components) → AllByRecursion IsUtf8 (ds ++ cs) → AllByRecursion IsUtf8 cs
 rest-each [] cs a = a
 rest-each (d ∷ ds) cs a = rest-each ds cs a.1
 
 -- what is seen from a build directory is a text
-or-text : (dirs list : List Bytes) (o : Option (List Bytes)) → below dirs list ≡ o → AllByRecursion IsUtf8 list → IsUtf8 (relative_or list o)
+or-text : (dirs list : Components) (o : Option Components) → below dirs list ≡ o → AllByRecursion IsUtf8 list → IsUtf8 (relative_or list o)
 or-text dirs list None e a = path-text true list a
 or-text dirs list (Some rest) e a = path-text false rest (rest-each dirs rest (subst (AllByRecursion IsUtf8) (below-some dirs list rest e).0 a))
 
 -- so is what is seen from anywhere
-seen-text : (build : Option Bytes) (rooted : Bool) (list : List Bytes) → AllByRecursion IsUtf8 list → IsUtf8 (seen_from build rooted list)
+seen-text : (build : Option Bytes) (rooted : Bool) (list : Components) → AllByRecursion IsUtf8 list → IsUtf8 (seen_from build rooted list)
 seen-text None rooted list a = path-text rooted list a
 seen-text (Some b) true list a = or-text (reduced (components b)) list (below (reduced (components b)) list) refl a
 seen-text (Some b) false list a = path-text false list a
