@@ -3,7 +3,7 @@ use Rattle.std.proofs.Common.{inl, inr, ◌≡◌, ℕ, ◌+◌, ◌<◌, Bool, 
 use Rattle.std.specs.Prelude.{Option, nat_lt, ◌&&◌}
 use Rattle.std.specs.List.{list_any}
 use Rattle.std.proofs.lemmas.Bool.{cases_Bool, ltb-true, eqb-true, and_parts}
-use Rattle.ninja_text.specs.Units.{units, unit_len, is_byte}
+use Rattle.ninja_text.specs.Units.{LineUnits, units, unit_len, is_byte}
 use Rattle.ninja_text.specs.declared.unit.LineUnit.{LineUnit}
 use Rattle.ninja_text.specs.declared.unit.LineUnit.TheVariants.{Continuation, Escape, Byte}
 use Rattle.ninja_text.specs.Tokens.{TokenAt, is_blank, is_piece, goes_on, with_first_start, with_unit, tokens_from, tokens}
@@ -11,11 +11,11 @@ use Rattle.ninja_text.specs.Assignments.{after_run, is_name_unit, begins_with_eq
 use Rattle.ninja_text.specs.Paths.{is_empty}
 use Rattle.ninja_text.proofs.Units.{tokens_with, byte_is}
 
-any_later : (test : LineUnit → Bool) (u : LineUnit) (us : List LineUnit) → list_any test us ≡ true → list_any test (u ∷ us) ≡ true
+any_later : (test : LineUnit → Bool) (u : LineUnit) (us : LineUnits) → list_any test us ≡ true → list_any test (u ∷ us) ≡ true
 any_later test u us h = elim (cases_Bool (test u)) [ inl t ↦ rw t refl | inr f ↦ rw f h ]
 
 -- if a word continues, a piece follows
-goes_on_piece : (us : List LineUnit) → goes_on us ≡ true → list_any is_piece us ≡ true
+goes_on_piece : (us : LineUnits) → goes_on us ≡ true → list_any is_piece us ≡ true
 goes_on_piece [] h = cc
 goes_on_piece (Continuation len ∷ us) h = any_later is_piece (Continuation len) us (goes_on_piece us h)
 goes_on_piece (Escape b ∷ us) h = refl
@@ -29,7 +29,7 @@ none_widened index [] h = refl
 none_widened index (t ∷ ts) h = none_added h
 
 -- no token and a piece: never
-none_with : (index : ℕ) (u : LineUnit) (us : List LineUnit) (later : List TokenAt) → (later ≡ [] → list_any is_piece us ≡ true → ⊥) →
+none_with : (index : ℕ) (u : LineUnit) (us : LineUnits) (later : List TokenAt) → (later ≡ [] → list_any is_piece us ≡ true → ⊥) →
     with_unit index u us later ≡ [] → list_any is_piece (u ∷ us) ≡ true → ⊥
 none_with index u us later none h piece = elim (cases_Bool (is_piece u)) [
   | inl p ↦ elim (cases_Bool (goes_on us)) [
@@ -46,7 +46,7 @@ none_with index u us later none h piece = elim (cases_Bool (is_piece u)) [
 ]
 
 -- a `|` is a token, or begins one
-bar_added : (index : ℕ) (v : LineUnit) (us : List LineUnit) → tokens_from index (Byte 124 ∷ v ∷ us) ≡ [] → ⊥
+bar_added : (index : ℕ) (v : LineUnit) (us : LineUnits) → tokens_from index (Byte 124 ∷ v ∷ us) ≡ [] → ⊥
 bar_added index v us h = elim (cases_Bool (is_byte 124 v)) [
   | inl d ↦ none_added (rw d at h)
   | inr d ↦ elim (cases_Bool (is_byte 64 v)) [
@@ -56,7 +56,7 @@ bar_added index v us h = elim (cases_Bool (is_byte 124 v)) [
 ]
 
 -- a text without tokens has no piece of a word
-no_piece : (us : List LineUnit) (index : ℕ) → tokens_from index us ≡ [] → list_any is_piece us ≡ true → ⊥
+no_piece : (us : LineUnits) (index : ℕ) → tokens_from index us ≡ [] → list_any is_piece us ≡ true → ⊥
 no_piece [] index h piece = cc
 no_piece (u ∷ []) index h piece = none_with index u [] [] (λ e p. cc) h piece
 no_piece (u ∷ v ∷ us) index h piece = elim (cases_Bool (is_byte 124 u)) [
@@ -66,7 +66,7 @@ no_piece (u ∷ v ∷ us) index h piece = elim (cases_Bool (is_byte 124 u)) [
 ]
 
 -- what is left after a run is a part of all
-run_any : (test : LineUnit → Bool) (index : ℕ) (us : List LineUnit) → list_any is_piece (after_run test index us).units ≡ true → list_any is_piece us ≡ true
+run_any : (test : LineUnit → Bool) (index : ℕ) (us : LineUnits) → list_any is_piece (after_run test index us).units ≡ true → list_any is_piece us ≡ true
 run_any test index [] h = h
 run_any test index (u ∷ us) h = elim (cases_Bool (test u)) [
   | inl t ↦ any_later is_piece u us (run_any test (index + unit_len u) us (rw t at h))
@@ -90,7 +90,7 @@ name_piece (Byte b) h = elim (cases_Bool (b == 32)) [
   apart : (c : ℕ) → (b == c) ≡ true → is_name_unit (Byte c) ≡ false → is_piece (Byte b) ≡ true
   apart c same none = cc (sym none ∙ subst (λ n. is_name_unit (Byte n) ≡ true) (eqb-true b c same) h)
 
-run_first : (index : ℕ) (us : List LineUnit) → index < (after_run is_name_unit index us).place → list_any is_piece us ≡ true
+run_first : (index : ℕ) (us : LineUnits) → index < (after_run is_name_unit index us).place → list_any is_piece us ≡ true
 run_first index [] h = absurd (omega arith)
 run_first index (u ∷ us) h = elim (cases_Bool (is_name_unit u)) [
   | inl t ↦ rw (name_piece u t) refl

@@ -6,7 +6,7 @@ use Rattle.std.specs.List.{list_all}
 use Rattle.std.proofs.lemmas.List.{drop_at, take_at}
 use Rattle.std.proofs.lemmas.List.Folds.{list_all-append}
 use Rattle.std.proofs.lemmas.Bool.{cases_Bool, eqb-true, and_parts, and_from}
-use Rattle.ninja_text.specs.Units.{units, unit_len, is_continuation, with_continuation}
+use Rattle.ninja_text.specs.Units.{LineUnits, units, unit_len, is_continuation, with_continuation}
 use Rattle.ninja_text.specs.declared.unit.LineUnit.{LineUnit}
 use Rattle.ninja_text.specs.declared.unit.LineUnit.TheVariants.{Continuation, Escape, Byte}
 use Rattle.ninja_text.specs.Escapes.{is_escaped, IsContinuation}
@@ -27,11 +27,11 @@ IsUnitText (Escape b) bytes = bytes ≡ 36 ∷ b ∷ []
 IsUnitText (Byte b) bytes = bytes ≡ b ∷ []
 
 -- a continuation, and no space after it
-abbrev TakesSpaces : LineUnit → List LineUnit → Type 0
+abbrev TakesSpaces : LineUnit → LineUnits → Type 0
 TakesSpaces u us = is_continuation u ≡ true → begins_with 32 us ≡ false
 
 -- Bytes that are these units, one after another. Each continuation has all the spaces that follow it.
-abbrev pub AreUnitTexts : List LineUnit → Bytes → Type 0
+abbrev pub AreUnitTexts : LineUnits → Bytes → Type 0
 AreUnitTexts [] bytes = bytes ≡ []
 AreUnitTexts (u ∷ us) bytes = (own : Bytes) × (rest : Bytes) × IsUnitText u own × TakesSpaces u us × AreUnitTexts us rest × (bytes ≡ own ++ rest)
 
@@ -53,7 +53,7 @@ longer own c = (
 )
 
 -- a continuation in front of units takes the spaces that they begin with
-continued : (len : ℕ) (us : List LineUnit) (own rest : Bytes) → IsContinuation own → length own ≡ len → AreUnitTexts us rest →
+continued : (len : ℕ) (us : LineUnits) (own rest : Bytes) → IsContinuation own → length own ≡ len → AreUnitTexts us rest →
     AreUnitTexts (with_continuation len us) (own ++ rest)
 continued len [] own rest c is h = (own, [], (c, is), (λ e. refl), refl, ap (λ xs. own ++ xs) h)
 continued len (Byte b ∷ us) own rest c is h = elim (cases_Bool (b == 32)) [
@@ -103,12 +103,12 @@ unit_texts (a ∷ b ∷ c ∷ bytes) = elim (cases_Bool (a == 36)) [
 ]
 
 -- fewer units begin with a space only if more do
-begins_less : (us vs : List LineUnit) → begins_with 32 (us ++ vs) ≡ false → begins_with 32 us ≡ false
+begins_less : (us vs : LineUnits) → begins_with 32 (us ++ vs) ≡ false → begins_with 32 us ≡ false
 begins_less [] vs h = refl
 begins_less (u ∷ us) vs h = h
 
 -- the bytes of some units, and those of the units after them
-pub split : (us vs : List LineUnit) (bytes : Bytes) → AreUnitTexts (us ++ vs) bytes →
+pub split : (us vs : LineUnits) (bytes : Bytes) → AreUnitTexts (us ++ vs) bytes →
     (x : Bytes) × (y : Bytes) × AreUnitTexts us x × AreUnitTexts vs y × (bytes ≡ x ++ y)
 split [] vs bytes h = ([], bytes, refl, h, refl)
 split (u ∷ us) vs bytes h =
@@ -126,7 +126,7 @@ unit_length (Continuation len) own h = h.1
 unit_length (Escape b) own h = ap length h
 unit_length (Byte b) own h = ap length h
 
-pub texts_length : (us : List LineUnit) (bytes : Bytes) → AreUnitTexts us bytes → length bytes ≡ total_len us
+pub texts_length : (us : LineUnits) (bytes : Bytes) → AreUnitTexts us bytes → length bytes ≡ total_len us
 texts_length [] bytes h = ap length h
 texts_length (u ∷ us) bytes h =
     ap length h.5 ∙ length-append h.0 h.1 ∙ ap (λ n. n + length h.1) (unit_length u h.0 h.2) ∙ ap (λ n. unit_len u + n) (texts_length us h.1 h.4)
@@ -145,7 +145,7 @@ takes (suc n) k rest =
     ∙ ap (λ m. with_continuation m (units rest)) {x = k + 1 + n} {y = k + suc n} (omega arith)
 
 -- and no other unit
-takes_no_more : (len : ℕ) (us : List LineUnit) → begins_with 32 us ≡ false → with_continuation len us ≡ Continuation len ∷ us
+takes_no_more : (len : ℕ) (us : LineUnits) → begins_with 32 us ≡ false → with_continuation len us ≡ Continuation len ∷ us
 takes_no_more len [] h = refl
 takes_no_more len (Byte b ∷ us) h = rw h refl
 takes_no_more len (Escape b ∷ us) h = refl
@@ -156,7 +156,7 @@ spaces_length zero = refl
 spaces_length (suc n) = ap suc (spaces_length n)
 
 -- a continuation at the front is read back
-continuation_back : (own rest : Bytes) (us : List LineUnit) → IsContinuation own → begins_with 32 us ≡ false → units rest ≡ us →
+continuation_back : (own rest : Bytes) (us : LineUnits) → IsContinuation own → begins_with 32 us ≡ false → units rest ≡ us →
     units (own ++ rest) ≡ Continuation (length own) ∷ us
 continuation_back own rest us c none later = elim c.1 [
   | inl h ↦ subst (λ xs. units (xs ++ rest) ≡ Continuation (length xs) ∷ us) (sym h)
@@ -168,7 +168,7 @@ continuation_back own rest us c none later = elim c.1 [
   after k m is = takes c.0 k rest ∙ ap (with_continuation (k + c.0)) later ∙ takes_no_more (k + c.0) us none ∙ ap (λ n. Continuation n ∷ us) is
 
 -- proper units are read back
-pub read_back : (us : List LineUnit) (bytes : Bytes) → list_all is_proper us ≡ true → AreUnitTexts us bytes → units bytes ≡ us
+pub read_back : (us : LineUnits) (bytes : Bytes) → list_all is_proper us ≡ true → AreUnitTexts us bytes → units bytes ≡ us
 read_back [] bytes p h = ap units h
 read_back (Continuation len ∷ us) bytes p h =
     ap units h.5 ∙ continuation_back h.0 h.1 us h.2.0 (h.3 refl) (read_back us h.1 p h.4) ∙ ap (λ n. Continuation n ∷ us) h.2.1
@@ -183,7 +183,7 @@ read_back (Byte b ∷ us) bytes p h =
     ap units (h.5 ∙ ap (λ xs. xs ++ h.1) h.2) ∙ units_byte b h.1 (plain b q.0).no_dollar ∙ ap (λ vs. Byte b ∷ vs) (read_back us h.1 q.1 h.4)
 
 -- The text from an index on is these units, all of them proper.
-pub record Remains (text : Bytes) (index : ℕ) (us : List LineUnit) : Type 0 where
+pub record Remains (text : Bytes) (index : ℕ) (us : LineUnits) : Type 0 where
   pub front : Bytes
   pub bytes : Bytes
   pub whole : text ≡ front ++ bytes
@@ -195,7 +195,7 @@ pub remains_all : (text : Bytes) → list_all is_proper (units text) ≡ true �
 remains_all text proper = record { front = []; bytes = text; whole = refl; front_len = refl; texts = unit_texts text; proper = proper }
 
 -- past the first of them, and past more
-pub past_unit : (text : Bytes) (index : ℕ) (u : LineUnit) (us : List LineUnit) → Remains text index (u ∷ us) → Remains text (index + unit_len u) us
+pub past_unit : (text : Bytes) (index : ℕ) (u : LineUnit) (us : LineUnits) → Remains text index (u ∷ us) → Remains text (index + unit_len u) us
 past_unit text index u us r =
     let h = r.texts in
     record {
@@ -207,20 +207,20 @@ past_unit text index u us r =
       proper = (and_parts (is_proper u) (list_all is_proper us) r.proper).1;
     }
 
-pub past_units : (text : Bytes) (index : ℕ) (us vs : List LineUnit) → Remains text index (us ++ vs) → Remains text (index + total_len us) vs
+pub past_units : (text : Bytes) (index : ℕ) (us vs : LineUnits) → Remains text index (us ++ vs) → Remains text (index + total_len us) vs
 past_units text index [] vs r = subst (λ n. Remains text n vs) {x = index} {y = index + 0} (omega arith) r
 past_units text index (u ∷ us) vs r =
     subst (λ n. Remains text n vs) {x = index + unit_len u + total_len us} {y = index + (unit_len u + total_len us)} (omega arith)
     (past_units text (index + unit_len u) us vs (past_unit text index u (us ++ vs) r))
 
 -- the bytes of the first of them
-pub record Part (text : Bytes) (start : ℕ) (us : List LineUnit) : Type 0 where
+pub record Part (text : Bytes) (start : ℕ) (us : LineUnits) : Type 0 where
   pub bytes : Bytes
   pub texts : AreUnitTexts us bytes
   pub proper : list_all is_proper us ≡ true
   pub slice : slice_range text start (start + total_len us) ≡ bytes
 
-pub first_part : (text : Bytes) (start : ℕ) (us vs : List LineUnit) → Remains text start (us ++ vs) → Part text start us
+pub first_part : (text : Bytes) (start : ℕ) (us vs : LineUnits) → Remains text start (us ++ vs) → Part text start us
 first_part text start us vs r =
     let parts = split us vs r.bytes r.texts in
     record {
@@ -233,7 +233,7 @@ first_part text start us vs r =
     }
 
 -- the rest of the text
-pub rest_is : (text : Bytes) (index : ℕ) (us : List LineUnit) (r : Remains text index us) → drop index text ≡ r.bytes
+pub rest_is : (text : Bytes) (index : ℕ) (us : LineUnits) (r : Remains text index us) → drop index text ≡ r.bytes
 rest_is text index us r = ap (drop index) r.whole ∙ drop_at r.front r.bytes index r.front_len
 
 -- ---- the units of a line without a lexical fault
@@ -299,7 +299,7 @@ past_escape b bytes index end f r rest = record {
   inner = ap (list_all is_inner) (escape_units b (take rest.count bytes) f (less_feed b rest.count bytes r)) ∙ rest.inner;
 }
 
-inner_continued : (len : ℕ) (us : List LineUnit) → list_all is_inner us ≡ true → list_all is_inner (with_continuation len us) ≡ true
+inner_continued : (len : ℕ) (us : LineUnits) → list_all is_inner us ≡ true → list_all is_inner (with_continuation len us) ≡ true
 inner_continued len [] h = refl
 inner_continued len (Byte b ∷ us) h = elim (cases_Bool (b == 32)) [
   | inl s ↦ rw s (inner_continued (len + 1) us (and_parts (is_inner (Byte b)) (list_all is_inner us) h).1)
@@ -395,7 +395,7 @@ unit_proper index (Continuation len) h i = refl
 unit_proper index (Escape b) h i = escape_proper index b h
 unit_proper index (Byte b) h i = byte_proper index b h i
 
-all_proper : (us : List LineUnit) (index : ℕ) → first_fault index us ≡ None → list_all is_inner us ≡ true → list_all is_proper us ≡ true
+all_proper : (us : LineUnits) (index : ℕ) → first_fault index us ≡ None → list_all is_inner us ≡ true → list_all is_proper us ≡ true
 all_proper [] index h i = refl
 all_proper (u ∷ us) index h i =
     let f = earlier_none (unit_fault index u) (first_fault (index + unit_len u) us) h in

@@ -7,7 +7,7 @@ use Rattle.std.specs.List.{flat_map, list_all, AllByRecursion}
 use Rattle.std.proofs.lemmas.List.{append-nil}
 use Rattle.std.proofs.lemmas.List.Elements.{All-from_recursion}
 use Rattle.std.proofs.lemmas.Bool.{cases_Bool, and_parts, or_parts, not-true}
-use Rattle.ninja_text.specs.Units.{units, unit_len}
+use Rattle.ninja_text.specs.Units.{LineUnits, units, unit_len}
 use Rattle.ninja_text.specs.declared.unit.LineUnit.{LineUnit}
 use Rattle.ninja_text.specs.declared.unit.LineUnit.TheVariants.{Continuation, Escape, Byte}
 use Rattle.ninja_text.specs.declared.token.TokenKind.{TokenKind}
@@ -45,7 +45,7 @@ spelled (Escape b) own p s h = record { byte = b; value = refl; piece = subst (�
 spelled (Byte b) own p s h = record { byte = b; value = refl; piece = subst (λ xs. IsPiece xs b) (sym h) (refl, byte_piece b p s) }
 
 -- what follows a piece in a word: nothing, or a gap and pieces
-record Pieces (us : List LineUnit) (bytes : Bytes) : Type 0 where
+record Pieces (us : LineUnits) (bytes : Bytes) : Type 0 where
   gap : Bytes
   rest : Bytes
   first : ℕ
@@ -55,11 +55,11 @@ record Pieces (us : List LineUnit) (bytes : Bytes) : Type 0 where
   spells : Spells rest (first ∷ more)
   whole : bytes ≡ gap ++ rest
 
-abbrev Follows : List LineUnit → Bytes → Type 0
+abbrev Follows : LineUnits → Bytes → Type 0
 Follows us bytes = ((us ≡ []) × (bytes ≡ [])) ⊎ Pieces us bytes
 
 -- a piece, and what follows it
-spelled_on : (u : LineUnit) (us : List LineUnit) (own rest : Bytes) → Spelled u own → Follows us rest → Spells (own ++ rest) (flat_map unit_value (u ∷ us))
+spelled_on : (u : LineUnit) (us : LineUnits) (own rest : Bytes) → Spelled u own → Follows us rest → Spells (own ++ rest) (flat_map unit_value (u ∷ us))
 spelled_on u us own rest s (inl none) =
     subst (Spells (own ++ rest)) (sym (ap (λ vs. flat_map unit_value (u ∷ vs)) none.0 ∙ append-nil (unit_value u) ∙ s.value))
     (subst (λ xs. IsPiece xs s.byte) (sym (ap (λ xs. own ++ xs) none.1 ∙ append-nil own)) s.piece)
@@ -68,7 +68,7 @@ spelled_on u us own rest s (inr p) =
     (own, p.gap, p.rest, s.piece, p.is_gap, p.spells, ap (λ xs. own ++ xs) p.whole)
 
 -- with no gap before it
-at_once : (u : LineUnit) (us : List LineUnit) (own rest bytes : Bytes) → bytes ≡ own ++ rest → Spelled u own → Follows us rest → Follows (u ∷ us) bytes
+at_once : (u : LineUnit) (us : LineUnits) (own rest bytes : Bytes) → bytes ≡ own ++ rest → Spelled u own → Follows us rest → Follows (u ∷ us) bytes
 at_once u us own rest bytes whole s f = inr (record {
   gap = [];
   rest = bytes;
@@ -86,7 +86,7 @@ longer_gap : (own gap : Bytes) → IsContinuation own → IsGap gap → IsGap (o
 longer_gap own gap c g = (own ∷ g.0, (c, g.1), ap (λ xs. own ++ xs) g.2)
 
 -- with a continuation before it
-after_gap : (len : ℕ) (us : List LineUnit) (own rest bytes : Bytes) → bytes ≡ own ++ rest → IsContinuation own → may_follow false us ≡ true → Follows us rest →
+after_gap : (len : ℕ) (us : LineUnits) (own rest bytes : Bytes) → bytes ≡ own ++ rest → IsContinuation own → may_follow false us ≡ true → Follows us rest →
     Follows (Continuation len ∷ us) bytes
 after_gap len us own rest bytes whole c m (inl none) = cc (ap (may_follow false) (sym none.0) ∙ m)
 after_gap len us own rest bytes whole c m (inr p) = inr (record {
@@ -100,7 +100,7 @@ after_gap len us own rest bytes whole c m (inr p) = inr (record {
   whole = whole ∙ ap (λ xs. own ++ xs) p.whole ∙ sym (append_assoc own p.gap p.rest);
 })
 
-follows : (us : List LineUnit) (may_end : Bool) (bytes : Bytes) → may_follow may_end us ≡ true → list_all is_proper us ≡ true → AreUnitTexts us bytes →
+follows : (us : LineUnits) (may_end : Bool) (bytes : Bytes) → may_follow may_end us ≡ true → list_all is_proper us ≡ true → AreUnitTexts us bytes →
     Follows us bytes
 follows [] may_end bytes m p h = inl (refl, h)
 follows (Continuation len ∷ us) may_end bytes m p h = after_gap len us h.0 h.1 bytes h.5 h.2.0 m (follows us false h.1 m p h.4)
@@ -115,7 +115,7 @@ follows (Byte b ∷ us) may_end bytes m p h = elim (cases_Bool (is_piece (Byte b
 ]
 
 -- the bytes of a word mean its units' values
-word_spells : (us : List LineUnit) (bytes : Bytes) → is_word us ≡ true → list_all is_proper us ≡ true → AreUnitTexts us bytes →
+word_spells : (us : LineUnits) (bytes : Bytes) → is_word us ≡ true → list_all is_proper us ≡ true → AreUnitTexts us bytes →
     Spells bytes (flat_map unit_value us)
 word_spells [] bytes w p h = cc
 word_spells (u ∷ us) bytes w p h =
@@ -124,17 +124,17 @@ word_spells (u ∷ us) bytes w p h =
     subst (λ xs. Spells xs (flat_map unit_value (u ∷ us))) (sym h.5)
     (spelled_on u us h.0 h.1 (spelled u h.0 m.0 q.0 h.2) (follows us true h.1 m.1 q.1 h.4))
 
-part_spells : (text : Bytes) (start : ℕ) (us : List LineUnit) → is_word us ≡ true → Part text start us → (raw : Bytes) →
+part_spells : (text : Bytes) (start : ℕ) (us : LineUnits) → is_word us ≡ true → Part text start us → (raw : Bytes) →
     raw ≡ slice_range text start (start + total_len us) → Spells raw (value_of raw)
 part_spells text start us w part raw is =
     subst (λ xs. Spells xs (value_of xs)) (sym (is ∙ part.slice))
     (subst (Spells part.bytes) (sym (ap (flat_map unit_value) (read_back us part.bytes part.proper part.texts)))
     (word_spells us part.bytes w part.proper part.texts))
 
-is_word_of : (kind : TokenKind) (own after : List LineUnit) → kind ≡ Word → IsToken kind own after → is_word own ≡ true
+is_word_of : (kind : TokenKind) (own after : LineUnits) → kind ≡ Word → IsToken kind own after → is_word own ≡ true
 is_word_of kind own after e h = (subst (λ k. IsToken k own after) e h).0
 
-tokens_read : (text : Bytes) (ts : List TokenAt) (index : ℕ) (us : List LineUnit) → Remains text index us → LexesAs index us ts →
+tokens_read : (text : Bytes) (ts : List TokenAt) (index : ℕ) (us : LineUnits) → Remains text index us → LexesAs index us ts →
     AllByRecursion IsReadAsSpelled (map (with_raw text) ts)
 tokens_read text [] index us r h = tt
 tokens_read text (t ∷ ts) index us r h =
@@ -157,7 +157,7 @@ words_read line r =
 
 -- ---- values
 
-no_space_first : (us : List LineUnit) (bytes rest : Bytes) → AreUnitTexts us bytes → begins_with 32 us ≡ false → bytes ≡ 32 ∷ rest → ⊥
+no_space_first : (us : LineUnits) (bytes rest : Bytes) → AreUnitTexts us bytes → begins_with 32 us ≡ false → bytes ≡ 32 ∷ rest → ⊥
 no_space_first [] bytes rest h none e = let x : [] ≡ 32 ∷ rest = sym h ∙ e in cc
 no_space_first (Continuation len ∷ us) bytes rest h none e = elim h.2.0.1 [
   | inl f ↦ let x : 36 ∷ _ ≡ 32 ∷ rest = ap (λ xs. xs ++ h.1) (sym f) ∙ sym h.5 ∙ e in let y : ◌≡◌ {A = ℕ} 36 32 = cc in omega arith
@@ -187,7 +187,7 @@ gap_first own rest (b ∷ bs) c none h = (
 value_byte : (b : ℕ) → is_plain b ≡ true → IsTrue (is_value_byte b)
 value_byte b s = let k = plain b s in is_true _ (rw (k.no_dollar, k.no_nul, k.no_return, k.no_feed) refl)
 
-value_spells : (us : List LineUnit) (bytes : Bytes) → list_all is_proper us ≡ true → AreUnitTexts us bytes → SpellsValue bytes (flat_map unit_value us)
+value_spells : (us : LineUnits) (bytes : Bytes) → list_all is_proper us ≡ true → AreUnitTexts us bytes → SpellsValue bytes (flat_map unit_value us)
 value_spells [] bytes p h = ([], tt, h)
 value_spells (Continuation len ∷ us) bytes p h =
     subst (λ xs. SpellsValue xs (flat_map unit_value us)) (sym h.5)
@@ -200,7 +200,7 @@ value_spells (Byte b ∷ us) bytes p h =
     ([], h.0, h.1, ([], tt, refl), subst (λ xs. IsValuePiece xs b) (sym h.2) (refl, value_byte b q.0), (λ e. refl), value_spells us h.1 q.1 h.4, h.5)
 
 -- what remains of a text after a run of units, and after `=`
-past_run : (text : Bytes) (test : LineUnit → Bool) (us : List LineUnit) (index : ℕ) → Remains text index us →
+past_run : (text : Bytes) (test : LineUnit → Bool) (us : LineUnits) (index : ℕ) → Remains text index us →
     Remains text (after_run test index us).place (after_run test index us).units
 past_run text test [] index r = r
 past_run text test (u ∷ us) index r = elim (cases_Bool (test u)) [
@@ -208,11 +208,11 @@ past_run text test (u ∷ us) index r = elim (cases_Bool (test u)) [
   | inr f ↦ rw f r
 ]
 
-past_equals : (text : Bytes) (us : List LineUnit) (index : ℕ) → begins_with_equals us ≡ true → Remains text index us → Remains text (index + 1) (tail_units us)
+past_equals : (text : Bytes) (us : LineUnits) (index : ℕ) → begins_with_equals us ≡ true → Remains text index us → Remains text (index + 1) (tail_units us)
 past_equals text [] index e r = cc
 past_equals text (u ∷ us) index e r = subst (λ n. Remains text (index + n) us) (byte_len 61 u e) (past_unit text index u us r)
 
-rest_read : (text : Bytes) (index : ℕ) (us : List LineUnit) → Remains text index us → SpellsValue (drop index text) (value_of (drop index text))
+rest_read : (text : Bytes) (index : ℕ) (us : LineUnits) → Remains text index us → SpellsValue (drop index text) (value_of (drop index text))
 rest_read text index us r =
     subst (λ xs. SpellsValue xs (value_of xs)) (sym (rest_is text index us r))
     (subst (SpellsValue r.bytes) (sym (ap (flat_map unit_value) (read_back us r.bytes r.proper r.texts))) (value_spells us r.bytes r.proper r.texts))

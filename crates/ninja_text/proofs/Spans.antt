@@ -7,7 +7,7 @@ use Rattle.std.proofs.lemmas.Bool.{cases_Bool}
 use Rattle.std.proofs.lemmas.List.{take-append-drop, length-take}
 use Rattle.std.proofs.lemmas.List.Folds.{drop_split}
 use Rattle.ninja_text.specs.Assignments.{AssignmentIndexes, LiesIn, with_bytes, after_run, is_name_unit, begins_with_equals, SeenAssignment, assignment_of}
-use Rattle.ninja_text.specs.Units.{units, with_continuation, unit_len, is_byte}
+use Rattle.ninja_text.specs.Units.{LineUnits, units, with_continuation, unit_len, is_byte}
 use Rattle.ninja_text.specs.declared.unit.LineUnit.{LineUnit}
 use Rattle.ninja_text.specs.declared.unit.LineUnit.TheVariants.{Continuation, Escape, Byte}
 use Rattle.ninja_text.specs.Tokens.{TokenAt, is_piece, goes_on, with_first_start, with_unit, tokens_from, tokens, with_raw, seen_tokens, IsSlice, RiseFrom, is_blank}
@@ -16,11 +16,11 @@ use Rattle.ninja_text.proofs.Units.{byte_is, byte_len, tokens_with, units_byte, 
 -- ---- they rise and lie in the text
 
 -- how many bytes units are
-abbrev total : List LineUnit → ℕ
+abbrev total : LineUnits → ℕ
 total [] = 0
 total (u ∷ us) = unit_len u + total us
 
-total_with_continuation : (len : ℕ) (us : List LineUnit) → total (with_continuation len us) ≡ len + total us
+total_with_continuation : (len : ℕ) (us : LineUnits) → total (with_continuation len us) ≡ len + total us
 total_with_continuation len [] = refl
 total_with_continuation len (Byte b ∷ us) = elim (cases_Bool (b == 32)) [
   | inl h ↦ let later = total_with_continuation (len + 1) us in rw h (omega arith)
@@ -72,7 +72,7 @@ piece_len (Continuation len) h = cc
 piece_len (Escape b) h = omega arith
 piece_len (Byte b) h = omega arith
 
-rise_with : (index limit : ℕ) (u : LineUnit) (us : List LineUnit) (rest : List TokenAt) → Rise (index + unit_len u) limit rest →
+rise_with : (index limit : ℕ) (u : LineUnit) (us : LineUnits) (rest : List TokenAt) → Rise (index + unit_len u) limit rest →
     Rise index limit (with_unit index u us rest)
 rise_with index limit u us rest h = elim (cases_Bool (is_piece u)) [
   | inl p ↦ elim (cases_Bool (goes_on us)) [
@@ -88,7 +88,7 @@ rise_with index limit u us rest h = elim (cases_Bool (is_piece u)) [
   ]
 ]
 
-rise_from : (us : List LineUnit) (index limit : ℕ) → index + total us ≤ limit → Rise index limit (tokens_from index us)
+rise_from : (us : LineUnits) (index limit : ℕ) → index + total us ≤ limit → Rise index limit (tokens_from index us)
 rise_from [] index limit h = omega arith
 rise_from (u ∷ []) index limit h = rise_with index limit u [] [] (omega arith)
 rise_from (u ∷ v ∷ us) index limit h = elim (cases_Bool (is_byte 124 u)) [
@@ -135,7 +135,7 @@ lies_in text a some past within = record {
 
 -- ---- nothing of an indented text is at its first byte
 
-run_past : (test : LineUnit → Bool) (index : ℕ) (us : List LineUnit) → index ≤ (after_run test index us).place
+run_past : (test : LineUnit → Bool) (index : ℕ) (us : LineUnits) → index ≤ (after_run test index us).place
 run_past test index [] = omega arith
 run_past test index (u ∷ us) = elim (cases_Bool (test u)) [
   | inl t ↦ rw t (omega (arith, run_past test (index + unit_len u) us))
@@ -152,7 +152,7 @@ widened_starts : (index : ℕ) (rest : List TokenAt) (t : TokenAt) (ts : List To
 widened_starts index [] t ts h = none_first h
 widened_starts index (x ∷ xs) t ts h = omega (arith, first_start h)
 
-with_unit_past : (index : ℕ) (u : LineUnit) (us : List LineUnit) (rest : List TokenAt) (t : TokenAt) (ts : List TokenAt) → (rest ≡ t ∷ ts → index ≤ t.start) →
+with_unit_past : (index : ℕ) (u : LineUnit) (us : LineUnits) (rest : List TokenAt) (t : TokenAt) (ts : List TokenAt) → (rest ≡ t ∷ ts → index ≤ t.start) →
     with_unit index u us rest ≡ t ∷ ts → index ≤ t.start
 with_unit_past index u us rest t ts later h = elim (cases_Bool (is_piece u)) [
   | inl p ↦ elim (cases_Bool (goes_on us)) [
@@ -168,7 +168,7 @@ with_unit_past index u us rest t ts later h = elim (cases_Bool (is_piece u)) [
   ]
 ]
 
-tokens_past : (us : List LineUnit) (index : ℕ) (t : TokenAt) (ts : List TokenAt) → tokens_from index us ≡ t ∷ ts → index ≤ t.start
+tokens_past : (us : LineUnits) (index : ℕ) (t : TokenAt) (ts : List TokenAt) → tokens_from index us ≡ t ∷ ts → index ≤ t.start
 tokens_past [] index t ts h = none_first h
 tokens_past (u ∷ []) index t ts h = with_unit_past index u [] [] t ts none_first h
 tokens_past (u ∷ v ∷ us) index t ts h = elim (cases_Bool (is_byte 124 u)) [

@@ -5,14 +5,14 @@ use Rattle.std.specs.List.{list_all}
 use Rattle.std.proofs.lemmas.List.Folds.{list_all-append}
 use Rattle.std.proofs.lemmas.Grind.{flat_map-append}
 use Rattle.std.proofs.lemmas.Bool.{cases_Bool, and_from, and_parts}
-use Rattle.ninja_text.specs.Units.{unit_len}
+use Rattle.ninja_text.specs.Units.{LineUnits, unit_len}
 use Rattle.ninja_text.specs.declared.unit.LineUnit.{LineUnit}
 use Rattle.ninja_text.specs.declared.unit.LineUnit.TheVariants.{Continuation, Escape, Byte}
 use Rattle.ninja_text.specs.declared.token.TokenKind.{TokenKind}
 use Rattle.ninja_text.specs.declared.token.TokenKind.TheVariants.{Word, Bar, Colon}
 use Rattle.ninja_text.specs.Lines.{is_comment, IsLine, text_of_line}
 use Rattle.ninja_text.specs.Lexical.{lexical_fault}
-use Rattle.ninja_text.specs.Tokens.{TokenAt, is_piece, goes_on, with_first_start, tokens_from, tokens, raw}
+use Rattle.ninja_text.specs.Tokens.{token_of, TokenAt, is_piece, goes_on, with_first_start, tokens_from, tokens, raw}
 use Rattle.ninja_text.specs.Escapes.{IsWritable, escaped}
 use Rattle.ninja_text.proofs.SpelledUnits.{is_sound, unit_text, text_of_units}
 use Rattle.ninja_text.proofs.EscapedPaths.{path_units, path_text, path_sound, path_pieces, has_spelling}
@@ -22,7 +22,7 @@ use Rattle.ninja_text.proofs.SpelledLines.{units_are, lexical_none, is_line, tex
 
 -- The text has no fault, no end and no continuation, and its tokens are seen so; at_word says whether it begins with a word.
 pub record Written {X : Type 0} (view : TokenKind → Bytes → X) (at_word : Bool) (text : Bytes) (xs : List X) : Type 0 where
-  units : List LineUnit
+  units : LineUnits
   text_is : text_of_units units ≡ text
   sound : list_all is_sound units ≡ true
   begins : goes_on units ≡ at_word
@@ -37,14 +37,14 @@ bytes_text : (bytes : Bytes) → text_of_units (map Byte bytes) ≡ bytes
 bytes_text [] = refl
 bytes_text (b ∷ bytes) = ap (λ bs. b ∷ bs) (bytes_text bytes)
 
-pieces_begin : (us vs : List LineUnit) → (us ≡ [] → ⊥) → list_all is_piece us ≡ true → goes_on (us ++ vs) ≡ true
+pieces_begin : (us vs : LineUnits) → (us ≡ [] → ⊥) → list_all is_piece us ≡ true → goes_on (us ++ vs) ≡ true
 pieces_begin [] vs some h = absurd (some refl)
 pieces_begin (u ∷ us) vs some h = goes_on_piece u (us ++ vs) (and_parts (is_piece u) (list_all is_piece us) h).0
 
-sound_both : (us vs : List LineUnit) → list_all is_sound us ≡ true → list_all is_sound vs ≡ true → list_all is_sound (us ++ vs) ≡ true
+sound_both : (us vs : LineUnits) → list_all is_sound us ≡ true → list_all is_sound vs ≡ true → list_all is_sound (us ++ vs) ≡ true
 sound_both us vs p q = list_all-append is_sound us vs ∙ and_from _ _ p q
 
-text_both : (us vs : List LineUnit) (x y : Bytes) → text_of_units us ≡ x → text_of_units vs ≡ y → text_of_units (us ++ vs) ≡ x ++ y
+text_both : (us vs : LineUnits) (x y : Bytes) → text_of_units us ≡ x → text_of_units vs ≡ y → text_of_units (us ++ vs) ≡ x ++ y
 text_both us vs x y p q = flat_map-append unit_text us vs ∙ ap (λ t. t ++ text_of_units vs) p ∙ ap (λ t. x ++ t) q
 
 module _ {X : Type 0} (view : TokenKind → Bytes → X) where
@@ -124,14 +124,14 @@ pub record First (index : ℕ) (ts : List TokenAt) : Type 0 where
   pub at : token.start ≡ index
 
 -- the first token of what begins with a word is at its beginning
-word_first : (us : List LineUnit) (n : ℕ) → list_all is_sound us ≡ true → goes_on us ≡ true → First n (tokens_from n us)
+word_first : (us : LineUnits) (n : ℕ) → list_all is_sound us ≡ true → goes_on us ≡ true → First n (tokens_from n us)
 word_first [] n h g = cc
 word_first (u ∷ us) n h g =
     let p = and_parts (is_sound u) (list_all is_sound us) h in
     let piece : is_piece u ≡ true = piece_on u us p.0 g in
     elim (cases_Bool (goes_on us)) [
       | inr f ↦ record {
-        token = record { kind = Word; start = n; end = n + unit_len u };
+        token = token_of Word n (unit_len u);
         rest = tokens_from (n + unit_len u) us;
         are = piece_alone n u us piece f;
         at = refl;
@@ -145,7 +145,7 @@ word_first (u ∷ us) n h g =
             at = refl;
           }
     ] where
-      piece_on : (u : LineUnit) (us : List LineUnit) → is_sound u ≡ true → goes_on (u ∷ us) ≡ true → is_piece u ≡ true
+      piece_on : (u : LineUnit) (us : LineUnits) → is_sound u ≡ true → goes_on (u ∷ us) ≡ true → is_piece u ≡ true
       piece_on (Continuation len) us s g = cc
       piece_on (Escape b) us s g = refl
       piece_on (Byte b) us s g = g

@@ -3,12 +3,12 @@ use Rattle.ninja_text.specs.Bytes.{Bytes}
 use Rattle.std.proofs.Common.{get_or, ◌≤◌, inl, inr, suc, subst, ◌≡◌, ℕ, ◌+◌, List, [], ◌∷◌, length, drop, refl, sym, ap, ◌∙◌, false, ◌==◌, ◌&&◌, ◌||◌, arith, map, None, ◌<◌, Bool, true, not, add-one}
 use Rattle.std.specs.List.{flat_map, list_any}
 use Rattle.std.proofs.lemmas.Bool.{cases_Bool, eqb-true, or_parts, not-true}
-use Rattle.ninja_text.specs.Units.{units, with_continuation, unit_len, is_byte, is_continuation}
+use Rattle.ninja_text.specs.Units.{LineUnits, units, with_continuation, unit_len, is_byte, is_continuation}
 use Rattle.ninja_text.specs.inner.Runs.{spaces_at}
 use Rattle.ninja_text.specs.declared.unit.LineUnit.{LineUnit}
 use Rattle.ninja_text.specs.declared.unit.LineUnit.TheVariants.{Continuation, Escape, Byte}
 use Rattle.ninja_text.specs.Lines.{begins_with_line_feed, end_from}
-use Rattle.ninja_text.specs.Tokens.{unit_value, value_of, TokenAt, is_blank, is_piece, goes_on, with_first_start, with_unit, tokens_from, tokens_at}
+use Rattle.ninja_text.specs.Tokens.{token_of, unit_value, value_of, TokenAt, is_blank, is_piece, goes_on, with_first_start, with_unit, tokens_from, tokens_at}
 use Rattle.ninja_text.specs.Lexical.{first_fault, lexical_fault}
 use Rattle.ninja_text.specs.inner.PlainTexts.{is_dollar, is_suspect, is_plain_piece}
 use Rattle.std.proofs.Math.Seq.{drop-cons}
@@ -72,7 +72,7 @@ pub units_return : (b : ℕ) (bytes : Bytes) → (b == 10) ≡ false → units (
 units_return b bytes feed = rw feed refl
 
 -- a continuation comes first, however many spaces it takes
-continued_begins : (len : ℕ) (us : List LineUnit) → begins_with_line_feed (with_continuation len us) ≡ false
+continued_begins : (len : ℕ) (us : LineUnits) → begins_with_line_feed (with_continuation len us) ≡ false
 continued_begins len [] = refl
 continued_begins len (Byte b ∷ us) = elim (cases_Bool (b == 32)) [
   | inl h ↦ rw h (continued_begins (len + 1) us)
@@ -104,7 +104,7 @@ units_begin b bytes h = elim (cases_Bool (b == 36)) [
 ]
 
 -- the spaces of a continuation hide no end
-pub end_continued : (n len : ℕ) (us : List LineUnit) → end_from n (with_continuation len us) ≡ end_from (n + len) us
+pub end_continued : (n len : ℕ) (us : LineUnits) → end_from n (with_continuation len us) ≡ end_from (n + len) us
 end_continued n len [] = refl
 end_continued n len (Byte b ∷ us) = elim (cases_Bool (b == 32)) [
   | inl h ↦ let e : b ≡ 32 = eqb-true b 32 h in
@@ -115,7 +115,7 @@ end_continued n len (Escape b ∷ us) = refl
 end_continued n len (Continuation more ∷ us) = refl
 
 -- two continuations are two units
-continued_twice : (len more : ℕ) (us : List LineUnit) → with_continuation len (with_continuation more us) ≡ Continuation len ∷ with_continuation more us
+continued_twice : (len more : ℕ) (us : LineUnits) → with_continuation len (with_continuation more us) ≡ Continuation len ∷ with_continuation more us
 continued_twice len more [] = refl
 continued_twice len more (Byte b ∷ us) = elim (cases_Bool (b == 32)) [
   | inl h ↦ rw h (continued_twice len (more + 1) us)
@@ -147,7 +147,7 @@ continued_stops len b bytes s = elim (cases_Bool (b == 36)) [
   | inr d ↦ rw (units_byte b bytes d, s) refl
 ]
 
-same_continuation : {k j : ℕ} {us vs : List LineUnit} → k ≡ j → us ≡ vs → ◌≡◌ {A = List LineUnit} (Continuation k ∷ us) (Continuation j ∷ vs)
+same_continuation : {k j : ℕ} {us vs : LineUnits} → k ≡ j → us ≡ vs → ◌≡◌ {A = LineUnits} (Continuation k ∷ us) (Continuation j ∷ vs)
 same_continuation p q = rw (p, q) refl
 
 -- a continuation takes the spaces at the front of what follows
@@ -195,30 +195,30 @@ return_continuation_at (a ∷ b ∷ c ∷ rest) n long first second third is =
 -- ---- the tokens of units, by the first unit
 
 -- all but a bar add to the tokens of what follows
-pub tokens_with : (s : ℕ) (u : LineUnit) (us : List LineUnit) → is_byte 124 u ≡ false →
+pub tokens_with : (s : ℕ) (u : LineUnit) (us : LineUnits) → is_byte 124 u ≡ false →
     tokens_from s (u ∷ us) ≡ with_unit s u us (tokens_from (s + unit_len u) us)
 tokens_with s u [] h = refl
 tokens_with s u (v ∷ us) h = rw h refl
 
 -- a space or a continuation adds none
-pub tokens_blank : (s : ℕ) (u : LineUnit) (us : List LineUnit) → is_blank u ≡ true → tokens_from s (u ∷ us) ≡ tokens_from (s + unit_len u) us
+pub tokens_blank : (s : ℕ) (u : LineUnit) (us : LineUnits) → is_blank u ≡ true → tokens_from s (u ∷ us) ≡ tokens_from (s + unit_len u) us
 tokens_blank s (Continuation len) us h = tokens_with s (Continuation len) us refl
 tokens_blank s (Escape b) us h = cc
 tokens_blank s (Byte b) us h = subst (λ x. tokens_from s (Byte x ∷ us) ≡ tokens_from (s + 1) us) (sym (eqb-true b 32 h)) (tokens_with s (Byte 32) us refl)
 
-tokens_colon : (s : ℕ) (u : LineUnit) (us : List LineUnit) → is_byte 58 u ≡ true →
-    tokens_from s (u ∷ us) ≡ record { kind = Colon; start = s; end = s + 1 } ∷ tokens_from (s + 1) us
+tokens_colon : (s : ℕ) (u : LineUnit) (us : LineUnits) → is_byte 58 u ≡ true →
+    tokens_from s (u ∷ us) ≡ token_of Colon s 1 ∷ tokens_from (s + 1) us
 tokens_colon s (Continuation len) us h = cc
 tokens_colon s (Escape b) us h = cc
 tokens_colon s (Byte b) us h =
-    subst (λ x. tokens_from s (Byte x ∷ us) ≡ record { kind = Colon; start = s; end = s + 1 } ∷ tokens_from (s + 1) us) (sym (eqb-true b 58 h))
+    subst (λ x. tokens_from s (Byte x ∷ us) ≡ token_of Colon s 1 ∷ tokens_from (s + 1) us) (sym (eqb-true b 58 h))
     (tokens_with s (Byte 58) us refl)
 
 -- a piece begins a word, or is one
-pub tokens_piece : (s : ℕ) (u : LineUnit) (us : List LineUnit) → is_piece u ≡ true
+pub tokens_piece : (s : ℕ) (u : LineUnit) (us : LineUnits) → is_piece u ≡ true
     → tokens_from s (u ∷ us) ≡
     (if goes_on us then with_first_start s (tokens_from (s + unit_len u) us) else
-    (record { kind = Word; start = s; end = s + unit_len u } ∷ tokens_from (s + unit_len u) us))
+    (token_of Word s (unit_len u) ∷ tokens_from (s + unit_len u) us))
 tokens_piece s (Continuation len) us h = cc
 tokens_piece s (Escape b) us h = tokens_with s (Escape b) us refl
 tokens_piece s (Byte b) us h = tokens_with s (Byte b) us (no_bar (b == 124) ((b == 32) || (b == 58)) h) ∙ rw h refl where
@@ -239,7 +239,7 @@ word_so_far text start end index =
     if goes_on (units (drop index text)) then with_first_start start (tokens_at text index) else
     (record { kind = Word; start = start; end = end } ∷ tokens_at text index)
 
-pub goes_on_piece : (u : LineUnit) (us : List LineUnit) → is_piece u ≡ true → goes_on (u ∷ us) ≡ true
+pub goes_on_piece : (u : LineUnit) (us : LineUnits) → is_piece u ≡ true → goes_on (u ∷ us) ≡ true
 goes_on_piece (Continuation len) us h = cc
 goes_on_piece (Escape b) us h = refl
 goes_on_piece (Byte b) us h = h
@@ -270,7 +270,7 @@ module _ (text : Bytes) (index n : ℕ) (u : LineUnit) (unit : Stands text index
   pub word_begins : is_piece u ≡ true → word_so_far text index (index + n) (index + n) ≡ tokens_at text index
   word_begins h = sym (ap (tokens_from index) unit.first ∙ tokens_piece index u _ h ∙
       ap (λ k. if goes_on (units (drop (index + n) text)) then with_first_start index (tokens_from (index + k) (units (drop (index + n) text)))
-      else (record { kind = Word; start = index; end = index + k } ∷ tokens_from (index + k) (units (drop (index + n) text)))) (sym unit.len))
+      else (token_of Word index k ∷ tokens_from (index + k) (units (drop (index + n) text)))) (sym unit.len))
 
   pub word_goes_on : (start end : ℕ) → is_piece u ≡ true → word_so_far text start end index ≡ tokens_at text start →
       word_so_far text start (index + n) (index + n) ≡ tokens_at text start
@@ -314,7 +314,7 @@ plain_piece b plain =
     rw (space.0, colon.0, colon.1) refl
 
 -- two readings of the unit at one index are one
-pub piece_at : (text : Bytes) (index : ℕ) (u : LineUnit) (us : List LineUnit) → BeginsPiece text index → units (drop index text) ≡ u ∷ us → is_piece u ≡ true
+pub piece_at : (text : Bytes) (index : ℕ) (u : LineUnit) (us : LineUnits) → BeginsPiece text index → units (drop index text) ≡ u ∷ us → is_piece u ≡ true
 piece_at text index u us begins e =
     let both : begins.0 ∷ begins.1 ≡ u ∷ us = sym begins.2 ∙ e in
     let same : begins.0 ≡ u = cc in
@@ -327,9 +327,9 @@ byte_len c (Byte b) h = refl
 
 -- the token that a colon is
 module _ (text : Bytes) (s : ℕ) (u : LineUnit) (e : units (drop s text) ≡ u ∷ units (drop (s + unit_len u) text)) where
-  pub colon_at : is_byte 58 u ≡ true → tokens_at text s ≡ record { kind = Colon; start = s; end = s + 1 } ∷ tokens_at text (s + 1)
+  pub colon_at : is_byte 58 u ≡ true → tokens_at text s ≡ token_of Colon s 1 ∷ tokens_at text (s + 1)
   colon_at h = ap (tokens_from s) e ∙ tokens_colon s u _ h ∙
-      ap (λ k. record { kind = Colon; start = s; end = s + 1 } ∷ tokens_from (s + 1) (units (drop (s + k) text))) (byte_len 58 u h)
+      ap (λ k. token_of Colon s 1 ∷ tokens_from (s + 1) (units (drop (s + k) text))) (byte_len 58 u h)
 
 pub byte_is : (c : ℕ) (u : LineUnit) → is_byte c u ≡ true → u ≡ Byte c
 byte_is c (Continuation len) h = cc
@@ -346,12 +346,12 @@ module _ (text : Bytes) (s : ℕ) (begins : BeginsBar text s) where
     after c h = e ∙ ap (λ w. w ∷ units (drop (s + 1 + unit_len w) text)) (byte_is c v h) ∙
         ap (λ k. Byte c ∷ units (drop k text)) {x = s + 1 + 1} {y = s + 2} (omega arith)
 
-    pub bar_bar : is_byte 124 v ≡ true → tokens_at text s ≡ record { kind = DoubleBar; start = s; end = s + 2 } ∷ tokens_at text (s + 2)
+    pub bar_bar : is_byte 124 v ≡ true → tokens_at text s ≡ token_of DoubleBar s 2 ∷ tokens_at text (s + 2)
     bar_bar h = ap (tokens_from s) (begins ∙ ap (λ us. Byte 124 ∷ us) (after 124 h))
 
-    pub bar_with_at : is_byte 64 v ≡ true → tokens_at text s ≡ record { kind = BarAt; start = s; end = s + 2 } ∷ tokens_at text (s + 2)
+    pub bar_with_at : is_byte 64 v ≡ true → tokens_at text s ≡ token_of BarAt s 2 ∷ tokens_at text (s + 2)
     bar_with_at h = ap (tokens_from s) (begins ∙ ap (λ us. Byte 124 ∷ us) (after 64 h))
 
-    pub bar_single : is_byte 124 v ≡ false → is_byte 64 v ≡ false → tokens_at text s ≡ record { kind = Bar; start = s; end = s + 1 } ∷ tokens_at text (s + 1)
+    pub bar_single : is_byte 124 v ≡ false → is_byte 64 v ≡ false → tokens_at text s ≡ token_of Bar s 1 ∷ tokens_at text (s + 1)
     bar_single bar at = ap (tokens_from s) (begins ∙ ap (λ us. Byte 124 ∷ us) e) ∙ rw (bar, at) refl ∙
-        ap (λ us. record { kind = Bar; start = s; end = s + 1 } ∷ tokens_from (s + 1) us) (sym e)
+        ap (λ us. token_of Bar s 1 ∷ tokens_from (s + 1) us) (sym e)
