@@ -1,18 +1,20 @@
 -- A canonical text means itself.
-use Rattle.std.proofs.Common.{◌≡◌, ◌≢◌, ℕ, ◌+◌, ◌<◌, ◌≤◌, Bool, true, false, not, ◌&&◌, cond, nat_lt, ◌==◌, List, [], ◌∷◌, ◌++◌, length, Option, Some, None, Result, Ok, Err, refl, sym, ◌∙◌, ap, subst, arith, position, option_map}
-use Rattle.std.specs.List.{AllByRecursion, list_any, prefix_len, onto_first}
+use Rattle.ninja_text.specs.Bytes.{Bytes}
+use Rattle.std.proofs.Common.{◌≡◌, ◌≢◌, ℕ, ◌+◌, ◌<◌, ◌≤◌, Bool, true, false, ◌&&◌, cond, nat_lt, ◌==◌, List, [], ◌∷◌, ◌++◌, length, Option, Some, None, Result, Ok, Err, refl, sym, ◌∙◌, ap, subst, arith, position, option_map, ◌⊎◌, inl, inr}
+use Rattle.std.specs.List.{AllByRecursion, list_any, position_from, onto_first}
+use Rattle.std.proofs.lemmas.Iterator.Adapters.{position_from-zero}
 use Rattle.std.proofs.lemmas.Bool.{le-ltb, lt-ltb}
 use Rattle.ninja_text.specs.declared.fault.PathFault.{PathFault}
 use Rattle.ninja_text.specs.declared.fault.PathFault.TheVariants.{Empty, AboveRoot, Unwritable, TooLong}
 use Rattle.ninja_text.specs.Escapes.{is_unwritable}
 use Rattle.ninja_text.specs.Reduction.{is_parent, reduced, components}
 use Rattle.ninja_text.specs.Paths.{path_text, below, relative_or, seen_from, checked, is_empty, is_rooted, canonical_of, IsPath}
-use Rattle.ninja_text.specs.inner.ComponentLists.{list_text, LacksSlash, EachLacksSlash}
-use Rattle.ninja_text.proofs.ReducedList.{IsFixed, reduced-fixed, reduced-each, fixed-reduced, fixed-behind, in_front-current}
+use Rattle.ninja_text.specs.inner.ComponentLists.{Components, list_text, LacksSlash, EachLacksSlash}
+use Rattle.ninja_text.proofs.ReducedList.{IsFixed, either_way, reduced-fixed, reduced-each, fixed-reduced, fixed-behind, in_front-current}
 use Rattle.ninja_text.proofs.Components.{components-lack, components-list, below-some, below-is, below-not}
 
 -- what holds of a text that has no fault
-pub record Facts (build : Option (List ℕ)) (text path : List ℕ) : Type 0 where
+pub record Facts (build : Option Bytes) (text path : Bytes) : Type 0 where
   pub some : is_empty (reduced (components text)) ≡ false
   pub inside : (is_rooted text && list_any is_parent (reduced (components text))) ≡ false
   pub clean : position is_unwritable text ≡ None
@@ -20,22 +22,22 @@ pub record Facts (build : Option (List ℕ)) (text path : List ℕ) : Type 0 whe
   pub short : nat_lt 4096 (length path) ≡ false
 
 -- if there is a path, each test that returns a fault failed
-err_or : (b : Bool) (f : PathFault) (r : Result (List ℕ) PathFault) (p : List ℕ) → cond b (Err f) r ≡ Ok p → (b ≡ false) × (r ≡ Ok p)
+err_or : (b : Bool) (f : PathFault) (r : Result Bytes PathFault) (p : Bytes) → cond b (Err f) r ≡ Ok p → (b ≡ false) × (r ≡ Ok p)
 err_or true f r p h = cc
 err_or false f r p h = (refl, h)
 
 -- so did the test of the length
-long_or : (b : Bool) (last p : List ℕ) → cond b (Err TooLong) (Ok last) ≡ Ok p → (b ≡ false) × (last ≡ p)
+long_or : (b : Bool) (last p : Bytes) → cond b (Err TooLong) (Ok last) ≡ Ok p → (b ≡ false) × (last ≡ p)
 long_or true last p h = cc
 long_or false last p h = (refl, cc)
 
 -- what held at the last two tests if there is a path
-checked_ok : (o : Option ℕ) (last p : List ℕ) → checked o last ≡ Ok p → (o ≡ None) × (last ≡ p) × (nat_lt 4096 (length p) ≡ false)
+checked_ok : (o : Option ℕ) (last p : Bytes) → checked o last ≡ Ok p → (o ≡ None) × (last ≡ p) × (nat_lt 4096 (length p) ≡ false)
 checked_ok None last p h = let k = long_or (nat_lt 4096 (length last)) last p h in (refl, k.1, ap (λ l. nat_lt 4096 (length l)) (sym k.1) ∙ k.0)
 checked_ok (Some n) last p h = cc
 
 -- if a text has a path, these facts hold
-pub facts : (build : Option (List ℕ)) (text p : List ℕ) → canonical_of build text ≡ Ok p → Facts build text p
+pub facts : (build : Option Bytes) (text p : Bytes) → canonical_of build text ≡ Ok p → Facts build text p
 unfolding canonical_of
 facts build text p h =
     let a = err_or (is_empty (reduced (components text))) _ _ p h in
@@ -44,7 +46,7 @@ facts build text p h =
     record { some = a.0; inside = b.0; clean = k.0; made = k.1; short = k.2 }
 
 -- and if they hold, it has that path
-pub from_facts : (build : Option (List ℕ)) (text p : List ℕ) → Facts build text p → canonical_of build text ≡ Ok p
+pub from_facts : (build : Option Bytes) (text p : Bytes) → Facts build text p → canonical_of build text ≡ Ok p
 unfolding canonical_of
 from_facts build text p f =
     let last = seen_from build (is_rooted text) (reduced (components text)) in
@@ -57,11 +59,11 @@ from_facts build text p f =
 -- ---- no unwritable byte
 
 -- each byte can be escaped
-abbrev pub IsClean : List ℕ → Type 0
+abbrev pub IsClean : Bytes → Type 0
 IsClean text = AllByRecursion (λ b. is_unwritable b ≡ false) text
 
 -- a component list, canonical, with no unwritable byte, and the path that it is written as
-pub record IsWhole (rooted : Bool) (list : List (List ℕ)) : Type 0 where
+pub record IsWhole (rooted : Bool) (list : Components) : Type 0 where
   pub some : is_empty list ≡ false
   pub fixed : IsFixed list
   pub lacks : EachLacksSlash list
@@ -69,117 +71,98 @@ pub record IsWhole (rooted : Bool) (list : List (List ℕ)) : Type 0 where
   pub inside : (rooted && list_any is_parent list) ≡ false
 
 -- a list that is written out begins with no slash
-rooted-list : (x : List ℕ) (xs : List (List ℕ)) → IsFixed (x ∷ xs) → EachLacksSlash (x ∷ xs) → is_rooted (list_text (x ∷ xs)) ≡ false
+rooted-list : (x : Bytes) (xs : Components) → IsFixed (x ∷ xs) → EachLacksSlash (x ∷ xs) → is_rooted (list_text (x ∷ xs)) ≡ false
 rooted-list [] [] f e = cc
 rooted-list [] (y ∷ ys) f e = let g = f.0 in cc
 rooted-list (b ∷ bs) [] f e = e.0.0
 rooted-list (b ∷ bs) (y ∷ ys) f e = e.0.0
 
 -- a path begins at the root if it is written so
-pub rooted-text : (rooted : Bool) (list : List (List ℕ)) → IsWhole rooted list → is_rooted (path_text rooted list) ≡ rooted
+pub rooted-text : (rooted : Bool) (list : Components) → IsWhole rooted list → is_rooted (path_text rooted list) ≡ rooted
 rooted-text true list w = refl
 rooted-text false [] w = let h = w.some in cc
 rooted-text false (x ∷ xs) w = rooted-list x xs w.fixed w.lacks
 
 -- a whole list that is written out has that very list
-pub reduced-text : (rooted : Bool) (list : List (List ℕ)) → IsWhole rooted list → reduced (components (path_text rooted list)) ≡ list
+pub reduced-text : (rooted : Bool) (list : Components) → IsWhole rooted list → reduced (components (path_text rooted list)) ≡ list
 reduced-text true [] w = let h = w.some in cc
 reduced-text false [] w = let h = w.some in cc
-reduced-text true (x ∷ xs) w = in_front-current [] (reduced (components (list_text (x ∷ xs)))) refl ∙ ap reduced (components-list x xs w.lacks) ∙ fixed-reduced (x ∷ xs) w.fixed
+reduced-text true (x ∷ xs) w = in_front-current [] (reduced (components (list_text (x ∷ xs)))) refl ∙ ap reduced (components-list x xs w.lacks) ∙
+    fixed-reduced (x ∷ xs) w.fixed
 reduced-text false (x ∷ xs) w = ap reduced (components-list x xs w.lacks) ∙ fixed-reduced (x ∷ xs) w.fixed
 
 -- what is made of clean parts is clean
-clean-append : (a b : List ℕ) → IsClean a → IsClean b → IsClean (a ++ b)
+clean-append : (a b : Bytes) → IsClean a → IsClean b → IsClean (a ++ b)
 clean-append [] b h k = k
 clean-append (x ∷ a) b h k = (h.0, clean-append a b h.1 k)
 
 -- so is a list that is written out
-clean-list : (list : List (List ℕ)) → AllByRecursion IsClean list → IsClean (list_text list)
+clean-list : (list : Components) → AllByRecursion IsClean list → IsClean (list_text list)
 clean-list [] a = tt
 clean-list (x ∷ []) a = a.0
 clean-list (x ∷ y ∷ ys) a = clean-append x (47 ∷ list_text (y ∷ ys)) a.0 (refl, clean-list (y ∷ ys) a.1)
 
 -- so is a path
-clean-text : (rooted : Bool) (list : List (List ℕ)) → AllByRecursion IsClean list → IsClean (path_text rooted list)
+clean-text : (rooted : Bool) (list : Components) → AllByRecursion IsClean list → IsClean (path_text rooted list)
 clean-text true list a = (refl, clean-list list a)
 clean-text false list a = clean-list list a
 
--- the first unwritable byte, or none
-abbrev pub run_of : List ℕ → ℕ
-run_of text = prefix_len (λ b. not (is_unwritable b)) text
+-- no unwritable byte is found in a clean text, from any index on
+none-from : (index : ℕ) (text : Bytes) → IsClean text → position_from is_unwritable index text ≡ None
+none-from index [] a = refl
+none-from index (b ∷ bs) a = rw a.0 (none-from (index + 1) bs a.1)
 
--- a clean byte makes the run before the first unwritable byte longer by one
-pub run-step : (b : ℕ) (bs : List ℕ) → is_unwritable b ≡ false → run_of (b ∷ bs) ≡ run_of bs + 1
-run-step b bs h = ap (λ t. cond (not t) (1 + run_of bs) 0) h ∙ omega arith
+pub clean-none : (text : Bytes) → IsClean text → position is_unwritable text ≡ None
+clean-none text a = position_from-zero is_unwritable text ∙ none-from 0 text a
 
--- an unwritable byte ends it
-pub run-stop : (b : ℕ) (bs : List ℕ) → is_unwritable b ≡ true → run_of (b ∷ bs) ≡ 0
-run-stop b bs h = ap (λ t. cond (not t) (1 + run_of bs) 0) h
+-- a text in which none is found is clean
+clean-from : (index : ℕ) (text : Bytes) → position_from is_unwritable index text ≡ None → IsClean text
+clean-from index [] h = tt
+clean-from index (b ∷ bs) h = elim (either_way (is_unwritable b)) [
+  | inl u ↦ absurd (let k : Some index ≡ None = rw u at h in cc)
+  | inr u ↦ (u, clean-from (index + 1) bs (rw u at h))
+]
 
--- the run of a clean text is all of it
-clean-run : (text : List ℕ) → IsClean text → run_of text ≡ length text
-clean-run [] a = refl
-clean-run (b ∷ bs) a = run-step b bs a.0 ∙ ap (λ n. n + 1) (clean-run bs a.1) ∙ omega arith
-
--- a text whose run is all of it is clean
-run-clean : (text : List ℕ) → (run_of text < length text → ⊥) → IsClean text
-run-clean [] h = tt
-run-clean (b ∷ bs) h = go (run-clean bs) (is_unwritable b) refl
-  where
-    go : ((run_of bs < length bs → ⊥) → IsClean bs) → (t : Bool) → is_unwritable b ≡ t → IsClean (b ∷ bs)
-    go more true e = let z = run-stop b bs e in absurd (h (omega arith))
-    go more false e = let z = run-step b bs e in (e, more (λ lt. h (omega arith)))
-
--- no unwritable byte is found in a clean text
-pub clean-none : (text : List ℕ) → IsClean text → position is_unwritable text ≡ None
-clean-none text a =
-    let e = clean-run text a in
-    ap (λ t. cond t (Some (run_of text)) None) (ap (λ n. nat_lt n (length text)) e ∙ le-ltb (length text) (length text) (omega arith))
-
--- a text in which no unwritable byte is found is clean
-pub none-clean : (text : List ℕ) → position is_unwritable text ≡ None → IsClean text
-none-clean text h = run-clean text (λ lt. found (nat_lt (run_of text) (length text)) (lt-ltb (run_of text) (length text) lt) h)
-  where
-    found : (t : Bool) → t ≡ true → cond t (Some (run_of text)) None ≡ None → ⊥
-    found true e k = cc
-    found false e k = cc
+pub none-clean : (text : Bytes) → position is_unwritable text ≡ None → IsClean text
+none-clean text h = clean-from 0 text (sym (position_from-zero is_unwritable text) ∙ h)
 
 -- a clean byte in front of the first component
-clean-onto : (b : ℕ) (parts : List (List ℕ)) → is_unwritable b ≡ false → AllByRecursion IsClean parts → AllByRecursion IsClean (onto_first b parts)
+clean-onto : (b : ℕ) (parts : Components) → is_unwritable b ≡ false → AllByRecursion IsClean parts → AllByRecursion IsClean (onto_first b parts)
 clean-onto b [] h e = ((h, tt), tt)
 clean-onto b (part ∷ parts) h e = ((h, e.0), e.1)
 
 -- a clean byte, which is a slash or not, in front of components
-clean-cond : (t : Bool) (b : ℕ) (parts : List (List ℕ)) → is_unwritable b ≡ false → AllByRecursion IsClean parts → AllByRecursion IsClean (cond t ([] ∷ parts) (onto_first b parts))
+clean-cond : (t : Bool) (b : ℕ) (parts : Components) → is_unwritable b ≡ false → AllByRecursion IsClean parts →
+    AllByRecursion IsClean (cond t ([] ∷ parts) (onto_first b parts))
 clean-cond true b parts h e = (tt, e)
 clean-cond false b parts h e = clean-onto b parts h e
 
 -- the components of a clean text are clean
-clean-components : (text : List ℕ) → IsClean text → AllByRecursion IsClean (components text)
+pub clean-components : (text : Bytes) → IsClean text → AllByRecursion IsClean (components text)
 clean-components [] a = (tt, tt)
 clean-components (b ∷ bs) a = clean-cond (b == 47) b (components bs) a.0 (clean-components bs a.1)
 
 -- ---- what is left of a text that has no fault
 
 -- what holds of each component holds of the rest
-below-each : (P : List ℕ → Type 0) (ds cs : List (List ℕ)) → AllByRecursion P (ds ++ cs) → AllByRecursion P cs
+below-each : (P : Bytes → Type 0) (ds cs : Components) → AllByRecursion P (ds ++ cs) → AllByRecursion P cs
 below-each P [] cs a = a
 below-each P (d ∷ ds) cs a = below-each P ds cs a.1
 
 -- a list that is not empty
-pub some-list : (list : List (List ℕ)) → list ≢ [] → is_empty list ≡ false
+pub some-list : (list : Components) → list ≢ [] → is_empty list ≡ false
 some-list [] n = absurd (n refl)
 some-list (x ∷ xs) n = refl
 
 -- what is seen from the build directory is a whole list, written out
-pub record Seen (path : List ℕ) : Type 0 where
+pub record Seen (path : Bytes) : Type 0 where
   pub rooted : Bool
-  pub list : List (List ℕ)
+  pub list : Components
   pub whole : IsWhole rooted list
   pub is : path_text rooted list ≡ path
 
 -- what is left below a build directory is a whole relative list
-seen-rest : (dirs : List (List ℕ)) (list rest : List (List ℕ)) → IsWhole true list → below dirs list ≡ Some rest → IsWhole false rest
+seen-rest : (dirs : Components) (list rest : Components) → IsWhole true list → below dirs list ≡ Some rest → IsWhole false rest
 seen-rest dirs list rest w h =
     let k = below-some dirs list rest h in
     record {
@@ -191,18 +174,18 @@ seen-rest dirs list rest w h =
     }
 
 -- what is left below it, or all of the absolute list
-seen-or : (dirs list : List (List ℕ)) (o : Option (List (List ℕ))) → IsWhole true list → below dirs list ≡ o → Seen (relative_or list o)
+seen-or : (dirs list : Components) (o : Option Components) → IsWhole true list → below dirs list ≡ o → Seen (relative_or list o)
 seen-or dirs list None w h = record { rooted = true; list = list; whole = w; is = refl }
 seen-or dirs list (Some rest) w h = record { rooted = false; list = rest; whole = seen-rest dirs list rest w h; is = refl }
 
 -- a whole list is written as one, from wherever it is seen
-seen-whole : (build : Option (List ℕ)) (rooted : Bool) (list : List (List ℕ)) → IsWhole rooted list → Seen (seen_from build rooted list)
+seen-whole : (build : Option Bytes) (rooted : Bool) (list : Components) → IsWhole rooted list → Seen (seen_from build rooted list)
 seen-whole None rooted list w = record { rooted = rooted; list = list; whole = w; is = refl }
 seen-whole (Some b) true list w = seen-or (reduced (components b)) list (below (reduced (components b)) list) w refl
 seen-whole (Some b) false list w = record { rooted = false; list = list; whole = w; is = refl }
 
 -- the list of a text without a fault is whole
-pub whole-list : (build : Option (List ℕ)) (text p : List ℕ) → Facts build text p → IsWhole (is_rooted text) (reduced (components text))
+pub whole-list : (build : Option Bytes) (text p : Bytes) → Facts build text p → IsWhole (is_rooted text) (reduced (components text))
 whole-list build text p f = record {
   some = f.some;
   fixed = reduced-fixed (components text);
@@ -212,7 +195,8 @@ whole-list build text p f = record {
 }
 
 -- a whole list is written as a path
-pub whole-path : (rooted : Bool) (list : List (List ℕ)) (p : List ℕ) → IsWhole rooted list → path_text rooted list ≡ p → nat_lt 4096 (length p) ≡ false → IsPath p
+pub whole-path : (rooted : Bool) (list : Components) (p : Bytes) → IsWhole rooted list → path_text rooted list ≡ p → nat_lt 4096 (length p) ≡ false →
+    IsPath p
 whole-path rooted list p w e short =
     let r = sym (ap is_rooted e) ∙ rooted-text rooted list w in
     let l : reduced (components p) ≡ list = sym (ap (λ t. reduced (components t)) e) ∙ reduced-text rooted list w in
@@ -224,50 +208,75 @@ whole-path rooted list p w e short =
       short = short;
     })
 
+-- a path is seen as it is from anywhere, unless it is absolute and there is a build directory
+seen-plain : (build : Option Bytes) (rooted : Bool) (list : Components) → (build ≡ None) ⊎ (rooted ≡ false) →
+    seen_from build rooted list ≡ path_text rooted list
+seen-plain None rooted list h = refl
+seen-plain (Some b) false list h = refl
+seen-plain (Some b) true list (inl e) = cc
+seen-plain (Some b) true list (inr e) = cc
+
+pub path-alone : (build : Option Bytes) (text : Bytes) → (build ≡ None) ⊎ (is_rooted text ≡ false) → IsPath text → canonical_of build text ≡ Ok text
+path-alone build text h p =
+    let f = facts None text text p in
+    from_facts build text text
+    (record {
+      some = f.some;
+      inside = f.inside;
+      clean = f.clean;
+      made = seen-plain build (is_rooted text) (reduced (components text)) h ∙
+          f.made;
+      short = f.short;
+    })
+
 -- what a text means is a path
-pub canonical-path : (build : Option (List ℕ)) (text p : List ℕ) → canonical_of build text ≡ Ok p → IsPath p
+pub canonical-path : (build : Option Bytes) (text p : Bytes) → canonical_of build text ≡ Ok p → IsPath p
 canonical-path build text p h =
     let f = facts build text p h in
     let s = seen-whole build (is_rooted text) (reduced (components text)) (whole-list build text p f) in
     whole-path s.rooted s.list p s.whole (s.is ∙ f.made) f.short
 
 -- a rooted path is a slash and its list
-pub rooted-is : (p : List ℕ) → IsPath p → is_rooted p ≡ true → p ≡ 47 ∷ list_text (reduced (components p))
+pub rooted-is : (p : Bytes) → IsPath p → is_rooted p ≡ true → p ≡ 47 ∷ list_text (reduced (components p))
 rooted-is p h r = let f = facts None p p h in sym f.made ∙ ap (λ b. path_text b (reduced (components p))) r
 
 -- the list of a rooted path has a first component
-pub path-first : (p : List ℕ) → IsPath p → (d : List ℕ) × (ds : List (List ℕ)) × (reduced (components p) ≡ d ∷ ds)
+pub path-first : (p : Bytes) → IsPath p → (d : Bytes) × (ds : Components) × (reduced (components p) ≡ d ∷ ds)
 path-first p h = go (reduced (components p)) (facts None p p h).some
   where
-    go : (l : List (List ℕ)) → is_empty l ≡ false → (d : List ℕ) × (ds : List (List ℕ)) × (l ≡ d ∷ ds)
+    go : (l : Components) → is_empty l ≡ false → (d : Bytes) × (ds : Components) × (l ≡ d ∷ ds)
     go [] e = cc
     go (d ∷ ds) e = (d, ds, refl)
 
 -- lists with one head have one tail
-cons-tail : (b : ℕ) (xs ys : List ℕ) → b ∷ xs ≡ b ∷ ys → xs ≡ ys
+cons-tail : (b : ℕ) (xs ys : Bytes) → b ∷ xs ≡ b ∷ ys → xs ≡ ys
 cons-tail b xs ys e = cc
 
 -- ---- what the two strips of a prefix say
 
 -- a rooted path without its slash is its list, written out
-pub directory-is : (build directory : List ℕ) → IsPath build → is_rooted build ≡ true → build ≡ (47 ∷ []) ++ directory → directory ≡ list_text (reduced (components build))
+pub directory-is : (build directory : Bytes) → IsPath build → is_rooted build ≡ true → build ≡ (47 ∷ []) ++ directory →
+    directory ≡ list_text (reduced (components build))
 directory-is build directory h r e = cons-tail 47 directory (list_text (reduced (components build))) (sym e ∙ rooted-is build h r)
 
 -- no component that is left has a slash
-each-reduced : (text : List ℕ) → EachLacksSlash (reduced (components text))
+each-reduced : (text : Bytes) → EachLacksSlash (reduced (components text))
 each-reduced text = reduced-each LacksSlash (components text) (components-lack text)
 
 -- if both prefixes were taken off, what is left is the list below the directory
-pub below-found : (build directory list rest r text : List ℕ) → IsPath build → directory ≡ list_text (reduced (components build)) → list ≡ list_text (reduced (components text)) → list ≡ directory ++ rest → rest ≡ (47 ∷ []) ++ r
+pub below-found : (build directory list rest r text : Bytes) → IsPath build → directory ≡ list_text (reduced (components build)) →
+    list ≡ list_text (reduced (components text)) → list ≡ directory ++ rest → rest ≡ (47 ∷ []) ++ r
     → option_map list_text (below (reduced (components build)) (reduced (components text))) ≡ Some r
 below-found build directory list rest r text h d e k m =
     let f = path-first build h in
-    let whole : list_text (reduced (components text)) ≡ list_text (f.0 ∷ f.1) ++ 47 ∷ r = sym e ∙ k ∙ ap (λ x. x ++ rest) (d ∙ ap list_text f.2) ∙ ap (λ x. list_text (f.0 ∷ f.1) ++ x) m in
+    let whole : list_text (reduced (components text)) ≡ list_text (f.0 ∷ f.1) ++ 47 ∷ r = sym e ∙ k ∙ ap (λ x. x ++ rest) (d ∙ ap list_text f.2) ∙
+    ap (λ x. list_text (f.0 ∷ f.1) ++ x) m in
     ap (λ l. option_map list_text (below l (reduced (components text)))) f.2
     ∙ below-is f.0 f.1 (reduced (components text)) r (subst EachLacksSlash f.2 (each-reduced build)) (each-reduced text) whole
 
 -- if one of them was not there, no list is below the directory
-pub below-missed : (build directory list text : List ℕ) → IsPath build → directory ≡ list_text (reduced (components build)) → list ≡ list_text (reduced (components text)) → ((r : List ℕ) → list ≡ directory ++ 47 ∷ r → ⊥)
+pub below-missed : (build directory list text : Bytes) → IsPath build → directory ≡ list_text (reduced (components build)) →
+    list ≡ list_text (reduced (components text)) → ((r : Bytes) → list ≡ directory ++ 47 ∷ r → ⊥)
     → option_map list_text (below (reduced (components build)) (reduced (components text))) ≡ None
 below-missed build directory list text h d e absent =
     let f = path-first build h in
@@ -277,49 +286,60 @@ below-missed build directory list text h d e absent =
 -- ---- each fault, if it is the lowest
 
 -- the tests after that of the root
-abbrev last_tests : Option (List ℕ) → List ℕ → Result (List ℕ) PathFault
+abbrev last_tests : Option Bytes → Bytes → Result Bytes PathFault
 last_tests build text = checked (position is_unwritable text) (seen_from build (is_rooted text) (reduced (components text)))
 
 -- the tests after the first
-abbrev later_tests : Option (List ℕ) → List ℕ → Result (List ℕ) PathFault
+abbrev later_tests : Option Bytes → Bytes → Result Bytes PathFault
 later_tests build text = cond (is_rooted text && list_any is_parent (reduced (components text))) (Err AboveRoot) (last_tests build text)
 
 -- no component is left
-pub is-empty : (build : Option (List ℕ)) (text : List ℕ) → is_empty (reduced (components text)) ≡ true → canonical_of build text ≡ Err Empty
+pub is-empty : (build : Option Bytes) (text : Bytes) → is_empty (reduced (components text)) ≡ true → canonical_of build text ≡ Err Empty
 unfolding canonical_of
 is-empty build text h = ap (λ b. cond b (Err Empty) (later_tests build text)) h
 
 -- some component is left, and the later tests decide
-go-on : (build : Option (List ℕ)) (text : List ℕ) → is_empty (reduced (components text)) ≡ false → canonical_of build text ≡ later_tests build text
+go-on : (build : Option Bytes) (text : Bytes) → is_empty (reduced (components text)) ≡ false → canonical_of build text ≡ later_tests build text
 unfolding canonical_of
 go-on build text h = ap (λ b. cond b (Err Empty) (later_tests build text)) h
 
 -- an absolute path has a `..` left
-pub is-above : (build : Option (List ℕ)) (text : List ℕ) → is_empty (reduced (components text)) ≡ false → (is_rooted text && list_any is_parent (reduced (components text))) ≡ true → canonical_of build text ≡ Err AboveRoot
+pub is-above : (build : Option Bytes) (text : Bytes) → is_empty (reduced (components text)) ≡ false →
+    (is_rooted text && list_any is_parent (reduced (components text))) ≡ true → canonical_of build text ≡ Err AboveRoot
 is-above build text h k = go-on build text h ∙ ap (λ b. cond b (Err AboveRoot) (last_tests build text)) k
 
 -- none is left, and the last tests decide
-go-last : (build : Option (List ℕ)) (text : List ℕ) → is_empty (reduced (components text)) ≡ false → (is_rooted text && list_any is_parent (reduced (components text))) ≡ false → canonical_of build text ≡ last_tests build text
+go-last : (build : Option Bytes) (text : Bytes) → is_empty (reduced (components text)) ≡ false →
+    (is_rooted text && list_any is_parent (reduced (components text))) ≡ false → canonical_of build text ≡ last_tests build text
 go-last build text h k = go-on build text h ∙ ap (λ b. cond b (Err AboveRoot) (last_tests build text)) k
 
 -- a byte of the text cannot be escaped
-pub is-unwritable : (build : Option (List ℕ)) (text : List ℕ) (index : ℕ) → is_empty (reduced (components text)) ≡ false → (is_rooted text && list_any is_parent (reduced (components text))) ≡ false → position is_unwritable text ≡ Some index → canonical_of build text ≡ Err (Unwritable index)
+pub is-unwritable : (build : Option Bytes) (text : Bytes) (index : ℕ) → is_empty (reduced (components text)) ≡ false →
+    (is_rooted text && list_any is_parent (reduced (components text))) ≡ false → position is_unwritable text ≡ Some index →
+    canonical_of build text ≡ Err (Unwritable index)
 is-unwritable build text index h k m = go-last build text h k ∙ ap (λ o. checked o (seen_from build (is_rooted text) (reduced (components text)))) m
 
 -- each byte has one, and the length decides
-go-checked : (build : Option (List ℕ)) (text last : List ℕ) → is_empty (reduced (components text)) ≡ false → (is_rooted text && list_any is_parent (reduced (components text))) ≡ false → position is_unwritable text ≡ None → last ≡ seen_from build (is_rooted text) (reduced (components text)) → canonical_of build text ≡ checked None last
-go-checked build text last h k m e = go-last build text h k ∙ ap (λ o. checked o (seen_from build (is_rooted text) (reduced (components text)))) m ∙ ap (checked None) (sym e)
+go-checked : (build : Option Bytes) (text last : Bytes) → is_empty (reduced (components text)) ≡ false →
+    (is_rooted text && list_any is_parent (reduced (components text))) ≡ false → position is_unwritable text ≡ None →
+    last ≡ seen_from build (is_rooted text) (reduced (components text)) → canonical_of build text ≡ checked None last
+go-checked build text last h k m e = go-last build text h k ∙ ap (λ o. checked o (seen_from build (is_rooted text) (reduced (components text)))) m ∙
+    ap (checked None) (sym e)
 
 -- the path is too long
-pub is-long : (build : Option (List ℕ)) (text last : List ℕ) → is_empty (reduced (components text)) ≡ false → (is_rooted text && list_any is_parent (reduced (components text))) ≡ false → position is_unwritable text ≡ None → last ≡ seen_from build (is_rooted text) (reduced (components text)) → 4096 < length last → canonical_of build text ≡ Err TooLong
+pub is-long : (build : Option Bytes) (text last : Bytes) → is_empty (reduced (components text)) ≡ false →
+    (is_rooted text && list_any is_parent (reduced (components text))) ≡ false → position is_unwritable text ≡ None →
+    last ≡ seen_from build (is_rooted text) (reduced (components text)) → 4096 < length last → canonical_of build text ≡ Err TooLong
 is-long build text last h k m e lt = go-checked build text last h k m e ∙ ap (λ b. cond b (Err TooLong) (Ok last)) (lt-ltb 4096 (length last) lt)
 
 -- the path is short enough
-pub is-path : (build : Option (List ℕ)) (text last : List ℕ) → is_empty (reduced (components text)) ≡ false → (is_rooted text && list_any is_parent (reduced (components text))) ≡ false → position is_unwritable text ≡ None → last ≡ seen_from build (is_rooted text) (reduced (components text)) → length last ≤ 4096 → canonical_of build text ≡ Ok last
+pub is-path : (build : Option Bytes) (text last : Bytes) → is_empty (reduced (components text)) ≡ false →
+    (is_rooted text && list_any is_parent (reduced (components text))) ≡ false → position is_unwritable text ≡ None →
+    last ≡ seen_from build (is_rooted text) (reduced (components text)) → length last ≤ 4096 → canonical_of build text ≡ Ok last
 is-path build text last h k m e le = go-checked build text last h k m e ∙ ap (λ b. cond b (Err TooLong) (Ok last)) (le-ltb 4096 (length last) le)
 
 -- the last tests never return that no component is left
-checked-not-empty : (o : Option ℕ) (last : List ℕ) → checked o last ≡ Err Empty → ⊥
+checked-not-empty : (o : Option ℕ) (last : Bytes) → checked o last ≡ Err Empty → ⊥
 checked-not-empty (Some n) last e = cc
 checked-not-empty None last e = go (nat_lt 4096 (length last)) e
   where
@@ -328,7 +348,7 @@ checked-not-empty None last e = go (nat_lt 4096 (length last)) e
     go false k = cc
 
 -- nor do the later ones
-pub some-not-empty : (build : Option (List ℕ)) (text : List ℕ) → is_empty (reduced (components text)) ≡ false → canonical_of build text ≡ Err Empty → ⊥
+pub some-not-empty : (build : Option Bytes) (text : Bytes) → is_empty (reduced (components text)) ≡ false → canonical_of build text ≡ Err Empty → ⊥
 some-not-empty build text h e = go (is_rooted text && list_any is_parent (reduced (components text))) (sym (go-on build text h) ∙ e)
   where
     go : (b : Bool) → cond b (Err AboveRoot) (last_tests build text) ≡ Err Empty → ⊥
@@ -336,7 +356,7 @@ some-not-empty build text h e = go (is_rooted text && list_any is_parent (reduce
     go false k = checked-not-empty (position is_unwritable text) (seen_from build (is_rooted text) (reduced (components text))) k
 
 -- a list is empty if its text is
-pub nothing-is : (list : List (List ℕ)) → IsFixed list → (length (list_text list) == 0) ≡ is_empty list
+pub nothing-is : (list : Components) → IsFixed list → (length (list_text list) == 0) ≡ is_empty list
 nothing-is [] f = refl
 nothing-is ([] ∷ []) f = cc
 nothing-is ([] ∷ y ∷ ys) f = let g = f.0 in cc
@@ -344,7 +364,7 @@ nothing-is ((b ∷ bs) ∷ []) f = grind arith
 nothing-is ((b ∷ bs) ∷ y ∷ ys) f = grind arith
 
 -- a path has at most 4,096 bytes
-pub path-short : (bytes path : List ℕ) → canonical_of None bytes ≡ Ok path → bytes ≡ path → length bytes ≤ 4096
+pub path-short : (bytes path : Bytes) → canonical_of None bytes ≡ Ok path → bytes ≡ path → length bytes ≤ 4096
 path-short bytes path h e = let f = facts None bytes path h in let le = short-of (length path) f.short in subst (λ l. length l ≤ 4096) (sym e) le
   where
     short-of : (n : ℕ) → nat_lt 4096 n ≡ false → n ≤ 4096

@@ -1,5 +1,6 @@
 -- What is kept of directories and of the ends of names.
-use Rattle.std.proofs.Common.{◌≡◌, ℕ, suc, ◌+◌, ◌-◌, ◌*◌, ◌<◌, ◌≤◌, min, Bool, true, false, not, cond, ◌==◌, ◌||◌, ◌&&◌, List, [], ◌∷◌, ◌++◌, length, take, drop, get_or, refl, sym, ◌∙◌, ap, subst, arith, length-append, ◌⊎◌, inl, inr, Option, Some, None, Result, Err, position, nat_lt, bytes_eq, Vec, Global, IsUtf8}
+use Rattle.ninja_text.specs.Bytes.{Bytes}
+use Rattle.std.proofs.Common.{◌≡◌, ℕ, suc, ◌+◌, ◌-◌, ◌*◌, ◌<◌, ◌≤◌, min, Bool, true, false, not, cond, ◌==◌, ◌||◌, ◌&&◌, List, [], ◌∷◌, ◌++◌, length, take, drop, get_or, refl, sym, ◌∙◌, ap, subst, arith, length-append, ◌⊎◌, inl, inr, Option, Some, None, Result, Err, position, nat_lt, bytes_eq, Vec, Global, IsUtf8, IfOk}
 use Rattle.std.specs.Option.{ForSome}
 use Rattle.std.specs.Vec.{vec_len}
 use Rattle.std.specs.List.{list_any, prefix_len}
@@ -15,44 +16,44 @@ use Rattle.ninja_text.specs.Reduction.{components, is_current, is_parent, is_nam
 use Rattle.ninja_text.specs.Paths.{is_empty, is_rooted, read_from, below, relative_or, seen_from, canonical_of, IsPath, placed}
 use Rattle.ninja_text.specs.NameBeginnings.{begins_component}
 use Rattle.ninja_text.specs.PathShape.{parts}
-use Rattle.ninja_text.specs.inner.ComponentLists.{appended, list_text, reduced_text, leads_up, slashes_from, LacksSlash, EachLacksSlash}
+use Rattle.ninja_text.specs.inner.ComponentLists.{Components, appended, list_text, reduced_text, leads_up, slashes_from, LacksSlash, EachLacksSlash}
 use Rattle.ninja_text.specs.inner.Joins.{IsDirectory, IsList, IsReadIn, IsListOf, IsEnding, list_limit, glued, long_fault, moved, first_in}
 use Rattle.ninja_text.proofs.ReducedList.{IsFixed, either_way, names-fixed, fixed-reduced, reduced-fixed, reduced-each, reduced-ahead, reduced-context, and-left, and-right, current-not-name}
 use Rattle.ninja_text.proofs.Components.{components-lack, components-at, components-one, components-list, text-below}
 use Rattle.ninja_text.proofs.Canonical.{rooted-is, path-first, nothing-is, is-above, is-unwritable, is-long, clean-none, IsClean}
-use Rattle.ninja_text.proofs.Shape.{at-most, joined-text}
+use Rattle.ninja_text.proofs.Shape.{at-most, joined-text, result-text}
 use Rattle.ninja_text.proofs.Joins.{up, leads, leads-list, any-leads, name-not-parent, slashes-count, cut-list, slash-offset, lists-joined, fixed-take, fixed-drop, glued-lists, glued-nil, text-behind, leads-text, leads-glued, position-append, components-slash, components-front, in_front-plain, in_front-up, up-more, up-none, only-names}
 
 -- ---- what is kept of a directory
 
 -- the list of a text has no slash in a component
-pub parts-lack : (text : List ℕ) → EachLacksSlash (parts text)
+pub parts-lack : (text : Bytes) → EachLacksSlash (parts text)
 parts-lack text = reduced-each LacksSlash (components text) (components-lack text)
 
-pub parts-fixed : (text : List ℕ) → IsFixed (parts text)
+pub parts-fixed : (text : Bytes) → IsFixed (parts text)
 parts-fixed text = reduced-fixed (components text)
 
 -- the `..` of a list, written out
-up-text : (list : List (List ℕ)) → EachLacksSlash list → prefix_len is_parent (components (list_text list)) ≡ up list
+up-text : (list : Components) → EachLacksSlash list → prefix_len is_parent (components (list_text list)) ≡ up list
 up-text [] h = refl
 up-text (x ∷ xs) h = ap up (components-list x xs h)
 
-pub parents-text : (list : List ℕ) (text : List ℕ) → list ≡ reduced_text text → prefix_len is_parent (components list) ≡ up (parts text)
+pub parents-text : (list : Bytes) (text : Bytes) → list ≡ reduced_text text → prefix_len is_parent (components list) ≡ up (parts text)
 parents-text list text e = ap (λ l. prefix_len is_parent (components l)) e ∙ up-text (parts text) (parts-lack text)
 
 -- a list is empty if its text is
-pub nothing : (text : List ℕ) (list : Vec ℕ Global) (empty : Bool) → list.items ≡ reduced_text text → empty ≡ (vec_len list == 0)
+pub nothing : (text : Bytes) (list : Vec ℕ Global) (empty : Bool) → list.items ≡ reduced_text text → empty ≡ (vec_len list == 0)
     → is_empty (parts text) ≡ empty
 nothing text list empty same e =
     sym (e ∙ ap (λ n. n == 0) list.ok.0 ∙ ap (λ items. length items == 0) same ∙ nothing-is (parts text) (parts-fixed text))
 
 -- an empty list has no component
-pub none-of : (list : List (List ℕ)) → is_empty list ≡ true → length list ≡ 0
+pub none-of : (list : Components) → is_empty list ≡ true → length list ≡ 0
 none-of [] h = refl
 none-of (x ∷ xs) h = cc
 
 -- one slash less than components
-pub count-of : (list : List (List ℕ)) → EachLacksSlash list → is_empty list ≡ false → length (slashes_from 0 (list_text list)) + 1 ≡ length list
+pub count-of : (list : Components) → EachLacksSlash list → is_empty list ≡ false → length (slashes_from 0 (list_text list)) + 1 ≡ length list
 count-of [] h e = cc
 count-of (x ∷ xs) h e = let k = slashes-count 0 x xs h in omega arith
 
@@ -63,35 +64,36 @@ directory-count text list slashes l s e =
     ap (λ l. length l + 1) (s ∙ ap (slashes_from 0) l) ∙ count-of (parts text) (parts-lack text) e
 
 -- the `..` are components
-pub up-within : (list : List (List ℕ)) → up list ≤ length list
+pub up-within : (list : Components) → up list ≤ length list
 up-within list = prefix_len-le-length is_parent list
 
 -- a list with that many components
-some-of : (list : List (List ℕ)) (n : ℕ) → (n ≡ 0 → ⊥) → n ≤ length list → is_empty list ≡ false
+some-of : (list : Components) (n : ℕ) → (n ≡ 0 → ⊥) → n ≤ length list → is_empty list ≡ false
 some-of [] n some le = absurd (some (omega arith))
 some-of (x ∷ xs) n some le = refl
 
--- the first components of a directory's list, up to a slash
-pub directory-front : (text list slashes : List ℕ) (names : ℕ) (unwritable : Option ℕ) (count index z : ℕ)
-    → IsDirectory text list slashes names unwritable
-    → (count ≡ 0 → ⊥) → count ≤ length (parts text) → count ≤ length slashes → index ≡ length slashes - count
-    → (get_or slashes index z ≡ length (list_text (take (length (parts text) - count) (parts text)))) × (take (get_or slashes index z) list ≡ list_text (take (length (parts text) - count) (parts text)))
-directory-front text list slashes names unwritable count index z d some le has e =
-    let n = directory-count text list slashes d.list_is d.slashes_are (some-of (parts text) count some le) in
-    let kept : suc index ≡ length (parts text) - count = omega arith in
-    let same : slashes ≡ slashes_from 0 (list_text (parts text)) = d.slashes_are ∙ ap (slashes_from 0) d.list_is in (
-      ap (λ l. get_or l index z) same ∙ slash-offset (parts text) index z (parts-lack text) (omega arith)
-          ∙ ap (λ m. length (list_text (take m (parts text)))) kept,
-      ap (λ l. take (get_or l index z) list) same ∙ ap (take (get_or (slashes_from 0 (list_text (parts text))) index z)) d.list_is
-          ∙ cut-list (parts text) index z (parts-lack text) (omega arith) ∙ ap (λ m. list_text (take m (parts text))) kept,
-    )
+-- what is known of a directory from which as many components as this are removed
+module _ {text list slashes : List ℕ} {names : ℕ} {unwritable : Option ℕ} (d : IsDirectory text list slashes names unwritable) (count : ℕ)
+    (some : count ≡ 0 → ⊥) (le : count ≤ length (parts text)) where
+  -- the first components of its list, up to a slash
+  pub directory-front : (index z : ℕ) → count ≤ length slashes → index ≡ length slashes - count
+      → (get_or slashes index z ≡ length (list_text (take (length (parts text) - count) (parts text)))) ×
+      (take (get_or slashes index z) list ≡ list_text (take (length (parts text) - count) (parts text)))
+  directory-front index z has e =
+      let n = directory-count text list slashes d.list_is d.slashes_are (some-of (parts text) count some le) in
+      let kept : suc index ≡ length (parts text) - count = omega arith in
+      let same : slashes ≡ slashes_from 0 (list_text (parts text)) = d.slashes_are ∙ ap (slashes_from 0) d.list_is in (
+        ap (λ l. get_or l index z) same ∙ slash-offset (parts text) index z (parts-lack text) (omega arith)
+            ∙ ap (λ m. length (list_text (take m (parts text)))) kept,
+        ap (λ l. take (get_or l index z) list) same ∙ ap (take (get_or (slashes_from 0 (list_text (parts text))) index z)) d.list_is
+            ∙ cut-list (parts text) index z (parts-lack text) (omega arith) ∙ ap (λ m. list_text (take m (parts text))) kept,
+      )
 
--- no component is left
-pub directory-none : (text list slashes : List ℕ) (names : ℕ) (unwritable : Option ℕ) (count : ℕ) → IsDirectory text list slashes names unwritable
-    → (count ≡ 0 → ⊥) → count ≤ length (parts text) → (count ≤ length slashes → ⊥) → [] ≡ list_text (take (length (parts text) - count) (parts text))
-directory-none text list slashes names unwritable count d some le none =
-    let n = directory-count text list slashes d.list_is d.slashes_are (some-of (parts text) count some le) in
-    ap (λ m. list_text (take m (parts text))) {x = 0} {y = length (parts text) - count} (grind arith)
+  -- no component is left
+  pub directory-none : (count ≤ length slashes → ⊥) → [] ≡ list_text (take (length (parts text) - count) (parts text))
+  directory-none none =
+      let n = directory-count text list slashes d.list_is d.slashes_are (some-of (parts text) count some le) in
+      ap (λ m. list_text (take m (parts text))) {x = 0} {y = length (parts text) - count} (grind arith)
 
 -- ---- the list of what is read in a directory
 
@@ -100,7 +102,7 @@ min-way : (a b : ℕ) → (min a b ≡ a) ⊎ (min a b ≡ b)
 min-way a b = elim (either_way (nat_lt b a)) [ inl h ↦ inr (grind arith) | inr h ↦ let k = at-most b a h in inl (omega arith) ]
 
 -- the components that are left of a directory and of what is read in it
-pub lists-left : (list q : List (List ℕ)) (d : ℕ) → IsFixed list → IsFixed q → d ≡ min (up q) (length list - up list)
+pub lists-left : (list q : Components) (d : ℕ) → IsFixed list → IsFixed q → d ≡ min (up q) (length list - up list)
     → reduced (list ++ q) ≡ take (length list - d) list ++ drop d q
 lists-left list q d f g e =
     let within = up-within list in
@@ -108,12 +110,11 @@ lists-left list q d f g e =
     lists-joined list q (length list - d) d f g (omega arith) (omega arith) (omega arith) (elim way [ inl h ↦ inl (e ∙ h) | inr h ↦ inr (omega arith) ])
 
 -- the list that is left, written out
-pub text-left : (directory text own front rest : List ℕ) (parents : ℕ) (unwritable : Option ℕ) (d : ℕ)
-    → IsReadIn directory text own parents unwritable
+text-left : {directory text own front rest : Bytes} {parents d : ℕ} {unwritable : Option ℕ} → IsReadIn directory text own parents unwritable
     → d ≡ min parents (length (parts directory) - up (parts directory))
     → front ≡ list_text (take (length (parts directory) - d) (parts directory)) → rest ≡ drop (3 * d) own
     → glued front rest ≡ reduced_text text
-text-left directory text own front rest parents unwritable d r e f g =
+text-left {directory = directory} {rest = rest} {d = d} r e f g =
     let list = parts directory in
     let q = r.list in
     let fixed : IsFixed q = subst IsFixed r.is_list.fixed (reduced-fixed q) in
@@ -126,7 +127,7 @@ text-left directory text own front rest parents unwritable d r e f g =
 -- ---- what is read in a directory
 
 -- the text that is read in a directory
-pub read-whole : (directory path : List ℕ) → is_rooted path ≡ false
+pub read-whole : (directory path : Bytes) → is_rooted path ≡ false
     → parts (read_from (Some directory) path) ≡ reduced (parts directory ++ parts path)
 read-whole [] path h = sym (fixed-reduced (parts path) (parts-fixed path))
 read-whole (b ∷ bs) path h =
@@ -134,12 +135,12 @@ read-whole (b ∷ bs) path h =
     ∙ reduced-ahead (components (b ∷ bs)) (components path)
     ∙ reduced-context (parts (b ∷ bs)) (components path) (parts path) (sym (fixed-reduced (parts path) (parts-fixed path)))
 
-pub read-rooted : (directory path : List ℕ) → is_rooted path ≡ false → is_rooted (read_from (Some directory) path) ≡ is_rooted directory
+pub read-rooted : (directory path : Bytes) → is_rooted path ≡ false → is_rooted (read_from (Some directory) path) ≡ is_rooted directory
 read-rooted [] path h = h
 read-rooted (b ∷ bs) path h = ap (λ t. is_rooted (cond t path ((b ∷ bs) ++ 47 ∷ path))) h
 
 -- the first byte of two texts with a slash between that cannot be escaped
-slash-position : (a b : List ℕ) → position is_unwritable (a ++ 47 ∷ b) ≡ moved (position is_unwritable a) (length a + 1) (position is_unwritable b)
+slash-position : (a b : Bytes) → position is_unwritable (a ++ 47 ∷ b) ≡ moved (position is_unwritable a) (length a + 1) (position is_unwritable b)
 slash-position a b =
     position-append a (47 ∷ b) ∙ ap (moved (position is_unwritable a) (length a)) (position-append (47 ∷ []) b)
     ∙ go (position is_unwritable a) (position is_unwritable b)
@@ -149,16 +150,16 @@ slash-position a b =
     go None None = refl
     go None (Some j) = ap Some (omega arith)
 
-pub read-position : (directory path : List ℕ) → is_rooted path ≡ false
+pub read-position : (directory path : Bytes) → is_rooted path ≡ false
     → first_in directory (position is_unwritable path) ≡ position is_unwritable (read_from (Some directory) path)
 read-position [] path h = refl
 read-position (b ∷ bs) path h = sym (ap (λ t. position is_unwritable (cond t path ((b ∷ bs) ++ 47 ∷ path))) h ∙ slash-position (b ∷ bs) path)
 
 -- a path that is read in a directory, by its canonical list
-pub read-in : (directory path own : List ℕ) (parents : ℕ) (unwritable : Option ℕ) → is_rooted path ≡ false
+pub read-in : (directory path : Bytes) {own : Bytes} {parents : ℕ} {unwritable : Option ℕ} → is_rooted path ≡ false
     → IsList (parts path) own parents → unwritable ≡ first_in directory (position is_unwritable path)
     → IsReadIn directory (read_from (Some directory) path) own parents unwritable
-read-in directory path own parents unwritable h l e = record {
+read-in directory path h l e = record {
   list = parts path;
   is_list = l;
   whole = read-whole directory path h;
@@ -172,7 +173,7 @@ moved-none None = refl
 moved-none (Some p) = ap Some (omega arith)
 
 -- no `..` among names
-names-up : (list : List (List ℕ)) → list_any (λ c. is_current c || is_parent c) list ≡ false → up list ≡ 0
+names-up : (list : Components) → list_any (λ c. is_current c || is_parent c) list ≡ false → up list ≡ 0
 names-up [] h = refl
 names-up (c ∷ cs) h = up-none c cs (go (is_current c) (is_parent c) (list_any (λ c. is_current c || is_parent c) cs) h)
   where
@@ -187,7 +188,7 @@ names-up (c ∷ cs) h = up-none c cs (go (is_current c) (is_parent c) (list_any 
     go i false more k = refl
 
 -- a path of names is its own canonical list
-pub list-of-names : (path : List ℕ) → list_any (λ c. is_current c || is_parent c) (components path) ≡ false → IsList (parts path) path 0
+pub list-of-names : (path : Bytes) → list_any (λ c. is_current c || is_parent c) (components path) ≡ false → IsList (parts path) path 0
 list-of-names path none = record {
   fixed = fixed-reduced (parts path) (parts-fixed path);
   lacks = parts-lack path;
@@ -195,11 +196,11 @@ list-of-names path none = record {
   parents_are = sym (ap up (names-fixed-reduced path none) ∙ names-up (components path) none);
 }
   where
-    names-fixed-reduced : (path : List ℕ) → list_any (λ c. is_current c || is_parent c) (components path) ≡ false → parts path ≡ components path
+    names-fixed-reduced : (path : Bytes) → list_any (λ c. is_current c || is_parent c) (components path) ≡ false → parts path ≡ components path
     names-fixed-reduced path none = fixed-reduced (components path) (names-fixed (components path) none)
 
 -- the canonical list of a path
-pub list-of-path : (path own : List ℕ) (parents : ℕ) → own ≡ reduced_text path → parents ≡ prefix_len is_parent (components own)
+pub list-of-path : (path own : Bytes) (parents : ℕ) → own ≡ reduced_text path → parents ≡ prefix_len is_parent (components own)
     → IsList (parts path) own parents
 list-of-path path own parents e k = record {
   fixed = fixed-reduced (parts path) (parts-fixed path);
@@ -211,16 +212,17 @@ list-of-path path own parents e k = record {
 -- ---- a list that is too long
 
 -- what is seen of a list is at most the build directory shorter
-seen-or : (d : List ℕ) (ds list : List (List ℕ)) (o : Option (List (List ℕ))) → below (d ∷ ds) list ≡ o
+seen-or : (d : Bytes) (ds list : Components) (o : Option Components) → below (d ∷ ds) list ≡ o
     → 4096 + length (list_text (d ∷ ds)) + 1 < length (list_text list) → 4096 < length (relative_or list o)
 seen-or d ds list None e lt = omega arith
 seen-or d ds list (Some rest) e lt =
     let whole = text-below d ds list rest e in
-    let total : length (list_text list) ≡ length (list_text (d ∷ ds)) + (1 + length (list_text rest)) = ap length whole ∙ length-append (list_text (d ∷ ds)) (47 ∷ list_text rest) ∙ omega arith in
+    let total : length (list_text list) ≡ length (list_text (d ∷ ds)) + (1 + length (list_text rest)) = ap length whole ∙
+    length-append (list_text (d ∷ ds)) (47 ∷ list_text rest) ∙ omega arith in
     omega arith
 
 -- a list that is longer than the limit is longer than a path, from wherever it is seen
-seen-long : (build : Option (List ℕ)) (rooted : Bool) (list : List (List ℕ)) → ForSome build IsPath
+seen-long : (build : Option Bytes) (rooted : Bool) (list : Components) → ForSome build IsPath
     → ForSome build (λ b. is_rooted b ≡ true) → list_limit build < length (list_text list) → 4096 < length (seen_from build rooted list)
 seen-long None true list p r lt = omega arith
 seen-long None false list p r lt = lt
@@ -232,26 +234,29 @@ seen-long (Some b) true list p r lt =
     subst (λ l. 4096 < length (relative_or list (below l list))) (sym f.2) (seen-or f.0 f.1 list (below (f.0 ∷ f.1) list) refl (omega arith))
 
 -- a list that has a byte
-some-byte : (list : List (List ℕ)) (n : ℕ) → n < length (list_text list) → is_empty list ≡ false
+some-byte : (list : Components) (n : ℕ) → n < length (list_text list) → is_empty list ≡ false
 some-byte [] n lt = absurd (omega arith)
 some-byte (x ∷ xs) n lt = refl
 
 -- the fault of a list that is too long
-pub long-is : (build : Option (List ℕ)) (text list : List ℕ) (above : Bool) (unwritable : Option ℕ) → ForSome build IsPath
+long-is : (build : Option Bytes) (text : Bytes) {list : Bytes} {above : Bool} {unwritable : Option ℕ} → ForSome build IsPath
     → ForSome build (λ b. is_rooted b ≡ true)
     → list ≡ reduced_text text → list_limit build < length list → above ≡ (is_rooted text && leads_up list) → unwritable ≡ position is_unwritable text
     → canonical_of build text ≡ Err (long_fault above unwritable)
-long-is build text list above unwritable p r e lt a u =
+long-is build text {above = above} {unwritable = unwritable} p r e lt a u =
     let longer : list_limit build < length (reduced_text text) = subst (λ l. list_limit build < length l) e lt in
     let some = some-byte (parts text) (list_limit build) longer in
-    let found : (is_rooted text && list_any is_parent (parts text)) ≡ above = ap (λ b. is_rooted text && b) (sym (leads-text text)) ∙ ap (λ l. is_rooted text && leads_up l) (sym e) ∙ sym a in
+    let found : (is_rooted text && list_any is_parent (parts text)) ≡ above = ap (λ b. is_rooted text && b) (sym (leads-text text)) ∙
+    ap (λ l. is_rooted text && leads_up l) (sym e) ∙ sym a in
     go above unwritable some longer found (sym u)
   where
-    go : (above : Bool) (unwritable : Option ℕ) → is_empty (parts text) ≡ false → list_limit build < length (reduced_text text) → (is_rooted text && list_any is_parent (parts text)) ≡ above → position is_unwritable text ≡ unwritable
+    go : (above : Bool) (unwritable : Option ℕ) → is_empty (parts text) ≡ false → list_limit build < length (reduced_text text) →
+        (is_rooted text && list_any is_parent (parts text)) ≡ above → position is_unwritable text ≡ unwritable
         → canonical_of build text ≡ Err (long_fault above unwritable)
     go true unwritable some longer found none = is-above build text some found
     go false (Some i) some longer found none = is-unwritable build text i some found none
-    go false None some longer found none = is-long build text (seen_from build (is_rooted text) (parts text)) some found none refl (seen-long build (is_rooted text) (parts text) p r longer)
+    go false None some longer found none =
+        is-long build text (seen_from build (is_rooted text) (parts text)) some found none refl (seen-long build (is_rooted text) (parts text) p r longer)
 
 -- ---- a name and its end
 
@@ -262,14 +267,14 @@ and-left-false false true h = refl
 and-left-false false false h = refl
 
 -- what is tested of the beginning of a name
-pub record Begins (name : List ℕ) : Type 0 where
+pub record Begins (name : Bytes) : Type 0 where
   pub relative : is_rooted name ≡ false
   pub lacks : LacksSlash name
   pub clean : position is_unwritable name ≡ None
-  pub named : (first : List ℕ) → is_named_component (name ++ first) ≡ true
+  pub named : (first : Bytes) → is_named_component (name ++ first) ≡ true
 
 -- a text that begins a name
-pub begins : (name : List ℕ) → begins_component name ≡ true → Begins name
+pub begins : (name : Bytes) → begins_component name ≡ true → Begins name
 begins [] h = cc
 begins (b ∷ bs) h =
     let dotless = not-true (b == 46) (and-left (not (b == 46)) (not (list_any (λ b. b == 47 || is_unwritable b) (b ∷ bs))) h) in
@@ -282,7 +287,7 @@ begins (b ∷ bs) h =
           ∙ ap not (and-left-false (b == 46) (bytes_eq (bs ++ first) (46 ∷ [])) dotless);
     }
   where
-    none-each : (l : List ℕ) → list_any (λ b. b == 47 || is_unwritable b) l ≡ false → LacksSlash l × IsClean l
+    none-each : (l : Bytes) → list_any (λ b. b == 47 || is_unwritable b) l ≡ false → LacksSlash l × IsClean l
     none-each [] h = (tt, tt)
     none-each (c ∷ cs) h =
         let k = or_parts (c == 47 || is_unwritable c) (list_any (λ b. b == 47 || is_unwritable b) cs) h in
@@ -293,25 +298,22 @@ begins (b ∷ bs) h =
 -- ---- what the functions know of a path
 
 -- what is kept of the text that is read
-pub listed : (directory text own front rest list : List ℕ) (parents d : ℕ) (unwritable : Option ℕ) (rooted : Bool)
-    → IsReadIn directory text own parents unwritable
+pub listed : {directory text own front rest list : Bytes} {parents d : ℕ} {unwritable : Option ℕ} {rooted : Bool} →
+    IsReadIn directory text own parents unwritable
     → d ≡ min parents (length (parts directory) - up (parts directory))
-    → front ≡ list_text (take (length (parts directory) - d) (parts directory)) → rest ≡ drop (3 * d) own → list ≡ glued front rest → rooted ≡ is_rooted directory
+    → front ≡ list_text (take (length (parts directory) - d) (parts directory)) → rest ≡ drop (3 * d) own → list ≡ glued front rest →
+    rooted ≡ is_rooted directory
     → IsListOf text rooted unwritable list
-listed directory text own front rest list parents d unwritable rooted r e f g h k = record {
-  rooted_is = k ∙ sym r.rooted;
-  unwritable_is = r.unwritable_is;
-  list_is = h ∙ text-left directory text own front rest parents unwritable d r e f g;
-}
+listed r e f g h k = record { rooted_is = k ∙ sym r.rooted; unwritable_is = r.unwritable_is; list_is = h ∙ text-left r e f g }
 
 -- two texts are no longer than both with a slash between
-pub glued-longer : (f r : List ℕ) → length f + length r ≤ length (glued f r)
+pub glued-longer : (f r : Bytes) → length f + length r ≤ length (glued f r)
 glued-longer [] r = omega arith
 glued-longer (b ∷ f) [] = omega arith
 glued-longer (b ∷ f) (c ∷ r) = let l = length-append (b ∷ f) (47 ∷ c ∷ r) in omega arith
 
 -- the first of two texts that is not empty decides whether both lead up
-pub first-leads : (front rest first : List ℕ) (empty : Bool) → empty ≡ (length front == 0) → first ≡ cond empty rest front
+pub first-leads : (front rest first : Bytes) (empty : Bool) → empty ≡ (length front == 0) → first ≡ cond empty rest front
     → leads_up first ≡ leads_up (glued front rest)
 first-leads [] rest first empty e f = ap leads_up (f ∙ ap (λ t. cond t rest []) e)
 first-leads (b ∷ front) rest first empty e f =
@@ -322,23 +324,25 @@ first-leads (b ∷ front) rest first empty e f =
     no-length n = grind arith
 
 -- the fault of what is read, if its list is too long
-pub long-read : (build : Option (List ℕ)) (directory text own front rest first : List ℕ) (parents d : ℕ) (unwritable : Option ℕ) (rooted empty above : Bool) → ForSome build IsPath → ForSome build (λ b. is_rooted b ≡ true)
+pub long-read : (build : Option Bytes) {directory text own front rest first : Bytes} {parents d : ℕ} {unwritable : Option ℕ} {rooted empty above : Bool} →
+    ForSome build IsPath
+    → ForSome build (λ b. is_rooted b ≡ true)
     → IsReadIn directory text own parents unwritable → d ≡ min parents (length (parts directory) - up (parts directory))
     → front ≡ list_text (take (length (parts directory) - d) (parts directory)) → rest ≡ drop (3 * d) own → rooted ≡ is_rooted directory
     → list_limit build < length front + length rest → empty ≡ (length front == 0) → first ≡ cond empty rest front → above ≡ (rooted && leads_up first)
     → canonical_of build text ≡ Err (long_fault above unwritable)
-long-read build directory text own front rest first parents d unwritable rooted empty above p q r e f g k lt em fi a =
+long-read build {text = text} {front = front} {rest = rest} {first = first} {empty = empty} p q r e f g k lt em fi a =
     let longer = glued-longer front rest in
-    long-is build text (glued front rest) above unwritable p q (text-left directory text own front rest parents unwritable d r e f g) (omega arith)
+    long-is build text p q (text-left r e f g) (omega arith)
     (a ∙ ap (λ b. b && leads_up first) (k ∙ sym r.rooted) ∙ ap (λ t. is_rooted text && t) (first-leads front rest first empty em fi)) r.unwritable_is
 
 -- a text that is read in a directory, in UTF-8
-pub read-text : (directory path : List ℕ) → is_rooted path ≡ false → IsUtf8 directory → IsUtf8 path → IsUtf8 (read_from (Some directory) path)
+pub read-text : (directory path : Bytes) → is_rooted path ≡ false → IsUtf8 directory → IsUtf8 path → IsUtf8 (read_from (Some directory) path)
 read-text [] path h u v = v
 read-text (b ∷ bs) path h u v = joined-text (b ∷ bs) path (read_from (Some (b ∷ bs)) path) u v (ap (λ t. cond t path ((b ∷ bs) ++ 47 ∷ path)) h)
 
 -- what `placed` says of a path that is not empty
-pub placed-is : (build : Option (List ℕ)) (directory path : List ℕ) → is_empty path ≡ false
+pub placed-is : (build : Option Bytes) (directory path : Bytes) → is_empty path ≡ false
     → placed (Some directory) build path ≡ canonical_of build (read_from (Some directory) path)
 unfolding placed
 placed-is build directory path h = ap (λ t. cond t (Err Empty) (canonical_of build (read_from (Some directory) path))) h
@@ -346,21 +350,23 @@ placed-is build directory path h = ap (λ t. cond t (Err Empty) (canonical_of bu
 -- ---- names and their end
 
 -- the components of a name with an end
-pub named-parts : (name text : List ℕ) (first : ℕ) (list : List ℕ) (parents : ℕ) (unwritable : Option ℕ) (e : IsEnding text first list parents unwritable) → Begins name → parts (name ++ text) ≡ in_front (name ++ take first text) (reduced e.others)
-named-parts name text first list parents unwritable e b = ap reduced (components-front name text (take first text) e.others b.lacks e.divided)
+named-parts : (name : Bytes) {text list : Bytes} {first parents : ℕ} {unwritable : Option ℕ} (e : IsEnding text first list parents unwritable) → Begins name
+    → parts (name ++ text) ≡ in_front (name ++ take first text) (reduced e.others)
+named-parts name {text = text} {first = first} e b = ap reduced (components-front name text (take first text) e.others b.lacks e.divided)
 
 -- an end that removes the name leaves one `..` less
-pub named-up : (name text : List ℕ) (first : ℕ) (list : List ℕ) (parents : ℕ) (unwritable : Option ℕ)
+named-up : (name : Bytes) {text list : Bytes} {first parents : ℕ} {unwritable : Option ℕ}
     → IsEnding text first list parents unwritable → Begins name → 0 < parents → IsList (parts (name ++ text)) (drop 3 list) (parents - 1)
-named-up name text first list parents unwritable e b lt = go (reduced e.others) refl
+named-up name {text = text} {list = list} {first = first} {parents = parents} e b lt = go (reduced e.others) refl
   where
-    go : (others : List (List ℕ)) → reduced e.others ≡ others → IsList (parts (name ++ text)) (drop 3 list) (parents - 1)
+    go : (others : Components) → reduced e.others ≡ others → IsList (parts (name ++ text)) (drop 3 list) (parents - 1)
     go [] h = let k = e.list_is.parents_are ∙ ap up h in absurd (omega arith)
     go (c ∷ cs) h = elim (either_way (is_parent c)) [
       | inr n ↦ let k = e.list_is.parents_are ∙ ap up h ∙ up-none c cs n in absurd (omega arith)
       | inl u ↦
           let k = e.list_is.parents_are ∙ ap up h ∙ up-more c cs u in
-          let same : parts (name ++ text) ≡ cs = named-parts name text first list parents unwritable e b ∙ ap (in_front (name ++ take first text)) h ∙ in_front-up (name ++ take first text) c cs (b.named (take first text)) u in
+          let same : parts (name ++ text) ≡ cs = named-parts name e b ∙ ap (in_front (name ++ take first text)) h ∙
+          in_front-up (name ++ take first text) c cs (b.named (take first text)) u in
           record {
             fixed = fixed-reduced (parts (name ++ text)) (parts-fixed (name ++ text));
             lacks = parts-lack (name ++ text);
@@ -370,18 +376,18 @@ named-up name text first list parents unwritable e b lt = go (reduced e.others) 
     ]
 
 -- no `..` at the beginning
-not-leads : (list : List (List ℕ)) → up list ≡ 0 → leads list ≡ false
+not-leads : (list : Components) → up list ≡ 0 → leads list ≡ false
 not-leads [] h = refl
 not-leads (c ∷ cs) h = elim (either_way (is_parent c)) [ inl u ↦ let k = up-more c cs u in absurd (omega arith) | inr n ↦ n ]
 
 -- any other end stays after it
-pub named-list : (name text : List ℕ) (first : ℕ) (list : List ℕ) (unwritable : Option ℕ) (e : IsEnding text first list 0 unwritable)
+named-list : (name : Bytes) {text list : Bytes} {first : ℕ} {unwritable : Option ℕ} (e : IsEnding text first list 0 unwritable)
     → Begins name → IsList (parts (name ++ text)) (glued (name ++ take first text) (list_text (reduced e.others))) 0
-named-list name text first list unwritable e b =
+named-list name {text = text} {first = first} e b =
     let x = name ++ take first text in
     let named = b.named (take first text) in
     let same : parts (name ++ text) ≡ x ∷ reduced e.others =
-    named-parts name text first list 0 unwritable e b ∙ in_front-plain x (reduced e.others) named (not-leads (reduced e.others) (sym e.list_is.parents_are)) in
+    named-parts name e b ∙ in_front-plain x (reduced e.others) named (not-leads (reduced e.others) (sym e.list_is.parents_are)) in
     record {
       fixed = fixed-reduced (parts (name ++ text)) (parts-fixed (name ++ text));
       lacks = parts-lack (name ++ text);
@@ -390,40 +396,43 @@ named-list name text first list unwritable e b =
     }
 
 -- the first byte of a name with an end that cannot be escaped
-pub named-position : (name text : List ℕ) → Begins name
-    → moved None (length name) (position is_unwritable text) ≡ position is_unwritable (name ++ text)
-named-position name text b = ap (λ o. moved o (length name) (position is_unwritable text)) (sym b.clean) ∙ sym (position-append name text)
+named-position : (name text : Bytes) {u : Option ℕ} → Begins name → u ≡ position is_unwritable text →
+    moved None (length name) u ≡ position is_unwritable (name ++ text)
+named-position name text b e =
+    ap (moved None (length name)) e ∙ ap (λ o. moved o (length name) (position is_unwritable text)) (sym b.clean) ∙ sym (position-append name text)
 
 -- a name is not empty, and begins at no root
-pub begins-path : (name text : List ℕ) → begins_component name ≡ true → (is_rooted (name ++ text) ≡ false) × (is_empty (name ++ text) ≡ false)
+pub begins-path : (name text : Bytes) → begins_component name ≡ true → (is_rooted (name ++ text) ≡ false) × (is_empty (name ++ text) ≡ false)
 begins-path [] text h = cc
 begins-path (b ∷ bs) text h = ((begins (b ∷ bs) h).relative, refl)
 
 -- all components of a list
-take-all : (n : ℕ) (list : List (List ℕ)) → n ≡ length list → take n list ≡ list
+take-all : (n : ℕ) (list : Components) → n ≡ length list → take n list ≡ list
 take-all n list e = ap (λ m. take m list) e ∙ take-length list
 
 -- the fault of a name with an end, if they are too long
-pub long-named : (build : Option (List ℕ)) (directory text own : List ℕ) (unwritable : Option ℕ) → ForSome build IsPath
+pub long-named : (build : Option Bytes) (directory : Bytes) {text own : Bytes} {unwritable : Option ℕ} → ForSome build IsPath
     → ForSome build (λ b. is_rooted b ≡ true)
     → IsReadIn directory text own 0 unwritable → list_limit build < length own
     → canonical_of build text ≡ Err (long_fault (is_rooted directory && leads_up (reduced_text directory)) unwritable)
-long-named build directory text own unwritable p q r lt =
+long-named build directory {text = text} {own = own} {unwritable = unwritable} p q r lt =
     let front = reduced_text directory in
-    let whole : front ≡ list_text (take (length (parts directory) - 0) (parts directory)) = sym (ap list_text (take-all (length (parts directory) - 0) (parts directory) (omega arith))) in
-    let left : glued front own ≡ reduced_text text = text-left directory text own front own 0 unwritable 0 r (omega arith) whole refl in
+    let whole : front ≡ list_text (take (length (parts directory) - 0) (parts directory)) =
+    sym (ap list_text (take-all (length (parts directory) - 0) (parts directory) (omega arith))) in
+    let left : glued front own ≡ reduced_text text = text-left {d = 0} r (omega arith) whole refl in
     let longer = glued-longer front own in
     let fixed : IsFixed r.list = subst IsFixed r.is_list.fixed (reduced-fixed r.list) in
-    let plain : leads_up own ≡ false = ap leads_up r.is_list.own_is ∙ leads-list r.list fixed r.is_list.lacks ∙ any-leads r.list fixed ∙ not-leads r.list (sym r.is_list.parents_are) in
-    long-is build text (glued front own) _ unwritable p q left (omega arith)
+    let plain : leads_up own ≡ false = ap leads_up r.is_list.own_is ∙ leads-list r.list fixed r.is_list.lacks ∙ any-leads r.list fixed ∙
+    not-leads r.list (sym r.is_list.parents_are) in
+    long-is build text p q left (omega arith)
     (ap (λ b. b && leads_up front) (sym r.rooted) ∙ ap (λ t. is_rooted text && t) (go plain front)) r.unwritable_is
   where
-    go : (plain : leads_up own ≡ false) (front : List ℕ) → leads_up front ≡ leads_up (glued front own)
+    go : (plain : leads_up own ≡ false) (front : Bytes) → leads_up front ≡ leads_up (glued front own)
     go plain [] = sym plain
     go plain (b ∷ bs) = sym (leads-glued (b ∷ bs) own (λ h. let k : b ∷ bs ≡ [] = h in cc))
 
 -- what is kept of an end with a slash
-pub ending-some : (text rest list : List ℕ) (first parents : ℕ) (unwritable : Option ℕ) → first ≤ length text
+pub ending-some : (text rest list : Bytes) (first parents : ℕ) (unwritable : Option ℕ) → first ≤ length text
     → LacksSlash (take first text) → text ≡ take first text ++ 47 ∷ rest → list ≡ reduced_text rest
     → parents ≡ prefix_len is_parent (components list) → unwritable ≡ position is_unwritable text
     → IsEnding text first list parents unwritable
@@ -436,7 +445,7 @@ ending-some text rest list first parents unwritable within lacks e l p u = recor
 }
 
 -- and of one without
-pub ending-none : (text list : List ℕ) (first parents : ℕ) (unwritable : Option ℕ) → first ≤ length text → LacksSlash (take first text)
+pub ending-none : (text list : Bytes) (first parents : ℕ) (unwritable : Option ℕ) → first ≤ length text → LacksSlash (take first text)
     → first ≡ length text → list ≡ [] → parents ≡ prefix_len is_parent (components list) → unwritable ≡ position is_unwritable text
     → IsEnding text first list parents unwritable
 ending-none text list first parents unwritable within lacks e l p u = record {
@@ -448,8 +457,8 @@ ending-none text list first parents unwritable within lacks e l p u = record {
 }
 
 -- the parts of an end, as its components are given
-pub ending-same : (text list : List ℕ) (k parents : ℕ) (unwritable : Option ℕ) → IsEnding text k list parents unwritable
-    → (first : List ℕ) (others : List (List ℕ)) → components text ≡ first ∷ others → (take k text ≡ first) × (list ≡ list_text (reduced others))
+pub ending-same : (text list : Bytes) (k parents : ℕ) (unwritable : Option ℕ) → IsEnding text k list parents unwritable
+    → (first : Bytes) (others : Components) → components text ≡ first ∷ others → (take k text ≡ first) × (list ≡ list_text (reduced others))
 ending-same text list k parents unwritable e first others h =
     let same : take k text ∷ e.others ≡ first ∷ others = sym e.divided ∙ h in
     let heads : take k text ≡ first = cc in
@@ -457,8 +466,8 @@ ending-same text list k parents unwritable e first others h =
     (heads, e.list_is.own_is ∙ ap (λ l. list_text (reduced l)) tails)
 
 -- a name with an end is longer than the limit if its parts are
-pub after-longer : (name text list : List ℕ) (k parents : ℕ) (unwritable : Option ℕ) (limit : ℕ) → IsEnding text k list parents unwritable
-    → limit < length name + length (take k text) + length list → (first : List ℕ) (others : List (List ℕ))
+pub after-longer : (name text list : Bytes) (k parents : ℕ) (unwritable : Option ℕ) (limit : ℕ) → IsEnding text k list parents unwritable
+    → limit < length name + length (take k text) + length list → (first : Bytes) (others : Components)
     → components text ≡ first ∷ others → limit < length (glued (name ++ first) (list_text (reduced others)))
 after-longer name text list k parents unwritable limit e lt first others h =
     let same = ending-same text list k parents unwritable e first others h in
@@ -469,54 +478,52 @@ after-longer name text list k parents unwritable limit e lt first others h =
     omega arith
 
 -- a text that is not empty, by the test of its length
-pub some-text : (text : List ℕ) (empty : Bool) → empty ≡ (length text == 0) → empty ≡ false → is_empty text ≡ false
+pub some-text : (text : Bytes) (empty : Bool) → empty ≡ (length text == 0) → empty ≡ false → is_empty text ≡ false
 some-text [] empty e h = let k : true ≡ false = sym e ∙ h in cc
 some-text (b ∷ bs) empty e h = refl
 
 -- equal lists have the same `..`
-pub same-parents : (a b : List ℕ) → a ≡ b → prefix_len is_parent (components a) ≡ prefix_len is_parent (components b)
+pub same-parents : (a b : Bytes) → a ≡ b → prefix_len is_parent (components a) ≡ prefix_len is_parent (components b)
 same-parents a b e = ap (λ l. prefix_len is_parent (components l)) e
 
 -- a name with an end that removes it, as it is read in a directory
-pub read-named-up : (directory name text list own : List ℕ) (k parents : ℕ) (u unwritable : Option ℕ) → IsEnding text k list parents u
+pub read-named-up : (directory name : Bytes) {text list own : Bytes} {k parents : ℕ} {u unwritable : Option ℕ} → IsEnding text k list parents u
     → begins_component name ≡ true → 0 < parents → own ≡ drop 3 list
     → unwritable ≡ first_in directory (moved None (length name) u) → IsReadIn directory (read_from (Some directory) (name ++ text)) own (parents - 1) unwritable
-read-named-up directory name text list own k parents u unwritable e h lt o w =
+read-named-up directory name {text = text} {parents = parents} e h lt o w =
     let b = begins name h in
-    subst (λ own. IsReadIn directory (read_from (Some directory) (name ++ text)) own (parents - 1) unwritable) (sym o)
-    (read-in directory (name ++ text) (drop 3 list) (parents - 1) unwritable (begins-path name text h).0 (named-up name text k list parents u e b lt)
-    (w ∙ ap (λ o. first_in directory (moved None (length name) o)) e.unwritable_is ∙ ap (first_in directory) (named-position name text b)))
+    read-in directory (name ++ text) (begins-path name text h).0 (subst (λ own. IsList (parts (name ++ text)) own (parents - 1)) (sym o) (named-up name e b lt))
+    (w ∙ ap (first_in directory) (named-position name text b e.unwritable_is))
 
 -- and one with an end that does not
-pub read-named : (directory name text list own : List ℕ) (k : ℕ) (u unwritable : Option ℕ) (e : IsEnding text k list 0 u)
+pub read-named : (directory name : Bytes) {text list own : Bytes} {k : ℕ} {u unwritable : Option ℕ} (e : IsEnding text k list 0 u)
     → begins_component name ≡ true → own ≡ glued (name ++ take k text) (list_text (reduced e.others))
     → unwritable ≡ first_in directory (moved None (length name) u) → IsReadIn directory (read_from (Some directory) (name ++ text)) own 0 unwritable
-read-named directory name text list own k u unwritable e h o w =
+read-named directory name {text = text} e h o w =
     let b = begins name h in
-    subst (λ own. IsReadIn directory (read_from (Some directory) (name ++ text)) own 0 unwritable) (sym o)
-    (read-in directory (name ++ text) (glued (name ++ take k text) (list_text (reduced e.others))) 0 unwritable (begins-path name text h).0 (named-list name text k list u e b)
-    (w ∙ ap (λ o. first_in directory (moved None (length name) o)) e.unwritable_is ∙ ap (first_in directory) (named-position name text b)))
+    read-in directory (name ++ text) (begins-path name text h).0 (subst (λ own. IsList (parts (name ++ text)) own 0) (sym o) (named-list name e b))
+    (w ∙ ap (first_in directory) (named-position name text b e.unwritable_is))
 
 -- what is read in a directory, as `placed` says it
-pub placed-read : (build : Option (List ℕ)) (directory path : List ℕ) (result : Result (List ℕ) (Failure PathFault))
+pub placed-read : (build : Option Bytes) (directory path : Bytes) (result : Result Bytes (Failure PathFault))
     → is_empty path ≡ false → Gives (λ path. path) result (canonical_of build (read_from (Some directory) path))
     → Gives (λ path. path) result (placed (Some directory) build path)
 placed-read build directory path result h g = subst (λ r. Gives (λ path. path) result r) (sym (placed-is build directory path h)) g
 
+-- a path of texts in UTF-8 is in UTF-8
+pub placed-text : (build : Option Bytes) (directory path : Bytes) (result : Result Bytes (Failure PathFault)) → is_rooted path ≡ false
+    → Gives (λ path. path) result (canonical_of build (read_from (Some directory) path)) → IsUtf8 directory → IsUtf8 path → IfOk result IsUtf8
+placed-text build directory path result h g u v = result-text build (read_from (Some directory) path) result g (read-text directory path h u v)
+
 -- a list after another that is written out, by the test of its length
-pub glued-appended : (front rest : List ℕ) (empty : Bool) → empty ≡ (length rest == 0) → empty ≡ false → appended front rest ≡ glued front rest
+pub glued-appended : (front rest : Bytes) (empty : Bool) → empty ≡ (length rest == 0) → empty ≡ false → appended front rest ≡ glued front rest
 glued-appended [] rest empty e h = refl
 glued-appended (b ∷ bs) [] empty e h = let k : true ≡ false = sym e ∙ h in cc
 glued-appended (b ∷ bs) (c ∷ cs) empty e h = refl
 
-pub glued-alone : (front rest : List ℕ) (empty : Bool) → empty ≡ (length rest == 0) → empty ≡ true → front ≡ glued front rest
+pub glued-alone : (front rest : Bytes) (empty : Bool) → empty ≡ (length rest == 0) → empty ≡ true → front ≡ glued front rest
 glued-alone front [] empty e h = sym (glued-nil front)
 glued-alone front (c ∷ cs) empty e h = let k : true ≡ false = sym h ∙ e ∙ no-length (length cs) in cc
   where
     no-length : (n : ℕ) → (suc n == 0) ≡ false
     no-length n = grind arith
-
--- how many components are dropped
-pub dropped : (parents names : ℕ) (list : List (List ℕ)) (d : ℕ) → d ≡ min parents names → names ≡ length list - up list
-    → d ≡ min parents (length list - up list)
-dropped parents names list d e n = e ∙ ap (min parents) n

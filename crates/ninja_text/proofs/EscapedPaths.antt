@@ -1,22 +1,22 @@
 -- Which paths can be escaped, and what the escaped form is and stands for.
-use Rattle.std.proofs.Common.{◌≡◌, ℕ, Bool, true, false, not, ◌||◌, ◌==◌, ◌+◌, cond, Some, IsTrue, ◌↔◌, List, [], ◌∷◌, length, refl, sym, ap, ◌∙◌, inl, inr, map}
-use Rattle.std.specs.Prelude.{All, position, is_some, if◌then◌else◌}
-use Rattle.std.specs.List.{list_any, position_from, flat_map, list_all, AllByRecursion}
-use Rattle.std.proofs.lemmas.Iterator.Adapters.{position_from-zero}
+use Rattle.ninja_text.specs.Bytes.{Bytes}
+use Rattle.std.proofs.Common.{◌≡◌, ℕ, Bool, true, false, not, ◌==◌, IsTrue, ◌↔◌, List, [], ◌∷◌, length, refl, ap, inl, inr, map}
+use Rattle.std.specs.Prelude.{All, if◌then◌else◌}
+use Rattle.std.specs.List.{list_any, list_all, AllByRecursion}
 use Rattle.std.proofs.lemmas.List.Elements.{All-nil, All-cons, recursion_from_All}
 use Rattle.std.proofs.lemmas.Bool.{or_parts, cases_Bool, and_from}
 use Rattle.std.proofs.lemmas.List.Folds.{list_any_none}
 use Rattle.ninja_text.specs.Escapes.{is_unwritable, is_writable, IsWritable, is_escaped, escaped_byte, escaped}
-use Rattle.std.proofs.lemmas.List.{append-nil}
 use Rattle.ninja_text.specs.declared.unit.LineUnit.{LineUnit}
 use Rattle.ninja_text.specs.declared.unit.LineUnit.TheVariants.{Escape, Byte}
-use Rattle.ninja_text.specs.Tokens.{is_piece, unit_value, value_of}
-use Rattle.ninja_text.proofs.SpelledUnits.{is_sound, unit_text, text_of_units, units_read}
+use Rattle.ninja_text.specs.Tokens.{is_piece, value_of}
+use Rattle.ninja_text.proofs.Spelling.{spells_read, escaped-spells}
+use Rattle.ninja_text.proofs.SpelledUnits.{is_sound, unit_text, text_of_units}
 
 -- ---- the test of what can be escaped means what the record says
 
 -- if no element passes the test, each fails it
-none_passes : (p : ℕ → Bool) (bs : List ℕ) → list_any p bs ≡ false → All (λ b. p b ≡ false) bs
+none_passes : (p : ℕ → Bool) (bs : Bytes) → list_any p bs ≡ false → All (λ b. p b ≡ false) bs
 none_passes p [] h = All-nil (λ b. p b ≡ false)
 none_passes p (b ∷ bs) h =
     let both = or_parts (p b) (list_any p bs) h in
@@ -28,73 +28,47 @@ not-false true h = cc
 not-false false h = refl
 
 -- if the test holds, the record does
-writable_record : (path : List ℕ) → IsTrue (is_writable path) → IsWritable path
+writable_record : (path : Bytes) → IsTrue (is_writable path) → IsWritable path
 writable_record [] h = cc
 writable_record (b ∷ bs) h = record { some = λ e. cc; each = none_passes is_unwritable (b ∷ bs) (not-false (list_any is_unwritable (b ∷ bs)) h) }
 
 -- if the record holds, the test does
-writable_test : (path : List ℕ) → IsWritable path → IsTrue (is_writable path)
+writable_test : (path : Bytes) → IsWritable path → IsTrue (is_writable path)
 writable_test [] w = absurd (w.some refl)
 writable_test (b ∷ bs) w = ap not (list_any_none is_unwritable (b ∷ bs) w.each)
 
 -- so the test means what the record says
-pub writable : (path : List ℕ) → IsTrue (is_writable path) ↔ IsWritable path
+pub writable : (path : Bytes) → IsTrue (is_writable path) ↔ IsWritable path
 writable path = (writable_record path, writable_test path)
 
 -- the result of the test at a path that has a byte
-some_byte : (path : List ℕ) (found : Bool) → (length path == 0) ≡ false → found ≡ list_any is_unwritable path → not found ≡ is_writable path
+pub some_byte : (path : Bytes) (found : Bool) → (length path == 0) ≡ false → found ≡ list_any is_unwritable path → not found ≡ is_writable path
 some_byte [] found h e = cc
 some_byte (b ∷ bs) found h e = ap not e
 
--- a first element that passes is found if one passes
-found_from : (p : ℕ → Bool) (i : ℕ) (bs : List ℕ) → is_some (position_from p i bs) ≡ list_any p bs
-found_from p i [] = refl
-found_from p i (b ∷ bs) =
-    elim (p b) as (λ t. is_some (cond t (Some i) (position_from p (i + 1) bs)) ≡ (t || list_any p bs)) [
-      | true ↦ refl
-      | false ↦ found_from p (i + 1) bs
-    ]
-
-other_way : (a b : Bool) → a ≡ not b → b ≡ not a
-other_way a true h = rw h refl
-other_way a false h = rw h refl
-
--- the result at such a path, by its first byte that cannot be escaped
-pub none_found : (path : List ℕ) (none : Bool) → (length path == 0) ≡ false → is_some (position is_unwritable path) ≡ not none → none ≡ is_writable path
-none_found path none some h =
-    other_way (list_any is_unwritable path) none (sym (ap is_some (position_from-zero is_unwritable path) ∙ found_from is_unwritable 0 path) ∙ h)
-    ∙ some_byte path (list_any is_unwritable path) some refl
-
--- ---- the units of a path in its escaped form, and what they stand for
+-- ---- the units of a path in its escaped form
 
 -- the unit that a byte of a path is escaped as
 abbrev pub path_unit : ℕ → LineUnit
 path_unit b = if is_escaped b then Escape b else Byte b
 
-abbrev pub path_units : List ℕ → List LineUnit
+abbrev pub path_units : Bytes → List LineUnit
 path_units path = map path_unit path
 
 -- no byte that cannot be escaped
-abbrev HasSpelling : List ℕ → Type 0
+abbrev HasSpelling : Bytes → Type 0
 HasSpelling path = AllByRecursion (λ b. is_unwritable b ≡ false) path
 
-pub has_spelling : (path : List ℕ) → IsWritable path → HasSpelling path
+pub has_spelling : (path : Bytes) → IsWritable path → HasSpelling path
 has_spelling path w = recursion_from_All (λ b. is_unwritable b ≡ false) path w.each
 
--- they are its escaped form, and stand for the path
+-- they are its escaped form
 byte_text : (b : ℕ) → unit_text (path_unit b) ≡ escaped_byte b
 byte_text b = elim (cases_Bool (is_escaped b)) [ inl e ↦ rw e refl | inr e ↦ rw e refl ]
 
-pub path_text : (path : List ℕ) → text_of_units (path_units path) ≡ escaped path
+pub path_text : (path : Bytes) → text_of_units (path_units path) ≡ escaped path
 path_text [] = refl
 path_text (b ∷ path) = rw (byte_text b, path_text path) refl
-
-byte_meant : (b : ℕ) → unit_value (path_unit b) ≡ b ∷ []
-byte_meant b = elim (cases_Bool (is_escaped b)) [ inl e ↦ rw e refl | inr e ↦ rw e refl ]
-
-path_meant : (path : List ℕ) → flat_map unit_value (path_units path) ≡ path
-path_meant [] = refl
-path_meant (b ∷ path) = rw (byte_meant b, path_meant path) refl
 
 -- a byte that is not escaped, and can be escaped
 record Ordinary (b : ℕ) : Type 0 where
@@ -122,7 +96,7 @@ byte_sound b u = elim (cases_Bool (is_escaped b)) [
 ]
 
 -- the units of a path are sound, and pieces of a word
-pub path_sound : (path : List ℕ) → HasSpelling path → list_all is_sound (path_units path) ≡ true
+pub path_sound : (path : Bytes) → HasSpelling path → list_all is_sound (path_units path) ≡ true
 path_sound [] can = refl
 path_sound (b ∷ path) can = and_from _ _ (byte_sound b can.0) (path_sound path can.1)
 
@@ -132,20 +106,17 @@ byte_piece b u = elim (cases_Bool (is_escaped b)) [
   | inr e ↦ let o = ordinary b e u in rw e (rw (o.no_space, o.no_colon, o.no_bar) refl)
 ]
 
-pub path_pieces : (path : List ℕ) → HasSpelling path → list_all is_piece (path_units path) ≡ true
+pub path_pieces : (path : Bytes) → HasSpelling path → list_all is_piece (path_units path) ≡ true
 path_pieces [] can = refl
 path_pieces (b ∷ path) can = and_from _ _ (byte_piece b can.0) (path_pieces path can.1)
 
 -- a path without such a byte is its own escaped form
-pub escaped_none : (path : List ℕ) → list_any is_escaped path ≡ false → escaped path ≡ path
+pub escaped_none : (path : Bytes) → list_any is_escaped path ≡ false → escaped path ≡ path
 escaped_none [] none = refl
 escaped_none (b ∷ path) none =
     let p = or_parts (is_escaped b) (list_any is_escaped path) none in
     rw p.0 (ap (λ bytes. b ∷ bytes) (escaped_none path p.1))
 
 -- what is read of an escaped path is the path
-pub value_of_escaped : (path : List ℕ) → IsWritable path → value_of (escaped path) ≡ path
-value_of_escaped path w =
-    ap value_of (sym (path_text path) ∙ sym (append-nil (text_of_units (path_units path))))
-    ∙ ap (flat_map unit_value) (units_read (path_units path) [] (path_sound path (has_spelling path w)) ∙ append-nil (path_units path))
-    ∙ path_meant path
+pub value_of_escaped : (path : Bytes) → IsWritable path → value_of (escaped path) ≡ path
+value_of_escaped path w = spells_read (escaped path) path (escaped-spells path w.some (has_spelling path w))

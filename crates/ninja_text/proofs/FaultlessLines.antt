@@ -1,11 +1,12 @@
 -- The bytes that a text's units are, and the units of a line without a lexical fault.
+use Rattle.ninja_text.specs.Bytes.{Bytes}
 use Rattle.std.proofs.Common.{inl, inr, ◌≡◌, ℕ, suc, zero, ◌+◌, ◌-◌, Bool, true, false, List, [], ◌∷◌, ◌++◌, length, take, drop, replicate, refl, sym, ap, ◌∙◌, subst, arith, ◌==◌, ◌&&◌, length-append, append_assoc, ◌||◌, not, Some, None}
 use Rattle.std.specs.Prelude.{slice_range, Option}
 use Rattle.std.specs.List.{list_all}
 use Rattle.std.proofs.lemmas.List.{drop_at, take_at}
 use Rattle.std.proofs.lemmas.List.Folds.{list_all-append}
 use Rattle.std.proofs.lemmas.Bool.{cases_Bool, eqb-true, and_parts, and_from}
-use Rattle.ninja_text.specs.Units.{units, unit_len, is_continuation, with_continuation}
+use Rattle.ninja_text.specs.Units.{LineUnits, units, unit_len, is_continuation, with_continuation}
 use Rattle.ninja_text.specs.declared.unit.LineUnit.{LineUnit}
 use Rattle.ninja_text.specs.declared.unit.LineUnit.TheVariants.{Continuation, Escape, Byte}
 use Rattle.ninja_text.specs.Escapes.{is_escaped, IsContinuation}
@@ -20,29 +21,29 @@ use Rattle.ninja_text.specs.Meanings.{IsFaultless}
 -- ---- the bytes that the units of a text are, one unit after another
 
 -- bytes that are this unit
-abbrev pub IsUnitText : LineUnit → List ℕ → Type 0
+abbrev pub IsUnitText : LineUnit → Bytes → Type 0
 IsUnitText (Continuation len) bytes = IsContinuation bytes × (length bytes ≡ len)
 IsUnitText (Escape b) bytes = bytes ≡ 36 ∷ b ∷ []
 IsUnitText (Byte b) bytes = bytes ≡ b ∷ []
 
 -- a continuation, and no space after it
-abbrev TakesSpaces : LineUnit → List LineUnit → Type 0
+abbrev TakesSpaces : LineUnit → LineUnits → Type 0
 TakesSpaces u us = is_continuation u ≡ true → begins_with 32 us ≡ false
 
 -- Bytes that are these units, one after another. Each continuation has all the spaces that follow it.
-abbrev pub AreUnitTexts : List LineUnit → List ℕ → Type 0
+abbrev pub AreUnitTexts : LineUnits → Bytes → Type 0
 AreUnitTexts [] bytes = bytes ≡ []
-AreUnitTexts (u ∷ us) bytes = (own : List ℕ) × (rest : List ℕ) × IsUnitText u own × TakesSpaces u us × AreUnitTexts us rest × (bytes ≡ own ++ rest)
+AreUnitTexts (u ∷ us) bytes = (own : Bytes) × (rest : Bytes) × IsUnitText u own × TakesSpaces u us × AreUnitTexts us rest × (bytes ≡ own ++ rest)
 
 -- that many spaces, and one more
-abbrev spaces : ℕ → List ℕ
+abbrev spaces : ℕ → Bytes
 spaces n = replicate n 32
 
 one_more : (n : ℕ) → spaces n ++ 32 ∷ [] ≡ 32 ∷ spaces n
 one_more zero = refl
 one_more (suc n) = ap (λ xs. 32 ∷ xs) (one_more n)
 
-longer : (own : List ℕ) → IsContinuation own → IsContinuation (own ++ 32 ∷ [])
+longer : (own : Bytes) → IsContinuation own → IsContinuation (own ++ 32 ∷ [])
 longer own c = (
   suc c.0,
   elim c.1 [
@@ -52,7 +53,8 @@ longer own c = (
 )
 
 -- a continuation in front of units takes the spaces that they begin with
-continued : (len : ℕ) (us : List LineUnit) (own rest : List ℕ) → IsContinuation own → length own ≡ len → AreUnitTexts us rest → AreUnitTexts (with_continuation len us) (own ++ rest)
+continued : (len : ℕ) (us : LineUnits) (own rest : Bytes) → IsContinuation own → length own ≡ len → AreUnitTexts us rest →
+    AreUnitTexts (with_continuation len us) (own ++ rest)
 continued len [] own rest c is h = (own, [], (c, is), (λ e. refl), refl, ap (λ xs. own ++ xs) h)
 continued len (Byte b ∷ us) own rest c is h = elim (cases_Bool (b == 32)) [
   | inl s ↦ rw s (subst (AreUnitTexts (with_continuation (len + 1) us)) (sym (joins s))
@@ -79,7 +81,7 @@ return_text a b c d r =
     (0, inr (ap (λ n. n ∷ b ∷ c ∷ []) (eqb-true a 36 d) ∙ ap (λ n. 36 ∷ n ∷ c ∷ []) (eqb-true b 13 p.0) ∙ ap (λ n. 36 ∷ 13 ∷ n ∷ []) (eqb-true c 10 p.1)))
 
 -- the units of a text are its bytes
-pub unit_texts : (bytes : List ℕ) → AreUnitTexts (units bytes) bytes
+pub unit_texts : (bytes : Bytes) → AreUnitTexts (units bytes) bytes
 unit_texts [] = refl
 unit_texts (a ∷ []) = (a ∷ [], [], refl, no_continuation, refl, refl)
 unit_texts (a ∷ b ∷ []) = elim (cases_Bool (a == 36)) [
@@ -101,23 +103,30 @@ unit_texts (a ∷ b ∷ c ∷ bytes) = elim (cases_Bool (a == 36)) [
 ]
 
 -- fewer units begin with a space only if more do
-begins_less : (us vs : List LineUnit) → begins_with 32 (us ++ vs) ≡ false → begins_with 32 us ≡ false
+begins_less : (us vs : LineUnits) → begins_with 32 (us ++ vs) ≡ false → begins_with 32 us ≡ false
 begins_less [] vs h = refl
 begins_less (u ∷ us) vs h = h
 
 -- the bytes of some units, and those of the units after them
-pub split : (us vs : List LineUnit) (bytes : List ℕ) → AreUnitTexts (us ++ vs) bytes → (x : List ℕ) × (y : List ℕ) × AreUnitTexts us x × AreUnitTexts vs y × (bytes ≡ x ++ y)
+pub split : (us vs : LineUnits) (bytes : Bytes) → AreUnitTexts (us ++ vs) bytes →
+    (x : Bytes) × (y : Bytes) × AreUnitTexts us x × AreUnitTexts vs y × (bytes ≡ x ++ y)
 split [] vs bytes h = ([], bytes, refl, h, refl)
 split (u ∷ us) vs bytes h =
-    let later = split us vs h.1 h.4 in
-    (h.0 ++ later.0, later.1, (h.0, later.0, h.2, (λ e. begins_less us vs (h.3 e)), later.2, refl), later.3, h.5 ∙ ap (λ xs. h.0 ++ xs) later.4 ∙ sym (append_assoc h.0 later.0 later.1))
+    let later = split us vs h.1 h.4 in (
+      h.0 ++ later.0,
+      later.1,
+      (h.0, later.0, h.2, (λ e. begins_less us vs (h.3 e)), later.2, refl),
+      later.3,
+      h.5 ∙ ap (λ xs. h.0 ++ xs) later.4 ∙
+          sym (append_assoc h.0 later.0 later.1),
+    )
 
-unit_length : (u : LineUnit) (own : List ℕ) → IsUnitText u own → length own ≡ unit_len u
+unit_length : (u : LineUnit) (own : Bytes) → IsUnitText u own → length own ≡ unit_len u
 unit_length (Continuation len) own h = h.1
 unit_length (Escape b) own h = ap length h
 unit_length (Byte b) own h = ap length h
 
-pub texts_length : (us : List LineUnit) (bytes : List ℕ) → AreUnitTexts us bytes → length bytes ≡ total_len us
+pub texts_length : (us : LineUnits) (bytes : Bytes) → AreUnitTexts us bytes → length bytes ≡ total_len us
 texts_length [] bytes h = ap length h
 texts_length (u ∷ us) bytes h =
     ap length h.5 ∙ length-append h.0 h.1 ∙ ap (λ n. n + length h.1) (unit_length u h.0 h.2) ∙ ap (λ n. unit_len u + n) (texts_length us h.1 h.4)
@@ -129,14 +138,14 @@ is_proper (Escape b) = is_escaped b
 is_proper (Byte b) = is_plain b
 
 -- a continuation takes spaces
-takes : (n k : ℕ) (rest : List ℕ) → with_continuation k (units (spaces n ++ rest)) ≡ with_continuation (k + n) (units rest)
+takes : (n k : ℕ) (rest : Bytes) → with_continuation k (units (spaces n ++ rest)) ≡ with_continuation (k + n) (units rest)
 takes zero k rest = ap (λ m. with_continuation m (units rest)) {x = k} {y = k + 0} (omega arith)
 takes (suc n) k rest =
     ap (with_continuation k) (units_byte 32 (spaces n ++ rest) refl) ∙ takes n (k + 1) rest
     ∙ ap (λ m. with_continuation m (units rest)) {x = k + 1 + n} {y = k + suc n} (omega arith)
 
 -- and no other unit
-takes_no_more : (len : ℕ) (us : List LineUnit) → begins_with 32 us ≡ false → with_continuation len us ≡ Continuation len ∷ us
+takes_no_more : (len : ℕ) (us : LineUnits) → begins_with 32 us ≡ false → with_continuation len us ≡ Continuation len ∷ us
 takes_no_more len [] h = refl
 takes_no_more len (Byte b ∷ us) h = rw h refl
 takes_no_more len (Escape b ∷ us) h = refl
@@ -147,43 +156,46 @@ spaces_length zero = refl
 spaces_length (suc n) = ap suc (spaces_length n)
 
 -- a continuation at the front is read back
-continuation_back : (own rest : List ℕ) (us : List LineUnit) → IsContinuation own → begins_with 32 us ≡ false → units rest ≡ us → units (own ++ rest) ≡ Continuation (length own) ∷ us
+continuation_back : (own rest : Bytes) (us : LineUnits) → IsContinuation own → begins_with 32 us ≡ false → units rest ≡ us →
+    units (own ++ rest) ≡ Continuation (length own) ∷ us
 continuation_back own rest us c none later = elim c.1 [
   | inl h ↦ subst (λ xs. units (xs ++ rest) ≡ Continuation (length xs) ∷ us) (sym h)
       (units_feed (spaces c.0 ++ rest) ∙ after 2 (suc (suc (length (spaces c.0)))) (omega (arith, spaces_length c.0)))
-  | inr h ↦ subst (λ xs. units (xs ++ rest) ≡ Continuation (length xs) ∷ us) (sym h) (after 3 (suc (suc (suc (length (spaces c.0))))) (omega (arith, spaces_length c.0)))
+  | inr h ↦ subst (λ xs. units (xs ++ rest) ≡ Continuation (length xs) ∷ us) (sym h)
+      (after 3 (suc (suc (suc (length (spaces c.0))))) (omega (arith, spaces_length c.0)))
 ] where
   after : (k m : ℕ) → k + c.0 ≡ m → with_continuation k (units (spaces c.0 ++ rest)) ≡ Continuation m ∷ us
   after k m is = takes c.0 k rest ∙ ap (with_continuation (k + c.0)) later ∙ takes_no_more (k + c.0) us none ∙ ap (λ n. Continuation n ∷ us) is
 
 -- proper units are read back
-pub read_back : (us : List LineUnit) (bytes : List ℕ) → list_all is_proper us ≡ true → AreUnitTexts us bytes → units bytes ≡ us
+pub read_back : (us : LineUnits) (bytes : Bytes) → list_all is_proper us ≡ true → AreUnitTexts us bytes → units bytes ≡ us
 read_back [] bytes p h = ap units h
 read_back (Continuation len ∷ us) bytes p h =
     ap units h.5 ∙ continuation_back h.0 h.1 us h.2.0 (h.3 refl) (read_back us h.1 p h.4) ∙ ap (λ n. Continuation n ∷ us) h.2.1
 read_back (Escape b ∷ us) bytes p h =
     let q = and_parts (is_escaped b) (list_all is_proper us) p in
     ap units (h.5 ∙ ap (λ xs. xs ++ h.1) h.2)
-    ∙ escaped_only (λ n. units (36 ∷ n ∷ h.1) ≡ Escape n ∷ units h.1) (units_pair 36 h.1 refl refl) (units_pair 32 h.1 refl refl) (units_pair 58 h.1 refl refl) b q.0
+    ∙ escaped_only (λ n. units (36 ∷ n ∷ h.1) ≡ Escape n ∷ units h.1) (units_pair 36 h.1 refl refl) (units_pair 32 h.1 refl refl) (units_pair 58 h.1 refl refl)
+    b q.0
     ∙ ap (λ vs. Escape b ∷ vs) (read_back us h.1 q.1 h.4)
 read_back (Byte b ∷ us) bytes p h =
     let q = and_parts (is_plain b) (list_all is_proper us) p in
     ap units (h.5 ∙ ap (λ xs. xs ++ h.1) h.2) ∙ units_byte b h.1 (plain b q.0).no_dollar ∙ ap (λ vs. Byte b ∷ vs) (read_back us h.1 q.1 h.4)
 
 -- The text from an index on is these units, all of them proper.
-pub record Remains (text : List ℕ) (index : ℕ) (us : List LineUnit) : Type 0 where
-  pub front : List ℕ
-  pub bytes : List ℕ
+pub record Remains (text : Bytes) (index : ℕ) (us : LineUnits) : Type 0 where
+  pub front : Bytes
+  pub bytes : Bytes
   pub whole : text ≡ front ++ bytes
   pub front_len : length front ≡ index
   pub texts : AreUnitTexts us bytes
   pub proper : list_all is_proper us ≡ true
 
-pub remains_all : (text : List ℕ) → list_all is_proper (units text) ≡ true → Remains text 0 (units text)
+pub remains_all : (text : Bytes) → list_all is_proper (units text) ≡ true → Remains text 0 (units text)
 remains_all text proper = record { front = []; bytes = text; whole = refl; front_len = refl; texts = unit_texts text; proper = proper }
 
 -- past the first of them, and past more
-pub past_unit : (text : List ℕ) (index : ℕ) (u : LineUnit) (us : List LineUnit) → Remains text index (u ∷ us) → Remains text (index + unit_len u) us
+pub past_unit : (text : Bytes) (index : ℕ) (u : LineUnit) (us : LineUnits) → Remains text index (u ∷ us) → Remains text (index + unit_len u) us
 past_unit text index u us r =
     let h = r.texts in
     record {
@@ -195,32 +207,33 @@ past_unit text index u us r =
       proper = (and_parts (is_proper u) (list_all is_proper us) r.proper).1;
     }
 
-pub past_units : (text : List ℕ) (index : ℕ) (us vs : List LineUnit) → Remains text index (us ++ vs) → Remains text (index + total_len us) vs
+pub past_units : (text : Bytes) (index : ℕ) (us vs : LineUnits) → Remains text index (us ++ vs) → Remains text (index + total_len us) vs
 past_units text index [] vs r = subst (λ n. Remains text n vs) {x = index} {y = index + 0} (omega arith) r
 past_units text index (u ∷ us) vs r =
     subst (λ n. Remains text n vs) {x = index + unit_len u + total_len us} {y = index + (unit_len u + total_len us)} (omega arith)
     (past_units text (index + unit_len u) us vs (past_unit text index u (us ++ vs) r))
 
 -- the bytes of the first of them
-pub record Part (text : List ℕ) (start : ℕ) (us : List LineUnit) : Type 0 where
-  pub bytes : List ℕ
+pub record Part (text : Bytes) (start : ℕ) (us : LineUnits) : Type 0 where
+  pub bytes : Bytes
   pub texts : AreUnitTexts us bytes
   pub proper : list_all is_proper us ≡ true
   pub slice : slice_range text start (start + total_len us) ≡ bytes
 
-pub first_part : (text : List ℕ) (start : ℕ) (us vs : List LineUnit) → Remains text start (us ++ vs) → Part text start us
+pub first_part : (text : Bytes) (start : ℕ) (us vs : LineUnits) → Remains text start (us ++ vs) → Part text start us
 first_part text start us vs r =
     let parts = split us vs r.bytes r.texts in
     record {
       bytes = parts.0;
       texts = parts.2;
       proper = (and_parts (list_all is_proper us) (list_all is_proper vs) (sym (list_all-append is_proper us vs) ∙ r.proper)).0;
-      slice = ap (λ t. slice_range t start (start + total_len us)) r.whole ∙ ap (take (start + total_len us - start)) (drop_at r.front r.bytes start r.front_len ∙ parts.4)
+      slice = ap (λ t. slice_range t start (start + total_len us)) r.whole ∙
+          ap (take (start + total_len us - start)) (drop_at r.front r.bytes start r.front_len ∙ parts.4)
           ∙ take_at parts.0 parts.1 (start + total_len us - start) (omega (arith, texts_length us parts.0 parts.2));
     }
 
 -- the rest of the text
-pub rest_is : (text : List ℕ) (index : ℕ) (us : List LineUnit) (r : Remains text index us) → drop index text ≡ r.bytes
+pub rest_is : (text : Bytes) (index : ℕ) (us : LineUnits) (r : Remains text index us) → drop index text ≡ r.bytes
 rest_is text index us r = ap (drop index) r.whole ∙ drop_at r.front r.bytes index r.front_len
 
 -- ---- the units of a line without a lexical fault
@@ -233,7 +246,7 @@ is_inner (Escape b) = true
 is_inner (Byte b) = not (b == 36) && not (b == 10)
 
 -- The units up to the end, which is past this index, are such.
-record InnerUpTo (index : ℕ) (end : LineEnd) (bytes : List ℕ) : Type 0 where
+record InnerUpTo (index : ℕ) (end : LineEnd) (bytes : Bytes) : Type 0 where
   count : ℕ
   at : end.text_len ≡ index + count
   inner : list_all is_inner (units (take count bytes)) ≡ true
@@ -242,14 +255,14 @@ none_some : {e : LineEnd} {A : Type 0} → ◌≡◌ {A = Option LineEnd} None (
 none_some h = absurd (cc)
 
 -- the end is at this index
-here : (index len : ℕ) (end : LineEnd) (bytes : List ℕ) → ◌≡◌ {A = Option LineEnd} (Some (record { text_len = index; line_len = len })) (Some end) → InnerUpTo index end bytes
+here : (index len : ℕ) (end : LineEnd) (bytes : Bytes) → ◌≡◌ {A = Option LineEnd} (Some (record { text_len = index; line_len = len })) (Some end) →
+    InnerUpTo index end bytes
 here index len end bytes h =
     let same : ◌≡◌ {A = LineEnd} (record { text_len = index; line_len = len }) end = cc in
-    record { count = 0; at = sym (ap (λ e. e.text_len) same) ∙ zero_more; inner = refl } where
-      zero_more : index ≡ index + 0
-      zero_more = omega arith
+    record { count = 0; at = omega (arith, ap (λ e. e.text_len) same); inner = refl }
 
-past_byte : (b : ℕ) (bytes : List ℕ) (index : ℕ) (end : LineEnd) → (b == 36) ≡ false → (end_from (index + 1) (units bytes) ≡ Some end → InnerUpTo (index + 1) end bytes)
+past_byte : (b : ℕ) (bytes : Bytes) (index : ℕ) (end : LineEnd) → (b == 36) ≡ false →
+    (end_from (index + 1) (units bytes) ≡ Some end → InnerUpTo (index + 1) end bytes)
     → end_from index (Byte b ∷ units bytes) ≡ Some end → InnerUpTo index end (b ∷ bytes)
 past_byte b bytes index end d later h = elim (cases_Bool (b == 10)) [
   | inl f ↦ here index (index + 1) end (b ∷ bytes) (rw f at h)
@@ -259,37 +272,34 @@ past_byte b bytes index end d later h = elim (cases_Bool (b == 10)) [
         let rest = later (rw (f, r) at h) in
         record {
           count = suc rest.count;
-          at = rest.at ∙ moved rest.count;
+          at = omega (arith, rest.at);
           inner = ap (list_all is_inner) (units_byte b (take rest.count bytes) d) ∙ rw (d, f) rest.inner;
         }
   ]
-] where
-  moved : (n : ℕ) → index + 1 + n ≡ index + suc n
-  moved n = omega arith
+]
 
-abbrev begins_feed : List ℕ → Bool
+abbrev begins_feed : Bytes → Bool
 begins_feed [] = false
 begins_feed (c ∷ bytes) = c == 10
 
-escape_units : (b : ℕ) (bytes : List ℕ) → (b == 10) ≡ false → ((b == 13) && begins_feed bytes) ≡ false → units (36 ∷ b ∷ bytes) ≡ Escape b ∷ units bytes
+escape_units : (b : ℕ) (bytes : Bytes) → (b == 10) ≡ false → ((b == 13) && begins_feed bytes) ≡ false → units (36 ∷ b ∷ bytes) ≡ Escape b ∷ units bytes
 escape_units b [] f r = rw f refl
 escape_units b (c ∷ bytes) f r = rw (f, r) refl
 
-less_feed : (b n : ℕ) (bytes : List ℕ) → ((b == 13) && begins_feed bytes) ≡ false → ((b == 13) && begins_feed (take n bytes)) ≡ false
+less_feed : (b n : ℕ) (bytes : Bytes) → ((b == 13) && begins_feed bytes) ≡ false → ((b == 13) && begins_feed (take n bytes)) ≡ false
 less_feed b zero bytes r = elim (cases_Bool (b == 13)) [ inl h ↦ rw h refl | inr h ↦ rw h refl ]
 less_feed b (suc n) [] r = r
 less_feed b (suc n) (c ∷ bytes) r = r
 
-past_escape : (b : ℕ) (bytes : List ℕ) (index : ℕ) (end : LineEnd) → (b == 10) ≡ false → ((b == 13) && begins_feed bytes) ≡ false → InnerUpTo (index + 2) end bytes → InnerUpTo index end (36 ∷ b ∷ bytes)
+past_escape : (b : ℕ) (bytes : Bytes) (index : ℕ) (end : LineEnd) → (b == 10) ≡ false → ((b == 13) && begins_feed bytes) ≡ false →
+    InnerUpTo (index + 2) end bytes → InnerUpTo index end (36 ∷ b ∷ bytes)
 past_escape b bytes index end f r rest = record {
   count = suc (suc rest.count);
-  at = rest.at ∙ moved rest.count;
+  at = omega (arith, rest.at);
   inner = ap (list_all is_inner) (escape_units b (take rest.count bytes) f (less_feed b rest.count bytes r)) ∙ rest.inner;
-} where
-  moved : (n : ℕ) → index + 2 + n ≡ index + suc (suc n)
-  moved n = omega arith
+}
 
-inner_continued : (len : ℕ) (us : List LineUnit) → list_all is_inner us ≡ true → list_all is_inner (with_continuation len us) ≡ true
+inner_continued : (len : ℕ) (us : LineUnits) → list_all is_inner us ≡ true → list_all is_inner (with_continuation len us) ≡ true
 inner_continued len [] h = refl
 inner_continued len (Byte b ∷ us) h = elim (cases_Bool (b == 32)) [
   | inl s ↦ rw s (inner_continued (len + 1) us (and_parts (is_inner (Byte b)) (list_all is_inner us) h).1)
@@ -298,28 +308,24 @@ inner_continued len (Byte b ∷ us) h = elim (cases_Bool (b == 32)) [
 inner_continued len (Escape b ∷ us) h = h
 inner_continued len (Continuation more ∷ us) h = h
 
-past_feed : (bytes : List ℕ) (index : ℕ) (end : LineEnd) → InnerUpTo (index + 2) end bytes → InnerUpTo index end (36 ∷ 10 ∷ bytes)
+past_feed : (bytes : Bytes) (index : ℕ) (end : LineEnd) → InnerUpTo (index + 2) end bytes → InnerUpTo index end (36 ∷ 10 ∷ bytes)
 past_feed bytes index end rest = record {
   count = suc (suc rest.count);
-  at = rest.at ∙ moved rest.count;
+  at = omega (arith, rest.at);
   inner = ap (list_all is_inner) (units_feed (take rest.count bytes)) ∙ inner_continued 2 (units (take rest.count bytes)) rest.inner;
-} where
-  moved : (n : ℕ) → index + 2 + n ≡ index + suc (suc n)
-  moved n = omega arith
+}
 
-past_return : (bytes : List ℕ) (index : ℕ) (end : LineEnd) → InnerUpTo (index + 3) end bytes → InnerUpTo index end (36 ∷ 13 ∷ 10 ∷ bytes)
+past_return : (bytes : Bytes) (index : ℕ) (end : LineEnd) → InnerUpTo (index + 3) end bytes → InnerUpTo index end (36 ∷ 13 ∷ 10 ∷ bytes)
 past_return bytes index end rest = record {
   count = suc (suc (suc rest.count));
-  at = rest.at ∙ moved rest.count;
+  at = omega (arith, rest.at);
   inner = inner_continued 3 (units (take rest.count bytes)) rest.inner;
-} where
-  moved : (n : ℕ) → index + 3 + n ≡ index + suc (suc (suc n))
-  moved n = omega arith
+}
 
 -- what `$` begins, by the bytes after it
-module _ (b c : ℕ) (bytes : List ℕ) (index : ℕ) (end : LineEnd) where
+module _ (b c : ℕ) (bytes : Bytes) (index : ℕ) (end : LineEnd) where
   by_feed : (b == 10) ≡ true → InnerUpTo (index + 2) end (c ∷ bytes) → InnerUpTo index end (36 ∷ b ∷ c ∷ bytes)
-  by_feed f rest = subst (λ n. InnerUpTo index end (36 ∷ n ∷ c ∷ bytes)) (sym (eqb-true b 10 f)) (past_feed (c ∷ bytes) index end rest)
+  by_feed f rest = rw (eqb-true b 10 f) (past_feed (c ∷ bytes) index end rest)
 
   by_return : ((b == 13) && (c == 10)) ≡ true → InnerUpTo (index + 3) end bytes → InnerUpTo index end (36 ∷ b ∷ c ∷ bytes)
   by_return r rest =
@@ -327,7 +333,7 @@ module _ (b c : ℕ) (bytes : List ℕ) (index : ℕ) (end : LineEnd) where
       subst (λ n. InnerUpTo index end (36 ∷ n ∷ c ∷ bytes)) (sym (eqb-true b 13 p.0))
       (subst (λ n. InnerUpTo index end (36 ∷ 13 ∷ n ∷ bytes)) (sym (eqb-true c 10 p.1)) (past_return bytes index end rest))
 
-inner_units : (bytes : List ℕ) (index : ℕ) (end : LineEnd) → end_from index (units bytes) ≡ Some end → InnerUpTo index end bytes
+inner_units : (bytes : Bytes) (index : ℕ) (end : LineEnd) → end_from index (units bytes) ≡ Some end → InnerUpTo index end bytes
 inner_units [] index end h = none_some h
 inner_units (a ∷ []) index end h = elim (cases_Bool (a == 36)) [
   | inl d ↦ none_some (subst (λ n. end_from index (Byte n ∷ []) ≡ Some end) (eqb-true a 36 d) h)
@@ -341,7 +347,7 @@ inner_units (a ∷ b ∷ []) index end h = elim (cases_Bool (a == 36)) [
   | inr d ↦ past_byte a (b ∷ []) index end d (inner_units (b ∷ []) (index + 1) end) (rw d at h)
 ]
 inner_units (a ∷ b ∷ c ∷ bytes) index end h = elim (cases_Bool (a == 36)) [
-  | inl d ↦ subst (λ n. InnerUpTo index end (n ∷ b ∷ c ∷ bytes)) (sym (eqb-true a 36 d)) (elim (cases_Bool (b == 10)) [
+  | inl d ↦ rw (eqb-true a 36 d) (elim (cases_Bool (b == 10)) [
     | inl f ↦ by_feed b c bytes index end f (inner_units (c ∷ bytes) (index + 2) end (sym (end_continued index 2 (units (c ∷ bytes))) ∙ (rw (d, f) at h)))
     | inr f ↦ elim (cases_Bool ((b == 13) && (c == 10))) [
       | inl r ↦ by_return b c bytes index end r (inner_units bytes (index + 3) end (sym (end_continued index 3 (units bytes)) ∙ (rw (d, f, r) at h)))
@@ -389,7 +395,7 @@ unit_proper index (Continuation len) h i = refl
 unit_proper index (Escape b) h i = escape_proper index b h
 unit_proper index (Byte b) h i = byte_proper index b h i
 
-all_proper : (us : List LineUnit) (index : ℕ) → first_fault index us ≡ None → list_all is_inner us ≡ true → list_all is_proper us ≡ true
+all_proper : (us : LineUnits) (index : ℕ) → first_fault index us ≡ None → list_all is_inner us ≡ true → list_all is_proper us ≡ true
 all_proper [] index h i = refl
 all_proper (u ∷ us) index h i =
     let f = earlier_none (unit_fault index u) (first_fault (index + unit_len u) us) h in
@@ -397,10 +403,8 @@ all_proper (u ∷ us) index h i =
     and_from _ _ (unit_proper index u f.0 p.0) (all_proper us (index + unit_len u) f.1 p.1)
 
 -- the units of the text of a line that has no fault
-pub faultless_units : (line : List ℕ) → IsFaultless line → list_all is_proper (units (text_of_line line)) ≡ true
+pub faultless_units : (line : Bytes) → IsFaultless line → list_all is_proper (units (text_of_line line)) ≡ true
 faultless_units line r =
     let inner = inner_units line 0 _ (rw r.no_comment at r.is_line.1) in
     all_proper (units (text_of_line line)) 0 r.no_fault
-    (ap (λ t. list_all is_inner (units t)) (ap (text_before line) r.is_line.1 ∙ ap (λ n. take n line) (inner.at ∙ from_zero inner.count)) ∙ inner.inner) where
-      from_zero : (n : ℕ) → 0 + n ≡ n
-      from_zero n = omega arith
+    (ap (λ t. list_all is_inner (units t)) (ap (text_before line) r.is_line.1 ∙ ap (λ n. take n line) (omega (arith, inner.at))) ∙ inner.inner)

@@ -1,4 +1,5 @@
 -- What a call of a cutter does if no line waits, and what a turn of reading a piece does.
+use Rattle.ninja_text.specs.Bytes.{Bytes}
 use Rattle.std.proofs.Common.{inl, inr, ◌≡◌, ℕ, ◌+◌, ◌<◌, ◌≤◌, Bool, true, false, List, [], ◌∷◌, ◌++◌, length, take, drop, refl, sym, ap, ◌∙◌, subst, append_assoc, Some, None, Ok, Err, arith, min}
 use Rattle.std.specs.Prelude.{Option, Result, nat_le, if◌then◌else◌}
 use Rattle.std.proofs.lemmas.List.{take-append-drop, append-nil}
@@ -18,51 +19,59 @@ use Rattle.ninja_text.specs.inner.PieceReading.{failure_of}
 -- ---- the calls of a cutter: when a feed fails, and what it leaves
 
 -- a working cutter: no line waits, and it has not failed
-abbrev pub working : ℕ → List ℕ → CutterState
+abbrev pub working : ℕ → Bytes → CutterState
 working number bytes = record { number = number; bytes = bytes; waits = false; failed = false }
 
 -- a cutter for which no line waits and that has not failed is a working one
 pub is_working : (h : CutterState) → h.waits ≡ false → h.failed ≡ false → h ≡ working h.number h.bytes
 is_working h i j = rebuilt i j where
-  rebuilt : {p q : Bool} → p ≡ false → q ≡ false → ◌≡◌ {A = CutterState} (record { number = h.number; bytes = h.bytes; waits = p; failed = q }) (working h.number h.bytes)
+  rebuilt : {p q : Bool} → p ≡ false → q ≡ false →
+      ◌≡◌ {A = CutterState} (record { number = h.number; bytes = h.bytes; waits = p; failed = q }) (working h.number h.bytes)
   rebuilt i j = rw (i, j) refl
 
 -- what was read and what is left, once n more bytes were read
-pub moves_on : (front rest all : List ℕ) (n : ℕ) → front ++ rest ≡ all → (front ++ take n rest) ++ drop n rest ≡ all
+pub moves_on : (front rest all : Bytes) (n : ℕ) → front ++ rest ≡ all → (front ++ take n rest) ++ drop n rest ≡ all
 moves_on front rest all n h = append_assoc front (take n rest) (drop n rest) ∙ ap (λ r. front ++ r) (take-append-drop n rest) ∙ h
 
 -- if a feed succeeds and no line waits after it, the rest is below the limit; by the first end of a line
-below_up_to : (h : CutterState) (piece : List ℕ) (n : ℕ) (new : CutterState) (o : Option LineEnd) → feed_outcome_at h piece o ≡ (Ok n, new) → new.waits ≡ false
+below_up_to : (h : CutterState) (piece : Bytes) (n : ℕ) (new : CutterState) (o : Option LineEnd) → feed_outcome_at h piece o ≡ (Ok n, new) → new.waits ≡ false
     → (length new.bytes < line_limit) × (new.failed ≡ h.failed)
-below_up_to h piece n new (Some e) is waits = absurd (let x : true ≡ false = ap (λ p. p.1.waits) is ∙ waits in cc)
+below_up_to h piece n new (Some e) is waits = cc (ap (λ p. p.1.waits) is ∙ waits)
 below_up_to h piece n new None is waits = elim (cases_Bool (nat_le line_limit (length (h.bytes ++ piece)))) [
   | inl t ↦ absurd (let x : ◌≡◌ {A = Result ℕ CutFault} (Err _) (Ok n) = ap (λ p. p.0) (rw t at is) in cc)
-  | inr f ↦ let e = rw f at is in
-      (let len : length (h.bytes ++ piece) ≡ length new.bytes = ap (λ p. length p.1.bytes) e in omega (arith, leb-false line_limit (length (h.bytes ++ piece)) f), sym (ap (λ p. p.1.failed) e))
+  | inr f ↦ let e = rw f at is in (
+    let len : length (h.bytes ++ piece) ≡ length new.bytes = ap (λ p. length p.1.bytes) e in
+        omega (arith, leb-false line_limit (length (h.bytes ++ piece)) f),
+    sym (ap (λ p. p.1.failed) e),
+  )
 ]
 
 -- the same, of a working cutter's feed
-below_at_work : (number : ℕ) (bytes piece : List ℕ) (n : ℕ) (new : CutterState) → feed_outcome (working number bytes) piece ≡ (Ok n, new) → new.waits ≡ false
+below_at_work : (number : ℕ) (bytes piece : Bytes) (n : ℕ) (new : CutterState) → feed_outcome (working number bytes) piece ≡ (Ok n, new) → new.waits ≡ false
     → (length new.bytes < line_limit) × (new.failed ≡ false)
 below_at_work number bytes piece n new is waits = below_up_to (working number bytes) piece n new (line_end (take line_limit (bytes ++ piece))) is waits
 
 -- the same, of a feed of any cutter that has not failed and returns no line
-pub below_limit : (h : CutterState) (piece : List ℕ) (n : ℕ) (new : CutterState) → h.failed ≡ false → h.waits ≡ false → feed_outcome h piece ≡ (Ok n, new) → new.waits ≡ false
+pub below_limit : (h : CutterState) (piece : Bytes) (n : ℕ) (new : CutterState) → h.failed ≡ false → h.waits ≡ false → feed_outcome h piece ≡ (Ok n, new) →
+    new.waits ≡ false
     → length new.bytes < line_limit
-below_limit h piece n new works waits is waits' = (below_at_work h.number h.bytes piece n new (subst (λ k. feed_outcome k piece ≡ (Ok n, new)) (is_working h waits works) is) waits').0
+below_limit h piece n new works waits is waits' =
+    (below_at_work h.number h.bytes piece n new (subst (λ k. feed_outcome k piece ≡ (Ok n, new)) (is_working h waits works) is) waits').0
 
 -- a cutter with no line to return stays as it is
 pub lends_none : (h new : CutterState) → new ≡ after_lending h → h.failed ≡ false → h.waits ≡ false → new ≡ h
 lends_none h new is works waits = is ∙ same h.number h.bytes h.waits h.failed waits works where
-  same : (number : ℕ) (bytes : List ℕ) (p q : Bool) → p ≡ false → q ≡ false
+  same : (number : ℕ) (bytes : Bytes) (p q : Bool) → p ≡ false → q ≡ false
       → after_lending (record { number = number; bytes = bytes; waits = p; failed = q }) ≡ record { number = number; bytes = bytes; waits = p; failed = q }
   same number bytes p q i j = rw (i, j) refl
 
 -- a cutter that returns its line holds nothing of the next
-pub lends_some : (h new : CutterState) → new ≡ after_lending h → h.failed ≡ false → h.waits ≡ true → (new.waits ≡ false) × (new.failed ≡ false) × (new.bytes ≡ []) × (lent_next h ≡ waiting_line h ∷ [])
+pub lends_some : (h new : CutterState) → new ≡ after_lending h → h.failed ≡ false → h.waits ≡ true →
+    (new.waits ≡ false) × (new.failed ≡ false) × (new.bytes ≡ []) × (lent_next h ≡ waiting_line h ∷ [])
 lends_some h new is works waits = (ap (λ k. k.waits) it, ap (λ k. k.failed) it, ap (λ k. k.bytes) it, next h.waits h.failed waits works) where
-  after : (number : ℕ) (bytes : List ℕ) (p q : Bool) → p ≡ true → q ≡ false
-      → (n : ℕ) × (after_lending (record { number = number; bytes = bytes; waits = p; failed = q }) ≡ record { number = n; bytes = []; waits = false; failed = false })
+  after : (number : ℕ) (bytes : Bytes) (p q : Bool) → p ≡ true → q ≡ false
+      → (n : ℕ) × (after_lending (record { number = number; bytes = bytes; waits = p; failed = q }) ≡
+      record { number = n; bytes = []; waits = false; failed = false })
   after number bytes p q i j = (min 18446744073709551615 (number + line_feeds_in bytes), rw (i, j) refl)
 
   it : new ≡ record { number = (after h.number h.bytes h.waits h.failed waits works).0; bytes = []; waits = false; failed = false }
@@ -72,31 +81,33 @@ lends_some h new is works waits = (ap (λ k. k.waits) it, ap (λ k. k.failed) it
   next p q i j = rw (i, j) refl
 
 -- if a feed fails, a line waits only if one waited before; by the first end of a line
-waits_up_to : (h : CutterState) (piece : List ℕ) (e : CutFault) (new : CutterState) (o : Option LineEnd) → feed_outcome_at h piece o ≡ (Err e, new) → new.waits ≡ h.waits
-waits_up_to h piece e new (Some at) is = absurd (let x : ◌≡◌ {A = Result ℕ CutFault} (Ok _) (Err e) = ap (λ p. p.0) is in cc)
+waits_up_to : (h : CutterState) (piece : Bytes) (e : CutFault) (new : CutterState) (o : Option LineEnd) → feed_outcome_at h piece o ≡ (Err e, new) →
+    new.waits ≡ h.waits
+waits_up_to h piece e new (Some at) is = cc (ap (λ p. p.0) is)
 waits_up_to h piece e new None is = elim (cases_Bool (nat_le line_limit (length (h.bytes ++ piece)))) [
   | inl t ↦ sym (ap (λ p. p.1.waits) (rw t at is))
   | inr f ↦ absurd (let x : ◌≡◌ {A = Result ℕ CutFault} (Ok _) (Err e) = ap (λ p. p.0) (rw f at is) in cc)
 ]
 
 -- if no line waits, a failed feed leaves none waiting
-fed_waits : (number : ℕ) (bytes : List ℕ) (failed : Bool) (piece : List ℕ) (e : CutFault) (new : CutterState)
+fed_waits : (number : ℕ) (bytes : Bytes) (failed : Bool) (piece : Bytes) (e : CutFault) (new : CutterState)
     → feed_outcome (record { number = number; bytes = bytes; waits = false; failed = failed }) piece ≡ (Err e, new) → new.waits ≡ false
 fed_waits number bytes true piece e new is = sym (ap (λ p. p.1.waits) is)
 fed_waits number bytes false piece e new is = waits_up_to (working number bytes) piece e new (line_end (take line_limit (bytes ++ piece))) is
 
 -- a feed that fails with a fault leaves no line waiting
-err_fed : (h : CutterState) (piece : List ℕ) (e : CutFault) (new : CutterState) → h.waits ≡ false → feed_outcome h piece ≡ (Err e, new) → new.waits ≡ false
+err_fed : (h : CutterState) (piece : Bytes) (e : CutFault) (new : CutterState) → h.waits ≡ false → feed_outcome h piece ≡ (Err e, new) → new.waits ≡ false
 err_fed h piece e new waits is =
-    fed_waits h.number h.bytes h.failed piece e new (subst (λ b. feed_outcome (record { number = h.number; bytes = h.bytes; waits = b; failed = h.failed }) piece ≡ (Err e, new)) waits is)
+    fed_waits h.number h.bytes h.failed piece e new
+    (subst (λ b. feed_outcome (record { number = h.number; bytes = h.bytes; waits = b; failed = h.failed }) piece ≡ (Err e, new)) waits is)
 
 -- a failed feed leaves no line waiting, a failed allocation included
-pub err_waits : (h : CutterState) (piece : List ℕ) (e : Failure CutFault) (new : CutterState) → h.waits ≡ false → Feeds h piece (Err e) new → new.waits ≡ false
+pub err_waits : (h : CutterState) (piece : Bytes) (e : Failure CutFault) (new : CutterState) → h.waits ≡ false → Feeds h piece (Err e) new → new.waits ≡ false
 err_waits h piece Memory new waits is = ap (λ k. k.waits) is.2 ∙ waits
 err_waits h piece (Fault fault) new waits is = err_fed h piece fault new waits is
 
 -- a line whose end is not within the limit is too long
-pub too_long : (bytes : List ℕ) (e : LineEnd) → line_end (take line_limit bytes) ≡ None → line_end bytes ≡ Some e → line_limit < e.line_len
+pub too_long : (bytes : Bytes) (e : LineEnd) → line_end (take line_limit bytes) ≡ None → line_end bytes ≡ Some e → line_limit < e.line_len
 too_long bytes e none some = elim (cases_lt line_limit e.line_len) [
   | inl lt ↦ lt
   | inr le ↦
@@ -105,25 +116,30 @@ too_long bytes e none some = elim (cases_lt line_limit e.line_len) [
       let found : line_end (take line_limit bytes) ≡ Some e =
       ap line_end (sym (take-append-drop e.line_len (take line_limit bytes)) ∙ ap (λ x. x ++ drop e.line_len (take line_limit bytes)) shorter)
       ∙ line_end-append (take e.line_len bytes) (drop e.line_len (take line_limit bytes)) e front in
-      absurd (let clash : ◌≡◌ {A = Option LineEnd} None (Some e) = sym none ∙ found in cc)
+      cc (sym none ∙ found)
 ]
 
 -- a feed rejects a line as too long if there is no end and the bytes reach the limit; by the first end of a line
-too_long_up_to : (h : CutterState) (piece : List ℕ) (l : ℕ) (new : CutterState) (o : Option LineEnd) → feed_outcome_at h piece o ≡ (Err (LineTooLong l), new)
+too_long_up_to : (h : CutterState) (piece : Bytes) (l : ℕ) (new : CutterState) (o : Option LineEnd) → feed_outcome_at h piece o ≡ (Err (LineTooLong l), new)
     → (o ≡ None) × (line_limit ≤ length (h.bytes ++ piece)) × (l ≡ h.number)
-too_long_up_to h piece l new (Some e) is = absurd (let x : ◌≡◌ {A = Result ℕ CutFault} (Ok _) (Err (LineTooLong l)) = ap (λ p. p.0) is in cc)
+too_long_up_to h piece l new (Some e) is = cc (ap (λ p. p.0) is)
 too_long_up_to h piece l new None is = elim (cases_Bool (nat_le line_limit (length (h.bytes ++ piece)))) [
-  | inl t ↦ (refl, leb-true line_limit (length (h.bytes ++ piece)) t, let x : ◌≡◌ {A = Result ℕ CutFault} (Err (LineTooLong h.number)) (Err (LineTooLong l)) = ap (λ p. p.0) (rw t at is) in cc)
+  | inl t ↦ (
+    refl,
+    leb-true line_limit (length (h.bytes ++ piece)) t,
+    let x : ◌≡◌ {A = Result ℕ CutFault} (Err (LineTooLong h.number)) (Err (LineTooLong l)) = ap (λ p. p.0) (rw t at is) in cc,
+  )
   | inr f ↦ absurd (let x : ◌≡◌ {A = Result ℕ CutFault} (Ok _) (Err (LineTooLong l)) = ap (λ p. p.0) (rw f at is) in cc)
 ]
 
 -- the same, of a working cutter's feed
-pub too_long_at_work : (number : ℕ) (bytes piece : List ℕ) (l : ℕ) (new : CutterState) → feed_outcome (working number bytes) piece ≡ (Err (LineTooLong l), new)
+pub too_long_at_work : (number : ℕ) (bytes piece : Bytes) (l : ℕ) (new : CutterState) → feed_outcome (working number bytes) piece ≡ (Err (LineTooLong l), new)
     → (line_end (take line_limit (bytes ++ piece)) ≡ None) × (line_limit ≤ length (bytes ++ piece)) × (l ≡ number)
 too_long_at_work number bytes piece l new is = too_long_up_to (working number bytes) piece l new (line_end (take line_limit (bytes ++ piece))) is
 
 -- a feed rejects no line as truncated; by the first end of a line
-never_truncated_up_to : (h : CutterState) (piece : List ℕ) (l : ℕ) (new : CutterState) (o : Option LineEnd) → feed_outcome_at h piece o ≡ (Err (Truncated l), new) → ⊥
+never_truncated_up_to : (h : CutterState) (piece : Bytes) (l : ℕ) (new : CutterState) (o : Option LineEnd) →
+    feed_outcome_at h piece o ≡ (Err (Truncated l), new) → ⊥
 never_truncated_up_to h piece l new (Some e) is = let x : ◌≡◌ {A = Result ℕ CutFault} (Ok _) (Err (Truncated l)) = ap (λ p. p.0) is in cc
 never_truncated_up_to h piece l new None is = elim (cases_Bool (nat_le line_limit (length (h.bytes ++ piece)))) [
   | inl t ↦ let x : ◌≡◌ {A = Result ℕ CutFault} (Err (LineTooLong h.number)) (Err (Truncated l)) = ap (λ p. p.0) (rw t at is) in cc
@@ -131,11 +147,12 @@ never_truncated_up_to h piece l new None is = elim (cases_Bool (nat_le line_limi
 ]
 
 -- the same, of a working cutter's feed
-pub never_truncated : (number : ℕ) (bytes piece : List ℕ) (l : ℕ) (new : CutterState) → feed_outcome (working number bytes) piece ≡ (Err (Truncated l), new) → ⊥
+pub never_truncated : (number : ℕ) (bytes piece : Bytes) (l : ℕ) (new : CutterState) → feed_outcome (working number bytes) piece ≡ (Err (Truncated l), new) → ⊥
 never_truncated number bytes piece l new is = never_truncated_up_to (working number bytes) piece l new (line_end (take line_limit (bytes ++ piece))) is
 
 -- after a feed that succeeded a cutter has failed only if it had before; by the first end of a line
-works_up_to : (h : CutterState) (piece : List ℕ) (n : ℕ) (new : CutterState) (o : Option LineEnd) → feed_outcome_at h piece o ≡ (Ok n, new) → new.failed ≡ h.failed
+works_up_to : (h : CutterState) (piece : Bytes) (n : ℕ) (new : CutterState) (o : Option LineEnd) → feed_outcome_at h piece o ≡ (Ok n, new) →
+    new.failed ≡ h.failed
 works_up_to h piece n new (Some e) is = sym (ap (λ p. p.1.failed) is)
 works_up_to h piece n new None is = elim (cases_Bool (nat_le line_limit (length (h.bytes ++ piece)))) [
   | inl t ↦ absurd (let x : ◌≡◌ {A = Result ℕ CutFault} (Err _) (Ok n) = ap (λ p. p.0) (rw t at is) in cc)
@@ -143,14 +160,14 @@ works_up_to h piece n new None is = elim (cases_Bool (nat_le line_limit (length 
 ]
 
 -- a feed succeeds only if the cutter has not failed, and leaves it so
-works_fed : (number : ℕ) (bytes : List ℕ) (waits failed : Bool) (piece : List ℕ) (n : ℕ) (new : CutterState)
+works_fed : (number : ℕ) (bytes : Bytes) (waits failed : Bool) (piece : Bytes) (n : ℕ) (new : CutterState)
     → feed_outcome (record { number = number; bytes = bytes; waits = waits; failed = failed }) piece ≡ (Ok n, new) → new.failed ≡ false
-works_fed number bytes waits true piece n new is = absurd (let x : ◌≡◌ {A = Result ℕ CutFault} (Err (LineTooLong number)) (Ok n) = ap (λ p. p.0) is in cc)
+works_fed number bytes waits true piece n new is = cc (ap (λ p. p.0) is)
 works_fed number bytes true false piece n new is = sym (ap (λ p. p.1.failed) is)
 works_fed number bytes false false piece n new is = works_up_to (working number bytes) piece n new (line_end (take line_limit (bytes ++ piece))) is
 
 -- so no cutter has failed after a feed that succeeded
-pub never_failed : (h : CutterState) (piece : List ℕ) (n : ℕ) (new : CutterState) → feed_outcome h piece ≡ (Ok n, new) → new.failed ≡ true → ⊥
+pub never_failed : (h : CutterState) (piece : Bytes) (n : ℕ) (new : CutterState) → feed_outcome h piece ≡ (Ok n, new) → new.failed ≡ true → ⊥
 never_failed h piece n new is failed = let x : false ≡ true = sym (works_fed h.number h.bytes h.waits h.failed piece n new is) ∙ failed in cc
 
 module _ (h : CutterState) (works : h.failed ≡ false) where
@@ -158,7 +175,10 @@ module _ (h : CutterState) (works : h.failed ≡ false) where
   pub finish_err : (e : CutFault) → Finishes h (Err e) → (length h.bytes ≡ 0 → ⊥) × (e ≡ Truncated h.number)
   finish_err e f = elim (cases_Bool (nat_le (length h.bytes) 0)) [
     | inl t ↦ absurd (let x : ◌≡◌ {A = Result Unit CutFault} (Err e) (Ok tt) = rw (works, t) at f in cc)
-    | inr n ↦ (λ z. omega (arith, leb-false (length h.bytes) 0 n), let x : ◌≡◌ {A = Result Unit CutFault} (Err e) (Err (Truncated h.number)) = rw (works, n) at f in cc)
+    | inr n ↦ (
+      λ z. omega (arith, leb-false (length h.bytes) 0 n),
+      let x : ◌≡◌ {A = Result Unit CutFault} (Err e) (Err (Truncated h.number)) = rw (works, n) at f in cc,
+    )
   ]
 
   -- one that accepts the end holds none
@@ -171,39 +191,41 @@ module _ (h : CutterState) (works : h.failed ≡ false) where
 -- ---- one turn of reading a piece: what it keeps, and what it rejects with
 
 -- no bytes are the empty list
-pub no_bytes : (xs : List ℕ) → length xs ≤ 0 → xs ≡ []
+pub no_bytes : (xs : Bytes) → length xs ≤ 0 → xs ≡ []
 no_bytes [] h = refl
 no_bytes (x ∷ xs) h = absurd (omega arith)
 
 -- one more line that passes
-pub lead_on : {S : Type 0} (passes : S → LogicalLine → S → Type 0) (old : S) (lines : List LogicalLine) (mid new : S) (line : LogicalLine) → LeadTo passes old lines mid
+pub lead_on : {S : Type 0} (passes : S → LogicalLine → S → Type 0) (old : S) (lines : List LogicalLine) (mid new : S) (line : LogicalLine) →
+    LeadTo passes old lines mid
     → passes mid line new → LeadTo passes old (lines ++ line ∷ []) new
 lead_on passes old [] mid new line h p = (new, subst (λ s. passes s line new) h p, refl)
 lead_on passes old (l ∷ lines) mid new line h p = (h.0, h.1, lead_on passes h.0 lines mid new line h.2 p)
 
 -- what was returned, one by one more
-pub lent_more : (bytes : List ℕ) (lent more : List LogicalLine) (line : LogicalLine) (cutter : CutterState) → Cuts bytes ((lent ++ more) ++ line ∷ []) cutter
+pub lent_more : (bytes : Bytes) (lent more : List LogicalLine) (line : LogicalLine) (cutter : CutterState) → Cuts bytes ((lent ++ more) ++ line ∷ []) cutter
     → Cuts bytes (lent ++ (more ++ line ∷ [])) cutter
 lent_more bytes lent more line cutter cuts = subst (λ l. Cuts bytes l cutter) (append_assoc lent more (line ∷ [])) cuts
 
 -- halves of a list of short lines
-halved : (lines : List (List ℕ)) (line : List ℕ) → AllByRecursion (λ l. length l ≤ line_limit) (lines ++ line ∷ [])
+halved : (lines : List Bytes) (line : Bytes) → AllByRecursion (λ l. length l ≤ line_limit) (lines ++ line ∷ [])
     → AllByRecursion (λ l. length l ≤ line_limit) lines × (length line ≤ line_limit)
 halved [] line h = (tt, h.0)
 halved (l ∷ lines) line h = let later = halved lines line h.1 in ((h.0, later.0), later.1)
 
 -- halves of a list of lines
-halved_lines : (lines : List (List ℕ)) (line : List ℕ) → AllByRecursion IsLine (lines ++ line ∷ []) → AllByRecursion IsLine lines × IsLine line
+halved_lines : (lines : List Bytes) (line : Bytes) → AllByRecursion IsLine (lines ++ line ∷ []) → AllByRecursion IsLine lines × IsLine line
 halved_lines [] line h = (tt, h.0)
 halved_lines (l ∷ lines) line h = let later = halved_lines lines line h.1 in ((h.0, later.0), later.1)
 
 -- lines in front of one more
-joined_more : (lines : List (List ℕ)) (line : List ℕ) → flat_map (λ l. l) (lines ++ line ∷ []) ≡ flat_map (λ l. l) lines ++ line
+joined_more : (lines : List Bytes) (line : Bytes) → flat_map (λ l. l) (lines ++ line ∷ []) ≡ flat_map (λ l. l) lines ++ line
 joined_more [] line = append-nil line
 joined_more (l ∷ lines) line = ap (λ x. l ++ x) (joined_more lines line) ∙ sym (append_assoc l (flat_map (λ l. l) lines) line)
 
 -- what a working cutter was fed begins with the lines that it returned
-pub begins_with : (bytes : List ℕ) (lent : List LogicalLine) (number : ℕ) (held : List ℕ) → Cuts bytes lent (working number held) → BeginsWith bytes lent number held
+pub begins_with : (bytes : Bytes) (lent : List LogicalLine) (number : ℕ) (held : Bytes) → Cuts bytes lent (working number held) →
+    BeginsWith bytes lent number held
 begins_with bytes lent number held cuts = record {
   lines = cuts.lines;
   whole = cuts.divided.whole ∙ ap (λ ls. flat_map (λ l. l) ls ++ held) (append-nil cuts.lines);
@@ -214,7 +236,8 @@ begins_with bytes lent number held cuts = record {
 }
 
 -- more bytes after
-pub begins_more : (bytes more : List ℕ) (lent : List LogicalLine) (number : ℕ) (rest : List ℕ) → BeginsWith bytes lent number rest → BeginsWith (bytes ++ more) lent number (rest ++ more)
+pub begins_more : (bytes more : Bytes) (lent : List LogicalLine) (number : ℕ) (rest : Bytes) → BeginsWith bytes lent number rest →
+    BeginsWith (bytes ++ more) lent number (rest ++ more)
 begins_more bytes more lent number rest b = record {
   lines = b.lines;
   whole = ap (λ x. x ++ more) b.whole ∙ append_assoc (flat_map (λ l. l) b.lines) rest more;
@@ -225,37 +248,43 @@ begins_more bytes more lent number rest b = record {
 }
 
 -- the cutter of any such state is a working one
-pub working_cuts : (bytes : List ℕ) (lent : List LogicalLine) (h : CutterState) → HasLent bytes lent h → Cuts bytes lent (working h.number h.bytes)
+pub working_cuts : (bytes : Bytes) (lent : List LogicalLine) (h : CutterState) → HasLent bytes lent h → Cuts bytes lent (working h.number h.bytes)
 working_cuts bytes lent h has = subst (λ k. Cuts bytes lent k) (is_working h has.waits_not has.works) has.cuts
 
 module _ {S F : Type 0} (passes : S → LogicalLine → S → Type 0) (refuses : S → LogicalLine → F → Type 0) (of_cutter : CutFault → F) where
   -- the fault that the cutter finds is that of the next line
-  fault_fed : (front rest all : List ℕ) (lent : List LogicalLine) (h : CutterState) (state : S) (e : CutFault) (new : CutterState) → front ++ rest ≡ all → HasLent front lent h
+  fault_fed : (front rest all : Bytes) (lent : List LogicalLine) (h : CutterState) (state : S) (e : CutFault) (new : CutterState) → front ++ rest ≡ all →
+      HasLent front lent h
       → Feeds h rest (Err (Fault e)) new → IsNextFault refuses of_cutter all lent state (of_cutter e)
   fault_fed front rest all lent h state (Truncated l) new split has is =
-      absurd (never_truncated h.number h.bytes rest l new (subst (λ k. feed_outcome k rest ≡ (Err (Truncated l), new)) (is_working h has.waits_not has.works) is))
+      absurd (never_truncated h.number h.bytes rest l new
+      (subst (λ k. feed_outcome k rest ≡ (Err (Truncated l), new)) (is_working h has.waits_not has.works) is))
   fault_fed front rest all lent h state (LineTooLong l) new split has is =
-      let t = too_long_at_work h.number h.bytes rest l new (subst (λ k. feed_outcome k rest ≡ (Err (LineTooLong l), new)) (is_working h has.waits_not has.works) is) in (
+      let t = too_long_at_work h.number h.bytes rest l new
+      (subst (λ k. feed_outcome k rest ≡ (Err (LineTooLong l), new)) (is_working h has.waits_not has.works) is) in (
         h.number,
         h.bytes ++ rest,
-        subst (λ x. BeginsWith x lent h.number (h.bytes ++ rest)) split (begins_more front rest lent h.number h.bytes (begins_with front lent h.number h.bytes (working_cuts front lent h has))),
+        subst (λ x. BeginsWith x lent h.number (h.bytes ++ rest)) split
+            (begins_more front rest lent h.number h.bytes (begins_with front lent h.number h.bytes (working_cuts front lent h has))),
         inl ((t.1, t.0), ap (λ n. of_cutter (LineTooLong n)) t.2),
       )
 
   -- the error of the cutter is `Memory` or the fault of the next line
-  pub failure_fed : (front rest all : List ℕ) (lent more : List LogicalLine) (h : CutterState) (old state : S) (e : Failure CutFault) (new : CutterState) → front ++ rest ≡ all
-      → HasLent front (lent ++ more) h → LeadTo passes old more state → Feeds h rest (Err e) new → HasFailureBehind passes refuses of_cutter all lent old (failure_of of_cutter e)
+  pub failure_fed : (front rest all : Bytes) (lent more : List LogicalLine) (h : CutterState) (old state : S) (e : Failure CutFault) (new : CutterState) →
+      front ++ rest ≡ all
+      → HasLent front (lent ++ more) h → LeadTo passes old more state → Feeds h rest (Err e) new →
+      HasFailureBehind passes refuses of_cutter all lent old (failure_of of_cutter e)
   failure_fed front rest all lent more h old state Memory new split has led is = tt
   failure_fed front rest all lent more h old state (Fault fault) new split has led is =
       (more, state, led, fault_fed front rest all (lent ++ more) h state fault new split has is)
 
   -- the fault of the line that the cutter returns is that of the next line
-  fault_of_line : (taken rest all : List ℕ) (lent : List LogicalLine) (new : CutterState) (state : S) (line : LogicalLine) (f : F) → taken ++ rest ≡ all
+  fault_of_line : (taken rest all : Bytes) (lent : List LogicalLine) (new : CutterState) (state : S) (line : LogicalLine) (f : F) → taken ++ rest ≡ all
       → Cuts taken lent new → new.waits ≡ true → line ≡ waiting_line new → refuses state line f → IsNextFault refuses of_cutter all lent state f
   fault_of_line taken rest all lent new state line f split cuts waits is refused = go new.number new.bytes new.waits new.failed waits cuts is where
-    go : (n : ℕ) (bytes : List ℕ) (w d : Bool) → w ≡ true → Cuts taken lent (record { number = n; bytes = bytes; waits = w; failed = d })
+    go : (n : ℕ) (bytes : Bytes) (w d : Bool) → w ≡ true → Cuts taken lent (record { number = n; bytes = bytes; waits = w; failed = d })
         → line ≡ record { text = text_of_line bytes; number = n; comment = is_comment bytes } → IsNextFault refuses of_cutter all lent state f
-    go n bytes false d w cuts l = absurd (let x : false ≡ true = w in cc)
+    go n bytes false d w cuts l = cc
     go n bytes true d w cuts l =
         let shorts = halved cuts.lines bytes cuts.short in
         let lines = halved_lines cuts.lines bytes cuts.divided.each in (
@@ -263,7 +292,8 @@ module _ {S F : Type 0} (passes : S → LogicalLine → S → Type 0) (refuses :
           bytes ++ rest,
           record {
             lines = cuts.lines;
-            whole = sym split ∙ ap (λ x. x ++ rest) (cuts.divided.whole ∙ append-nil (flat_map (λ l. l) (cuts.lines ++ bytes ∷ [])) ∙ joined_more cuts.lines bytes)
+            whole = sym split ∙ ap (λ x. x ++ rest)
+                (cuts.divided.whole ∙ append-nil (flat_map (λ l. l) (cuts.lines ++ bytes ∷ [])) ∙ joined_more cuts.lines bytes)
                 ∙ append_assoc (flat_map (λ l. l) cuts.lines) bytes rest;
             each = lines.0;
             short = shorts.0;
@@ -274,15 +304,18 @@ module _ {S F : Type 0} (passes : S → LogicalLine → S → Type 0) (refuses :
         )
 
   -- the error of reading a line is `Memory` or the fault of the next line
-  pub line_refused : (taken rest all : List ℕ) (lent more : List LogicalLine) (new : CutterState) (old state now : S) (line : LogicalLine) (e : Failure F) → taken ++ rest ≡ all
-      → Cuts taken (lent ++ more) new → new.waits ≡ true → line ≡ waiting_line new → LeadTo passes old more state → ReadsLine passes refuses state line (Err e) now
+  pub line_refused : (taken rest all : Bytes) (lent more : List LogicalLine) (new : CutterState) (old state now : S) (line : LogicalLine) (e : Failure F) →
+      taken ++ rest ≡ all
+      → Cuts taken (lent ++ more) new → new.waits ≡ true → line ≡ waiting_line new → LeadTo passes old more state →
+      ReadsLine passes refuses state line (Err e) now
       → HasFailureBehind passes refuses of_cutter all lent old e
   line_refused taken rest all lent more new old state now line Memory split cuts waits is led refused = tt
   line_refused taken rest all lent more new old state now line (Fault fault) split cuts waits is led refused =
       (more, state, led, fault_of_line taken rest all (lent ++ more) new state line fault split cuts waits is refused)
 
 -- bytes that are left at the end are a truncated line
-pub ends_truncated : {S F : Type 0} (of_cutter : CutFault → F) (bytes : List ℕ) (lent : List LogicalLine) (h : CutterState) (state : S) (e : CutFault) → HasLent bytes lent h
+pub ends_truncated : {S F : Type 0} (of_cutter : CutFault → F) (bytes : Bytes) (lent : List LogicalLine) (h : CutterState) (state : S) (e : CutFault) →
+    HasLent bytes lent h
     → Finishes h (Err e) → EndsLines of_cutter bytes lent state (Err (Fault (of_cutter e)))
 ends_truncated of_cutter bytes lent h state e has is =
     let left = finish_err h has.works e is in

@@ -1,4 +1,5 @@
 -- Lists of components, written out with a slash between each two.
+use Rattle.ninja_text.specs.Bytes.{Bytes}
 use Rattle.std.proofs.Common.{◌≡◌, ◌≢◌, ℕ, zero, suc, ◌+◌, ◌-◌, ◌<◌, ◌≤◌, Bool, true, false, ◌&&◌, Some, None, ◌==◌, ◌⊎◌, inl, inr, List, [], ◌∷◌, ◌++◌, length, take, drop, get_or, refl, sym, ◌∙◌, ap, subst, append_assoc, arith, length-append}
 use Rattle.std.proofs.lemmas.List.{get_or-append-add}
 use Rattle.std.proofs.Math.Seq.{take-append_seam, drop-append_seam}
@@ -6,20 +7,21 @@ use Rattle.std.specs.List.{AllByRecursion}
 use Rattle.ninja_text.proofs.ReducedList.{IsFixed, name-of, reduced-fixed, reduced-each, behind-pair, behind-none, behind-stays, parent-not-name}
 use Rattle.ninja_text.proofs.Lists.{to_the_end}
 use Rattle.ninja_text.specs.Reduction.{is_current, is_parent, is_named_component, reduced}
-use Rattle.ninja_text.specs.inner.ComponentLists.{list_text, appended, LacksSlash, EachLacksSlash}
+use Rattle.ninja_text.specs.inner.ComponentLists.{Components, list_text, appended, LacksSlash, EachLacksSlash}
 
 -- the last component, or none
-pub ends : (l : List (List ℕ)) → (l ≡ []) ⊎ ((init : List (List ℕ)) × (last : List ℕ) × (l ≡ init ++ last ∷ []))
+pub ends : (l : Components) → (l ≡ []) ⊎ ((init : Components) × (last : Bytes) × (l ≡ init ++ last ∷ []))
 ends [] = inl refl
 ends (c ∷ cs) = elim (ends cs) [ inl h ↦ inr ([], c, ap (λ l. c ∷ l) h) | inr w ↦ inr (c ∷ w.0, w.1, ap (λ l. c ∷ l) w.2) ]
 
 -- a component after a list is written after it and a slash
-pub list_text-behind : (x : List ℕ) (xs : List (List ℕ)) (c : List ℕ) → list_text ((x ∷ xs) ++ c ∷ []) ≡ list_text (x ∷ xs) ++ 47 ∷ c
+pub list_text-behind : (x : Bytes) (xs : Components) (c : Bytes) → list_text ((x ∷ xs) ++ c ∷ []) ≡ list_text (x ∷ xs) ++ 47 ∷ c
 list_text-behind x [] c = refl
 list_text-behind x (y ∷ ys) c = ap (λ t. x ++ 47 ∷ t) (list_text-behind y ys c) ∙ sym (append_assoc x (47 ∷ list_text (y ∷ ys)) (47 ∷ c))
 
 -- a component after a list whose first component is not empty
-pub list_text-appended : (x : List ℕ) (xs : List (List ℕ)) (c : List ℕ) → is_current x ≡ false → list_text ((x ∷ xs) ++ c ∷ []) ≡ appended (list_text (x ∷ xs)) c
+pub list_text-appended : (x : Bytes) (xs : Components) (c : Bytes) → is_current x ≡ false →
+    list_text ((x ∷ xs) ++ c ∷ []) ≡ appended (list_text (x ∷ xs)) c
 list_text-appended [] xs c h = cc
 list_text-appended (b ∷ bs) [] c h = refl
 list_text-appended (b ∷ bs) (y ∷ ys) c h = list_text-behind (b ∷ bs) (y ∷ ys) c
@@ -27,7 +29,7 @@ list_text-appended (b ∷ bs) (y ∷ ys) c h = list_text-behind (b ∷ bs) (y �
 -- ---- the start of the last component
 
 -- no byte of a component is a slash
-lacks-at : (l : List ℕ) (k : ℕ) → LacksSlash l → k < length l → get_or l k 0 ≢ 47
+lacks-at : (l : Bytes) (k : ℕ) → LacksSlash l → k < length l → get_or l k 0 ≢ 47
 lacks-at [] k h lt e = absurd (omega arith)
 lacks-at (b ∷ bs) zero h lt e = absurd (not-slash b e h.0)
   where
@@ -36,17 +38,18 @@ lacks-at (b ∷ bs) zero h lt e = absurd (not-slash b e h.0)
 lacks-at (b ∷ bs) (suc k) h lt e = lacks-at bs k h.1 (omega arith) e
 
 -- the part of a list in front of its last component
-abbrev pub up_to_last : List (List ℕ) → List ℕ
+abbrev pub up_to_last : Components → Bytes
 up_to_last [] = []
 up_to_last (x ∷ xs) = list_text (x ∷ xs) ++ 47 ∷ []
 
 -- a list is written as what is in front of its last component, and that component
-pub list_text-last : (init : List (List ℕ)) (last : List ℕ) → list_text (init ++ last ∷ []) ≡ up_to_last init ++ last
+pub list_text-last : (init : Components) (last : Bytes) → list_text (init ++ last ∷ []) ≡ up_to_last init ++ last
 list_text-last [] last = refl
 list_text-last (x ∷ xs) last = list_text-behind x xs last ∙ sym (append_assoc (list_text (x ∷ xs)) (47 ∷ []) last)
 
 -- the index after the last slash is the start of the last component
-not-after : (p last : List ℕ) (start : ℕ) → LacksSlash last → start ≤ length (p ++ last) → (0 < start → get_or (p ++ last) (start - 1) 0 ≡ 47) → length p < start → ⊥
+not-after : (p last : Bytes) (start : ℕ) → LacksSlash last → start ≤ length (p ++ last) → (0 < start → get_or (p ++ last) (start - 1) 0 ≡ 47) →
+    length p < start → ⊥
 not-after p last start h bound slash lt =
     let k : ℕ = start - 1 - length p in
     let at : start - 1 ≡ length p + k = omega arith in
@@ -55,7 +58,8 @@ not-after p last start h bound slash lt =
     lacks-at last k h (omega arith) e
 
 -- nor can the last component begin before the last slash
-not-before : (q last : List ℕ) (start : ℕ) → ((k : ℕ) → start ≤ k → k < length ((q ++ 47 ∷ []) ++ last) → get_or ((q ++ 47 ∷ []) ++ last) k 0 ≢ 47) → start ≤ length q → ⊥
+not-before : (q last : Bytes) (start : ℕ) → ((k : ℕ) → start ≤ k → k < length ((q ++ 47 ∷ []) ++ last) → get_or ((q ++ 47 ∷ []) ++ last) k 0 ≢ 47) →
+    start ≤ length q → ⊥
 not-before q last start rest le =
     let e : (q ++ 47 ∷ []) ++ last ≡ q ++ 47 ∷ last = append_assoc q (47 ∷ []) last in
     let at : get_or (q ++ 47 ∷ last) (length q + 0) 0 ≡ 47 = get_or-append-add q (47 ∷ last) 0 0 in
@@ -63,7 +67,7 @@ not-before q last start rest le =
     rest (length q + 0) (omega arith) (omega arith) (ap (λ l. get_or l (length q + 0) 0) e ∙ at)
 
 -- so the last component begins there
-pub start-is : (init : List (List ℕ)) (last : List ℕ) (start : ℕ) → LacksSlash last
+pub start-is : (init : Components) (last : Bytes) (start : ℕ) → LacksSlash last
     → start ≤ length (up_to_last init ++ last)
     → (0 < start → get_or (up_to_last init ++ last) (start - 1) 0 ≡ 47)
     → ((k : ℕ) → start ≤ k → k < length (up_to_last init ++ last) → get_or (up_to_last init ++ last) k 0 ≢ 47)
@@ -76,7 +80,7 @@ start-is (x ∷ xs) last start h bound slash rest =
     omega arith
 
 -- what is left in front of the last component, without the slash
-pub without-last : (init : List (List ℕ)) (last : List ℕ) → take (length (up_to_last init) - 1) (up_to_last init ++ last) ≡ list_text init
+pub without-last : (init : Components) (last : Bytes) → take (length (up_to_last init) - 1) (up_to_last init ++ last) ≡ list_text init
 without-last [] last = refl
 without-last (x ∷ xs) last =
     let t = list_text (x ∷ xs) in
@@ -84,53 +88,59 @@ without-last (x ∷ xs) last =
     ap (λ n. take n (up_to_last (x ∷ xs) ++ last)) total ∙ ap (take (length t)) (append_assoc t (47 ∷ []) last) ∙ take-append_seam t (47 ∷ last)
 
 -- the same of a list that is given otherwise
-pub start-of : (list : List ℕ) (init : List (List ℕ)) (last : List ℕ) (start : ℕ) → list ≡ list_text (init ++ last ∷ []) → LacksSlash last
+pub start-of : (list : Bytes) (init : Components) (last : Bytes) (start : ℕ) → list ≡ list_text (init ++ last ∷ []) → LacksSlash last
     → start ≤ length list
     → (0 < start → get_or list (start - 1) 0 ≡ 47)
     → ((k : ℕ) → start ≤ k → k < length list → get_or list k 0 ≢ 47)
     → start ≡ length (up_to_last init)
 start-of list init last start e h bound slash rest =
-    let P : List ℕ → Type 0 = λ l. (start ≤ length l) × (0 < start → get_or l (start - 1) 0 ≡ 47) × ((k : ℕ) → start ≤ k → k < length l → get_or l k 0 ≢ 47) in
+    let P : Bytes → Type 0 = λ l. (start ≤ length l) × (0 < start → get_or l (start - 1) 0 ≡ 47) × ((k : ℕ) → start ≤ k → k < length l → get_or l k 0 ≢ 47) in
     let f : P (up_to_last init ++ last) = subst P (e ∙ list_text-last init last) (bound, slash, rest) in
     start-is init last start h f.0 f.1 f.2
 
 -- what follows from there on is the last component
-pub last-of : (list : List ℕ) (init : List (List ℕ)) (last : List ℕ) (start : ℕ) → list ≡ list_text (init ++ last ∷ []) → start ≡ length (up_to_last init) → take (length list - start) (drop start list) ≡ last
+pub last-of : (list : Bytes) (init : Components) (last : Bytes) (start : ℕ) → list ≡ list_text (init ++ last ∷ []) → start ≡ length (up_to_last init) →
+    take (length list - start) (drop start list) ≡ last
 last-of list init last start e s =
-    to_the_end start list ∙ ap (drop start) (e ∙ list_text-last init last) ∙ ap (λ n. drop n (up_to_last init ++ last)) s ∙ drop-append_seam (up_to_last init) last
+    to_the_end start list ∙ ap (drop start) (e ∙ list_text-last init last) ∙ ap (λ n. drop n (up_to_last init ++ last)) s ∙
+    drop-append_seam (up_to_last init) last
 
 -- what is before the slash in front of it is the rest of the list
-pub init-of : (list : List ℕ) (init : List (List ℕ)) (last : List ℕ) (start n : ℕ) → list ≡ list_text (init ++ last ∷ []) → start ≡ length (up_to_last init) → n ≡ start - 1 → take n list ≡ list_text init
+pub init-of : (list : Bytes) (init : Components) (last : Bytes) (start n : ℕ) → list ≡ list_text (init ++ last ∷ []) → start ≡ length (up_to_last init) →
+    n ≡ start - 1 → take n list ≡ list_text init
 init-of list init last start n e s k =
     ap (take n) (e ∙ list_text-last init last) ∙ ap (λ m. take m (up_to_last init ++ last)) (k ∙ ap (λ m. m - 1) s) ∙ without-last init last
 
 -- the last component is not empty
-pub not-all : (list : List ℕ) (init : List (List ℕ)) (last : List ℕ) (start : ℕ) → list ≡ list_text (init ++ last ∷ []) → start ≡ length (up_to_last init) → is_current last ≡ false → start ≡ length list → ⊥
+pub not-all : (list : Bytes) (init : Components) (last : Bytes) (start : ℕ) → list ≡ list_text (init ++ last ∷ []) → start ≡ length (up_to_last init) →
+    is_current last ≡ false → start ≡ length list → ⊥
 not-all list init [] start e s h k = cc
 not-all list init (b ∷ bs) start e s h k =
-    let total : length list ≡ length (up_to_last init) + (1 + length bs) = ap length (e ∙ list_text-last init (b ∷ bs)) ∙ length-append (up_to_last init) (b ∷ bs) ∙ omega arith in
+    let total : length list ≡ length (up_to_last init) + (1 + length bs) = ap length (e ∙ list_text-last init (b ∷ bs)) ∙
+    length-append (up_to_last init) (b ∷ bs) ∙ omega arith in
     omega arith
 
 -- ---- a component after a canonical list
 
 -- the last component of a canonical list is not empty and no `.`
-fixed-last : (init : List (List ℕ)) (last : List ℕ) → IsFixed (init ++ last ∷ []) → is_current last ≡ false
+fixed-last : (init : Components) (last : Bytes) → IsFixed (init ++ last ∷ []) → is_current last ≡ false
 fixed-last [] last f = f
 fixed-last (a ∷ []) last f = f.2
 fixed-last (a ∷ b ∷ init) last f = fixed-last (b ∷ init) last f.2
 
 -- what holds of each component holds of the last
-each-last : (P : List ℕ → Type 0) (init : List (List ℕ)) (last : List ℕ) → AllByRecursion P (init ++ last ∷ []) → P last
+each-last : (P : Bytes → Type 0) (init : Components) (last : Bytes) → AllByRecursion P (init ++ last ∷ []) → P last
 each-last P [] last a = a.0
 each-last P (x ∷ init) last a = each-last P init last a.1
 
 -- the first component of a canonical list is not empty and no `.`
-fixed-first : (x : List ℕ) (xs : List (List ℕ)) → IsFixed (x ∷ xs) → is_current x ≡ false
+fixed-first : (x : Bytes) (xs : Components) → IsFixed (x ∷ xs) → is_current x ≡ false
 fixed-first x [] f = f
 fixed-first x (y ∷ ys) f = f.0
 
 -- a component that goes after a canonical list as it is
-list_text-fixed : (init : List (List ℕ)) (last c : List ℕ) → IsFixed (init ++ last ∷ []) → list_text (init ++ last ∷ c ∷ []) ≡ appended (list_text (init ++ last ∷ [])) c
+list_text-fixed : (init : Components) (last c : Bytes) → IsFixed (init ++ last ∷ []) →
+    list_text (init ++ last ∷ c ∷ []) ≡ appended (list_text (init ++ last ∷ [])) c
 list_text-fixed [] last c f = list_text-appended last [] c (fixed-first last [] f)
 list_text-fixed (a ∷ init) last c f =
     ap list_text (sym (append_assoc (a ∷ init) (last ∷ []) (c ∷ []))) ∙ list_text-appended a (init ++ last ∷ []) c (fixed-first a (init ++ last ∷ []) f)
@@ -141,9 +151,10 @@ none-parent true u h = h
 none-parent false u h = refl
 
 -- `..` after a list that ends in a name
-pub put-parent : (before : List (List ℕ)) (c list : List ℕ) (n : ℕ) → EachLacksSlash before → list ≡ list_text (reduced before) → is_parent c ≡ true
+pub put-parent : (before : Components) (c list : Bytes) (n : ℕ) → EachLacksSlash before → list ≡ list_text (reduced before) → is_parent c ≡ true
     → (list ≡ [] → Some n ≡ None)
-    → ((init : List (List ℕ)) (last : List ℕ) → LacksSlash last → is_current last ≡ false → list ≡ list_text (init ++ last ∷ []) → (is_parent last ≡ false) × (take n list ≡ list_text init))
+    → ((init : Components) (last : Bytes) → LacksSlash last → is_current last ≡ false → list ≡ list_text (init ++ last ∷ []) →
+    (is_parent last ≡ false) × (take n list ≡ list_text init))
     → take n list ≡ list_text (reduced (before ++ c ∷ []))
 put-parent before c list n each e goes_up empty parent =
     elim (ends (reduced before)) [
@@ -157,8 +168,9 @@ put-parent before c list n each e goes_up empty parent =
     ]
 
 -- any other component, and `..` after a list that does not end in a name
-pub put-behind : (before : List (List ℕ)) (c list new : List ℕ) → EachLacksSlash before → list ≡ list_text (reduced before) → is_current c ≡ false
-    → (is_parent c ≡ false) ⊎ ((init : List (List ℕ)) (last : List ℕ) → LacksSlash last → is_current last ≡ false → list ≡ list_text (init ++ last ∷ []) → is_parent last ≡ true)
+pub put-behind : (before : Components) (c list new : Bytes) → EachLacksSlash before → list ≡ list_text (reduced before) → is_current c ≡ false
+    → (is_parent c ≡ false) ⊎
+    ((init : Components) (last : Bytes) → LacksSlash last → is_current last ≡ false → list ≡ list_text (init ++ last ∷ []) → is_parent last ≡ true)
     → new ≡ appended list c
     → new ≡ list_text (reduced (before ++ c ∷ []))
 put-behind before c list new each e not_current no_pair made =
@@ -169,7 +181,8 @@ put-behind before c list new each e not_current no_pair made =
           let lacks : LacksSlash w.1 = each-last LacksSlash w.0 w.1 (subst EachLacksSlash w.2 (reduced-each LacksSlash before each)) in
           let stays : (is_named_component w.1 && is_parent c) ≡ false = elim no_pair [
             | inl k ↦ none-parent (is_named_component w.1) (is_parent c) k
-            | inr k ↦ ap (λ b. b && is_parent c) (parent-not-name (is_current w.1) (is_parent w.1) (k w.0 w.1 lacks (fixed-last w.0 w.1 fixed) (e ∙ ap list_text w.2)))
+            | inr k ↦ ap (λ b. b && is_parent c)
+                (parent-not-name (is_current w.1) (is_parent w.1) (k w.0 w.1 lacks (fixed-last w.0 w.1 fixed) (e ∙ ap list_text w.2)))
           ] in
           made ∙ ap (λ l. appended l c) (e ∙ ap list_text w.2) ∙ sym (list_text-fixed w.0 w.1 c fixed)
           ∙ ap list_text (sym (behind-stays before w.0 w.1 c w.2 not_current stays))

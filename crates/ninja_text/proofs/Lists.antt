@@ -1,4 +1,5 @@
 -- Lists by their indexes, and the results of calls that extend them one after another.
+use Rattle.ninja_text.specs.Bytes.{Bytes}
 use Rattle.std.proofs.Common.{◌≡◌, ℕ, ◌<◌, Bool, ◌&&◌, ◌==◌, true, false, cond, List, ◌++◌, ◌∙◌, ap, append_assoc, Option, Some, None, arith, Ok, Err, IfOk, sym, subst, zero, suc, ◌+◌, [], ◌∷◌, drop, length, refl, slice_get, ◌-◌, ◌⊎◌, map, take, ap₂, inl, inr, ⊎_elim, length-drop, get_or, true≢false, bytes_eq, not}
 use Rattle.std.specs.Io.KnownBytes.{Appends}
 use Rattle.std.specs.Prelude.{Result, MatchResult, is_ok}
@@ -13,7 +14,7 @@ use Rattle.ninja_text.specs.Firsts.{AllDiffer}
 -- ---- known bytes that grow in several writes
 
 -- one extension and then another are one
-pub Appends-trans : (a b c : Option (List ℕ)) (x y : List ℕ) → Appends a b x → Appends b c y → Appends a c (x ++ y)
+pub Appends-trans : (a b c : Option Bytes) (x y : Bytes) → Appends a b x → Appends b c y → Appends a c (x ++ y)
 Appends-trans None b c x y h k = tt
 Appends-trans (Some p) None c x y h k = absurd h
 Appends-trans (Some p) (Some q) None x y h k = absurd k
@@ -27,7 +28,8 @@ some-taken n false x y h = grind arith
 -- ---- results with an error
 
 -- what holds of a value holds of it when the error was mapped
-pub with_other_error : {A E D : Type 0} (P : A → Type 0) (Q : E → Type 0) (r : Result A E) (s : Result A D) → MatchResult r (λ x. s ≡ Ok x) Q → is_ok s ≡ is_ok r → IfOk r P → IfOk s P
+pub with_other_error : {A E D : Type 0} (P : A → Type 0) (Q : E → Type 0) (r : Result A E) (s : Result A D) → MatchResult r (λ x. s ≡ Ok x) Q →
+    is_ok s ≡ is_ok r → IfOk r P → IfOk s P
 with_other_error P Q (Ok x) s h same p = subst (λ t. IfOk t P) (sym h) p
 with_other_error P Q (Err e) (Ok x) h same p = absurd cc
 with_other_error P Q (Err e) (Err d) h same p = tt
@@ -35,7 +37,7 @@ with_other_error P Q (Err e) (Err d) h same p = tt
 -- ---- calls of a writer, one after the other
 
 -- one more call after the others
-takes-one-more : {W : Type 0} (writes : Call W) (text : List ℕ) (out : W) (index : ℕ) (turns : List (W × ℕ)) (last : W) (end : ℕ) (next : W) (n : ℕ)
+takes-one-more : {W : Type 0} (writes : Call W) (text : Bytes) (out : W) (index : ℕ) (turns : List (W × ℕ)) (last : W) (end : ℕ) (next : W) (n : ℕ)
     → TakesInTurn writes text out index turns last end → 0 < n → writes last next (Ok n) (drop end text)
     → TakesInTurn writes text out index (turns ++ (next, n) ∷ []) next (end + n)
 takes-one-more writes text out index [] last end next n h some call =
@@ -43,7 +45,7 @@ takes-one-more writes text out index [] last end next n h some call =
 takes-one-more writes text out index (turn ∷ turns) last end next n h some call =
     (h.0, h.1, takes-one-more writes text turn.0 (index + turn.1) turns last end next n h.2 some call)
 
-pub taken-one-more : {W : Type 0} (writes : Call W) (text : List ℕ) (out last next : W) (taken n : ℕ)
+pub taken-one-more : {W : Type 0} (writes : Call W) (text : Bytes) (out last next : W) (taken n : ℕ)
     → IsTakenInTurn writes out last text taken → 0 < n → writes last next (Ok n) (drop taken text)
     → IsTakenInTurn writes out next text (taken + n)
 taken-one-more writes text out last next taken n h some call =
@@ -85,7 +87,8 @@ to_map f (y ∷ xs) zero x e = ap (λ z. Some (f z)) (same_some _ _ e)
 to_map f (y ∷ xs) (suc k) x e = to_map f xs k x e
 
 -- an element of two lists, one after the other, is in the first or in the second
-pub in_append : {X : Type 0} (xs ys : List X) (k : ℕ) (x : X) → slice_get (xs ++ ys) k ≡ Some x → (slice_get xs k ≡ Some x) ⊎ ((m : ℕ) × (k ≡ length xs + m) × (slice_get ys m ≡ Some x))
+pub in_append : {X : Type 0} (xs ys : List X) (k : ℕ) (x : X) → slice_get (xs ++ ys) k ≡ Some x →
+    (slice_get xs k ≡ Some x) ⊎ ((m : ℕ) × (k ≡ length xs + m) × (slice_get ys m ≡ Some x))
 in_append [] ys k x e = inr (k, omega arith, e)
 in_append (y ∷ xs) ys zero x e = inl e
 in_append (y ∷ xs) ys (suc k) x e = elim (in_append xs ys k x e) [ inl h ↦ inl h | inr h ↦ inr (h.0, omega (arith, h.1), h.2) ]
@@ -101,7 +104,8 @@ in_second [] ys k x e = let at : 0 + k ≡ k = omega arith in rw at e
 in_second (y ∷ xs) ys k x e = let at : suc (length xs) + k ≡ suc (length xs + k) = omega arith in rw at (in_second xs ys k x e)
 
 -- an element of a list that is one longer is in the list, or it is the last one
-pub from_push : {X : Type 0} (xs : List X) (y : X) (k : ℕ) (x : X) → slice_get (xs ++ y ∷ []) k ≡ Some x → (slice_get xs k ≡ Some x) ⊎ ((k ≡ length xs) × (y ≡ x))
+pub from_push : {X : Type 0} (xs : List X) (y : X) (k : ℕ) (x : X) → slice_get (xs ++ y ∷ []) k ≡ Some x →
+    (slice_get xs k ≡ Some x) ⊎ ((k ≡ length xs) × (y ≡ x))
 from_push [] y zero x e = inr (refl, same_some _ _ e)
 from_push [] y (suc k) x e = cc
 from_push (z ∷ xs) y zero x e = inl e
@@ -134,7 +138,8 @@ pub to_the_end : {X : Type 0} (n : ℕ) (xs : List X) → take (length xs - n) (
 to_the_end n xs = take_all (length xs - n) (drop n xs) (omega (arith, length-drop n xs))
 
 -- a list whose elements are each what a function gives is the mapped list
-pub zip_is_map : {A B : Type 0} (R : A → B → Type 0) (f : A → B) → ((a : A) (b : B) → R a b → b ≡ f a) → (xs : List A) (ys : List B) → AllZip R xs ys → ys ≡ map f xs
+pub zip_is_map : {A B : Type 0} (R : A → B → Type 0) (f : A → B) → ((a : A) (b : B) → R a b → b ≡ f a) → (xs : List A) (ys : List B) → AllZip R xs ys →
+    ys ≡ map f xs
 zip_is_map R f is [] [] h = refl
 zip_is_map R f is [] (y ∷ ys) h = absurd h
 zip_is_map R f is (x ∷ xs) [] h = absurd h
@@ -147,7 +152,8 @@ FromItem {X} h xs y = (x : X) × ((j : ℕ) × (slice_get xs j ≡ Some x)) × (
 later : {X Y : Type 0} (h : X → Option Y) (z : X) (xs : List X) (y : Y) → FromItem h xs y → FromItem h (z ∷ xs) y
 later h z xs y c = (c.0, (suc c.1.0, c.1.1), c.2)
 
-from_cons : {X Y : Type 0} (h : X → Option Y) (z : X) (xs : List X) (o : Option Y) (k : ℕ) (y : Y) → h z ≡ o → slice_get (cons_option o (filter_map h xs)) k ≡ Some y → ((l : ℕ) → slice_get (filter_map h xs) l ≡ Some y → FromItem h xs y) → FromItem h (z ∷ xs) y
+from_cons : {X Y : Type 0} (h : X → Option Y) (z : X) (xs : List X) (o : Option Y) (k : ℕ) (y : Y) → h z ≡ o →
+    slice_get (cons_option o (filter_map h xs)) k ≡ Some y → ((l : ℕ) → slice_get (filter_map h xs) l ≡ Some y → FromItem h xs y) → FromItem h (z ∷ xs) y
 from_cons h z xs None k y is at rest = later h z xs y (rest k at)
 from_cons h z xs (Some w) zero y is at rest = (z, (0, refl), is ∙ at)
 from_cons h z xs (Some w) (suc k) y is at rest = later h z xs y (rest k at)
@@ -160,9 +166,11 @@ put_in : {Y : Type 0} (o : Option Y) (ys : List Y) (y : Y) → (k : ℕ) × (sli
 put_in None ys y h = h
 put_in (Some z) ys y h = (suc h.0, h.1)
 
-pub in_filter_map : {X Y : Type 0} (h : X → Option Y) (xs : List X) (k : ℕ) (x : X) (y : Y) → slice_get xs k ≡ Some x → h x ≡ Some y → (j : ℕ) × (slice_get (filter_map h xs) j ≡ Some y)
+pub in_filter_map : {X Y : Type 0} (h : X → Option Y) (xs : List X) (k : ℕ) (x : X) (y : Y) → slice_get xs k ≡ Some x → h x ≡ Some y →
+    (j : ℕ) × (slice_get (filter_map h xs) j ≡ Some y)
 in_filter_map h [] k x y at is = cc
-in_filter_map h (z ∷ xs) zero x y at is = let made : h z ≡ Some y = ap h (same_some _ _ at) ∙ is in subst (λ o. (j : ℕ) × (slice_get (cons_option o (filter_map h xs)) j ≡ Some y)) (sym made) (0, refl)
+in_filter_map h (z ∷ xs) zero x y at is = let made : h z ≡ Some y = ap h (same_some _ _ at) ∙ is in
+    subst (λ o. (j : ℕ) × (slice_get (cons_option o (filter_map h xs)) j ≡ Some y)) (sym made) (0, refl)
 in_filter_map h (z ∷ xs) (suc k) x y at is = put_in (h z) (filter_map h xs) y (in_filter_map h xs k x y at is)
 
 -- two numbers are in one of three orders
@@ -172,16 +180,19 @@ three_ways zero (suc b) = inl (omega arith)
 three_ways (suc a) zero = inr (inr (omega arith))
 three_ways (suc a) (suc b) = elim (three_ways a b) [ inl h ↦ inl (omega arith) | inr h ↦ inr (elim h [ inl e ↦ inl (ap suc e) | inr m ↦ inr (omega arith) ]) ]
 
-chosen : {X : Type 0} (P : ℕ → X → Type 0) (x : X) → P 0 x → (xs : List X) → ((i : ℕ) (y : X) → slice_get xs i ≡ Some y → P (suc i) y) → (i : ℕ) (y : X) → slice_get (x ∷ xs) i ≡ Some y → P i y
+chosen : {X : Type 0} (P : ℕ → X → Type 0) (x : X) → P 0 x → (xs : List X) → ((i : ℕ) (y : X) → slice_get xs i ≡ Some y → P (suc i) y) → (i : ℕ) (y : X) →
+    slice_get (x ∷ xs) i ≡ Some y → P i y
 chosen P x p xs f zero y e = let same : x ≡ y = cc in subst (λ z. P 0 z) same p
 chosen P x p xs f (suc i) y e = f i y e
 
 -- a choice for each number below n makes a list
-pub choose : {X : Type 0} (P : ℕ → X → Type 0) (n : ℕ) → ((i : ℕ) → i < n → (x : X) × P i x) → (xs : List X) × (length xs ≡ n) × ((i : ℕ) (x : X) → slice_get xs i ≡ Some x → P i x)
+pub choose : {X : Type 0} (P : ℕ → X → Type 0) (n : ℕ) → ((i : ℕ) → i < n → (x : X) × P i x) →
+    (xs : List X) × (length xs ≡ n) × ((i : ℕ) (x : X) → slice_get xs i ≡ Some x → P i x)
 choose P zero f = ([], refl, λ i x e. cc)
 choose P (suc n) f =
     let first : (x : _) × P 0 x = f 0 (omega arith) in
-    let others : (xs : List _) × (length xs ≡ n) × ((i : ℕ) (x : _) → slice_get xs i ≡ Some x → P (suc i) x) = choose (λ i x. P (suc i) x) n (λ i h. f (suc i) (omega arith)) in
+    let others : (xs : List _) × (length xs ≡ n) ×
+    ((i : ℕ) (x : _) → slice_get xs i ≡ Some x → P (suc i) x) = choose (λ i x. P (suc i) x) n (λ i h. f (suc i) (omega arith)) in
     (first.0 ∷ others.0, omega (arith, others.1), chosen P first.0 first.1 others.0 others.2)
 
 -- how many elements come before the part of element i
@@ -227,7 +238,8 @@ differ_push xs y all new = record { differ = differ }
     differ : (i j : ℕ) (x : _) → i < j → slice_get (xs ++ y ∷ []) i ≡ Some x → slice_get (xs ++ y ∷ []) j ≡ Some x → ⊥
     differ i j x lt at_i at_j =
         ⊎_elim
-        (λ in_j. ⊎_elim (λ in_i. all.differ i j x lt in_i in_j) (λ last_i. let within : j < length xs = slice_get_within xs j x in_j in absurd (omega (arith, within, last_i.0, lt))) (from_push xs y i x at_i))
+        (λ in_j. ⊎_elim (λ in_i. all.differ i j x lt in_i in_j)
+        (λ last_i. let within : j < length xs = slice_get_within xs j x in_j in absurd (omega (arith, within, last_i.0, lt))) (from_push xs y i x at_i))
         (λ last_j.
         ⊎_elim
         (λ in_i. new i (in_i ∙ ap (λ z. Some z) (sym last_j.1)))
@@ -236,7 +248,8 @@ differ_push xs y all new = record { differ = differ }
         (from_push xs y j x at_j)
 
 -- what a search by texts does not find is not there
-pub not_among : {X : Type 0} (f : X → List ℕ) (ks : List X) (x : X) → list_any (λ k. bytes_eq (f x) (f k)) ks ≡ false → (k : ℕ) → slice_get (map f ks) k ≡ Some (f x) → ⊥
+pub not_among : {X : Type 0} (f : X → Bytes) (ks : List X) (x : X) → list_any (λ k. bytes_eq (f x) (f k)) ks ≡ false → (k : ℕ) →
+    slice_get (map f ks) k ≡ Some (f x) → ⊥
 not_among f ks x none k at =
     let from = from_map f ks k (f x) at in
     let within : k < length ks = slice_get_within ks k from.0 from.1 in

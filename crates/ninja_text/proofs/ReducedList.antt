@@ -1,4 +1,6 @@
 -- The rewriting of components ends in one list, whatever the choice of steps.
+use Rattle.ninja_text.specs.inner.ComponentLists.{Components}
+use Rattle.ninja_text.specs.Bytes.{Bytes}
 use Rattle.std.proofs.Common.{◌≡◌, ℕ, zero, suc, Bool, true, false, not, ◌||◌, ◌&&◌, ◌==◌, cond, IsTrue, List, [], ◌∷◌, ◌++◌, refl, sym, ◌∙◌, ap, subst, append_assoc, rules, ◌⊎◌, inl, inr}
 use Rattle.std.specs.List.{AllByRecursion, list_any}
 use Rattle.std.proofs.lemmas.Bool.{or_parts}
@@ -18,7 +20,7 @@ pub is_true : (b : Bool) → b ≡ true → IsTrue b
 is_true b h = search rules
 
 -- no step applies, read from the front
-abbrev pub IsFixed : List (List ℕ) → Type 0
+abbrev pub IsFixed : Components → Type 0
 IsFixed [] = Unit {0}
 IsFixed (c ∷ []) = is_current c ≡ false
 IsFixed (c ∷ d ∷ ds) = (is_current c ≡ false) × ((is_named_component c && is_parent d) ≡ false) × IsFixed (d ∷ ds)
@@ -28,32 +30,34 @@ pub name-of : (i u : Bool) → i ≡ false → u ≡ false → not (i || u) ≡ 
 name-of i u h k = ap (λ b. not (b || u)) h ∙ ap not k
 
 -- no step applies to the rest of a list to which none applies
-pub fixed-tail : (c : List ℕ) (cs : List (List ℕ)) → IsFixed (c ∷ cs) → IsFixed cs
+pub fixed-tail : (c : Bytes) (cs : Components) → IsFixed (c ∷ cs) → IsFixed cs
 fixed-tail c [] h = tt
 fixed-tail c (d ∷ ds) h = h.2
 
 -- ---- what one component in front does
 
 -- an empty component or `.` goes
-pub in_front-current : (c : List ℕ) (r : List (List ℕ)) → is_current c ≡ true → in_front c r ≡ r
+pub in_front-current : (c : Bytes) (r : Components) → is_current c ≡ true → in_front c r ≡ r
 in_front-current c [] h = ap (λ b. cond b [] (c ∷ [])) h
 in_front-current c (d ∷ ds) h = ap (λ b. cond b (d ∷ ds) (cond (is_named_component c && is_parent d) ds (c ∷ d ∷ ds))) h
 
 -- a name and the `..` after it go
-pub in_front-pair : (c d : List ℕ) (ds : List (List ℕ)) → is_current c ≡ false → (is_named_component c && is_parent d) ≡ true → in_front c (d ∷ ds) ≡ ds
+pub in_front-pair : (c d : Bytes) (ds : Components) → is_current c ≡ false → (is_named_component c && is_parent d) ≡ true → in_front c (d ∷ ds) ≡ ds
 in_front-pair c d ds h k = ap (λ b. cond b (d ∷ ds) (cond (is_named_component c && is_parent d) ds (c ∷ d ∷ ds))) h ∙ ap (λ b. cond b ds (c ∷ d ∷ ds)) k
 
 -- any other component stays in front of the list
-pub in_front-stays : (c d : List ℕ) (ds : List (List ℕ)) → is_current c ≡ false → (is_named_component c && is_parent d) ≡ false → in_front c (d ∷ ds) ≡ c ∷ d ∷ ds
+pub in_front-stays : (c d : Bytes) (ds : Components) → is_current c ≡ false → (is_named_component c && is_parent d) ≡ false →
+    in_front c (d ∷ ds) ≡ c ∷ d ∷ ds
 in_front-stays c d ds h k = ap (λ b. cond b (d ∷ ds) (cond (is_named_component c && is_parent d) ds (c ∷ d ∷ ds))) h ∙ ap (λ b. cond b ds (c ∷ d ∷ ds)) k
 
 -- and alone
-pub in_front-alone : (c : List ℕ) → is_current c ≡ false → in_front c [] ≡ c ∷ []
+pub in_front-alone : (c : Bytes) → is_current c ≡ false → in_front c [] ≡ c ∷ []
 in_front-alone c h = ap (λ b. cond b [] (c ∷ [])) h
 
 -- no step applies then
-pub in_front-fixed : (c : List ℕ) (r : List (List ℕ)) → IsFixed r → IsFixed (in_front c r)
-in_front-fixed c [] f = elim (either_way (is_current c)) [ inl h ↦ subst IsFixed (sym (in_front-current c [] h)) tt | inr h ↦ subst IsFixed (sym (in_front-alone c h)) h ]
+pub in_front-fixed : (c : Bytes) (r : Components) → IsFixed r → IsFixed (in_front c r)
+in_front-fixed c [] f = elim (either_way (is_current c))
+    [ inl h ↦ subst IsFixed (sym (in_front-current c [] h)) tt | inr h ↦ subst IsFixed (sym (in_front-alone c h)) h ]
 in_front-fixed c (d ∷ ds) f =
     elim (either_way (is_current c)) [
       | inl h ↦ subst IsFixed (sym (in_front-current c (d ∷ ds) h)) f
@@ -64,18 +68,18 @@ in_front-fixed c (d ∷ ds) f =
     ]
 
 -- no step applies to the reduced list
-pub reduced-fixed : (xs : List (List ℕ)) → IsFixed (reduced xs)
+pub reduced-fixed : (xs : Components) → IsFixed (reduced xs)
 reduced-fixed [] = tt
 reduced-fixed (c ∷ cs) = in_front-fixed c (reduced cs) (reduced-fixed cs)
 
 -- a list to which no step applies is its reduced list
-pub fixed-reduced : (xs : List (List ℕ)) → IsFixed xs → reduced xs ≡ xs
+pub fixed-reduced : (xs : Components) → IsFixed xs → reduced xs ≡ xs
 fixed-reduced [] f = refl
 fixed-reduced (c ∷ []) f = in_front-alone c f
 fixed-reduced (c ∷ d ∷ ds) f = ap (in_front c) (fixed-reduced (d ∷ ds) f.2) ∙ in_front-stays c d ds f.0 f.1
 
 -- no step applies to a list of names
-pub names-fixed : (xs : List (List ℕ)) → list_any (λ c. is_current c || is_parent c) xs ≡ false → IsFixed xs
+pub names-fixed : (xs : Components) → list_any (λ c. is_current c || is_parent c) xs ≡ false → IsFixed xs
 names-fixed [] none = tt
 names-fixed (c ∷ []) none = (or_parts (is_current c) (is_parent c) (or_parts (is_current c || is_parent c) false none).0).0
 names-fixed (c ∷ d ∷ ds) none =
@@ -113,52 +117,53 @@ and-false-true true h = cc
 and-false-true false h = cc
 
 -- `..` is not empty and no `.`
-parent-not-current : (c : List ℕ) → is_parent c ≡ true → is_current c ≡ false
+parent-not-current : (c : Bytes) → is_parent c ≡ true → is_current c ≡ false
 parent-not-current [] h = cc
 parent-not-current (b ∷ []) h = absurd (and-false-true (b == 46) h)
 parent-not-current (b ∷ d ∷ ds) h = and-false (b == 46)
 
 -- `..` stays in front of any list
-pub in_front-parent : (d : List ℕ) (r : List (List ℕ)) → is_parent d ≡ true → in_front d r ≡ d ∷ r
+pub in_front-parent : (d : Bytes) (r : Components) → is_parent d ≡ true → in_front d r ≡ d ∷ r
 in_front-parent d [] h = in_front-alone d (parent-not-current d h)
 in_front-parent d (e ∷ es) h = in_front-stays d e es (parent-not-current d h) (ap (λ b. b && is_parent e) (parent-not-name (is_current d) (is_parent d) h))
 
 -- a name and `..` in front of a list go
-pub in_front-name_parent : (c d : List ℕ) (r : List (List ℕ)) → is_named_component c ≡ true → is_parent d ≡ true → in_front c (in_front d r) ≡ r
+pub in_front-name_parent : (c d : Bytes) (r : Components) → is_named_component c ≡ true → is_parent d ≡ true → in_front c (in_front d r) ≡ r
 in_front-name_parent c d r h k =
     ap (in_front c) (in_front-parent d r k)
     ∙ in_front-pair c d r (current-not-name (is_current c) (is_parent c) h) (ap (λ b. b && is_parent d) h ∙ k)
 
 -- lists that reduce to one list do so after others
-pub reduced-context : (front xs ys : List (List ℕ)) → reduced xs ≡ reduced ys → reduced (front ++ xs) ≡ reduced (front ++ ys)
+pub reduced-context : (front xs ys : Components) → reduced xs ≡ reduced ys → reduced (front ++ xs) ≡ reduced (front ++ ys)
 reduced-context [] xs ys h = h
 reduced-context (c ∷ front) xs ys h = ap (in_front c) (reduced-context front xs ys h)
 
 -- what one step deletes leaves no trace
-reduced-gone : (gone back : List (List ℕ)) → IsDeletable gone → reduced (gone ++ back) ≡ reduced back
+reduced-gone : (gone back : Components) → IsDeletable gone → reduced (gone ++ back) ≡ reduced back
 reduced-gone [] back h = absurd h
 reduced-gone (c ∷ []) back h = in_front-current c (reduced back) (true_is _ h)
 reduced-gone (c ∷ d ∷ []) back h = in_front-name_parent c d (reduced back) (true_is _ h.0) (true_is _ h.1)
 reduced-gone (c ∷ d ∷ e ∷ more) back h = absurd h
 
 -- a step leaves what the list reduces to
-pub step-reduced : (old new : List (List ℕ)) → ReductionStep old new → reduced old ≡ reduced new
+pub step-reduced : (old new : Components) → ReductionStep old new → reduced old ≡ reduced new
 step-reduced old new s =
     ap reduced s.before ∙ reduced-context s.front (s.gone ++ s.back) s.back (reduced-gone s.gone s.back s.deletable) ∙ sym (ap reduced s.after)
 
 -- so do steps
-pub steps-reduced : (n : ℕ) (old new : List (List ℕ)) → Steps n old new → reduced old ≡ reduced new
+pub steps-reduced : (n : ℕ) (old new : Components) → Steps n old new → reduced old ≡ reduced new
 steps-reduced zero old new h = ap reduced h
 steps-reduced (suc n) old new h = step-reduced old h.0 h.1 ∙ steps-reduced n h.0 new h.2
 
 -- ---- no step applies if and only if the list is fixed
 
 -- a step after one more component
-pub step-behind : (c : List ℕ) (old new : List (List ℕ)) → ReductionStep old new → ReductionStep (c ∷ old) (c ∷ new)
-step-behind c old new s = record { front = c ∷ s.front; gone = s.gone; back = s.back; deletable = s.deletable; before = ap (λ l. c ∷ l) s.before; after = ap (λ l. c ∷ l) s.after }
+pub step-behind : (c : Bytes) (old new : Components) → ReductionStep old new → ReductionStep (c ∷ old) (c ∷ new)
+step-behind c old new s =
+    record { front = c ∷ s.front; gone = s.gone; back = s.back; deletable = s.deletable; before = ap (λ l. c ∷ l) s.before; after = ap (λ l. c ∷ l) s.after }
 
 -- the step that deletes an empty component or `.` in front
-step-current : (c : List ℕ) (cs : List (List ℕ)) → is_current c ≡ true → ReductionStep (c ∷ cs) cs
+step-current : (c : Bytes) (cs : Components) → is_current c ≡ true → ReductionStep (c ∷ cs) cs
 step-current c cs h = record { front = []; gone = c ∷ []; back = cs; deletable = is_true _ h; before = refl; after = refl }
 
 -- the first of two tests that hold
@@ -172,11 +177,18 @@ and-right true b h = h
 and-right false b h = cc
 
 -- the step that deletes a name and the `..` after it in front
-step-pair : (c d : List ℕ) (ds : List (List ℕ)) → (is_named_component c && is_parent d) ≡ true → ReductionStep (c ∷ d ∷ ds) ds
-step-pair c d ds h = record { front = []; gone = c ∷ d ∷ []; back = ds; deletable = (is_true _ (and-left (is_named_component c) (is_parent d) h), is_true _ (and-right (is_named_component c) (is_parent d) h)); before = refl; after = refl }
+step-pair : (c d : Bytes) (ds : Components) → (is_named_component c && is_parent d) ≡ true → ReductionStep (c ∷ d ∷ ds) ds
+step-pair c d ds h = record {
+  front = [];
+  gone = c ∷ d ∷ [];
+  back = ds;
+  deletable = (is_true _ (and-left (is_named_component c) (is_parent d) h), is_true _ (and-right (is_named_component c) (is_parent d) h));
+  before = refl;
+  after = refl;
+}
 
 -- no step applies to the rest of a list to which none applies
-reduced-tail : (c : List ℕ) (cs : List (List ℕ)) → IsReduced (c ∷ cs) → IsReduced cs
+reduced-tail : (c : Bytes) (cs : Components) → IsReduced (c ∷ cs) → IsReduced cs
 reduced-tail c cs h next s = h (c ∷ next) (step-behind c cs next s)
 
 -- a test that can not hold fails
@@ -185,7 +197,7 @@ or-absurd true h = absurd (h refl)
 or-absurd false h = refl
 
 -- if no step applies, the list is fixed
-pub final-fixed : (xs : List (List ℕ)) → IsReduced xs → IsFixed xs
+pub final-fixed : (xs : Components) → IsReduced xs → IsFixed xs
 final-fixed [] h = tt
 final-fixed (c ∷ []) h = or-absurd (is_current c) (λ k. h [] (step-current c [] k))
 final-fixed (c ∷ d ∷ ds) h = (
@@ -195,40 +207,41 @@ final-fixed (c ∷ d ∷ ds) h = (
 )
 
 -- what follows in a fixed list is fixed
-pub fixed-behind : (front xs : List (List ℕ)) → IsFixed (front ++ xs) → IsFixed xs
+pub fixed-behind : (front xs : Components) → IsFixed (front ++ xs) → IsFixed xs
 fixed-behind [] xs h = h
 fixed-behind (c ∷ front) xs h = fixed-behind front xs (fixed-tail c (front ++ xs) h)
 
 -- a fixed list begins with nothing that a step deletes
-fixed-gone : (gone back : List (List ℕ)) → IsDeletable gone → IsFixed (gone ++ back) → ⊥
+fixed-gone : (gone back : Components) → IsDeletable gone → IsFixed (gone ++ back) → ⊥
 fixed-gone [] back h f = h
 fixed-gone (c ∷ []) [] h f = let e = true_is (is_current c) h in cc
 fixed-gone (c ∷ []) (d ∷ ds) h f = let e = true_is (is_current c) h in let g = f.0 in cc
-fixed-gone (c ∷ d ∷ []) back h f = let e = true_is (is_named_component c) h.0 in let k = true_is (is_parent d) h.1 in let g = f.1 in let j : (is_named_component c && is_parent d) ≡ true = ap (λ b. b && is_parent d) e ∙ k in cc
+fixed-gone (c ∷ d ∷ []) back h f = let e = true_is (is_named_component c) h.0 in let k = true_is (is_parent d) h.1 in let g = f.1 in
+    let j : (is_named_component c && is_parent d) ≡ true = ap (λ b. b && is_parent d) e ∙ k in cc
 fixed-gone (c ∷ d ∷ e ∷ more) back h f = h
 
 -- to a fixed list no step applies
-pub fixed-final : (xs : List (List ℕ)) → IsFixed xs → IsReduced xs
+pub fixed-final : (xs : Components) → IsFixed xs → IsReduced xs
 fixed-final xs f next s = fixed-gone s.gone s.back s.deletable (fixed-behind s.front (s.gone ++ s.back) (subst IsFixed s.before f))
 
 -- ---- some steps lead to the reduced list
 
 -- some steps lead from one list to the other
-abbrev LeadsTo : List (List ℕ) → List (List ℕ) → Type 0
+abbrev LeadsTo : Components → Components → Type 0
 LeadsTo old new = (n : ℕ) × Steps n old new
 
 -- steps after one more component
-leads-behind : (c : List ℕ) (n : ℕ) (old new : List (List ℕ)) → Steps n old new → Steps n (c ∷ old) (c ∷ new)
+leads-behind : (c : Bytes) (n : ℕ) (old new : Components) → Steps n old new → Steps n (c ∷ old) (c ∷ new)
 leads-behind c zero old new h = ap (λ l. c ∷ l) h
 leads-behind c (suc n) old new h = (c ∷ h.0, step-behind c old h.0 h.1, leads-behind c n h.0 new h.2)
 
 -- steps, and then one more
-leads-on : (n : ℕ) (old mid new : List (List ℕ)) → Steps n old mid → ReductionStep mid new → LeadsTo old new
+leads-on : (n : ℕ) (old mid new : Components) → Steps n old mid → ReductionStep mid new → LeadsTo old new
 leads-on zero old mid new h s = (1, (new, subst (λ l. ReductionStep l new) (sym h) s, refl))
 leads-on (suc n) old mid new h s = let rest = leads-on n h.0 mid new h.2 s in (suc rest.0, (h.0, h.1, rest.1))
 
 -- the step that one more component in front makes possible
-leads-front : (c : List ℕ) (r old : List (List ℕ)) (n : ℕ) → Steps n old (c ∷ r) → LeadsTo old (in_front c r)
+leads-front : (c : Bytes) (r old : Components) (n : ℕ) → Steps n old (c ∷ r) → LeadsTo old (in_front c r)
 leads-front c [] old n s =
     elim (either_way (is_current c)) [
       | inl h ↦ subst (LeadsTo old) (sym (in_front-current c [] h)) (leads-on n old (c ∷ []) [] s (step-current c [] h))
@@ -244,22 +257,22 @@ leads-front c (d ∷ ds) old n s =
     ]
 
 -- some steps lead to the reduced list
-leads-reduced : (xs : List (List ℕ)) → LeadsTo xs (reduced xs)
+leads-reduced : (xs : Components) → LeadsTo xs (reduced xs)
 leads-reduced [] = (0, refl)
 leads-reduced (c ∷ cs) = let rest = leads-reduced cs in leads-front c (reduced cs) (c ∷ cs) rest.0 (leads-behind c rest.0 cs (reduced cs) rest.1)
 
 -- the list is reached, and no other is
-pub reaches : (xs : List (List ℕ)) → ReducesTo xs (reduced xs)
+pub reaches : (xs : Components) → ReducesTo xs (reduced xs)
 reaches xs = let l = leads-reduced xs in record { count = l.0; steps = l.1; final = fixed-final (reduced xs) (reduced-fixed xs) }
 
 -- and no other list to which no step applies is reached
-pub reaches-only : (xs ys : List (List ℕ)) → ReducesTo xs ys → ys ≡ reduced xs
+pub reaches-only : (xs ys : Components) → ReducesTo xs ys → ys ≡ reduced xs
 reaches-only xs ys r = sym (fixed-reduced ys (final-fixed ys r.final)) ∙ sym (steps-reduced r.count xs ys r.steps)
 
 -- ---- a component after a list
 
 -- a step in front of other components
-step-ahead : (old new ys : List (List ℕ)) → ReductionStep old new → ReductionStep (old ++ ys) (new ++ ys)
+step-ahead : (old new ys : Components) → ReductionStep old new → ReductionStep (old ++ ys) (new ++ ys)
 step-ahead old new ys s = record {
   front = s.front;
   gone = s.gone;
@@ -270,25 +283,26 @@ step-ahead old new ys s = record {
 }
 
 -- steps in front of other components
-leads-ahead : (n : ℕ) (old new ys : List (List ℕ)) → Steps n old new → Steps n (old ++ ys) (new ++ ys)
+leads-ahead : (n : ℕ) (old new ys : Components) → Steps n old new → Steps n (old ++ ys) (new ++ ys)
 leads-ahead zero old new ys h = ap (λ l. l ++ ys) h
 leads-ahead (suc n) old new ys h = (h.0 ++ ys, step-ahead old h.0 ys h.1, leads-ahead n h.0 new ys h.2)
 
 -- what is in front may be reduced first
-pub reduced-ahead : (xs ys : List (List ℕ)) → reduced (xs ++ ys) ≡ reduced (reduced xs ++ ys)
+pub reduced-ahead : (xs ys : Components) → reduced (xs ++ ys) ≡ reduced (reduced xs ++ ys)
 reduced-ahead xs ys = let l = leads-reduced xs in steps-reduced l.0 (xs ++ ys) (reduced xs ++ ys) (leads-ahead l.0 xs (reduced xs) ys l.1)
 
 -- nothing after a list
-append-nil : (xs : List (List ℕ)) → xs ++ [] ≡ xs
+append-nil : (xs : Components) → xs ++ [] ≡ xs
 append-nil [] = refl
 append-nil (x ∷ xs) = ap (λ l. x ∷ l) (append-nil xs)
 
 -- an empty component or `.` after a list goes
-pub behind-current : (xs : List (List ℕ)) (c : List ℕ) → is_current c ≡ true → reduced (xs ++ c ∷ []) ≡ reduced xs
+pub behind-current : (xs : Components) (c : Bytes) → is_current c ≡ true → reduced (xs ++ c ∷ []) ≡ reduced xs
 behind-current xs c h = reduced-context xs (c ∷ []) [] (in_front-current c [] h) ∙ ap reduced (append-nil xs)
 
 -- `..` after a list that ends in a name goes with it
-pub behind-pair : (xs init : List (List ℕ)) (last c : List ℕ) → reduced xs ≡ init ++ last ∷ [] → is_named_component last ≡ true → is_parent c ≡ true → reduced (xs ++ c ∷ []) ≡ init
+pub behind-pair : (xs init : Components) (last c : Bytes) → reduced xs ≡ init ++ last ∷ [] → is_named_component last ≡ true → is_parent c ≡ true →
+    reduced (xs ++ c ∷ []) ≡ init
 behind-pair xs init last c e h k =
     reduced-ahead xs (c ∷ [])
     ∙ ap (λ l. reduced (l ++ c ∷ [])) e
@@ -297,20 +311,22 @@ behind-pair xs init last c e h k =
     ∙ ap reduced (append-nil init)
     ∙ fixed-reduced init (fixed-front init (last ∷ []) (subst IsFixed e (reduced-fixed xs)))
   where
-    fixed-front : (init rest : List (List ℕ)) → IsFixed (init ++ rest) → IsFixed init
+    fixed-front : (init rest : Components) → IsFixed (init ++ rest) → IsFixed init
     fixed-front [] rest f = tt
     fixed-front (a ∷ []) [] f = f
     fixed-front (a ∷ []) (b ∷ rest) f = f.0
     fixed-front (a ∷ b ∷ init) rest f = (f.0, f.1, fixed-front (b ∷ init) rest f.2)
 
 -- no step applies to a list with a component added at its end, if that component stays
-fixed-snoc : (init : List (List ℕ)) (last c : List ℕ) → IsFixed (init ++ last ∷ []) → is_current c ≡ false → (is_named_component last && is_parent c) ≡ false → IsFixed (init ++ last ∷ c ∷ [])
+fixed-snoc : (init : Components) (last c : Bytes) → IsFixed (init ++ last ∷ []) → is_current c ≡ false → (is_named_component last && is_parent c) ≡ false →
+    IsFixed (init ++ last ∷ c ∷ [])
 fixed-snoc [] last c f h k = (f, k, h)
 fixed-snoc (a ∷ []) last c f h k = (f.0, f.1, (f.2, k, h))
 fixed-snoc (a ∷ b ∷ init) last c f h k = (f.0, f.1, fixed-snoc (b ∷ init) last c f.2 h k)
 
 -- any other component stays after a list
-pub behind-stays : (xs init : List (List ℕ)) (last c : List ℕ) → reduced xs ≡ init ++ last ∷ [] → is_current c ≡ false → (is_named_component last && is_parent c) ≡ false → reduced (xs ++ c ∷ []) ≡ init ++ last ∷ c ∷ []
+pub behind-stays : (xs init : Components) (last c : Bytes) → reduced xs ≡ init ++ last ∷ [] → is_current c ≡ false →
+    (is_named_component last && is_parent c) ≡ false → reduced (xs ++ c ∷ []) ≡ init ++ last ∷ c ∷ []
 behind-stays xs init last c e h k =
     reduced-ahead xs (c ∷ [])
     ∙ ap (λ l. reduced (l ++ c ∷ [])) e
@@ -318,14 +334,15 @@ behind-stays xs init last c e h k =
     ∙ fixed-reduced (init ++ last ∷ c ∷ []) (fixed-snoc init last c (subst IsFixed e (reduced-fixed xs)) h k)
 
 -- and after an empty one
-pub behind-none : (xs : List (List ℕ)) (c : List ℕ) → reduced xs ≡ [] → is_current c ≡ false → reduced (xs ++ c ∷ []) ≡ c ∷ []
+pub behind-none : (xs : Components) (c : Bytes) → reduced xs ≡ [] → is_current c ≡ false → reduced (xs ++ c ∷ []) ≡ c ∷ []
 behind-none xs c e h = reduced-ahead xs (c ∷ []) ∙ ap (λ l. reduced (l ++ c ∷ [])) e ∙ in_front-alone c h
 
 -- ---- what holds of each component holds of each that is left
 
 -- what holds of a component and of a list holds of the one in front of the other
-pub in_front-each : (P : List ℕ → Type 0) (c : List ℕ) (r : List (List ℕ)) → P c → AllByRecursion P r → AllByRecursion P (in_front c r)
-in_front-each P c [] p a = elim (either_way (is_current c)) [ inl h ↦ subst (AllByRecursion P) (sym (in_front-current c [] h)) tt | inr h ↦ subst (AllByRecursion P) (sym (in_front-alone c h)) (p, tt) ]
+pub in_front-each : (P : Bytes → Type 0) (c : Bytes) (r : Components) → P c → AllByRecursion P r → AllByRecursion P (in_front c r)
+in_front-each P c [] p a = elim (either_way (is_current c))
+    [ inl h ↦ subst (AllByRecursion P) (sym (in_front-current c [] h)) tt | inr h ↦ subst (AllByRecursion P) (sym (in_front-alone c h)) (p, tt) ]
 in_front-each P c (d ∷ ds) p a =
     elim (either_way (is_current c)) [
       | inl h ↦ subst (AllByRecursion P) (sym (in_front-current c (d ∷ ds) h)) a
@@ -336,6 +353,6 @@ in_front-each P c (d ∷ ds) p a =
     ]
 
 -- what holds of each component holds of each that is left
-pub reduced-each : (P : List ℕ → Type 0) (xs : List (List ℕ)) → AllByRecursion P xs → AllByRecursion P (reduced xs)
+pub reduced-each : (P : Bytes → Type 0) (xs : Components) → AllByRecursion P xs → AllByRecursion P (reduced xs)
 reduced-each P [] a = tt
 reduced-each P (c ∷ cs) a = in_front-each P c (reduced cs) a.0 (reduced-each P cs a.1)

@@ -1,4 +1,5 @@
 -- The scan of a line: it finds the end that the units have, and how far the line goes into a piece.
+use Rattle.ninja_text.specs.Bytes.{Bytes}
 use Rattle.std.proofs.Common.{inl, inr, subst, ◌≡◌, ℕ, ◌+◌, ◌-◌, List, [], ◌∷◌, map, refl, sym, ap, ◌∙◌, true, false, ◌==◌, arith, Some, None, zero, suc, ◌<◌, ◌≤◌, ◌++◌, length, take, add-zero, ◌⊎◌, min, length-append, Ok}
 use Rattle.std.specs.Prelude.{Option, Result, nat_le}
 use Rattle.std.proofs.lemmas.Bool.{cases_Bool, eqb-true}
@@ -29,17 +30,18 @@ end_of (End text whole) = Some (record { text_len = text; line_len = whole })
 end_of (Open scan) = None
 
 -- in each state, the end is that of the units which the state's pending bytes begin
-record Agrees (bytes : List ℕ) : Type 0 where
+record Agrees (bytes : Bytes) : Type 0 where
   plain : (n : ℕ) → end_of (scan_from n Plain bytes) ≡ end_from n (units bytes)
   return : (n : ℕ) → end_of (scan_from (n + 1) Return bytes) ≡ end_from n (Byte 13 ∷ units bytes)
   dollar : (n : ℕ) → end_of (scan_from (n + 1) Dollar bytes) ≡ end_from n (units (36 ∷ bytes))
   dollar_return : (n : ℕ) → end_of (scan_from (n + 2) DollarReturn bytes) ≡ end_from n (units (36 ∷ 13 ∷ bytes))
 
-same_ends : {a b c d : ℕ} → a ≡ c → b ≡ d → ◌≡◌ {A = Option LineEnd} (Some (record { text_len = a; line_len = b })) (Some (record { text_len = c; line_len = d }))
+same_ends : {a b c d : ℕ} → a ≡ c → b ≡ d →
+    ◌≡◌ {A = Option LineEnd} (Some (record { text_len = a; line_len = b })) (Some (record { text_len = c; line_len = d }))
 same_ends p q = rw (p, q) refl
 
 -- only an LF ends a line: before another byte these states are alike
-module _ (n b : ℕ) (bytes : List ℕ) (f : (b == 10) ≡ false) where
+module _ (n b : ℕ) (bytes : Bytes) (f : (b == 10) ≡ false) where
   like_plain : end_of (scan_from n Return (b ∷ bytes)) ≡ end_of (scan_from n Plain (b ∷ bytes))
   like_plain = elim (cases_Bool (b == 13)) [
     | inl r ↦ rw (f, r) refl
@@ -53,7 +55,8 @@ module _ (n b : ℕ) (bytes : List ℕ) (f : (b == 10) ≡ false) where
   ]
 
 -- what begins with no space and no `#` is no comment
-start_like_plain : (n b : ℕ) (bytes : List ℕ) → (b == 32) ≡ false → (b == 35) ≡ false → end_of (scan_from n Start (b ∷ bytes)) ≡ end_of (scan_from n Plain (b ∷ bytes))
+start_like_plain : (n b : ℕ) (bytes : Bytes) → (b == 32) ≡ false → (b == 35) ≡ false →
+    end_of (scan_from n Start (b ∷ bytes)) ≡ end_of (scan_from n Plain (b ∷ bytes))
 start_like_plain n b bytes s h = elim (cases_Bool (b == 10)) [
   | inl f ↦ rw (s, h, f) refl
   | inr f ↦ elim (cases_Bool (b == 13)) [
@@ -62,12 +65,13 @@ start_like_plain n b bytes s h = elim (cases_Bool (b == 10)) [
   ]
 ]
 
-module _ (bytes : List ℕ) (later : Agrees bytes) where
+module _ (bytes : Bytes) (later : Agrees bytes) where
   plain_more : (b n : ℕ) → end_of (scan_from n Plain (b ∷ bytes)) ≡ end_from n (units (b ∷ bytes))
   plain_more b n = elim (cases_Bool (b == 10)) [
     | inl f ↦ subst (λ x. end_of (scan_from n Plain (x ∷ bytes)) ≡ end_from n (units (x ∷ bytes))) (sym (eqb-true b 10 f)) (rw (units_byte 10 bytes refl) refl)
     | inr f ↦ elim (cases_Bool (b == 13)) [
-      | inl r ↦ subst (λ x. end_of (scan_from n Plain (x ∷ bytes)) ≡ end_from n (units (x ∷ bytes))) (sym (eqb-true b 13 r)) (later.return n ∙ ap (end_from n) (sym (units_byte 13 bytes refl)))
+      | inl r ↦ subst (λ x. end_of (scan_from n Plain (x ∷ bytes)) ≡ end_from n (units (x ∷ bytes))) (sym (eqb-true b 13 r))
+          (later.return n ∙ ap (end_from n) (sym (units_byte 13 bytes refl)))
       | inr r ↦ elim (cases_Bool (b == 36)) [
         | inl d ↦ subst (λ x. end_of (scan_from n Plain (x ∷ bytes)) ≡ end_from n (units (x ∷ bytes))) (sym (eqb-true b 36 d)) (later.dollar n)
         | inr d ↦ rw (units_byte b bytes d, f, r, d) (later.plain (n + 1))
@@ -103,7 +107,7 @@ module _ (bytes : List ℕ) (later : Agrees bytes) where
     | inr f ↦ dollar_return_like_plain (n + 2) b bytes f ∙ plain_more b (n + 2) ∙ sym (ap (end_from n) (units_return b bytes f))
   ]
 
-agrees : (bytes : List ℕ) → Agrees bytes
+agrees : (bytes : Bytes) → Agrees bytes
 agrees [] = record { plain = λ n. refl; return = λ n. refl; dollar = λ n. refl; dollar_return = λ n. refl }
 agrees (b ∷ bytes) = record {
   plain = plain_more bytes (agrees bytes) b;
@@ -113,11 +117,11 @@ agrees (b ∷ bytes) = record {
 }
 
 -- the same in a comment
-record AgreesInComment (bytes : List ℕ) : Type 0 where
+record AgreesInComment (bytes : Bytes) : Type 0 where
   comment : (n : ℕ) → end_of (scan_from n Comment bytes) ≡ end_from n (map Byte bytes)
   comment_return : (n : ℕ) → end_of (scan_from (n + 1) CommentReturn bytes) ≡ end_from n (Byte 13 ∷ map Byte bytes)
 
-module _ (bytes : List ℕ) (later : AgreesInComment bytes) where
+module _ (bytes : Bytes) (later : AgreesInComment bytes) where
   comment_more : (b n : ℕ) → end_of (scan_from n Comment (b ∷ bytes)) ≡ end_from n (map Byte (b ∷ bytes))
   comment_more b n = elim (cases_Bool (b == 10)) [
     | inl f ↦ rw f refl
@@ -138,10 +142,11 @@ module _ (bytes : List ℕ) (later : AgreesInComment bytes) where
     same_scan : (b == 10) ≡ false → (b == 13) ≡ true → end_of (scan_from (n + 1) CommentReturn (b ∷ bytes)) ≡ end_of (scan_from (n + 1) Comment (b ∷ bytes))
     same_scan f r = rw (f, r) refl
 
-    same_scan_other : (b == 10) ≡ false → (b == 13) ≡ false → end_of (scan_from (n + 1) CommentReturn (b ∷ bytes)) ≡ end_of (scan_from (n + 1) Comment (b ∷ bytes))
+    same_scan_other : (b == 10) ≡ false → (b == 13) ≡ false →
+        end_of (scan_from (n + 1) CommentReturn (b ∷ bytes)) ≡ end_of (scan_from (n + 1) Comment (b ∷ bytes))
     same_scan_other f r = rw (f, r) refl
 
-agrees_in_comment : (bytes : List ℕ) → AgreesInComment bytes
+agrees_in_comment : (bytes : Bytes) → AgreesInComment bytes
 agrees_in_comment [] = record { comment = λ n. refl; comment_return = λ n. refl }
 agrees_in_comment (b ∷ bytes) = record {
   comment = comment_more bytes (agrees_in_comment bytes) b;
@@ -149,12 +154,14 @@ agrees_in_comment (b ∷ bytes) = record {
 }
 
 -- from the line's first byte
-pub start_agrees : (bytes : List ℕ) (n : ℕ) → end_of (scan_from n Start bytes) ≡ end_from n (line_units bytes)
+pub start_agrees : (bytes : Bytes) (n : ℕ) → end_of (scan_from n Start bytes) ≡ end_from n (line_units bytes)
 start_agrees [] n = refl
 start_agrees (b ∷ bytes) n = elim (cases_Bool (b == 32)) [
-  | inl s ↦ subst (λ x. end_of (scan_from n Start (x ∷ bytes)) ≡ end_from n (line_units (x ∷ bytes))) (sym (eqb-true b 32 s)) (start_agrees bytes (n + 1) ∙ sym at_space)
+  | inl s ↦ subst (λ x. end_of (scan_from n Start (x ∷ bytes)) ≡ end_from n (line_units (x ∷ bytes))) (sym (eqb-true b 32 s))
+      (start_agrees bytes (n + 1) ∙ sym at_space)
   | inr s ↦ elim (cases_Bool (b == 35)) [
-    | inl h ↦ subst (λ x. end_of (scan_from n Start (x ∷ bytes)) ≡ end_from n (line_units (x ∷ bytes))) (sym (eqb-true b 35 h)) ((agrees_in_comment bytes).comment (n + 1))
+    | inl h ↦ subst (λ x. end_of (scan_from n Start (x ∷ bytes)) ≡ end_from n (line_units (x ∷ bytes))) (sym (eqb-true b 35 h))
+        ((agrees_in_comment bytes).comment (n + 1))
     | inr h ↦ start_like_plain n b bytes s h ∙ (agrees (b ∷ bytes)).plain n ∙ sym (rw (s, h) refl)
   ]
 ] where
@@ -164,7 +171,7 @@ start_agrees (b ∷ bytes) n = elim (cases_Bool (b == 32)) [
     | inr c ↦ rw (c, units_byte 32 bytes refl) refl
   ]
 
-pub line_end_scanned : (bytes : List ℕ) → line_end bytes ≡ end_of (scan_from 0 Start bytes)
+pub line_end_scanned : (bytes : Bytes) → line_end bytes ≡ end_of (scan_from 0 Start bytes)
 line_end_scanned bytes = sym (start_agrees bytes 0)
 
 -- ---- scans of joined and of shortened lists
@@ -185,23 +192,25 @@ ends_at index Dollar = record { text = index; text_fits = omega arith; is = refl
 ends_at index DollarReturn = record { text = index; text_fits = omega arith; is = refl }
 
 -- an open scan continues
-open_more : (index : ℕ) (s s' : ScanState) (k : ScanState → Scanned) (o : Option ScanState) → goes_on_from (scan_end index s) k o ≡ Open s' → (next : ScanState) × (o ≡ Some next) × (k next ≡ Open s')
+open_more : (index : ℕ) (s s' : ScanState) (k : ScanState → Scanned) (o : Option ScanState) → goes_on_from (scan_end index s) k o ≡ Open s' →
+    (next : ScanState) × (o ≡ Some next) × (k next ≡ Open s')
 open_more index s s' k None h = let e : Open s' ≡ End (ends_at index s).text (index + 1) = sym h ∙ (ends_at index s).is in cc
 open_more index s s' k (Some next) h = (next, refl, h)
 
-pub scan_open_append : (xs ys : List ℕ) (n : ℕ) (s s' : ScanState) → scan_from n s xs ≡ Open s' → scan_from n s (xs ++ ys) ≡ scan_from (n + length xs) s' ys
+pub scan_open_append : (xs ys : Bytes) (n : ℕ) (s s' : ScanState) → scan_from n s xs ≡ Open s' → scan_from n s (xs ++ ys) ≡ scan_from (n + length xs) s' ys
 scan_open_append [] ys n s s' h = let e : s ≡ s' = cc in rw (e, add-zero) refl
 scan_open_append (b ∷ xs) ys n s s' h =
     let step = open_more n s s' (λ next. scan_from (n + 1) next xs) (step_of s b) h in
     let later = scan_open_append xs ys (n + 1) step.0 s' step.2 in
-    ap (goes_on_from (scan_end n s) (λ next. scan_from (n + 1) next (xs ++ ys))) step.1 ∙ later ∙ ap (λ k. scan_from k s' ys) {x = n + 1 + length xs} {y = n + suc (length xs)} (omega arith)
+    ap (goes_on_from (scan_end n s) (λ next. scan_from (n + 1) next (xs ++ ys))) step.1 ∙ later ∙
+    ap (λ k. scan_from k s' ys) {x = n + 1 + length xs} {y = n + suc (length xs)} (omega arith)
 
 cases_step : (o : Option ScanState) → (o ≡ None) ⊎ ((next : ScanState) × (o ≡ Some next))
 cases_step None = inl refl
 cases_step (Some next) = inr (next, refl)
 
 -- an end stays, whatever follows
-pub scan_end_append : (xs ys : List ℕ) (n t w : ℕ) (s : ScanState) → scan_from n s xs ≡ End t w → scan_from n s (xs ++ ys) ≡ End t w
+pub scan_end_append : (xs ys : Bytes) (n t w : ℕ) (s : ScanState) → scan_from n s xs ≡ End t w → scan_from n s (xs ++ ys) ≡ End t w
 scan_end_append [] ys n t w s h = cc
 scan_end_append (b ∷ xs) ys n t w s h = elim (cases_step (step_of s b)) [
   | inl e ↦ rw e (rw e at h)
@@ -209,12 +218,12 @@ scan_end_append (b ∷ xs) ys n t w s h = elim (cases_step (step_of s b)) [
 ]
 
 -- the end comes after the first byte and not past the last
-pub record EndFits (n t w : ℕ) (xs : List ℕ) : Type 0 where
+pub record EndFits (n t w : ℕ) (xs : Bytes) : Type 0 where
   pub past : n < w
   pub within : w ≤ n + length xs
   pub text : t < w
 
-ended_fits : (n t w : ℕ) (s : ScanState) (b : ℕ) (xs : List ℕ) → scan_end n s ≡ End t w → EndFits n t w (b ∷ xs)
+ended_fits : (n t w : ℕ) (s : ScanState) (b : ℕ) (xs : Bytes) → scan_end n s ≡ End t w → EndFits n t w (b ∷ xs)
 ended_fits n t w s b xs h =
     let at = ends_at n s in
     let same : End t w ≡ End at.text (n + 1) = sym h ∙ at.is in
@@ -223,8 +232,8 @@ ended_fits n t w s b xs h =
     let fits = at.text_fits in
     record { past = omega arith; within = omega arith; text = omega arith }
 
-pub scan_end_fits : (xs : List ℕ) (n t w : ℕ) (s : ScanState) → scan_from n s xs ≡ End t w → EndFits n t w xs
-scan_end_fits [] n t w s h = absurd (let e : Open s ≡ End t w = h in cc)
+pub scan_end_fits : (xs : Bytes) (n t w : ℕ) (s : ScanState) → scan_from n s xs ≡ End t w → EndFits n t w xs
+scan_end_fits [] n t w s h = cc
 scan_end_fits (b ∷ xs) n t w s h = elim (cases_step (step_of s b)) [
   | inl e ↦ ended_fits n t w s b xs (rw e at h)
   | inr o ↦ let later = scan_end_fits xs (n + 1) t w o.0 (rw o.1 at h) in
@@ -232,8 +241,8 @@ scan_end_fits (b ∷ xs) n t w s h = elim (cases_step (step_of s b)) [
 ]
 
 -- the bytes up to the end are enough to find it
-pub scan_end_take : (xs : List ℕ) (n t w k : ℕ) (s : ScanState) → scan_from n s xs ≡ End t w → n + k ≡ w → scan_from n s (take k xs) ≡ End t w
-scan_end_take [] n t w k s h e = absurd (let e : Open s ≡ End t w = h in cc)
+pub scan_end_take : (xs : Bytes) (n t w k : ℕ) (s : ScanState) → scan_from n s xs ≡ End t w → n + k ≡ w → scan_from n s (take k xs) ≡ End t w
+scan_end_take [] n t w k s h e = cc
 scan_end_take (b ∷ xs) n t w zero s h e = let fits = scan_end_fits (b ∷ xs) n t w s h in absurd (omega (arith, fits.past))
 scan_end_take (b ∷ xs) n t w (suc k) s h e = elim (cases_step (step_of s b)) [
   | inl o ↦ rw o (rw o at h)
@@ -242,16 +251,16 @@ scan_end_take (b ∷ xs) n t w (suc k) s h e = elim (cases_step (step_of s b)) [
 
 -- ---- how far a line goes into a piece
 
-pub take_shorter : (j i : ℕ) (xs : List ℕ) → j ≤ i → take j (take i xs) ≡ take j xs
+pub take_shorter : (j i : ℕ) (xs : Bytes) → j ≤ i → take j (take i xs) ≡ take j xs
 take_shorter zero i xs h = refl
 take_shorter (suc j) zero xs h = absurd (omega arith)
 take_shorter (suc j) (suc i) [] h = refl
 take_shorter (suc j) (suc i) (x ∷ xs) h = ap (λ ys. x ∷ ys) (take_shorter j i xs (omega arith))
 
-joined_len : (n : ℕ) (bytes piece : List ℕ) → n ≤ length piece → length (bytes ++ take n piece) ≡ length bytes + n
+joined_len : (n : ℕ) (bytes piece : Bytes) → n ≤ length piece → length (bytes ++ take n piece) ≡ length bytes + n
 joined_len n bytes piece h = rw length-append (ap (λ k. length bytes + k) (length-take-le n piece h))
 
-module _ (B P : List ℕ) (s : ScanState) (reach : ℕ) (room : length B < line_limit) (held : scan_from 0 Start B ≡ Open s)
+module _ (B P : Bytes) (s : ScanState) (reach : ℕ) (room : length B < line_limit) (held : scan_from 0 Start B ≡ Open s)
     (is : reach ≡ min (length P) (line_limit - length B)) where
   reach_fits : reach ≤ length P
   reach_fits = omega arith
@@ -263,7 +272,8 @@ module _ (B P : List ℕ) (s : ScanState) (reach : ℕ) (room : length B < line_
   limited =
       ap (λ n. take n (B ++ P)) {x = line_limit} {y = length B + (line_limit - length B)} (omega arith)
       ∙ take-append-add B P (line_limit - length B)
-      ∙ ap (λ ys. B ++ ys) (sym (take_min (line_limit - length B) P) ∙ ap (λ n. take n P) {x = min (line_limit - length B) (length P)} {y = reach} (omega arith))
+      ∙ ap (λ ys. B ++ ys) (sym (take_min (line_limit - length B) P) ∙
+      ap (λ n. take n P) {x = min (line_limit - length B) (length P)} {y = reach} (omega arith))
 
   at_limit : line_end (take line_limit (B ++ P)) ≡ end_of (scan_from (length B) s (take reach P))
   at_limit = ap line_end limited ∙ line_end_scanned (B ++ take reach P)
@@ -293,7 +303,8 @@ module _ (B P : List ℕ) (s : ScanState) (reach : ℕ) (room : length B < line_
       part_fits,
       λ _. omega (arith, fits.past),
       omega (arith, taken_fits, within_limit, past_held),
-      scan_open_append B (take (w - length B) P) 0 Start s held ∙ ap (λ k. scan_from k s (take (w - length B) P)) {x = 0 + length B} {y = length B} (omega arith)
+      scan_open_append B (take (w - length B) P) 0 Start s held ∙
+          ap (λ k. scan_from k s (take (w - length B) P)) {x = 0 + length B} {y = length B} (omega arith)
           ∙ ap (scan_from (length B) s) (sym shorter) ∙ whole_scan
           ∙ ap (λ k. End t k) {x = w} {y = length (B ++ take (w - length B) P)} (omega (arith, past_held, joined_len (w - length B) B P part_fits)),
       at_limit ∙ ap end_of ended ∙ ap (λ k. Some (record { text_len = t; line_len = k })) {x = w} {y = length B + (w - length B)} (omega (arith, past_held)),
@@ -319,20 +330,23 @@ module _ (B P : List ℕ) (s : ScanState) (reach : ℕ) (room : length B < line_
     )
 
 -- a cutter at work on these bytes
-abbrev pub at_work : ℕ → List ℕ → CutterState
+abbrev pub at_work : ℕ → Bytes → CutterState
 at_work number bytes = record { number = number; bytes = bytes; waits = false; failed = false }
 
 -- the line takes so much of the piece
-pub feeds_on : (number : ℕ) (bytes piece new : List ℕ) (taken : ℕ) (phase : Phase) → Takes bytes piece taken phase → new ≡ bytes ++ take taken piece
+pub feeds_on : (number : ℕ) (bytes piece new : Bytes) (taken : ℕ) (phase : Phase) → Takes bytes piece taken phase → new ≡ bytes ++ take taken piece
     → feed_outcome (at_work number bytes) piece ≡ (Ok taken, state_in phase new number)
 feeds_on number bytes piece new taken (Waiting text_len) takes is =
     rw takes.4 (both {a = length bytes + taken - length bytes} {b = taken} (omega arith) (take-append-add bytes piece taken ∙ sym is)) where
-      both : {a b : ℕ} {x y : List ℕ} → a ≡ b → x ≡ y
-          → ◌≡◌ {A = Result ℕ CutFault × CutterState} (Ok a, record { number = number; bytes = x; waits = true; failed = false }) (Ok b, record { number = number; bytes = y; waits = true; failed = false })
+      both : {a b : ℕ} {x y : Bytes} → a ≡ b → x ≡ y
+          → ◌≡◌ {A = Result ℕ CutFault × CutterState} (Ok a, record { number = number; bytes = x; waits = true; failed = false })
+          (Ok b, record { number = number; bytes = y; waits = true; failed = false })
       both p q = rw (p, q) refl
 feeds_on number bytes piece new taken (Gathering next) takes is =
     let all : new ≡ bytes ++ piece = is ∙ ap (λ n. bytes ++ take n piece) takes.4.0 ∙ ap (λ ys. bytes ++ ys) (take-length piece) in
-    let room : nat_le line_limit (length (bytes ++ piece)) ≡ false = rw length-append (let short : length (bytes ++ take taken piece) < line_limit = takes.3.0 in let len = joined_len taken bytes piece takes.0 in grind (arith, nat_tests)) in
+    let room : nat_le line_limit (length (bytes ++ piece)) ≡ false =
+    rw length-append (let short : length (bytes ++ take taken piece) < line_limit = takes.3.0 in let len = joined_len taken bytes piece takes.0 in
+    grind (arith, nat_tests)) in
     rw (takes.4.1, room, all, takes.4.0) refl
 feeds_on number bytes piece new taken Lent takes is = absurd takes.4
 feeds_on number bytes piece new taken Failed takes is = absurd takes.4

@@ -7,12 +7,12 @@ use Rattle.std.proofs.lemmas.Grind.{flat_map-append}
 use Rattle.std.proofs.lemmas.Bool.{and_parts, or_parts, not-true}
 pub use Rattle.ninja_text.proofs.Units.{goes_on_piece}
 use Rattle.ninja_text.proofs.Lists.{same_cons}
-use Rattle.ninja_text.specs.Units.{unit_len, is_byte}
+use Rattle.ninja_text.specs.Units.{LineUnits, unit_len, is_byte}
 use Rattle.ninja_text.specs.declared.unit.LineUnit.{LineUnit}
 use Rattle.ninja_text.specs.declared.unit.LineUnit.TheVariants.{Continuation, Escape, Byte}
 use Rattle.ninja_text.specs.declared.token.TokenKind.{TokenKind}
 use Rattle.ninja_text.specs.declared.token.TokenKind.TheVariants.{Word, Bar, Colon}
-use Rattle.ninja_text.specs.Tokens.{TokenAt, is_piece, goes_on, with_first_start, tokens_from, raw}
+use Rattle.ninja_text.specs.Tokens.{token_of, TokenAt, is_piece, goes_on, with_first_start, tokens_from, raw}
 use Rattle.ninja_text.proofs.Units.{tokens_with, tokens_blank}
 use Rattle.ninja_text.specs.Escapes.{IsWritable, escaped}
 use Rattle.ninja_text.proofs.SpelledUnits.{unit_text, text_of_units}
@@ -20,7 +20,7 @@ use Rattle.ninja_text.proofs.EscapedPaths.{path_unit, path_units, path_text, pat
 
 -- a piece is no continuation and no `|`
 piece_len : (u : LineUnit) → is_piece u ≡ true → unit_len u ≡ length (unit_text u)
-piece_len (Continuation len) h = absurd (let e : false ≡ true = h in cc)
+piece_len (Continuation len) h = cc
 piece_len (Escape b) h = refl
 piece_len (Byte b) h = refl
 
@@ -30,25 +30,26 @@ piece_no_bar (Escape b) h = refl
 piece_no_bar (Byte b) h = (or_parts _ (b == 124) (not-true _ h)).1
 
 -- a piece continues if another follows, and ends its word if none does
-pub piece_alone : (n : ℕ) (u : LineUnit) (vs : List LineUnit) → is_piece u ≡ true → goes_on vs ≡ false
-    → tokens_from n (u ∷ vs) ≡ record { kind = Word; start = n; end = n + unit_len u } ∷ tokens_from (n + unit_len u) vs
+pub piece_alone : (n : ℕ) (u : LineUnit) (vs : LineUnits) → is_piece u ≡ true → goes_on vs ≡ false
+    → tokens_from n (u ∷ vs) ≡ token_of Word n (unit_len u) ∷ tokens_from (n + unit_len u) vs
 piece_alone n u vs p g = tokens_with n u vs (piece_no_bar u p) ∙ rw (p, g) refl
 
-pub piece_before : (n : ℕ) (u : LineUnit) (vs : List LineUnit) → is_piece u ≡ true → goes_on vs ≡ true
+pub piece_before : (n : ℕ) (u : LineUnit) (vs : LineUnits) → is_piece u ≡ true → goes_on vs ≡ true
     → tokens_from n (u ∷ vs) ≡ with_first_start n (tokens_from (n + unit_len u) vs)
 piece_before n u vs p g = tokens_with n u vs (piece_no_bar u p) ∙ rw (p, g) refl
 
 -- a word from start up to end, and the tokens of what follows
-abbrev pub word_and : ℕ → ℕ → List LineUnit → List TokenAt
+abbrev pub word_and : ℕ → ℕ → LineUnits → List TokenAt
 word_and start end vs = record { kind = Word; start = start; end = end } ∷ tokens_from end vs
 
 -- pieces are one word, if no piece follows
-pub word_token : (u : LineUnit) (us vs : List LineUnit) (n : ℕ) → list_all is_piece (u ∷ us) ≡ true → goes_on vs ≡ false
+pub word_token : (u : LineUnit) (us vs : LineUnits) (n : ℕ) → list_all is_piece (u ∷ us) ≡ true → goes_on vs ≡ false
     → tokens_from n (u ∷ (us ++ vs)) ≡ word_and n (n + length (text_of_units (u ∷ us))) vs
 word_token u [] vs n h g =
     let p : is_piece u ≡ true = (and_parts (is_piece u) true h).0 in
     piece_alone n u vs p g
-    ∙ ap (λ e. word_and n e vs) {x = n + unit_len u} {y = n + length (unit_text u ++ [])} (ap (λ k. n + k) (piece_len u p ∙ ap length (sym (append-nil (unit_text u)))))
+    ∙ ap (λ e. word_and n e vs) {x = n + unit_len u} {y = n + length (unit_text u ++ [])}
+    (ap (λ k. n + k) (piece_len u p ∙ ap length (sym (append-nil (unit_text u)))))
 word_token u (w ∷ us) vs n h g =
     let p = and_parts (is_piece u) (list_all is_piece (w ∷ us)) h in
     let q = and_parts (is_piece w) (list_all is_piece us) p.1 in
@@ -57,12 +58,15 @@ word_token u (w ∷ us) vs n h g =
     (omega (arith, piece_len u p.0, length-append (unit_text u) (text_of_units (w ∷ us))))
 
 -- the bytes of units between others
-bytes_between : (front us vs : List LineUnit) → slice_range (text_of_units (front ++ (us ++ vs))) (length (text_of_units front)) (length (text_of_units front) + length (text_of_units us)) ≡ text_of_units us
+bytes_between : (front us vs : LineUnits) →
+    slice_range (text_of_units (front ++ (us ++ vs))) (length (text_of_units front)) (length (text_of_units front) + length (text_of_units us)) ≡
+    text_of_units us
 bytes_between front us vs =
     let a = text_of_units front in
     let b = text_of_units us in
     let c = text_of_units vs in
-    let whole : text_of_units (front ++ (us ++ vs)) ≡ a ++ (b ++ c) = flat_map-append unit_text front (us ++ vs) ∙ ap (λ x. a ++ x) (flat_map-append unit_text us vs) in
+    let whole : text_of_units (front ++ (us ++ vs)) ≡ a ++ (b ++ c) = flat_map-append unit_text front (us ++ vs) ∙
+    ap (λ x. a ++ x) (flat_map-append unit_text us vs) in
     ap (λ t. slice_range t (length a) (length a + length b)) whole
     ∙ ap (take (length a + length b - length a)) (drop_at a (b ++ c) (length a) refl)
     ∙ take_at b c (length a + length b - length a) (omega arith)
@@ -73,15 +77,16 @@ module _ {X : Type 0} (view : TokenKind → List ℕ → X) where
   viewed text t = view t.kind (raw text t)
 
   -- These are the tokens of the units, wherever they are.
-  abbrev pub Yields : List LineUnit → List X → Type 0
-  Yields us xs = (front : List LineUnit) → map (viewed (text_of_units (front ++ us))) (tokens_from (length (text_of_units front)) us) ≡ xs
+  abbrev pub Yields : LineUnits → List X → Type 0
+  Yields us xs = (front : LineUnits) → map (viewed (text_of_units (front ++ us))) (tokens_from (length (text_of_units front)) us) ≡ xs
 
   -- the tokens past some units
-  past : (front us vs : List LineUnit) (xs : List X) → Yields vs xs
+  past : (front us vs : LineUnits) (xs : List X) → Yields vs xs
       → map (viewed (text_of_units (front ++ (us ++ vs)))) (tokens_from (length (text_of_units front) + length (text_of_units us)) vs) ≡ xs
   past front us vs xs later =
       ap (λ w. map (viewed (text_of_units w)) (tokens_from (length (text_of_units front) + length (text_of_units us)) vs)) (sym (append_assoc front us vs))
-      ∙ ap (λ n. map (viewed (text_of_units ((front ++ us) ++ vs))) (tokens_from n vs)) (sym (ap length (flat_map-append unit_text front us) ∙ length-append (text_of_units front) (text_of_units us)))
+      ∙ ap (λ n. map (viewed (text_of_units ((front ++ us) ++ vs))) (tokens_from n vs))
+      (sym (ap length (flat_map-append unit_text front us) ∙ length-append (text_of_units front) (text_of_units us)))
       ∙ later (front ++ us)
 
   -- each unit, in front of units whose tokens are known
@@ -89,28 +94,29 @@ module _ {X : Type 0} (view : TokenKind → List ℕ → X) where
   no_units front = refl
 
   -- pieces are one word
-  pub word_yields : (u : LineUnit) (us vs : List LineUnit) (xs : List X) → list_all is_piece (u ∷ us) ≡ true → goes_on vs ≡ false → Yields vs xs
+  pub word_yields : (u : LineUnit) (us vs : LineUnits) (xs : List X) → list_all is_piece (u ∷ us) ≡ true → goes_on vs ≡ false → Yields vs xs
       → Yields (u ∷ (us ++ vs)) (view Word (text_of_units (u ∷ us)) ∷ xs)
   word_yields u us vs xs h g later front =
       let n = length (text_of_units front) in
       ap (map (viewed (text_of_units (front ++ (u ∷ (us ++ vs)))))) (word_token u us vs n h g)
       ∙ same_cons (ap (view Word) (bytes_between front (u ∷ us) vs)) (past front (u ∷ us) vs xs later)
 
-  pub space_yields : (vs : List LineUnit) (xs : List X) → Yields vs xs → Yields (Byte 32 ∷ vs) xs
+  pub space_yields : (vs : LineUnits) (xs : List X) → Yields vs xs → Yields (Byte 32 ∷ vs) xs
   space_yields vs xs later front =
-      ap (map (viewed (text_of_units (front ++ (Byte 32 ∷ vs))))) (tokens_blank (length (text_of_units front)) (Byte 32) vs refl) ∙ past front (Byte 32 ∷ []) vs xs later
+      ap (map (viewed (text_of_units (front ++ (Byte 32 ∷ vs))))) (tokens_blank (length (text_of_units front)) (Byte 32) vs refl) ∙
+      past front (Byte 32 ∷ []) vs xs later
 
-  pub colon_yields : (vs : List LineUnit) (xs : List X) → Yields vs xs → Yields (Byte 58 ∷ vs) (view Colon (58 ∷ []) ∷ xs)
+  pub colon_yields : (vs : LineUnits) (xs : List X) → Yields vs xs → Yields (Byte 58 ∷ vs) (view Colon (58 ∷ []) ∷ xs)
   colon_yields vs xs later front =
       ap (map (viewed (text_of_units (front ++ (Byte 58 ∷ vs))))) (tokens_with (length (text_of_units front)) (Byte 58) vs refl)
       ∙ same_cons (ap (view Colon) (bytes_between front (Byte 58 ∷ []) vs)) (past front (Byte 58 ∷ []) vs xs later)
 
-  pub bar_yields : (vs : List LineUnit) (xs : List X) → Yields (Byte 32 ∷ vs) xs → Yields (Byte 124 ∷ Byte 32 ∷ vs) (view Bar (124 ∷ []) ∷ xs)
+  pub bar_yields : (vs : LineUnits) (xs : List X) → Yields (Byte 32 ∷ vs) xs → Yields (Byte 124 ∷ Byte 32 ∷ vs) (view Bar (124 ∷ []) ∷ xs)
   bar_yields vs xs later front =
       same_cons (ap (view Bar) (bytes_between front (Byte 124 ∷ []) (Byte 32 ∷ vs))) (past front (Byte 124 ∷ []) (Byte 32 ∷ vs) xs later)
 
   -- a path in its escaped form is one word
-  pub path_yields : (path : List ℕ) (vs : List LineUnit) (xs : List X) → IsWritable path → goes_on vs ≡ false → Yields vs xs
+  pub path_yields : (path : List ℕ) (vs : LineUnits) (xs : List X) → IsWritable path → goes_on vs ≡ false → Yields vs xs
       → Yields (path_units path ++ vs) (view Word (escaped path) ∷ xs)
   path_yields [] vs xs writable g later = absurd (writable.some refl)
   path_yields (b ∷ path) vs xs writable g later =

@@ -3,7 +3,7 @@ use Rattle.std.proofs.Common.{inl, inr, ◌≡◌, ℕ, ◌+◌, Bool, true, fal
 use Rattle.std.specs.List.{flat_map, list_all}
 use Rattle.std.proofs.lemmas.List.{append_assoc}
 use Rattle.std.proofs.lemmas.Bool.{eqb-true, and_parts, or_cases, not-true}
-use Rattle.ninja_text.specs.Units.{units, unit_len}
+use Rattle.ninja_text.specs.Units.{LineUnits, units, unit_len}
 use Rattle.ninja_text.specs.declared.unit.LineUnit.{LineUnit}
 use Rattle.ninja_text.specs.declared.unit.LineUnit.TheVariants.{Continuation, Escape, Byte}
 use Rattle.ninja_text.specs.Lines.{end_from}
@@ -28,7 +28,7 @@ unit_text (Escape b) = 36 ∷ b ∷ []
 unit_text (Byte b) = b ∷ []
 
 -- the bytes of units, one after another
-abbrev pub text_of_units : List LineUnit → List ℕ
+abbrev pub text_of_units : LineUnits → List ℕ
 text_of_units us = flat_map unit_text us
 
 pub record Plain (b : ℕ) : Type 0 where
@@ -56,29 +56,30 @@ escaped_only P dollar space colon b h = elim (or_cases (b == 36) _ h) [
 
 -- a unit at the front is read back
 unit_first : (u : LineUnit) (x : List ℕ) → is_sound u ≡ true → units (unit_text u ++ x) ≡ u ∷ units x
-unit_first (Continuation len) x h = absurd (let e : false ≡ true = h in cc)
-unit_first (Escape b) x h = escaped_only (λ b. units (36 ∷ b ∷ x) ≡ Escape b ∷ units x) (units_pair 36 x refl refl) (units_pair 32 x refl refl) (units_pair 58 x refl refl) b h
+unit_first (Continuation len) x h = cc
+unit_first (Escape b) x h =
+    escaped_only (λ b. units (36 ∷ b ∷ x) ≡ Escape b ∷ units x) (units_pair 36 x refl refl) (units_pair 32 x refl refl) (units_pair 58 x refl refl) b h
 unit_first (Byte b) x h = units_byte b x (plain b h).no_dollar
 
 -- they are read back, whatever follows
-pub units_read : (us : List LineUnit) (x : List ℕ) → list_all is_sound us ≡ true → units (text_of_units us ++ x) ≡ us ++ units x
+pub units_read : (us : LineUnits) (x : List ℕ) → list_all is_sound us ≡ true → units (text_of_units us ++ x) ≡ us ++ units x
 units_read [] x h = refl
 units_read (u ∷ us) x h =
     let p = and_parts (is_sound u) (list_all is_sound us) h in
     ap units (append_assoc (unit_text u) (text_of_units us) x) ∙ unit_first u (text_of_units us ++ x) p.0 ∙ ap (λ vs. u ∷ vs) (units_read us x p.1)
 
 unit_len_is : (u : LineUnit) → is_sound u ≡ true → unit_len u ≡ length (unit_text u)
-unit_len_is (Continuation len) h = absurd (let e : false ≡ true = h in cc)
+unit_len_is (Continuation len) h = cc
 unit_len_is (Escape b) h = refl
 unit_len_is (Byte b) h = refl
 
-unit_ends_none : (n : ℕ) (u : LineUnit) (us : List LineUnit) → is_sound u ≡ true → end_from n (u ∷ us) ≡ end_from (n + unit_len u) us
-unit_ends_none n (Continuation len) us h = absurd (let e : false ≡ true = h in cc)
+unit_ends_none : (n : ℕ) (u : LineUnit) (us : LineUnits) → is_sound u ≡ true → end_from n (u ∷ us) ≡ end_from (n + unit_len u) us
+unit_ends_none n (Continuation len) us h = cc
 unit_ends_none n (Escape b) us h = refl
 unit_ends_none n (Byte b) us h = let p = plain b h in rw (p.no_feed, p.no_return) refl
 
 -- the first end is past them
-pub end_past : (us vs : List LineUnit) (n : ℕ) → list_all is_sound us ≡ true → end_from n (us ++ vs) ≡ end_from (n + length (text_of_units us)) vs
+pub end_past : (us vs : LineUnits) (n : ℕ) → list_all is_sound us ≡ true → end_from n (us ++ vs) ≡ end_from (n + length (text_of_units us)) vs
 end_past [] vs n h = ap (λ k. end_from k vs) {x = n} {y = n + 0} (omega arith)
 end_past (u ∷ us) vs n h =
     let p = and_parts (is_sound u) (list_all is_sound us) h in
@@ -92,7 +93,7 @@ unit_sound n (Escape b) h = escaped_only (λ b. unit_fault n (Escape b) ≡ None
 unit_sound n (Byte b) h = let p = plain b h in rw (p.no_nul, p.no_return) refl
 
 -- none of them is a fault
-pub no_fault_in : (us : List LineUnit) (n : ℕ) → list_all is_sound us ≡ true → first_fault n us ≡ None
+pub no_fault_in : (us : LineUnits) (n : ℕ) → list_all is_sound us ≡ true → first_fault n us ≡ None
 no_fault_in [] n h = refl
 no_fault_in (u ∷ us) n h =
     let p = and_parts (is_sound u) (list_all is_sound us) h in

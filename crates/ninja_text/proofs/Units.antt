@@ -1,13 +1,14 @@
 -- The units of a text and their tokens, by the first unit.
+use Rattle.ninja_text.specs.Bytes.{Bytes}
 use Rattle.std.proofs.Common.{get_or, ◌≤◌, inl, inr, suc, subst, ◌≡◌, ℕ, ◌+◌, List, [], ◌∷◌, length, drop, refl, sym, ap, ◌∙◌, false, ◌==◌, ◌&&◌, ◌||◌, arith, map, None, ◌<◌, Bool, true, not, add-one}
 use Rattle.std.specs.List.{flat_map, list_any}
 use Rattle.std.proofs.lemmas.Bool.{cases_Bool, eqb-true, or_parts, not-true}
-use Rattle.ninja_text.specs.Units.{units, with_continuation, unit_len, is_byte, is_continuation}
+use Rattle.ninja_text.specs.Units.{LineUnits, units, with_continuation, unit_len, is_byte, is_continuation}
 use Rattle.ninja_text.specs.inner.Runs.{spaces_at}
 use Rattle.ninja_text.specs.declared.unit.LineUnit.{LineUnit}
 use Rattle.ninja_text.specs.declared.unit.LineUnit.TheVariants.{Continuation, Escape, Byte}
 use Rattle.ninja_text.specs.Lines.{begins_with_line_feed, end_from}
-use Rattle.ninja_text.specs.Tokens.{unit_value, value_of, TokenAt, is_blank, is_piece, goes_on, with_first_start, with_unit, tokens_from, tokens_at}
+use Rattle.ninja_text.specs.Tokens.{token_of, unit_value, value_of, TokenAt, is_blank, is_piece, goes_on, with_first_start, with_unit, tokens_from, tokens_at}
 use Rattle.ninja_text.specs.Lexical.{first_fault, lexical_fault}
 use Rattle.ninja_text.specs.inner.PlainTexts.{is_dollar, is_suspect, is_plain_piece}
 use Rattle.std.proofs.Math.Seq.{drop-cons}
@@ -17,29 +18,29 @@ use Rattle.ninja_text.specs.inner.TokenStarts.{BeginsPiece, BeginsBar}
 
 -- ---- the first unit of a text, by its first bytes
 
-pub units_byte : (b : ℕ) (bytes : List ℕ) → (b == 36) ≡ false → units (b ∷ bytes) ≡ Byte b ∷ units bytes
+pub units_byte : (b : ℕ) (bytes : Bytes) → (b == 36) ≡ false → units (b ∷ bytes) ≡ Byte b ∷ units bytes
 units_byte b [] h = refl
 units_byte b (c ∷ []) h = rw h refl
 units_byte b (c ∷ d ∷ bytes) h = rw h refl
 
 -- if there is no `$`, each byte is a unit by itself
-pub units_bytes : (bytes : List ℕ) → list_any is_dollar bytes ≡ false → units bytes ≡ map Byte bytes
+pub units_bytes : (bytes : Bytes) → list_any is_dollar bytes ≡ false → units bytes ≡ map Byte bytes
 units_bytes [] none = refl
 units_bytes (b ∷ bytes) none =
     let p = or_parts (is_dollar b) (list_any is_dollar bytes) none in
     units_byte b bytes p.0 ∙ ap (λ us. Byte b ∷ us) (units_bytes bytes p.1)
 
 -- and it stands for itself
-pub bytes_meant : (bytes : List ℕ) → flat_map unit_value (map Byte bytes) ≡ bytes
+pub bytes_meant : (bytes : Bytes) → flat_map unit_value (map Byte bytes) ≡ bytes
 bytes_meant [] = refl
 bytes_meant (b ∷ bytes) = ap (λ bs. b ∷ bs) (bytes_meant bytes)
 
 -- so its value is itself
-pub plain_value : (bytes : List ℕ) → list_any is_dollar bytes ≡ false → value_of bytes ≡ bytes
+pub plain_value : (bytes : Bytes) → list_any is_dollar bytes ≡ false → value_of bytes ≡ bytes
 plain_value bytes none = ap (flat_map unit_value) (units_bytes bytes none) ∙ bytes_meant bytes
 
 -- a text without a suspect byte has no `$`
-pub no_dollar : (bytes : List ℕ) → list_any is_suspect bytes ≡ false → list_any is_dollar bytes ≡ false
+pub no_dollar : (bytes : Bytes) → list_any is_suspect bytes ≡ false → list_any is_dollar bytes ≡ false
 no_dollar [] none = refl
 no_dollar (b ∷ bytes) none =
     let p = or_parts (is_suspect b) (list_any is_suspect bytes) none in
@@ -47,7 +48,7 @@ no_dollar (b ∷ bytes) none =
     rw d.0 (no_dollar bytes p.1)
 
 -- nor is any of its bytes a fault
-pub no_fault_among : (index : ℕ) (bytes : List ℕ) → list_any is_suspect bytes ≡ false → first_fault index (map Byte bytes) ≡ None
+pub no_fault_among : (index : ℕ) (bytes : Bytes) → list_any is_suspect bytes ≡ false → first_fault index (map Byte bytes) ≡ None
 no_fault_among index [] none = refl
 no_fault_among index (b ∷ bytes) none =
     let p = or_parts (is_suspect b) (list_any is_suspect bytes) none in
@@ -56,22 +57,22 @@ no_fault_among index (b ∷ bytes) none =
     rw (n.0, n.1) (no_fault_among (index + 1) bytes p.1)
 
 -- so it has no lexical fault
-pub no_suspect : (bytes : List ℕ) → list_any is_suspect bytes ≡ false → lexical_fault bytes ≡ None
+pub no_suspect : (bytes : Bytes) → list_any is_suspect bytes ≡ false → lexical_fault bytes ≡ None
 no_suspect bytes none = ap (first_fault 0) (units_bytes bytes (no_dollar bytes none)) ∙ no_fault_among 0 bytes none
 
-pub units_feed : (bytes : List ℕ) → units (36 ∷ 10 ∷ bytes) ≡ with_continuation 2 (units bytes)
+pub units_feed : (bytes : Bytes) → units (36 ∷ 10 ∷ bytes) ≡ with_continuation 2 (units bytes)
 units_feed [] = refl
 units_feed (c ∷ bytes) = refl
 
-pub units_pair : (b : ℕ) (bytes : List ℕ) → (b == 10) ≡ false → (b == 13) ≡ false → units (36 ∷ b ∷ bytes) ≡ Escape b ∷ units bytes
+pub units_pair : (b : ℕ) (bytes : Bytes) → (b == 10) ≡ false → (b == 13) ≡ false → units (36 ∷ b ∷ bytes) ≡ Escape b ∷ units bytes
 units_pair b [] feed return = rw feed refl
 units_pair b (c ∷ bytes) feed return = rw (feed, return) refl
 
-pub units_return : (b : ℕ) (bytes : List ℕ) → (b == 10) ≡ false → units (36 ∷ 13 ∷ b ∷ bytes) ≡ Escape 13 ∷ units (b ∷ bytes)
+pub units_return : (b : ℕ) (bytes : Bytes) → (b == 10) ≡ false → units (36 ∷ 13 ∷ b ∷ bytes) ≡ Escape 13 ∷ units (b ∷ bytes)
 units_return b bytes feed = rw feed refl
 
 -- a continuation comes first, however many spaces it takes
-continued_begins : (len : ℕ) (us : List LineUnit) → begins_with_line_feed (with_continuation len us) ≡ false
+continued_begins : (len : ℕ) (us : LineUnits) → begins_with_line_feed (with_continuation len us) ≡ false
 continued_begins len [] = refl
 continued_begins len (Byte b ∷ us) = elim (cases_Bool (b == 32)) [
   | inl h ↦ rw h (continued_begins (len + 1) us)
@@ -80,29 +81,30 @@ continued_begins len (Byte b ∷ us) = elim (cases_Bool (b == 32)) [
 continued_begins len (Escape b ∷ us) = refl
 continued_begins len (Continuation more ∷ us) = refl
 
-escape_begins_at : (c : ℕ) (bytes : List ℕ) → (c == 10) ≡ false → begins_with_line_feed (units (36 ∷ c ∷ bytes)) ≡ false
+escape_begins_at : (c : ℕ) (bytes : Bytes) → (c == 10) ≡ false → begins_with_line_feed (units (36 ∷ c ∷ bytes)) ≡ false
 escape_begins_at c [] f = rw f refl
 escape_begins_at c (d ∷ bytes) f = elim (cases_Bool ((c == 13) && (d == 10))) [
   | inl r ↦ rw (f, r) (continued_begins _ (units bytes))
   | inr r ↦ rw (f, r) refl
 ]
 
-escape_begins : (bytes : List ℕ) → begins_with_line_feed (units (36 ∷ bytes)) ≡ false
+escape_begins : (bytes : Bytes) → begins_with_line_feed (units (36 ∷ bytes)) ≡ false
 escape_begins [] = refl
 escape_begins (c ∷ bytes) = elim (cases_Bool (c == 10)) [
-  | inl f ↦ subst (λ x. begins_with_line_feed (units (36 ∷ x ∷ bytes)) ≡ false) (sym (eqb-true c 10 f)) (rw (units_feed bytes) (continued_begins _ (units bytes)))
+  | inl f ↦ subst (λ x. begins_with_line_feed (units (36 ∷ x ∷ bytes)) ≡ false) (sym (eqb-true c 10 f))
+      (rw (units_feed bytes) (continued_begins _ (units bytes)))
   | inr f ↦ escape_begins_at c bytes f
 ]
 
 -- only an LF is a unit that is an LF
-pub units_begin : (b : ℕ) (bytes : List ℕ) → (b == 10) ≡ false → begins_with_line_feed (units (b ∷ bytes)) ≡ false
+pub units_begin : (b : ℕ) (bytes : Bytes) → (b == 10) ≡ false → begins_with_line_feed (units (b ∷ bytes)) ≡ false
 units_begin b bytes h = elim (cases_Bool (b == 36)) [
   | inl d ↦ subst (λ x. begins_with_line_feed (units (x ∷ bytes)) ≡ false) (sym (eqb-true b 36 d)) (escape_begins bytes)
   | inr d ↦ rw (units_byte b bytes d) h
 ]
 
 -- the spaces of a continuation hide no end
-pub end_continued : (n len : ℕ) (us : List LineUnit) → end_from n (with_continuation len us) ≡ end_from (n + len) us
+pub end_continued : (n len : ℕ) (us : LineUnits) → end_from n (with_continuation len us) ≡ end_from (n + len) us
 end_continued n len [] = refl
 end_continued n len (Byte b ∷ us) = elim (cases_Bool (b == 32)) [
   | inl h ↦ let e : b ≡ 32 = eqb-true b 32 h in
@@ -113,7 +115,7 @@ end_continued n len (Escape b ∷ us) = refl
 end_continued n len (Continuation more ∷ us) = refl
 
 -- two continuations are two units
-continued_twice : (len more : ℕ) (us : List LineUnit) → with_continuation len (with_continuation more us) ≡ Continuation len ∷ with_continuation more us
+continued_twice : (len more : ℕ) (us : LineUnits) → with_continuation len (with_continuation more us) ≡ Continuation len ∷ with_continuation more us
 continued_twice len more [] = refl
 continued_twice len more (Byte b ∷ us) = elim (cases_Bool (b == 32)) [
   | inl h ↦ rw h (continued_twice len (more + 1) us)
@@ -122,14 +124,15 @@ continued_twice len more (Byte b ∷ us) = elim (cases_Bool (b == 32)) [
 continued_twice len more (Escape b ∷ us) = refl
 continued_twice len more (Continuation k ∷ us) = refl
 
-continued_at_pair : (len c : ℕ) (bytes : List ℕ) → (c == 10) ≡ false → with_continuation len (units (36 ∷ c ∷ bytes)) ≡ Continuation len ∷ units (36 ∷ c ∷ bytes)
+continued_at_pair : (len c : ℕ) (bytes : Bytes) → (c == 10) ≡ false →
+    with_continuation len (units (36 ∷ c ∷ bytes)) ≡ Continuation len ∷ units (36 ∷ c ∷ bytes)
 continued_at_pair len c [] f = rw f refl
 continued_at_pair len c (d ∷ bytes) f = elim (cases_Bool ((c == 13) && (d == 10))) [
   | inl r ↦ rw (f, r) (continued_twice len 3 (units bytes))
   | inr r ↦ rw (f, r) refl
 ]
 
-continued_at_dollar : (len : ℕ) (bytes : List ℕ) → with_continuation len (units (36 ∷ bytes)) ≡ Continuation len ∷ units (36 ∷ bytes)
+continued_at_dollar : (len : ℕ) (bytes : Bytes) → with_continuation len (units (36 ∷ bytes)) ≡ Continuation len ∷ units (36 ∷ bytes)
 continued_at_dollar len [] = refl
 continued_at_dollar len (c ∷ bytes) = elim (cases_Bool (c == 10)) [
   | inl f ↦ subst (λ x. with_continuation len (units (36 ∷ x ∷ bytes)) ≡ Continuation len ∷ units (36 ∷ x ∷ bytes)) (sym (eqb-true c 10 f))
@@ -137,30 +140,33 @@ continued_at_dollar len (c ∷ bytes) = elim (cases_Bool (c == 10)) [
   | inr f ↦ continued_at_pair len c bytes f
 ]
 
-continued_stops : (len b : ℕ) (bytes : List ℕ) → (b == 32) ≡ false → with_continuation len (units (b ∷ bytes)) ≡ Continuation len ∷ units (b ∷ bytes)
+continued_stops : (len b : ℕ) (bytes : Bytes) → (b == 32) ≡ false → with_continuation len (units (b ∷ bytes)) ≡ Continuation len ∷ units (b ∷ bytes)
 continued_stops len b bytes s = elim (cases_Bool (b == 36)) [
-  | inl d ↦ subst (λ x. with_continuation len (units (x ∷ bytes)) ≡ Continuation len ∷ units (x ∷ bytes)) (sym (eqb-true b 36 d)) (continued_at_dollar len bytes)
+  | inl d ↦ subst (λ x. with_continuation len (units (x ∷ bytes)) ≡ Continuation len ∷ units (x ∷ bytes)) (sym (eqb-true b 36 d))
+      (continued_at_dollar len bytes)
   | inr d ↦ rw (units_byte b bytes d, s) refl
 ]
 
+same_continuation : {k j : ℕ} {us vs : LineUnits} → k ≡ j → us ≡ vs → ◌≡◌ {A = LineUnits} (Continuation k ∷ us) (Continuation j ∷ vs)
+same_continuation p q = rw (p, q) refl
+
 -- a continuation takes the spaces at the front of what follows
-pub continued_spaces : (len : ℕ) (bytes : List ℕ) → with_continuation len (units bytes) ≡ Continuation (len + spaces_at bytes) ∷ units (drop (spaces_at bytes) bytes)
+pub continued_spaces : (len : ℕ) (bytes : Bytes) →
+    with_continuation len (units bytes) ≡ Continuation (len + spaces_at bytes) ∷ units (drop (spaces_at bytes) bytes)
 continued_spaces len [] = ap (λ k. Continuation k ∷ []) {x = len} {y = len + 0} (omega arith)
 continued_spaces len (b ∷ bytes) = elim (cases_Bool (b == 32)) [
-  | inl s ↦ rw s (subst (λ x. with_continuation len (units (x ∷ bytes)) ≡ Continuation (len + (1 + spaces_at bytes)) ∷ units (drop (1 + spaces_at bytes) (x ∷ bytes))) (sym (eqb-true b 32 s))
+  | inl s ↦ rw s (subst
+      (λ x. with_continuation len (units (x ∷ bytes)) ≡ Continuation (len + (1 + spaces_at bytes)) ∷ units (drop (1 + spaces_at bytes) (x ∷ bytes)))
+      (sym (eqb-true b 32 s))
       (rw (units_byte 32 bytes refl) (continued_spaces (len + 1) bytes ∙ pushed)))
   | inr s ↦ rw s (continued_stops len b bytes s ∙ ap (λ k. Continuation k ∷ units (b ∷ bytes)) {x = len} {y = len + 0} (omega arith))
 ] where
-  pushed : Continuation (len + 1 + spaces_at bytes) ∷ units (drop (spaces_at bytes) bytes) ≡ Continuation (len + (1 + spaces_at bytes)) ∷ units (drop (1 + spaces_at bytes) (32 ∷ bytes))
-  pushed = same (omega arith) (ap (λ k. units (drop k (32 ∷ bytes))) {x = suc (spaces_at bytes)} {y = 1 + spaces_at bytes} (omega arith)) where
-    same : {k j : ℕ} {us vs : List LineUnit} → k ≡ j → us ≡ vs → ◌≡◌ {A = List LineUnit} (Continuation k ∷ us) (Continuation j ∷ vs)
-    same p q = rw (p, q) refl
-
-same_continuation : {k j : ℕ} {us vs : List LineUnit} → k ≡ j → us ≡ vs → ◌≡◌ {A = List LineUnit} (Continuation k ∷ us) (Continuation j ∷ vs)
-same_continuation p q = rw (p, q) refl
+  pushed : Continuation (len + 1 + spaces_at bytes) ∷ units (drop (spaces_at bytes) bytes) ≡
+      Continuation (len + (1 + spaces_at bytes)) ∷ units (drop (1 + spaces_at bytes) (32 ∷ bytes))
+  pushed = same_continuation (omega arith) (ap (λ k. units (drop k (32 ∷ bytes))) {x = suc (spaces_at bytes)} {y = 1 + spaces_at bytes} (omega arith))
 
 -- `$` LF at the front
-pub continuation_at : (bytes : List ℕ) (n : ℕ) → 2 ≤ length bytes → get_or bytes 0 0 ≡ 36 → get_or bytes 1 0 ≡ 10 → n ≡ spaces_at (drop 2 bytes)
+pub continuation_at : (bytes : Bytes) (n : ℕ) → 2 ≤ length bytes → get_or bytes 0 0 ≡ 36 → get_or bytes 1 0 ≡ 10 → n ≡ spaces_at (drop 2 bytes)
     → units bytes ≡ Continuation (2 + n) ∷ units (drop (2 + n) bytes)
 continuation_at [] n long first second is = absurd (omega arith)
 continuation_at (a ∷ []) n long first second is = absurd (omega arith)
@@ -168,10 +174,12 @@ continuation_at (a ∷ b ∷ rest) n long first second is =
     subst (λ x. units (x ∷ b ∷ rest) ≡ Continuation (2 + n) ∷ units (drop (2 + n) (x ∷ b ∷ rest))) (sym first)
     (subst (λ x. units (36 ∷ x ∷ rest) ≡ Continuation (2 + n) ∷ units (drop (2 + n) (36 ∷ x ∷ rest))) (sym second)
     (units_feed rest ∙ continued_spaces 2 rest
-    ∙ same_continuation (omega (arith, is)) (ap (λ k. units (drop k rest)) (sym is) ∙ ap (λ k. units (drop k (36 ∷ 10 ∷ rest))) {x = suc (suc n)} {y = 2 + n} (omega arith))))
+    ∙ same_continuation (omega (arith, is))
+    (ap (λ k. units (drop k rest)) (sym is) ∙ ap (λ k. units (drop k (36 ∷ 10 ∷ rest))) {x = suc (suc n)} {y = 2 + n} (omega arith))))
 
 -- `$` CR LF at the front
-pub return_continuation_at : (bytes : List ℕ) (n : ℕ) → 3 ≤ length bytes → get_or bytes 0 0 ≡ 36 → get_or bytes 1 0 ≡ 13 → get_or bytes 2 0 ≡ 10 → n ≡ spaces_at (drop 3 bytes)
+pub return_continuation_at : (bytes : Bytes) (n : ℕ) → 3 ≤ length bytes → get_or bytes 0 0 ≡ 36 → get_or bytes 1 0 ≡ 13 → get_or bytes 2 0 ≡ 10 →
+    n ≡ spaces_at (drop 3 bytes)
     → units bytes ≡ Continuation (3 + n) ∷ units (drop (3 + n) bytes)
 return_continuation_at [] n long first second third is = absurd (omega arith)
 return_continuation_at (a ∷ []) n long first second third is = absurd (omega arith)
@@ -181,30 +189,37 @@ return_continuation_at (a ∷ b ∷ c ∷ rest) n long first second third is =
     (subst (λ x. units (36 ∷ x ∷ c ∷ rest) ≡ Continuation (3 + n) ∷ units (drop (3 + n) (36 ∷ x ∷ c ∷ rest))) (sym second)
     (subst (λ x. units (36 ∷ 13 ∷ x ∷ rest) ≡ Continuation (3 + n) ∷ units (drop (3 + n) (36 ∷ 13 ∷ x ∷ rest))) (sym third)
     (continued_spaces 3 rest
-    ∙ same_continuation (omega (arith, is)) (ap (λ k. units (drop k rest)) (sym is) ∙ ap (λ k. units (drop k (36 ∷ 13 ∷ 10 ∷ rest))) {x = suc (suc (suc n))} {y = 3 + n} (omega arith)))))
+    ∙ same_continuation (omega (arith, is))
+    (ap (λ k. units (drop k rest)) (sym is) ∙ ap (λ k. units (drop k (36 ∷ 13 ∷ 10 ∷ rest))) {x = suc (suc (suc n))} {y = 3 + n} (omega arith)))))
 
 -- ---- the tokens of units, by the first unit
 
 -- all but a bar add to the tokens of what follows
-pub tokens_with : (s : ℕ) (u : LineUnit) (us : List LineUnit) → is_byte 124 u ≡ false → tokens_from s (u ∷ us) ≡ with_unit s u us (tokens_from (s + unit_len u) us)
+pub tokens_with : (s : ℕ) (u : LineUnit) (us : LineUnits) → is_byte 124 u ≡ false →
+    tokens_from s (u ∷ us) ≡ with_unit s u us (tokens_from (s + unit_len u) us)
 tokens_with s u [] h = refl
 tokens_with s u (v ∷ us) h = rw h refl
 
 -- a space or a continuation adds none
-pub tokens_blank : (s : ℕ) (u : LineUnit) (us : List LineUnit) → is_blank u ≡ true → tokens_from s (u ∷ us) ≡ tokens_from (s + unit_len u) us
+pub tokens_blank : (s : ℕ) (u : LineUnit) (us : LineUnits) → is_blank u ≡ true → tokens_from s (u ∷ us) ≡ tokens_from (s + unit_len u) us
 tokens_blank s (Continuation len) us h = tokens_with s (Continuation len) us refl
-tokens_blank s (Escape b) us h = absurd (let x : false ≡ true = h in cc)
+tokens_blank s (Escape b) us h = cc
 tokens_blank s (Byte b) us h = subst (λ x. tokens_from s (Byte x ∷ us) ≡ tokens_from (s + 1) us) (sym (eqb-true b 32 h)) (tokens_with s (Byte 32) us refl)
 
-tokens_colon : (s : ℕ) (u : LineUnit) (us : List LineUnit) → is_byte 58 u ≡ true → tokens_from s (u ∷ us) ≡ record { kind = Colon; start = s; end = s + 1 } ∷ tokens_from (s + 1) us
-tokens_colon s (Continuation len) us h = absurd (let x : false ≡ true = h in cc)
-tokens_colon s (Escape b) us h = absurd (let x : false ≡ true = h in cc)
-tokens_colon s (Byte b) us h = subst (λ x. tokens_from s (Byte x ∷ us) ≡ record { kind = Colon; start = s; end = s + 1 } ∷ tokens_from (s + 1) us) (sym (eqb-true b 58 h)) (tokens_with s (Byte 58) us refl)
+tokens_colon : (s : ℕ) (u : LineUnit) (us : LineUnits) → is_byte 58 u ≡ true →
+    tokens_from s (u ∷ us) ≡ token_of Colon s 1 ∷ tokens_from (s + 1) us
+tokens_colon s (Continuation len) us h = cc
+tokens_colon s (Escape b) us h = cc
+tokens_colon s (Byte b) us h =
+    subst (λ x. tokens_from s (Byte x ∷ us) ≡ token_of Colon s 1 ∷ tokens_from (s + 1) us) (sym (eqb-true b 58 h))
+    (tokens_with s (Byte 58) us refl)
 
 -- a piece begins a word, or is one
-pub tokens_piece : (s : ℕ) (u : LineUnit) (us : List LineUnit) → is_piece u ≡ true
-    → tokens_from s (u ∷ us) ≡ (if goes_on us then with_first_start s (tokens_from (s + unit_len u) us) else (record { kind = Word; start = s; end = s + unit_len u } ∷ tokens_from (s + unit_len u) us))
-tokens_piece s (Continuation len) us h = absurd (let x : false ≡ true = h in cc)
+pub tokens_piece : (s : ℕ) (u : LineUnit) (us : LineUnits) → is_piece u ≡ true
+    → tokens_from s (u ∷ us) ≡
+    (if goes_on us then with_first_start s (tokens_from (s + unit_len u) us) else
+    (token_of Word s (unit_len u) ∷ tokens_from (s + unit_len u) us))
+tokens_piece s (Continuation len) us h = cc
 tokens_piece s (Escape b) us h = tokens_with s (Escape b) us refl
 tokens_piece s (Byte b) us h = tokens_with s (Byte b) us (no_bar (b == 124) ((b == 32) || (b == 58)) h) ∙ rw h refl where
   no_bar : (bar rest : Bool) → not (rest || bar) ≡ true → bar ≡ false
@@ -214,16 +229,18 @@ tokens_piece s (Byte b) us h = tokens_with s (Byte b) us (no_bar (b == 124) ((b 
 
 -- what is neither blank, nor `:`, nor `|` is a piece
 pub piece_else : (u : LineUnit) → is_blank u ≡ false → is_byte 58 u ≡ false → is_byte 124 u ≡ false → is_piece u ≡ true
-piece_else (Continuation len) blank colon bar = absurd (let x : true ≡ false = blank in cc)
+piece_else (Continuation len) blank colon bar = cc
 piece_else (Escape b) blank colon bar = refl
 piece_else (Byte b) blank colon bar = rw (blank, colon, bar) refl
 
 -- the word from start that ends here so far, and continues if a piece follows
-abbrev pub word_so_far : List ℕ → ℕ → ℕ → ℕ → List TokenAt
-word_so_far text start end index = if goes_on (units (drop index text)) then with_first_start start (tokens_at text index) else (record { kind = Word; start = start; end = end } ∷ tokens_at text index)
+abbrev pub word_so_far : Bytes → ℕ → ℕ → ℕ → List TokenAt
+word_so_far text start end index =
+    if goes_on (units (drop index text)) then with_first_start start (tokens_at text index) else
+    (record { kind = Word; start = start; end = end } ∷ tokens_at text index)
 
-pub goes_on_piece : (u : LineUnit) (us : List LineUnit) → is_piece u ≡ true → goes_on (u ∷ us) ≡ true
-goes_on_piece (Continuation len) us h = absurd (let x : false ≡ true = h in cc)
+pub goes_on_piece : (u : LineUnit) (us : LineUnits) → is_piece u ≡ true → goes_on (u ∷ us) ≡ true
+goes_on_piece (Continuation len) us h = cc
 goes_on_piece (Escape b) us h = refl
 goes_on_piece (Byte b) us h = h
 
@@ -233,26 +250,30 @@ widened_again start index (t ∷ ts) = refl
 
 pub continuation_blank : (u : LineUnit) → is_continuation u ≡ true → is_blank u ≡ true
 continuation_blank (Continuation len) h = refl
-continuation_blank (Escape b) h = absurd (let x : false ≡ true = h in cc)
-continuation_blank (Byte b) h = absurd (let x : false ≡ true = h in cc)
+continuation_blank (Escape b) h = cc
+continuation_blank (Byte b) h = cc
 
 -- a unit that is at an index, and its length
-pub record Stands (text : List ℕ) (index n : ℕ) (u : LineUnit) : Type 0 where
+pub record Stands (text : Bytes) (index n : ℕ) (u : LineUnit) : Type 0 where
   pub len : n ≡ unit_len u
   pub first : units (drop index text) ≡ u ∷ units (drop (index + n) text)
 
-pub stands : (text : List ℕ) (index n : ℕ) (u : LineUnit) → n ≡ unit_len u → units (drop index text) ≡ u ∷ units (drop (index + unit_len u) text) → Stands text index n u
+pub stands : (text : Bytes) (index n : ℕ) (u : LineUnit) → n ≡ unit_len u → units (drop index text) ≡ u ∷ units (drop (index + unit_len u) text) →
+    Stands text index n u
 stands text index n u len first = record { len = len; first = rw len first }
 
-module _ (text : List ℕ) (index n : ℕ) (u : LineUnit) (unit : Stands text index n u) where
+module _ (text : Bytes) (index n : ℕ) (u : LineUnit) (unit : Stands text index n u) where
   pub blank_adds_none : is_blank u ≡ true → tokens_at text (index + n) ≡ tokens_at text index
-  blank_adds_none h = sym (ap (tokens_from index) unit.first ∙ tokens_blank index u _ h ∙ ap (λ k. tokens_from (index + k) (units (drop (index + n) text))) (sym unit.len))
+  blank_adds_none h = sym
+      (ap (tokens_from index) unit.first ∙ tokens_blank index u _ h ∙ ap (λ k. tokens_from (index + k) (units (drop (index + n) text))) (sym unit.len))
 
   pub word_begins : is_piece u ≡ true → word_so_far text index (index + n) (index + n) ≡ tokens_at text index
-  word_begins h = sym (ap (tokens_from index) unit.first ∙ tokens_piece index u _ h ∙ ap (λ k. if goes_on (units (drop (index + n) text)) then with_first_start index (tokens_from (index + k) (units (drop (index + n) text)))
-      else (record { kind = Word; start = index; end = index + k } ∷ tokens_from (index + k) (units (drop (index + n) text)))) (sym unit.len))
+  word_begins h = sym (ap (tokens_from index) unit.first ∙ tokens_piece index u _ h ∙
+      ap (λ k. if goes_on (units (drop (index + n) text)) then with_first_start index (tokens_from (index + k) (units (drop (index + n) text)))
+      else (token_of Word index k ∷ tokens_from (index + k) (units (drop (index + n) text)))) (sym unit.len))
 
-  pub word_goes_on : (start end : ℕ) → is_piece u ≡ true → word_so_far text start end index ≡ tokens_at text start → word_so_far text start (index + n) (index + n) ≡ tokens_at text start
+  pub word_goes_on : (start end : ℕ) → is_piece u ≡ true → word_so_far text start end index ≡ tokens_at text start →
+      word_so_far text start (index + n) (index + n) ≡ tokens_at text start
   word_goes_on start end h so_far =
       let on : goes_on (units (drop index text)) ≡ true = ap goes_on unit.first ∙ goes_on_piece u _ h in
       let before : with_first_start start (tokens_at text index) ≡ tokens_at text start = rw on at so_far in
@@ -263,17 +284,21 @@ module _ (text : List ℕ) (index n : ℕ) (u : LineUnit) (unit : Stands text in
           | inr g ↦ rw g refl
         ]
 
-  pub word_waits : (start end : ℕ) → is_continuation u ≡ true → word_so_far text start end index ≡ tokens_at text start → word_so_far text start end (index + n) ≡ tokens_at text start
+  pub word_waits : (start end : ℕ) → is_continuation u ≡ true → word_so_far text start end index ≡ tokens_at text start →
+      word_so_far text start end (index + n) ≡ tokens_at text start
   word_waits start end h so_far =
-      ap (λ ts. if goes_on (units (drop (index + n) text)) then with_first_start start ts else (record { kind = Word; start = start; end = end } ∷ ts)) (blank_adds_none (continuation_blank u h))
-      ∙ ap (λ b. if b then with_first_start start (tokens_at text index) else (record { kind = Word; start = start; end = end } ∷ tokens_at text index)) (sym (ap goes_on unit.first ∙ continuation_hides u h)) ∙ so_far where
+      ap (λ ts. if goes_on (units (drop (index + n) text)) then with_first_start start ts else (record { kind = Word; start = start; end = end } ∷ ts))
+      (blank_adds_none (continuation_blank u h))
+      ∙ ap (λ b. if b then with_first_start start (tokens_at text index) else (record { kind = Word; start = start; end = end } ∷ tokens_at text index))
+      (sym (ap goes_on unit.first ∙ continuation_hides u h)) ∙ so_far where
         continuation_hides : (u : LineUnit) → is_continuation u ≡ true → goes_on (u ∷ units (drop (index + n) text)) ≡ goes_on (units (drop (index + n) text))
         continuation_hides (Continuation len) h = refl
-        continuation_hides (Escape b) h = absurd (let x : false ≡ true = h in cc)
-        continuation_hides (Byte b) h = absurd (let x : false ≡ true = h in cc)
+        continuation_hides (Escape b) h = cc
+        continuation_hides (Byte b) h = cc
 
 -- the unit that a byte is that is a piece of a word by itself
-pub plain_stands : (text : List ℕ) (index : ℕ) → index < length text → is_plain_piece (get_or text index 0) ≡ true → Stands text index 1 (Byte (get_or text index 0))
+pub plain_stands : (text : Bytes) (index : ℕ) → index < length text → is_plain_piece (get_or text index 0) ≡ true →
+    Stands text index 1 (Byte (get_or text index 0))
 plain_stands text index in_text plain =
     let b = get_or text index 0 in
     let own = or_parts (b == 36) _ (not-true _ plain) in
@@ -289,41 +314,44 @@ plain_piece b plain =
     rw (space.0, colon.0, colon.1) refl
 
 -- two readings of the unit at one index are one
-pub piece_at : (text : List ℕ) (index : ℕ) (u : LineUnit) (us : List LineUnit) → BeginsPiece text index → units (drop index text) ≡ u ∷ us → is_piece u ≡ true
+pub piece_at : (text : Bytes) (index : ℕ) (u : LineUnit) (us : LineUnits) → BeginsPiece text index → units (drop index text) ≡ u ∷ us → is_piece u ≡ true
 piece_at text index u us begins e =
     let both : begins.0 ∷ begins.1 ≡ u ∷ us = sym begins.2 ∙ e in
     let same : begins.0 ≡ u = cc in
     ap is_piece (sym same) ∙ begins.3
 
 pub byte_len : (c : ℕ) (u : LineUnit) → is_byte c u ≡ true → unit_len u ≡ 1
-byte_len c (Continuation len) h = absurd (let x : false ≡ true = h in cc)
-byte_len c (Escape b) h = absurd (let x : false ≡ true = h in cc)
+byte_len c (Continuation len) h = cc
+byte_len c (Escape b) h = cc
 byte_len c (Byte b) h = refl
 
 -- the token that a colon is
-module _ (text : List ℕ) (s : ℕ) (u : LineUnit) (e : units (drop s text) ≡ u ∷ units (drop (s + unit_len u) text)) where
-  pub colon_at : is_byte 58 u ≡ true → tokens_at text s ≡ record { kind = Colon; start = s; end = s + 1 } ∷ tokens_at text (s + 1)
-  colon_at h = ap (tokens_from s) e ∙ tokens_colon s u _ h ∙ ap (λ k. record { kind = Colon; start = s; end = s + 1 } ∷ tokens_from (s + 1) (units (drop (s + k) text))) (byte_len 58 u h)
+module _ (text : Bytes) (s : ℕ) (u : LineUnit) (e : units (drop s text) ≡ u ∷ units (drop (s + unit_len u) text)) where
+  pub colon_at : is_byte 58 u ≡ true → tokens_at text s ≡ token_of Colon s 1 ∷ tokens_at text (s + 1)
+  colon_at h = ap (tokens_from s) e ∙ tokens_colon s u _ h ∙
+      ap (λ k. token_of Colon s 1 ∷ tokens_from (s + 1) (units (drop (s + k) text))) (byte_len 58 u h)
 
 pub byte_is : (c : ℕ) (u : LineUnit) → is_byte c u ≡ true → u ≡ Byte c
-byte_is c (Continuation len) h = absurd (let x : false ≡ true = h in cc)
-byte_is c (Escape b) h = absurd (let x : false ≡ true = h in cc)
+byte_is c (Continuation len) h = cc
+byte_is c (Escape b) h = cc
 byte_is c (Byte b) h = ap Byte (eqb-true b c h)
 
-pub at_bar : (text : List ℕ) (s : ℕ) (u : LineUnit) → units (drop s text) ≡ u ∷ units (drop (s + unit_len u) text) → is_byte 124 u ≡ true → BeginsBar text s
+pub at_bar : (text : Bytes) (s : ℕ) (u : LineUnit) → units (drop s text) ≡ u ∷ units (drop (s + unit_len u) text) → is_byte 124 u ≡ true → BeginsBar text s
 at_bar text s u e bar = e ∙ ap (λ v. v ∷ units (drop (s + unit_len v) text)) (byte_is 124 u bar)
 
 -- the token that a bar begins, by the unit after it
-module _ (text : List ℕ) (s : ℕ) (begins : BeginsBar text s) where
+module _ (text : Bytes) (s : ℕ) (begins : BeginsBar text s) where
   module _ (v : LineUnit) (e : units (drop (s + 1) text) ≡ v ∷ units (drop (s + 1 + unit_len v) text)) where
     after : (c : ℕ) → is_byte c v ≡ true → units (drop (s + 1) text) ≡ Byte c ∷ units (drop (s + 2) text)
-    after c h = e ∙ ap (λ w. w ∷ units (drop (s + 1 + unit_len w) text)) (byte_is c v h) ∙ ap (λ k. Byte c ∷ units (drop k text)) {x = s + 1 + 1} {y = s + 2} (omega arith)
+    after c h = e ∙ ap (λ w. w ∷ units (drop (s + 1 + unit_len w) text)) (byte_is c v h) ∙
+        ap (λ k. Byte c ∷ units (drop k text)) {x = s + 1 + 1} {y = s + 2} (omega arith)
 
-    pub bar_bar : is_byte 124 v ≡ true → tokens_at text s ≡ record { kind = DoubleBar; start = s; end = s + 2 } ∷ tokens_at text (s + 2)
+    pub bar_bar : is_byte 124 v ≡ true → tokens_at text s ≡ token_of DoubleBar s 2 ∷ tokens_at text (s + 2)
     bar_bar h = ap (tokens_from s) (begins ∙ ap (λ us. Byte 124 ∷ us) (after 124 h))
 
-    pub bar_with_at : is_byte 64 v ≡ true → tokens_at text s ≡ record { kind = BarAt; start = s; end = s + 2 } ∷ tokens_at text (s + 2)
+    pub bar_with_at : is_byte 64 v ≡ true → tokens_at text s ≡ token_of BarAt s 2 ∷ tokens_at text (s + 2)
     bar_with_at h = ap (tokens_from s) (begins ∙ ap (λ us. Byte 124 ∷ us) (after 64 h))
 
-    pub bar_single : is_byte 124 v ≡ false → is_byte 64 v ≡ false → tokens_at text s ≡ record { kind = Bar; start = s; end = s + 1 } ∷ tokens_at text (s + 1)
-    bar_single bar at = ap (tokens_from s) (begins ∙ ap (λ us. Byte 124 ∷ us) e) ∙ rw (bar, at) refl ∙ ap (λ us. record { kind = Bar; start = s; end = s + 1 } ∷ tokens_from (s + 1) us) (sym e)
+    pub bar_single : is_byte 124 v ≡ false → is_byte 64 v ≡ false → tokens_at text s ≡ token_of Bar s 1 ∷ tokens_at text (s + 1)
+    bar_single bar at = ap (tokens_from s) (begins ∙ ap (λ us. Byte 124 ∷ us) e) ∙ rw (bar, at) refl ∙
+        ap (λ us. token_of Bar s 1 ∷ tokens_from (s + 1) us) (sym e)

@@ -37,6 +37,9 @@ with_continuation len (Byte b ∷ us) =
 with_continuation len (Escape b ∷ us) = Continuation len ∷ Escape b ∷ us
 with_continuation len (Continuation more ∷ us) = Continuation len ∷ Continuation more ∷ us
 
+abbrev pub LineUnits : Type 0
+LineUnits = List LineUnit
+
 -- The units of a text, from its first byte on: `$` LF and `$` CR LF continue the line, with all
 -- spaces after them; `$` and any other byte are an escape; each other byte is a unit by itself, and
 -- so is a `$` at the very end.

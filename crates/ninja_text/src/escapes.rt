@@ -3,7 +3,7 @@ ghost use Rattle.std.specs.Prelude.{◌≡◌, ◌↔◌, ◌++◌, IsTrue, OnOk
 ghost use Rattle.ninja_text.specs.Bytes.{PathText};
 ghost use Rattle.ninja_text.specs.Escapes.{is_writable, is_escaped, IsWritable, escaped, escaped_byte, Spells};
 
-use crate::reduction::first_unwritable;
+use crate::reduction::is_unwritable;
 use std::alloc::AllocError;
 
 /// Returns whether a byte needs a `$` before it.
@@ -18,7 +18,7 @@ pub fn is_writable(path: &[u8]) -> bool
     ensures value { result ≡ is_writable path.now }
     ensures meaning { IsTrue result ↔ IsWritable path.now }
 {
-    !path.is_empty() && first_unwritable(path).is_none()
+    !path.is_empty() && !path.iter().any(is_unwritable)
 }
 
 /// Appends the escaped form of a path to a vector.
@@ -39,9 +39,10 @@ pub fn escape_into(path: &[u8], out: &mut Vec<u8>) -> Result<(), AllocError>
     }
     let start = out.len();
     for byte in path {
-        let appended = match *byte {
-            b'$' | b' ' | b':' => out.extend_from_slice(&[b'$', *byte]),
-            _ => out.extend_from_slice(&[*byte]),
+        let appended = if is_escaped(byte) {
+            out.extend_from_slice(&[b'$', *byte])
+        } else {
+            out.extend_from_slice(&[*byte])
         };
         if let Err(e) = appended {
             out.truncate(start);

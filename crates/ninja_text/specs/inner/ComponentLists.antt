@@ -2,19 +2,23 @@
 -- canonical.
 use Rattle.std.specs.Prelude.{◌≡◌, ℕ, ◌+◌, Bool, false, ◌&&◌, ◌==◌, if◌then◌else◌, List, [], ◌∷◌, ◌++◌}
 use Rattle.std.specs.List.{join_with_byte, AllByRecursion}
-use Rattle.ninja_text.specs.Bytes.{slash, dot}
+use Rattle.ninja_text.specs.Bytes.{Component, slash, dot}
 use Rattle.ninja_text.specs.PathShape.{parts}
+
+-- the components of a path
+abbrev pub Components : Type 0
+Components = List Component
 
 -- no slash
 abbrev pub LacksSlash : List ℕ → Type 0
 LacksSlash component = AllByRecursion (λ b. (b == slash) ≡ false) component
 
 -- no slash in any of them
-abbrev pub EachLacksSlash : List (List ℕ) → Type 0
+abbrev pub EachLacksSlash : Components → Type 0
 EachLacksSlash list = AllByRecursion LacksSlash list
 
 -- a list of components, written out
-abbrev pub list_text : List (List ℕ) → List ℕ
+abbrev pub list_text : Components → List ℕ
 list_text list = join_with_byte slash list
 
 -- the canonical list of a text's components, written out

@@ -1,11 +1,13 @@
-use Rattle.std.proofs.Common.{◌≡◌, IsTrue, ◌↔◌, ap, subst, sym, ◌∙◌}
-use Rattle.std.specs.Prelude.{is_some}
-use Rattle.ninja_text.specs.Escapes.{is_writable, IsWritable}
-use Rattle.ninja_text.proofs.EscapedPaths.{writable, none_found}
+use Rattle.std.proofs.Common.{rules, tests, ◌≡◌, not, IsTrue, ◌↔◌, subst, sym, ◌∙◌}
+use Rattle.std.proofs.lemmas.Iterator.{YieldsList-from_slice}
+use Rattle.std.proofs.lemmas.Iterator.Search.{any_from_yields_List}
+use Rattle.ninja_text.specs.Escapes.{is_unwritable, is_writable, IsWritable}
+use Rattle.ninja_text.proofs.EscapedPaths.{some_byte, writable}
 use Rattle.ninja_text.proofs.escapes.is_writable.Goals as goal
 
 pub returns-then-not-is_empty : goal.returns-then-not-is_empty
 returns-then-not-is_empty c =
     let path = c.args.path.now in
-    let value : c.is_none.result ≡ is_writable path = none_found path c.is_none.result (sym c.is_empty.ensures ∙ c.if-not-is_empty.true) (ap is_some (sym c.first_unwritable.ensures) ∙ c.is_none.ensures) in
+    let found = any_from_yields_List is_unwritable _ _ c.any.result c.any.ensures.ran (YieldsList-from_slice path cc) (λ x b q k. search (rules, tests)) in
+    let value : not c.any.result ≡ is_writable path = some_byte path c.any.result (sym c.is_empty.ensures ∙ c.if-not-is_empty.true) found in
     record { value = value; meaning = subst (λ b. IsTrue b ↔ IsWritable path) (sym value) (writable path) }

@@ -14,7 +14,8 @@ loop-index-init c =
       within = omega (arith, c.len.ensures, c.unit_at-first.ensures.within);
       ordered = omega arith;
       some = omega (arith, c.len.ensures, c.unit_at-first.ensures.some);
-      word = word_begins c.args.text.now c.args.start c.len.result c.unit_at-first.result unit (piece_at c.args.text.now c.args.start c.unit_at-first.result _ c.requires.begins c.unit_at-first.ensures.first);
+      word = word_begins c.args.text.now c.args.start c.len.result c.unit_at-first.result unit
+          (piece_at c.args.text.now c.args.start c.unit_at-first.result _ c.requires.begins c.unit_at-first.ensures.first);
       same = refl;
     }
 
@@ -22,12 +23,14 @@ pub loop-index-preserved-then-not-matches : goal.loop-index-preserved-then-not-m
 loop-index-preserved-then-not-matches c =
     let text = c.args.text.now in
     let index = c.loop-index.index in
-    let plain : is_plain_piece (get_or text index 0) ≡ true = elim c.match-matches.branch [ in-36 w ↦ absurd (let a = w.matches-is in let b = c.if-not-matches.true in cc) | in_default w ↦ grind (arith, common_steps) ] in
+    let plain : is_plain_piece (get_or text index 0) ≡ true = elim c.match-matches.branch
+    [ in-36 w ↦ absurd (let a = w.matches-is in let b = c.if-not-matches.true in cc) | in_default w ↦ grind (arith, common_steps) ] in
     record {
       within = omega arith;
       ordered = omega arith;
       some = omega (arith, c.loop-index.invariant.ordered, c.loop-index.invariant.some);
-      word = word_goes_on text index 1 (Byte (get_or text index 0)) (plain_stands text index c.loop-index-test.true plain) c.args.start c.loop-index.end (plain_piece (get_or text index 0) plain) c.loop-index.invariant.word;
+      word = word_goes_on text index 1 (Byte (get_or text index 0)) (plain_stands text index c.loop-index-test.true plain) c.args.start c.loop-index.end
+          (plain_piece (get_or text index 0) plain) c.loop-index.invariant.word;
       same = refl;
     }
 

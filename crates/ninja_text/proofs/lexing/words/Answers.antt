@@ -5,7 +5,8 @@ use Rattle.ninja_text.proofs.Spans.{tokens_are_slices, tokens_rise}
 use Rattle.ninja_text.proofs.lexing.words.Goals as goal
 
 pub returns-clause-slices : goal.returns-clause-slices
-returns-clause-slices c = subst (λ text. AllByRecursion (IsSlice c.args.line.text.now) (seen_tokens text)) (sym c.text-text.ensures) (tokens_are_slices c.args.line.text.now)
+returns-clause-slices c =
+    subst (λ text. AllByRecursion (IsSlice c.args.line.text.now) (seen_tokens text)) (sym c.text-text.ensures) (tokens_are_slices c.args.line.text.now)
 
 pub returns-clause-rise : goal.returns-clause-rise
 returns-clause-rise c = tokens_rise c.text-text.result.now

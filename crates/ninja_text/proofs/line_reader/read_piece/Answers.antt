@@ -62,7 +62,8 @@ loop-rest-preserved g c =
     }
 
 pub returns-in-Err-clause-waits_not : goal.returns-in-Err-clause-waits_not
-returns-in-Err-clause-waits_not g c = err_waits c.loop-rest.cutter c.loop-rest.rest.now c.in-Err.failure c.feed.new.self c.loop-rest.invariant.waits_not c.in-Err.ensures.exact
+returns-in-Err-clause-waits_not g c =
+    err_waits c.loop-rest.cutter c.loop-rest.rest.now c.in-Err.failure c.feed.new.self c.loop-rest.invariant.waits_not c.in-Err.ensures.exact
 
 pub returns-in-Err-clause-all : goal.returns-in-Err-clause-all
 returns-in-Err-clause-all g c = λ bytes lent before.
@@ -70,11 +71,13 @@ returns-in-Err-clause-all g c = λ bytes lent before.
     let p = g.S.LineState in
     let is : c.map.result ≡ failure_of p.of_cutter c.in-Err.failure = search (rules, tests) in
     subst (HasFailureBehind p.passes p.refuses p.of_cutter (bytes ++ c.args.piece.now) lent c.args.state.now) (sym is)
-    (failure_fed p.passes p.refuses p.of_cutter f.0 c.loop-rest.rest.now (bytes ++ c.args.piece.now) lent f.1 c.loop-rest.cutter c.args.state.now c.loop-rest.state c.in-Err.failure c.feed.new.self
+    (failure_fed p.passes p.refuses p.of_cutter f.0 c.loop-rest.rest.now (bytes ++ c.args.piece.now) lent f.1 c.loop-rest.cutter c.args.state.now
+    c.loop-rest.state c.in-Err.failure c.feed.new.self
     f.2 f.3 f.4 c.in-Err.ensures.exact)
 
 pub returns-in-Err-next_line-clause-all : goal.returns-in-Err-next_line-clause-all
-returns-in-Err-next_line-clause-all g c = absurd (never_failed c.loop-rest.cutter c.loop-rest.rest.now c.in-Ok.taken c.feed.new.self c.in-Ok.ensures.exact c.in-Err-next_line.ensures.line.0)
+returns-in-Err-next_line-clause-all g c =
+    absurd (never_failed c.loop-rest.cutter c.loop-rest.rest.now c.in-Ok.taken c.feed.new.self c.in-Ok.ensures.exact c.in-Err-next_line.ensures.line.0)
 
 pub returns-in-Err-read_line-clause-all : goal.returns-in-Err-read_line-clause-all
 returns-in-Err-read_line-clause-all g c = λ bytes lent before.
@@ -83,8 +86,10 @@ returns-in-Err-read_line-clause-all g c = λ bytes lent before.
     let n = c.in-Ok.taken in
     let rest = c.loop-rest.rest.now in
     let some = rw c.in-Ok-Some.field-0-is at c.in-Ok-Some.ensures.line in
-    line_refused p.passes p.refuses p.of_cutter (f.0 ++ take n rest) (drop n rest) (bytes ++ c.args.piece.now) lent f.1 c.feed.new.self c.args.state.now c.loop-rest.state c.read_line.new.self
-    (seen_line c.in-Ok-Some.line) c.in-Err-read_line.failure (moves_on f.0 rest (bytes ++ c.args.piece.now) n f.2) (c.in-Ok.ensures.all f.0 (lent ++ f.1) f.3.cuts) some.1 some.2 f.4
+    line_refused p.passes p.refuses p.of_cutter (f.0 ++ take n rest) (drop n rest) (bytes ++ c.args.piece.now) lent f.1 c.feed.new.self c.args.state.now
+    c.loop-rest.state c.read_line.new.self
+    (seen_line c.in-Ok-Some.line) c.in-Err-read_line.failure (moves_on f.0 rest (bytes ++ c.args.piece.now) n f.2)
+    (c.in-Ok.ensures.all f.0 (lent ++ f.1) f.3.cuts) some.1 some.2 f.4
     c.in-Err-read_line.ensures
 
 pub returns-clause-all : goal.returns-clause-all

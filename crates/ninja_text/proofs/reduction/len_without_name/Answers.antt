@@ -10,7 +10,11 @@ returns-then-is_parent-clause-last c init last lacks not_current e =
     let s = start-of c.args.list.now init last c.last_start-start.result e lacks f.bound f.slash f.rest in
     let no = not-all c.args.list.now init last c.last_start-start.result e s not_current in
     let same = last-of c.args.list.now init last c.last_start-start.result e s in
-    elim c.if-start-list.branch [ then-start-list w ↦ absurd (no w.if-start-list.true) | else-start-list w ↦ ap is_parent (sym same) ∙ sym w.is_parent.ensures ∙ sym w.value-is ∙ c.if-is_parent.true ]
+    elim c.if-start-list.branch [
+      | then-start-list w ↦ absurd (no w.if-start-list.true)
+      | else-start-list w ↦ ap is_parent (sym same) ∙ sym w.is_parent.ensures ∙ sym w.value-is ∙
+          c.if-is_parent.true
+    ]
 
 pub returns-else-is_parent-clause-last : goal.returns-else-is_parent-clause-last
 returns-else-is_parent-clause-last c init last lacks not_current e =
@@ -18,6 +22,10 @@ returns-else-is_parent-clause-last c init last lacks not_current e =
     let s = start-of c.args.list.now init last c.last_start-start.result e lacks f.bound f.slash f.rest in
     let no = not-all c.args.list.now init last c.last_start-start.result e s not_current in
     let same = last-of c.args.list.now init last c.last_start-start.result e s in (
-      elim c.if-start-list.branch [ then-start-list w ↦ absurd (no w.if-start-list.true) | else-start-list w ↦ ap is_parent (sym same) ∙ sym w.is_parent.ensures ∙ sym w.value-is ∙ c.if-is_parent.false ],
+      elim c.if-start-list.branch [
+        | then-start-list w ↦ absurd (no w.if-start-list.true)
+        | else-start-list w ↦ ap is_parent (sym same) ∙ sym w.is_parent.ensures ∙ sym w.value-is ∙
+            c.if-is_parent.false
+      ],
       init-of c.args.list.now init last c.last_start-start.result c.saturating_sub.result e s c.saturating_sub.ensures,
     )

@@ -12,15 +12,25 @@ pub returns-then-is_current : goal.returns-then-is_current
 returns-then-is_current c before each e = e ∙ ap list_text (sym (behind-current before c.args.component.now (sym c.is_current.ensures ∙ c.if-is_current.true)))
 
 pub returns-then-not-is_parent : goal.returns-then-not-is_parent
-returns-then-not-is_parent c = on_ok c.append.result (λ made before each e. put-behind before c.args.component.now c.args.list.now.items c.append.new.list.items each e (sym c.is_current.ensures ∙ c.if-is_current.false) (inl (sym c.is_parent.ensures ∙ c.if-not-is_parent.true)) made) c.append.ensures
+returns-then-not-is_parent c =
+    on_ok c.append.result
+    (λ made before each e.
+    put-behind before c.args.component.now c.args.list.now.items c.append.new.list.items each e (sym c.is_current.ensures ∙ c.if-is_current.false)
+    (inl (sym c.is_parent.ensures ∙ c.if-not-is_parent.true)) made) c.append.ensures
 
 pub returns-in-Some : goal.returns-in-Some
 returns-in-Some c before each e =
     let same : c.deref.result.now ≡ c.args.list.now.items = c.deref.ensures.value in
     let found = c.in-Some.ensures in
-    c.truncate.ensures.items ∙ put-parent before c.args.component.now c.args.list.now.items c.in-Some.len each e (sym c.is_parent.ensures ∙ c.if-not-is_parent.false) (λ h. found.empty (same ∙ h)) (λ init last lacks not_current k. let p = found.last init last lacks not_current (same ∙ k) in (p.0, ap (take c.in-Some.len) (sym same) ∙ p.1))
+    c.truncate.ensures.items ∙
+    put-parent before c.args.component.now c.args.list.now.items c.in-Some.len each e (sym c.is_parent.ensures ∙ c.if-not-is_parent.false)
+    (λ h. found.empty (same ∙ h))
+    (λ init last lacks not_current k. let p = found.last init last lacks not_current (same ∙ k) in (p.0, ap (take c.in-Some.len) (sym same) ∙ p.1))
 
 pub returns-in-None : goal.returns-in-None
 returns-in-None c =
     let same : c.deref.result.now ≡ c.args.list.now.items = c.deref.ensures.value in
-    on_ok c.append-in-None.result (λ made before each e. put-behind before c.args.component.now c.args.list.now.items c.append-in-None.new.list.items each e (sym c.is_current.ensures ∙ c.if-is_current.false) (inr (λ init last lacks not_current k. c.in-None.ensures.last init last lacks not_current (same ∙ k))) made) c.append-in-None.ensures
+    on_ok c.append-in-None.result
+    (λ made before each e.
+    put-behind before c.args.component.now c.args.list.now.items c.append-in-None.new.list.items each e (sym c.is_current.ensures ∙ c.if-is_current.false)
+    (inr (λ init last lacks not_current k. c.in-None.ensures.last init last lacks not_current (same ∙ k))) made) c.append-in-None.ensures

@@ -17,11 +17,20 @@ returns-then-has_only_names c =
 
 pub returns : goal.returns
 returns c =
-    let t = YieldsList-end (YieldsList-at c.into_iter-component-iterator.ensures.into_iter_gives (YieldsList-from_slice_split _ (λ b. eqb b 47) c.args.text.now c.split-component-items.ensures.rest c.split-component-items.ensures.done c.split-component-items.ensures.closure (λ x r q k. search (rules, tests)))) c.loop-component.yielded _ c.loop-component.yielded_by _ _ c.in-None.is c.next.ensures.steps in
+    let t = YieldsList-end
+    (YieldsList-at c.into_iter-component-iterator.ensures.into_iter_gives
+    (YieldsList-from_slice_split _ (λ b. eqb b 47) c.args.text.now c.split-component-items.ensures.rest c.split-component-items.ensures.done
+    c.split-component-items.ensures.closure (λ x r q k. search (rules, tests)))) c.loop-component.yielded _ c.loop-component.yielded_by _ _ c.in-None.is
+    c.next.ensures.steps in
     c.loop-component.invariant ∙ ap (λ l. list_text (reduced l)) t.0
 
 pub loop-component-preserved : goal.loop-component-preserved
 loop-component-preserved c =
-    let so_far = YieldsList-so_far (YieldsList-at c.into_iter-component-iterator.ensures.into_iter_gives (YieldsList-from_slice_split _ (λ b. eqb b 47) c.args.text.now c.split-component-items.ensures.rest c.split-component-items.ensures.done c.split-component-items.ensures.closure (λ x r q k. search (rules, tests)))) c.loop-component.yielded _ c.loop-component.yielded_by in
-    let each : EachLacksSlash (map (λ c. c.now) c.loop-component.yielded) = subst EachLacksSlash (sym so_far) (each-take LacksSlash _ (components c.args.text.now) (components-lack c.args.text.now)) in
-    c.in_ok-put.ensures (map (λ c. c.now) c.loop-component.yielded) each c.loop-component.invariant ∙ ap (λ l. list_text (reduced l)) (sym (map-append (λ c. c.now) c.loop-component.yielded (c.in-Some.component ∷ [])))
+    let so_far = YieldsList-so_far
+    (YieldsList-at c.into_iter-component-iterator.ensures.into_iter_gives
+    (YieldsList-from_slice_split _ (λ b. eqb b 47) c.args.text.now c.split-component-items.ensures.rest c.split-component-items.ensures.done
+    c.split-component-items.ensures.closure (λ x r q k. search (rules, tests)))) c.loop-component.yielded _ c.loop-component.yielded_by in
+    let each : EachLacksSlash (map (λ c. c.now) c.loop-component.yielded) =
+    subst EachLacksSlash (sym so_far) (each-take LacksSlash _ (components c.args.text.now) (components-lack c.args.text.now)) in
+    c.in_ok-put.ensures (map (λ c. c.now) c.loop-component.yielded) each c.loop-component.invariant ∙
+    ap (λ l. list_text (reduced l)) (sym (map-append (λ c. c.now) c.loop-component.yielded (c.in-Some.component ∷ [])))

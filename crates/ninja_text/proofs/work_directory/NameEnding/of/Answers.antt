@@ -14,8 +14,10 @@ invariant_of-result c =
     elim c.match-rest.branch [
       | in-Some+in_ok-list-in-Some w ↦
           let at = subst (λ o. MatchOption o (first ≡ length text) (λ rest. text ≡ take first text ++ 47 ∷ rest.now)) w.in-Some.is ends.rest in
-          ending-some text w.in-Some.rest.now c.match-rest.list.items first c.parents-parents.result c.first_unwritable.result ends.bound ends.lacks at (ap (λ v. v.items) w.list-is ∙ w.in_ok-list-in-Some.ensures) parents c.first_unwritable.ensures
+          ending-some text w.in-Some.rest.now c.match-rest.list.items first c.parents-parents.result c.first_unwritable.result ends.bound ends.lacks at
+          (ap (λ v. v.items) w.list-is ∙ w.in_ok-list-in-Some.ensures) parents c.first_unwritable.ensures
       | in-None w ↦
           let at = subst (λ o. MatchOption o (first ≡ length text) (λ rest. text ≡ take first text ++ 47 ∷ rest.now)) w.in-None.is ends.rest in
-          ending-none text c.match-rest.list.items first c.parents-parents.result c.first_unwritable.result ends.bound ends.lacks at (ap (λ v. v.items) w.list-is ∙ w.new-list.ensures.items) parents c.first_unwritable.ensures
+          ending-none text c.match-rest.list.items first c.parents-parents.result c.first_unwritable.result ends.bound ends.lacks at
+          (ap (λ v. v.items) w.list-is ∙ w.new-list.ensures.items) parents c.first_unwritable.ensures
     ]

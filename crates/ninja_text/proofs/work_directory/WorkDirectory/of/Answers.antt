@@ -14,9 +14,11 @@ invariant_of-result c =
     let empty = nothing text list c.is_empty.result c.in_ok-list.ensures c.is_empty.ensures in
     let count : c.if-is_empty.components ≡ length (parts text) = elim c.if-is_empty.branch [
       | then-is_empty w ↦ w.components-is ∙ sym (none-of (parts text) (empty ∙ w.if-is_empty.true))
-      | else-is_empty w ↦ let n = directory-count text list.items c.in_ok-slashes.slashes.items c.in_ok-list.ensures slashes (empty ∙ w.if-is_empty.false) in omega (arith, w.components-is, w.len.ensures, c.in_ok-slashes.slashes.ok.0, n)
+      | else-is_empty w ↦ let n = directory-count text list.items c.in_ok-slashes.slashes.items c.in_ok-list.ensures slashes (empty ∙ w.if-is_empty.false) in
+          omega (arith, w.components-is, w.len.ensures, c.in_ok-slashes.slashes.ok.0, n)
     ] in
-    let ups : c.parents.result ≡ up (parts text) = c.parents.ensures ∙ parents-text c.deref-2.result.now text (c.deref-2.ensures.value ∙ c.in_ok-list.ensures) in
+    let ups : c.parents.result ≡ up (parts text) = c.parents.ensures ∙
+    parents-text c.deref-2.result.now text (c.deref-2.ensures.value ∙ c.in_ok-list.ensures) in
     record {
       list_is = c.in_ok-list.ensures;
       slashes_are = slashes;
