@@ -150,7 +150,7 @@ line_decided classes line begun =
         | inr f ↦ inr (f.0, fault_is classes line ran.0 f.0 ran.1 short f.1, faulty_after classes line ran.0 f.0 ran.1 f.1)
         | inl none ↦
             let s = can_stand ran.0.stage ran.0.statements (text_of_line line) (is_comment line) none in
-            inl (s.class, (short, s.is), runs_begin (classes ++ s.class ∷ []) s.next (led_on classes ran.0 s.next s.class ran.1 s.steps))
+            inl (s.0, (short, s.1), runs_begin (classes ++ s.0 ∷ []) s.2.0 (led_on classes ran.0 s.2.0 s.0 ran.1 s.2.1))
       ]
     ]
 
