@@ -40,20 +40,15 @@ module _ (text : List ℕ) (xs : List Symbol) (later : Written symbol false text
       → Written symbol true ((escaped path ++ paths_text paths) ++ text) (map WordSymbol (map escaped (path ∷ paths)) ++ xs)
   first_path_written path paths writable rest =
       subst (λ t. Written symbol true t (map WordSymbol (map escaped (path ∷ paths)) ++ xs)) (sym (append_assoc (escaped path) (paths_text paths) text))
-      (written_path symbol path (paths_text paths ++ text) (map WordSymbol (map escaped paths) ++ xs) writable rest)
+      (written_path symbol path _ _ writable rest)
 
   paths_written : (paths : List (List ℕ)) → AllByRecursion IsWritable paths → Written symbol false (paths_text paths ++ text) (map WordSymbol (map escaped paths) ++ xs)
   paths_written [] writable = later
-  paths_written (path ∷ paths) writable =
-      written_space symbol ((escaped path ++ paths_text paths) ++ text) (map WordSymbol (map escaped (path ∷ paths)) ++ xs)
-      (first_path_written path paths writable.0 (paths_written paths writable.1))
+  paths_written (path ∷ paths) writable = written_space symbol _ _ (first_path_written path paths writable.0 (paths_written paths writable.1))
 
   part_written : (paths : List (List ℕ)) → AllByRecursion IsWritable paths → Written symbol false (part_text paths ++ text) (part_symbols (map escaped paths) ++ xs)
   part_written [] writable = later
-  part_written (path ∷ paths) writable =
-      let words = map WordSymbol (map escaped (path ∷ paths)) ++ xs in
-      written_space symbol (124 ∷ 32 ∷ ((escaped path ++ paths_text paths) ++ text)) (SignSymbol Bar ∷ words)
-      (written_bar symbol ((escaped path ++ paths_text paths) ++ text) words (first_path_written path paths writable.0 (paths_written paths writable.1)))
+  part_written (path ∷ paths) writable = written_space symbol _ _ (written_bar symbol _ _ (first_path_written path paths writable.0 (paths_written paths writable.1)))
 
 -- A build line without its end, from its rule, from after its output, and whole; and the symbols of
 -- each.
@@ -101,16 +96,12 @@ module _ (s : StatementValue) (can : CanBeWritten s) where
 
   after_output_written : Written symbol false (after_output_text s) (after_output_symbols s)
   after_output_written =
-      part_written (58 ∷ 32 ∷ rule_text s) (SignSymbol Colon ∷ rule_symbols s)
-      (written_colon symbol (32 ∷ rule_text s) (rule_symbols s)
-      (written_space symbol (rule_text s) (rule_symbols s) (written_word symbol (codes "dyndep") (part_text s.implicit_inputs) (part_symbols (map escaped s.implicit_inputs)) refl inputs_written)))
+      part_written _ (SignSymbol Colon ∷ rule_symbols s) (written_colon symbol _ (rule_symbols s) (written_space symbol _ _ (written_word symbol (codes "dyndep") _ _ refl inputs_written)))
       s.implicit_outputs lists_can.0
 
   line_written : Written symbol true (line_text s) (line_symbols s)
   line_written =
-      written_word symbol (codes "build") (32 ∷ (escaped s.output ++ after_output_text s)) (WordSymbol (escaped s.output) ∷ after_output_symbols s) refl
-      (written_space symbol (escaped s.output ++ after_output_text s) (WordSymbol (escaped s.output) ∷ after_output_symbols s)
-      (written_path symbol s.output (after_output_text s) (after_output_symbols s) paths_can.0 after_output_written))
+      written_word symbol (codes "build") _ (WordSymbol (escaped s.output) ∷ after_output_symbols s) refl (written_space symbol _ _ (written_path symbol s.output _ _ paths_can.0 after_output_written))
 
   line_says : IsBuild (line_text s) (escaped s.output) (map escaped s.implicit_outputs) (map escaped s.implicit_inputs)
   line_says =
