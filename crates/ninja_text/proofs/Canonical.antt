@@ -1,5 +1,5 @@
 -- A canonical text means itself.
-use Rattle.std.proofs.Common.{◌≡◌, ◌≢◌, ℕ, ◌+◌, ◌<◌, ◌≤◌, Bool, true, false, not, ◌&&◌, cond, nat_lt, ◌==◌, List, [], ◌∷◌, ◌++◌, length, Option, Some, None, Result, Ok, Err, refl, sym, ◌∙◌, ap, subst, arith, position, option_map}
+use Rattle.std.proofs.Common.{◌≡◌, ◌≢◌, ℕ, ◌+◌, ◌<◌, ◌≤◌, Bool, true, false, not, ◌&&◌, cond, nat_lt, ◌==◌, List, [], ◌∷◌, ◌++◌, length, Option, Some, None, Result, Ok, Err, refl, sym, ◌∙◌, ap, subst, arith, position, option_map, ◌⊎◌, inl, inr}
 use Rattle.std.specs.List.{AllByRecursion, list_any, prefix_len, onto_first}
 use Rattle.std.proofs.lemmas.Bool.{le-ltb, lt-ltb}
 use Rattle.ninja_text.specs.declared.fault.PathFault.{PathFault}
@@ -155,7 +155,7 @@ clean-cond true b parts h e = (tt, e)
 clean-cond false b parts h e = clean-onto b parts h e
 
 -- the components of a clean text are clean
-clean-components : (text : List ℕ) → IsClean text → AllByRecursion IsClean (components text)
+pub clean-components : (text : List ℕ) → IsClean text → AllByRecursion IsClean (components text)
 clean-components [] a = (tt, tt)
 clean-components (b ∷ bs) a = clean-cond (b == 47) b (components bs) a.0 (clean-components bs a.1)
 
@@ -223,6 +223,18 @@ whole-path rooted list p w e short =
       made = ap (λ b. path_text b (reduced (components p))) r ∙ ap (path_text rooted) l ∙ e;
       short = short;
     })
+
+-- a path is seen as it is from anywhere, unless it is absolute and there is a build directory
+seen-plain : (build : Option (List ℕ)) (rooted : Bool) (list : List (List ℕ)) → (build ≡ None) ⊎ (rooted ≡ false) → seen_from build rooted list ≡ path_text rooted list
+seen-plain None rooted list h = refl
+seen-plain (Some b) false list h = refl
+seen-plain (Some b) true list (inl e) = cc
+seen-plain (Some b) true list (inr e) = cc
+
+pub path-alone : (build : Option (List ℕ)) (text : List ℕ) → (build ≡ None) ⊎ (is_rooted text ≡ false) → IsPath text → canonical_of build text ≡ Ok text
+path-alone build text h p =
+    let f = facts None text text p in
+    from_facts build text text (record { some = f.some; inside = f.inside; clean = f.clean; made = seen-plain build (is_rooted text) (reduced (components text)) h ∙ f.made; short = f.short })
 
 -- what a text means is a path
 pub canonical-path : (build : Option (List ℕ)) (text p : List ℕ) → canonical_of build text ≡ Ok p → IsPath p

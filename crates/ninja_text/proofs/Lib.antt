@@ -24,3 +24,4 @@ pub mod SpelledTexts
 pub mod FaultlessLines
 pub mod ReadAsSpelled
 pub mod Spelling
+pub mod PlainPaths

@@ -1,7 +1,7 @@
 -- The tokens of a text that has no lexical fault: words, `|`, `||`, `|@` and `:`.
-use Rattle.std.specs.Prelude.{◌≡◌, ℕ, ◌+◌, ◌<◌, ◌≤◌, Bool, true, false, ◌==◌, ◌||◌, not, if◌then◌else◌, List, [], ◌∷◌, length, map, drop, slice_range}
-use Rattle.std.specs.List.{flat_map}
-use Rattle.ninja_text.specs.Bytes.{Text, space, colon, vertical_bar, at_sign}
+use Rattle.std.specs.Prelude.{◌≡◌, ℕ, ◌+◌, ◌<◌, ◌≤◌, Bool, true, false, ◌==◌, ◌||◌, ◌&&◌, not, bytes_eq, if◌then◌else◌, List, [], ◌∷◌, length, map, drop, slice_range}
+use Rattle.std.specs.List.{flat_map, list_any}
+use Rattle.ninja_text.specs.Bytes.{Text, space, dollar, colon, vertical_bar, at_sign}
 use Rattle.ninja_text.specs.Units.{unit_len, is_byte, units}
 use Rattle.ninja_text.specs.declared.unit.LineUnit.{LineUnit}
 use Rattle.ninja_text.specs.declared.unit.LineUnit.TheVariants.{Continuation, Escape, Byte}
@@ -13,6 +13,13 @@ pub record TokenAt : Type 0 where
   pub kind : TokenKind
   pub start : ℕ
   pub end : ℕ
+
+abbrev pub is_word_kind : TokenKind → Bool
+is_word_kind Word = true
+is_word_kind Bar = false
+is_word_kind DoubleBar = false
+is_word_kind BarAt = false
+is_word_kind Colon = false
 
 -- what may come between two tokens: a space or a continuation
 abbrev pub is_blank : LineUnit → Bool
@@ -83,6 +90,10 @@ unit_value (Byte b) = b ∷ []
 abbrev pub value_of : Text → Text
 value_of bytes = flat_map unit_value (units bytes)
 
+-- no `$`: each byte stands for itself
+abbrev pub is_literal : Text → Bool
+is_literal bytes = not (list_any (λ b. b == dollar) bytes)
+
 -- the tokens that begin at an index of the text or after it, if a unit begins at that index
 abbrev pub tokens_at : Text → ℕ → List TokenAt
 tokens_at text index = tokens_from index (units (drop index text))
@@ -113,3 +124,7 @@ pub record IsSlice (text : Text) (t : SeenToken) : Type 0 where
 abbrev pub RiseFrom : ℕ → List SeenToken → Type 0
 RiseFrom index [] = Unit {0}
 RiseFrom index (t ∷ ts) = (index ≤ t.start) × RiseFrom t.end ts
+
+-- a word of exactly these bytes, without escapes
+abbrev pub is_keyword : Text → SeenToken → Bool
+is_keyword word t = is_word_kind t.kind && bytes_eq t.raw word

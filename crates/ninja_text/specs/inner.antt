@@ -6,3 +6,4 @@ pub mod Runs
 pub mod PlainTexts
 pub mod Reaching
 pub mod PieceReading
+pub mod PlainPaths

@@ -1,10 +1,10 @@
 //! The name and the value of an assignment.
-ghost use Rattle.std.specs.Prelude.{◌≡◌, ◌++◌, OnOk, OnErr};
-ghost use Rattle.ninja_text.specs.Tokens.{value_of};
+ghost use Rattle.std.specs.Prelude.{◌≡◌, ◌++◌, true, IfOk, OnOk, OnErr};
+ghost use Rattle.ninja_text.specs.Tokens.{value_of, is_literal};
 ghost use Rattle.ninja_text.specs.AssignmentViews.{seen_assignment};
 
-use crate::unit::append_meaning;
-use std::alloc::AllocError;
+use crate::unit::{append_meaning, is_literal, meaning};
+use std::alloc::{AllocError, Global};
 
 /// The name and the value of an assignment, as slices of the line's text.
 #[derive(Clone, Copy, Debug)]
@@ -35,6 +35,28 @@ impl<'a> Assignment<'a> {
         ensures { result.now ≡ (seen_assignment self.now).raw_value }
     {
         self.raw_value
+    }
+
+    /// Returns whether the value has no escapes and no continuations. Then it is its bytes.
+    pub fn is_literal(&self) -> bool
+        ensures exact { result ≡ is_literal (seen_assignment self.now).raw_value }
+        ensures value { result ≡ true
+            → value_of (seen_assignment self.now).raw_value
+            ≡ (seen_assignment self.now).raw_value }
+    {
+        is_literal(self.raw_value)
+    }
+
+    /// Returns the value, with escapes resolved, as [`Assignment::value_into`] does.
+    ///
+    /// # Errors
+    ///
+    /// Returns an error if an allocation fails.
+    pub fn value(&self, alloc: Global) -> Result<Vec<u8>, AllocError>
+        ensures { IfOk result (λ value.
+            value.items ≡ value_of (seen_assignment self.now).raw_value) }
+    {
+        meaning(alloc, self.raw_value)
     }
 
     /// Appends the value to a vector, with escapes resolved: an escape stands for its second byte, a

@@ -4,7 +4,8 @@
 //!
 //! - [`Path`] is a canonical path. [`Path::of`] and [`place`] return the path that a string means, or
 //!   the first error (`specs/Paths.antt`). The path is what rewriting steps leave of the string
-//!   (`specs/Reduction.antt`); by [`laws::one_canonical_list`] their order does not matter.
+//!   (`specs/Reduction.antt`); by [`laws::one_canonical_list`] their order does not matter. Paths
+//!   that [`Path::within`] returns share the string that they are parts of.
 //! - [`WorkDirectory`] is a work directory, and [`NameEnding`] the end of file names, each reduced
 //!   once for all paths that are made of it. The list of two texts with a slash between them is that
 //!   of their lists, one after the other (`proofs/Joins.antt`).
@@ -16,7 +17,8 @@
 //! - `specs/LineFormats.antt` defines, for all formats whose lines fall into classes, which value a
 //!   text stands for and which error it has, and `specs/FormatReading.antt` what a reader has read.
 //! - [`words`] returns the tokens of a line (`specs/Tokens.antt`), and [`assignment`] its name and value
-//!   (`specs/Assignments.antt`), or the first lexical error (`specs/Lexical.antt`).
+//!   (`specs/Assignments.antt`), or the first lexical error (`specs/Lexical.antt`). [`Token::path`] returns
+//!   the path of a word, which shares a copy of the line if it can.
 //! - [`laws`] proves that a text is divided into lines, and a line into tokens, in one way only, and
 //!   that readers and writers of words agree (`specs/Meanings.antt`).
 //! - [`Counted`] counts the failed calls of a reader or a writer (`specs/Counting.antt`).
@@ -30,7 +32,7 @@
 //! `must-fail/` has a wrong body of each public function, except for laws, which have no body, for
 //! [`Failure::map`], which can only pass on values of any type, and for functions whose clause is an
 //! equation that names the value, such as those that fill or return a field. The README lists them.
-//! `continuation_leaves_a_space` stands for both functions `value_into`, and
+//! `continuation_leaves_a_space` stands for the functions `value_into` and `value`, and
 //! `failed_calls_are_not_counted` for [`Counted::read`] and [`Counted::write`].
 #![tactic(auto)]
 
@@ -46,6 +48,7 @@ mod lexing;
 mod line;
 mod line_reader;
 mod paths;
+mod plain;
 mod reduction;
 mod scan;
 mod token;

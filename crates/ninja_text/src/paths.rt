@@ -1,6 +1,7 @@
 //! Canonical paths.
-ghost use Rattle.std.specs.Prelude.{◌≡◌, ◌∷◌, ◌++◌, [], length, bytes_eq, Ok, IfOk, IsUtf8, true, option_map, option_copied};
+ghost use Rattle.std.specs.Prelude.{◌≡◌, ◌≤◌, ◌∷◌, ◌++◌, [], length, slice_range, bytes_eq, Ok, IfOk, IsUtf8, true, option_map, option_copied};
 ghost use Rattle.std.specs.Option.{ForSome};
+ghost use Rattle.std.specs.Rc.{rc_slice_items};
 ghost use Rattle.std.specs.Cmp.{partial_equiv_from_equiv, partial_order_from_own_ties};
 ghost use Rattle.std.specs.Cmp.Rules.{comparing, hashing};
 ghost use Rattle.std.specs.Cmp.Lexicographic.{slice_cmp};
@@ -11,16 +12,18 @@ ghost use Rattle.std.proofs.lemmas.Cmp.{nat_list_eq_equiv};
 ghost use Rattle.ninja_text.specs.Bytes.{Text};
 ghost use Rattle.ninja_text.specs.Failure.{Gives};
 ghost use Rattle.ninja_text.specs.Escapes.{IsWritable};
-ghost use Rattle.ninja_text.specs.Paths.{path_of, is_rooted, below, seen_from, canonical_of, placed};
+ghost use Rattle.ninja_text.specs.Paths.{IsPath, path_of, is_rooted, below, seen_from, canonical_of, placed};
 ghost use Rattle.ninja_text.specs.PathShape.{parts};
 ghost use Rattle.ninja_text.specs.inner.ComponentLists.{list_text, reduced_text};
 ghost use Rattle.ninja_text.specs.inner.Joins.{IsListOf};
 
 use crate::failure::Failure;
 use crate::fault::PathFault;
+use crate::plain::is_plain;
 use crate::reduction;
 use std::alloc::{AllocError, Global};
 use std::cmp::Ordering;
+use std::fmt;
 use std::hash::{Hash, Hasher};
 use std::marker::Model;
 use std::rc::RcSlice;
@@ -35,22 +38,27 @@ pub const PATH_LIMIT: usize = 4096;
 /// slash, and a relative path keeps the `..` at its beginning. No file system is accessed.
 ///
 /// The view of a path is its string: 1 to 4,096 bytes, without `|`, NUL, CR or LF. Copies of a path
-/// share the string.
-#[derive(Debug, Drop)]
+/// share the string, and so do paths that were read [`Path::within`] one.
+#[derive(Drop)]
 pub struct Path {
-    text: RcSlice<u8>,
+    /// The string, from `start` to `end`.
+    shared: RcSlice<u8>,
+    start: usize,
+    end: usize,
 }
 
 impl Model for Path {
+    ghost use Rattle.std.specs.Prelude.{◌≤◌, length, slice_range};
     ghost use Rattle.std.specs.Rc.{rc_slice_items};
     ghost use Rattle.ninja_text.specs.Bytes.{PathText};
     ghost use Rattle.ninja_text.specs.Paths.{IsPath};
 
     ghost Value = { PathText };
 
-    ghost view = { λ p. rc_slice_items p.text };
+    ghost view = { λ p. slice_range (rc_slice_items p.shared) p.start p.end };
 
-    ghost invariant = { λ p. IsPath (rc_slice_items p.text) };
+    ghost invariant = { λ p. (p.start ≤ p.end) × (p.end ≤ length (rc_slice_items p.shared))
+        × IsPath (slice_range (rc_slice_items p.shared) p.start p.end) };
 }
 
 impl Path {
@@ -67,20 +75,62 @@ impl Path {
         canonical(alloc, None, text)
     }
 
+    /// Returns the canonical path of a part of a string, from one offset to another, as [`Path::of`]
+    /// does. If that part is canonical, the path shares the string and nothing is allocated, unless
+    /// the string's reference count is full.
+    ///
+    /// # Errors
+    ///
+    /// Those of [`Path::of`].
+    pub fn within(
+        alloc: Global,
+        shared: &RcSlice<u8>,
+        start: usize,
+        end: usize,
+    ) -> Result<Path, Failure<PathFault>>
+        requires { (start ≤ end) × (end ≤ length (rc_slice_items shared.now)) }
+        ensures meaning { Gives (λ path. path) result
+            (path_of (slice_range (rc_slice_items shared.now) start end)) }
+        ensures text { IsUtf8 (slice_range (rc_slice_items shared.now) start end)
+            → IfOk result IsUtf8 }
+    {
+        let text = &shared.as_slice()[start..end];
+        if is_plain(text) {
+            let copy: Result<_, _> = shared.clone();
+            if let Ok(shared) = copy {
+                return Ok(Path { shared, start, end });
+            }
+        }
+        canonical(alloc, None, text)
+    }
+
+    /// Returns a path whose string is the whole of a shared one.
+    fn whole(shared: RcSlice<u8>) -> Path
+        requires { IsPath (rc_slice_items shared) }
+        ensures { result ≡ rc_slice_items shared }
+    {
+        let end = shared.len();
+        Path {
+            shared,
+            start: 0,
+            end,
+        }
+    }
+
     /// Returns the canonical string of the path. It can be escaped in a Ninja file.
     pub fn bytes(&self) -> &[u8]
         ensures text { result.now ≡ self.now }
         ensures canonical { path_of result.now ≡ Ok self.now }
         ensures writable { IsWritable result.now }
     {
-        &self.text
+        &self.shared.as_slice()[self.start..self.end]
     }
 
     /// Returns whether the path is absolute.
     pub fn is_rooted(&self) -> bool
         ensures { result ≡ is_rooted self.now }
     {
-        reduction::is_rooted(self.text.as_slice())
+        reduction::is_rooted(self.bytes())
     }
 
     /// Returns a copy of the path. The copies share one string; if its reference count is full, the
@@ -92,9 +142,10 @@ impl Path {
     pub fn copy(&self, alloc: Global) -> Result<Path, AllocError>
         ensures { IfOk result (λ copy. copy ≡ self.now) }
     {
-        let shared: Result<_, _> = self.text.clone();
-        let text = shared.or_else(|_| RcSlice::from_slice(alloc, &self.text))?;
-        Ok(Path { text })
+        match self.clone() {
+            Ok(path) => Ok(path),
+            Err(_) => Ok(Path::whole(RcSlice::from_slice(alloc, self.bytes())?)),
+        }
     }
 }
 
@@ -104,8 +155,12 @@ impl Clone for Path {
     ghost is_clone = { λ path clone. clone ≡ path };
 
     fn clone(&self) -> Result<Path, AllocError> {
-        let text = self.text.clone()?;
-        Ok(Path { text })
+        let shared = self.shared.clone()?;
+        Ok(Path {
+            shared,
+            start: self.start,
+            end: self.end,
+        })
     }
 }
 
@@ -158,9 +213,13 @@ pub(crate) fn canonical(
         (canonical_of (option_copied build.entry) text.now) }
     ensures text { IsUtf8 text.now → IfOk result IsUtf8 }
 {
+    let rooted = reduction::is_rooted(text);
+    if (build.is_none() || !rooted) && is_plain(text) {
+        return Ok(Path::whole(RcSlice::from_slice(alloc, text)?));
+    }
     let list = reduction::reduce(alloc, text)?;
     let unwritable = reduction::first_unwritable(text);
-    finished(alloc, build, reduction::is_rooted(text), unwritable, list)
+    finished(alloc, build, rooted, unwritable, list)
 }
 
 /// Returns the path of a string that is absolute or not, has its first unwritable byte at this offset,
@@ -191,8 +250,7 @@ pub(crate) fn finished(
         return Err(Failure::Fault(PathFault::TooLong));
     }
     text.shrink_to_fit();
-    let text = RcSlice::from_vec(text)?;
-    Ok(Path { text })
+    Ok(Path::whole(RcSlice::from_vec(text)?))
 }
 
 /// Returns the string of a path with these components, as seen from a build directory.
@@ -237,7 +295,7 @@ impl PartialEq for Path {
     ghost laws = { partial_equiv_from_equiv nat_list_eq_equiv };
 
     fn eq(&self, other: &Path) -> bool {
-        self.text.as_slice() == other.text.as_slice()
+        self.bytes() == other.bytes()
     }
 }
 
@@ -256,7 +314,7 @@ impl Ord for Path {
     ghost matches_eq = { Prim.search (comparing, rules) };
 
     fn cmp(&self, other: &Path) -> Ordering {
-        self.text.as_slice().cmp(other.text.as_slice())
+        self.bytes().cmp(other.bytes())
     }
 }
 
@@ -278,7 +336,15 @@ impl Hash for Path {
     ghost respects_eq = { Prim.search (hashing, rules) };
 
     fn hash<H: Hasher>(&self, state: &mut H) {
-        state.write_usize(self.text.len());
-        state.write(self.text.as_slice());
+        let bytes = self.bytes();
+        state.write_usize(bytes.len());
+        state.write(bytes);
+    }
+}
+
+/// A path is printed as a struct with its string.
+impl fmt::Debug for Path {
+    fn fmt<W: fmt::Write>(&self, f: &mut fmt::Formatter<W>) -> fmt::Result {
+        f.debug_struct("Path").field("text", &self.bytes()).finish()
     }
 }

@@ -1,10 +1,10 @@
 //! The units of a line: single bytes, escapes and continuations, and what they stand for.
-ghost use Rattle.std.specs.Prelude.{◌≡◌, ◌∷◌, ◌++◌, ◌+◌, ◌<◌, ◌≤◌, length, drop, OnOk, OnErr};
+ghost use Rattle.std.specs.Prelude.{◌≡◌, ◌∷◌, ◌++◌, ◌+◌, ◌<◌, ◌≤◌, length, drop, true, IfOk, OnOk, OnErr};
 ghost use Rattle.ninja_text.specs.Units.{units, unit_len, is_byte};
-ghost use Rattle.ninja_text.specs.Tokens.{unit_value, value_of};
+ghost use Rattle.ninja_text.specs.Tokens.{unit_value, value_of, is_literal};
 ghost use Rattle.ninja_text.specs.inner.Runs.{spaces_at};
 
-use std::alloc::AllocError;
+use std::alloc::{AllocError, Global};
 
 /// A unit of a line that is not a comment.
 #[derive(Clone, Copy)]
@@ -70,14 +70,30 @@ pub(crate) fn unit_at(text: &[u8], index: usize) -> LineUnit
     LineUnit::Escape(second)
 }
 
+/// Returns whether no byte is a `$`. Then each byte stands for itself.
+pub(crate) fn is_literal(raw: &[u8]) -> bool
+    ensures exact { result ≡ is_literal raw.now }
+    ensures value { result ≡ true → value_of raw.now ≡ raw.now }
+{
+    !raw.contains(&b'$')
+}
+
+/// Returns what the bytes of a word or a value stand for.
+pub(crate) fn meaning(alloc: Global, raw: &[u8]) -> Result<Vec<u8>, AllocError>
+    ensures { IfOk result (λ value. value.items ≡ value_of raw.now) }
+{
+    let mut value = Vec::with_capacity(alloc, raw.len())?;
+    append_meaning(raw, &mut value)?;
+    Ok(value)
+}
+
 /// Appends what the bytes of a word or a value stand for. If an allocation fails, the vector is
 /// unchanged.
 pub(crate) fn append_meaning(raw: &[u8], out: &mut Vec<u8>) -> Result<(), AllocError>
     ensures ok { OnOk result (out.new.items ≡ out.old.items ++ value_of raw.now) }
     ensures err { OnErr result (out.new.items ≡ out.old.items) }
 {
-    // Without a `$`, each byte stands for itself.
-    if !raw.contains(&b'$') {
+    if is_literal(raw) {
         return out.extend_from_slice(raw);
     }
     let before = out.len();

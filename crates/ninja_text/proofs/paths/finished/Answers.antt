@@ -10,7 +10,9 @@ use Rattle.ninja_text.specs.inner.ComponentLists.{leads_up, reduced_text}
 use Rattle.ninja_text.proofs.ReducedList.{reduced-fixed}
 use Rattle.ninja_text.proofs.Canonical.{nothing-is, is-empty, is-above, is-unwritable, is-long, is-path, canonical-path}
 use Rattle.ninja_text.proofs.Joins.{leads-text}
+use Rattle.ninja_text.specs.inner.Joins.{IsListOf}
 use Rattle.ninja_text.proofs.paths.finished.Goals as goal
+use Rattle.ninja_text.proofs.paths.finished.Goals.{In_ok-from_vec}
 
 -- the list is empty if its text is
 nothing : (text : List ℕ) (list : Vec ℕ Global) (empty : Bool) → list.items ≡ reduced_text text → empty ≡ (vec_len list == 0) → is_empty (reduced (components text)) ≡ empty
@@ -47,23 +49,18 @@ returns-then-len-gt-PATH_LIMIT c text of =
 canonical-is : (build : Option (List ℕ)) (text last shared : List ℕ) → shared ≡ last → is_empty (parts text) ≡ false → (is_rooted text && list_any is_parent (parts text)) ≡ false → position is_unwritable text ≡ None → last ≡ seen_from build (is_rooted text) (parts text) → length last ≤ 4096 → canonical_of build text ≡ Ok shared
 canonical-is build text last shared same h k m e le = is-path build text last h k m e le ∙ ap Ok (sym same)
 
-pub returns : goal.returns
-returns c text of =
-    canonical-is _ text c.in_ok-text.text.items (rc_slice_items c.in_ok-text-2.text) (c.in_ok-text-2.ensures ∙ c.shrink_to_fit.ensures.items)
+-- the path that is returned
+found : (c : In_ok-from_vec) (text : List ℕ) → IsListOf text c.args.rooted c.args.unwritable c.args.list.items → canonical_of (option_copied c.args.build) text ≡ Ok (rc_slice_items c.in_ok-from_vec.field-0)
+found c text of =
+    canonical-is _ text c.in_ok-text.text.items (rc_slice_items c.in_ok-from_vec.field-0) (c.in_ok-from_vec.ensures ∙ c.shrink_to_fit.ensures.items)
     (nothing text c.args.list c.is_empty.result of.list_is c.is_empty.ensures ∙ c.if-is_empty.false)
     (above text c.deref.result.now c.args.rooted c.is_above_root.result of.rooted_is (c.deref.ensures.value ∙ of.list_is) c.is_above_root.ensures ∙ c.if-is_above_root.false)
     (sym of.unwritable_is ∙ c.in_default.is)
     (c.in_ok-text.ensures text of.list_is ∙ ap (λ b. seen_from (option_copied c.args.build) b (parts text)) of.rooted_is)
     (search rules)
 
-pub invariant_of-result : goal.invariant_of-result
-invariant_of-result c =
-    let text = c.requires.some.0 in
-    let of = c.requires.some.1 in
-    canonical-path (option_copied c.args.build) text (rc_slice_items c.in_ok-text-2.text)
-    (canonical-is _ text c.in_ok-text.text.items (rc_slice_items c.in_ok-text-2.text) (c.in_ok-text-2.ensures ∙ c.shrink_to_fit.ensures.items)
-    (nothing text c.args.list c.is_empty.result of.list_is c.is_empty.ensures ∙ c.if-is_empty.false)
-    (above text c.deref.result.now c.args.rooted c.is_above_root.result of.rooted_is (c.deref.ensures.value ∙ of.list_is) c.is_above_root.ensures ∙ c.if-is_above_root.false)
-    (sym of.unwritable_is ∙ c.in_default.is)
-    (c.in_ok-text.ensures text of.list_is ∙ ap (λ b. seen_from (option_copied c.args.build) b (parts text)) of.rooted_is)
-    (search rules))
+pub whole-requires : goal.whole-requires
+whole-requires c = canonical-path (option_copied c.args.build) c.requires.some.0 _ (found c c.requires.some.0 c.requires.some.1)
+
+pub returns : goal.returns
+returns c text of = found (goal.at.returns c).In_ok-from_vec text of ∙ ap Ok (sym c.whole.ensures)
