@@ -1,10 +1,10 @@
 -- The class and the fault of a line: the tables of faults agree with the classes of lines, and both follow from the tokens or the assignment that are read.
 use Rattle.std.proofs.Common.{inl, inr, ◌≡◌, ℕ, Bool, true, false, List, [], ◌∷◌, ◌++◌, map, get_or, refl, sym, ap, ◌∙◌, subst, Some, None, arith, ◌==◌, eq-eqb, ◌⊎◌, ◌+◌, ◌&&◌, zero, suc, length, Ok, Err}
-use Rattle.std.specs.Prelude.{Option, IsTrue, if◌then◌else◌, codes, slice_range, is_some, Result, slice_set, slice_index_or, nat_lt, not}
+use Rattle.std.specs.Prelude.{bytes_eq, Option, IsTrue, codes, slice_range, is_some, Result, slice_set, slice_index_or, nat_lt, not}
 use Rattle.std.proofs.lemmas.List.{append-nil}
-use Rattle.std.proofs.lemmas.Bool.{cases_Bool, eqb-true, and_parts, and_from}
+use Rattle.std.proofs.lemmas.Bool.{cases_Bool, eqb-true, and_parts}
 use Rattle.ninja_text.specs.Lexical.{lexical_fault}
-use Rattle.ninja_text.specs.Tokens.{TokenAt, tokens, raw, value_of, SeenToken, with_raw, seen_tokens}
+use Rattle.ninja_text.specs.Tokens.{is_word_kind, TokenAt, tokens, raw, value_of, SeenToken, with_raw, seen_tokens}
 use Rattle.ninja_text.specs.declared.token.TokenKind.{TokenKind}
 use Rattle.ninja_text.specs.declared.token.TokenKind.TheVariants.{Word, Bar, Colon}
 use Rattle.ninja_text.specs.Assignments.{SeenAssignment, assignment_of}
@@ -19,6 +19,7 @@ use Rattle.dyndep_file.specs.declared.progress.Stage.{Stage}
 use Rattle.dyndep_file.specs.declared.progress.Stage.TheVariants.{BeforeVersion, NoneOpen, Open}
 use Rattle.std.specs.List.{starts_with}
 use Rattle.std.proofs.lemmas.Bool.Decides.{nat_tests}
+use Rattle.std.proofs.lemmas.Slice.Eq.{bytes_eq-Decides}
 use Rattle.std.proofs.lemmas.Simd.{map-map}
 use Rattle.ninja_text.specs.declared.failure.Failure.{Failure}
 use Rattle.ninja_text.specs.declared.failure.Failure.TheVariants.{Memory, Fault}
@@ -28,17 +29,14 @@ use Rattle.dyndep_file.specs.declared.fault.LineFault.{LineFault}
 
 -- ---- a line of a class that is allowed at a stage has no fault there
 
--- a list of bytes equals itself
-pub same_bytes-refl : (xs : List ℕ) → same_bytes xs xs ≡ true
-same_bytes-refl [] = refl
-same_bytes-refl (x ∷ xs) = and_from (x == x) (same_bytes xs xs) (eq-eqb x x refl) (same_bytes-refl xs)
-
 -- lists of bytes that are found equal are equal
 pub same_bytes-true : (xs ys : List ℕ) → same_bytes xs ys ≡ true → xs ≡ ys
-same_bytes-true [] [] h = refl
-same_bytes-true (x ∷ xs) (y ∷ ys) h = let p = and_parts (x == y) (same_bytes xs ys) h in let e : x ≡ y = eqb-true x y p.0 in rw (e, same_bytes-true xs ys p.1) refl
-same_bytes-true [] (y ∷ ys) h = cc
-same_bytes-true (x ∷ xs) [] h = cc
+same_bytes-true xs ys = (bytes_eq-Decides xs ys).0
+
+-- a token is a keyword if the grammar sees that word
+pub keyword_is : (word : List ℕ) (kind : TokenKind) (bytes : List ℕ) → (is_word_kind kind && bytes_eq bytes word) ≡ is_this_word word (symbol kind bytes)
+keyword_is word Word bytes = refl
+keyword_is word other bytes = refl
 
 -- only the word of these bytes passes the test for it
 pub is_word-true : (bytes : List ℕ) (s : Symbol) → is_this_word bytes s ≡ true → s ≡ WordSymbol bytes
@@ -96,9 +94,7 @@ after_keyword at more h = rw h refl
 
 -- what an assignment to a name assigns
 pub value_named : (name : List ℕ) (found : Option SeenAssignment) (a : SeenAssignment) → found ≡ Some a → a.name ≡ name → value_assigned name found ≡ Some (a.name_start, value_of a.raw_value)
-value_named name found a h e = ap (value_assigned name) h ∙ chosen (same_bytes a.name name) (subst (λ n. same_bytes n name ≡ true) (sym e) (same_bytes-refl name)) where
-  chosen : (b : Bool) → b ≡ true → ◌≡◌ {A = Option (ℕ × List ℕ)} (if b then Some (a.name_start, value_of a.raw_value) else None) (Some (a.name_start, value_of a.raw_value))
-  chosen b h = rw h refl
+value_named name found a h e = ap (value_assigned name) h ∙ rw ((bytes_eq-Decides a.name name).1 e) refl
 
 -- a version line
 pub unindented_version : (stage : Stage) (build : Option (List Symbol)) (found : Option SeenAssignment) (a : SeenAssignment) → found ≡ Some a → a.name ≡ codes "ninja_dyndep_version" → a.name_start ≡ 0

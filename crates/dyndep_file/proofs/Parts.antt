@@ -1,11 +1,9 @@
 -- The parts of a build line: the values of its words, and its paths as they are borrowed, read and written.
-use Rattle.std.proofs.Common.{◌≡◌, ℕ, ◌==◌, ◌||◌, Bool, true, false, List, [], ◌∷◌, refl, ap, ◌+◌, ◌<◌, cond, ◌++◌, length, map, get_or, Some, None, Bor, sym, ◌∙◌, arith, suc, take, codes, subst, append_assoc, length-append, Option, inr, Vec, Global, Ok, Err}
-use Rattle.std.specs.List.{list_any, position_from, flat_map}
-use Rattle.ninja_text.specs.Bytes.{dollar, line_feed}
+use Rattle.std.proofs.Common.{◌≡◌, ℕ, Bool, false, List, [], ◌∷◌, refl, ap, ◌+◌, ◌<◌, cond, ◌++◌, length, map, get_or, Some, Bor, sym, ◌∙◌, arith, suc, take, codes, subst, append_assoc, length-append, Option, inr, Vec, Global, Ok, Err}
+use Rattle.std.specs.List.{position_from, flat_map}
+use Rattle.ninja_text.specs.Bytes.{line_feed}
 use Rattle.ninja_text.specs.Tokens.{value_of}
-use Rattle.std.specs.Prelude.{position, nat_lt, All, Result}
-use Rattle.std.proofs.lemmas.List.Sums.{position_or_len_is}
-use Rattle.std.proofs.lemmas.Bool.{le-ltb}
+use Rattle.std.specs.Prelude.{position, All, Result}
 use Rattle.std.proofs.lemmas.List.{map-append, take_more, get_or-map, length-map, append-nil, get_or_append_left, get_or-append-add}
 use Rattle.std.proofs.lemmas.Iterator.Adapters.{position_from-zero}
 use Rattle.dyndep_file.specs.inner.Paths.{lent_texts, texts}
@@ -27,31 +25,7 @@ use Rattle.dyndep_file.specs.inner.BuildLines.{IsNamed, IsFailureOf, TakesOr, Ta
 use Rattle.dyndep_file.specs.declared.fault.LineFault.{LineFault}
 use Rattle.dyndep_file.proofs.LineLemmas.{inputs_pass, outputs_pass, after_output_passes}
 
--- ---- what bytes without `$` stand for
-
--- of two tests that both fail, each does
-neither : (a b : Bool) → (a || b) ≡ false → (a ≡ false) × (b ≡ false)
-neither false b h = (refl, h)
-neither true b h = absurd (let x : true ≡ false = h in cc)
-
--- bytes without `$` stand for themselves
-pub plain_value : (bytes : List ℕ) → list_any (λ b. b == dollar) bytes ≡ false → value_of bytes ≡ bytes
-plain_value [] h = refl
-plain_value (a ∷ []) h = refl
-plain_value (a ∷ b ∷ []) h =
-    let both = neither (a == dollar) (list_any (λ x. x == dollar) (b ∷ [])) h in
-    rw both.0 refl
-plain_value (a ∷ b ∷ c ∷ bytes) h =
-    let both = neither (a == dollar) (list_any (λ x. x == dollar) (b ∷ c ∷ bytes)) h in
-    rw both.0 (ap (λ rest. a ∷ rest) (plain_value (b ∷ c ∷ bytes) both.1))
-
 -- ---- the index of the first element that passes a test, in a list and in a mapped list
-
--- no element passes
-pub position_none : {X : Type 0} (p : X → Bool) (xs : List X) (d : X) → ((k : ℕ) → k < length xs → p (get_or xs k d) ≡ false) → position p xs ≡ None
-position_none p xs d before =
-    ap (λ n. cond (nat_lt n (length xs)) (Some n) None) (position_or_len_is p xs (length xs) d (omega arith) before (λ lt. absurd (omega (arith, lt))))
-    ∙ ap (λ b. cond b (Some (length xs)) None) (le-ltb (length xs) (length xs) (omega arith))
 
 from_mapped : {A B : Type 0} (f : A → B) (p : B → Bool) (i : ℕ) (xs : List A) → position_from (λ a. p (f a)) i xs ≡ position_from p i (map f xs)
 from_mapped f p i [] = refl

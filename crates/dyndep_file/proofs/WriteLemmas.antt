@@ -1,5 +1,5 @@
 -- Statements that are written: which can be written, and what is written of those added to a text one after another.
-use Rattle.std.proofs.Common.{◌≡◌, ◌↔◌, ℕ, ◌+◌, ◌≤◌, Bool, true, false, not, cond, IsTrue, List, [], ◌∷◌, length, get_or, Option, Some, None, option_map, Ok, Err, Vec, Global, ◌⊎◌, inl, inr, refl, ap, sym, ◌∙◌, arith, ◌++◌, subst, append_assoc, append-nil, length-append}
+use Rattle.std.proofs.Common.{◌≡◌, ◌↔◌, ℕ, ◌+◌, ◌≤◌, Bool, true, false, not, cond, List, [], ◌∷◌, length, Option, Some, None, option_map, Ok, Err, Vec, Global, inl, inr, refl, ap, sym, ◌∙◌, arith, ◌++◌, subst, append_assoc, append-nil, length-append}
 use Rattle.std.specs.Prelude.{position, nat_lt, All}
 use Rattle.std.specs.List.{position_from, AllByRecursion, flat_map}
 use Rattle.std.specs.Option.{option_or}

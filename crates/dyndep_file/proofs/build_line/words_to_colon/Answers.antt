@@ -13,9 +13,9 @@ pub loop-token-preserved : goal.loop-token-preserved
 loop-token-preserved c = record {
   can_next = tt;
   is_finite = tt;
-  taken = takes_next (symbols_left c.args.words.now) c.loop-token.values.items c.push.new.self.items c.in_ok-word_value-in-Word.field-0
+  taken = takes_next (symbols_left c.args.words.now) c.loop-token.values.items c.push.new.self.items c.in_ok-value-in-Word.field-0
       c.loop-token.words c.next.new.self c.in-Some.token
-      c.loop-token.invariant.taken c.in-Some.ensures.steps c.in-Word.ensures c.in_ok-word_value-in-Word.ensures c.in_ok-push-in-Word.ensures.items;
+      c.loop-token.invariant.taken c.in-Some.ensures.steps c.in-Word.ensures c.in_ok-value-in-Word.ensures c.in_ok-push-in-Word.ensures.items;
 }
 
 pub returns-in-Some : goal.returns-in-Some

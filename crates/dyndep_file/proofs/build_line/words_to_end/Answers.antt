@@ -11,9 +11,9 @@ use Rattle.dyndep_file.proofs.build_line.words_to_end.Goals.{in-Bar, in-DoubleBa
 
 pub loop-token-preserved : goal.loop-token-preserved
 loop-token-preserved c =
-    takes_next (symbols_left c.args.words) c.loop-token.values.items c.push.new.self.items c.in_ok-word_value-in-Word.field-0
+    takes_next (symbols_left c.args.words) c.loop-token.values.items c.push.new.self.items c.in_ok-value-in-Word.field-0
     c.loop-token.token-iterator c.next.new.self c.in-Some.token
-    c.loop-token.invariant c.in-Some.ensures.steps c.in-Word.ensures c.in_ok-word_value-in-Word.ensures c.in_ok-push-in-Word.ensures.items
+    c.loop-token.invariant c.in-Some.ensures.steps c.in-Word.ensures c.in_ok-value-in-Word.ensures c.in_ok-push-in-Word.ensures.items
 
 pub returns-in-loop-token : goal.returns-in-loop-token
 returns-in-loop-token c =

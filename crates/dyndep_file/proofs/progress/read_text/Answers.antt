@@ -14,7 +14,7 @@ use Rattle.dyndep_file.specs.declared.fault.LineFault.{LineFault}
 use Rattle.dyndep_file.specs.declared.progress.Stage.TheVariants.{NoneOpen}
 use Rattle.dyndep_file.specs.BuildTokens.{is_this_word, symbol_of, symbols_left}
 use Rattle.dyndep_file.specs.inner.LineReading.{PassesOr, IsBuildOf, IsBindingOf, IsVersionLineOf}
-use Rattle.dyndep_file.proofs.LineLemmas.{passes_as, starts_with_space, blank, blank_stays, keyword_text, keyword_class, indented_text, binding_class, other_text, version_class}
+use Rattle.dyndep_file.proofs.LineLemmas.{keyword_is, passes_as, starts_with_space, blank, blank_stays, keyword_text, keyword_class, indented_text, binding_class, other_text, version_class}
 use Rattle.dyndep_file.proofs.progress.read_text.Goals as goal
 use Rattle.dyndep_file.proofs.progress.read_text.Goals.{else-start-eq0-via-then-start-eq0+else-is_keyword, else-start-eq0-via-else-start-eq0}
 use Rattle.dyndep_file.proofs.progress.read_text.Goals.{In-Ok, In-Some}
@@ -63,7 +63,7 @@ returns-then-is_keyword c =
     let others = tokens_left c.next.new.self in
     let all = all (goal.at.returns-then-is_keyword c).In-Some in
     let begins : ((head.start == 0) && is_this_word (codes "build") (symbol_of head)) ≡ true =
-    rw (eq-eqb head.start 0 (sym c.start.ensures ∙ c.if-start-eq0.true)) (sym c.is_keyword.ensures ∙ c.if-is_keyword.true) in
+    rw (eq-eqb head.start 0 (sym c.start.ensures ∙ c.if-start-eq0.true)) (sym (c.is_keyword.ensures ∙ keyword_is (codes "build") head.kind head.raw) ∙ c.if-is_keyword.true) in
     of_kind (goal.at.returns-then-is_keyword c).In-Ok c.build_line.result c.build_line.new.progress (IsBuildOf (symbols_left c.next.new.self))
     (keyword_text text sound stage head others all begins) (keyword_class text sound stage head others all begins) c.build_line.ensures
 
@@ -88,7 +88,7 @@ returns-in-Ok-2 c =
     let head = seen_token c.in-Some.first in
     let indent : begins_with_space line.text ≡ false = ap begins_with_space (sym c.text.ensures) ∙ sym (c.starts_with.ensures.value ∙ starts_with_space c.text.result.now) ∙ c.if-starts_with.false in
     let begins : ((head.start == 0) && is_this_word (codes "build") (symbol_of head)) ≡ false = elim c.else-start-eq0.branch [
-      | else-start-eq0-via-then-start-eq0+else-is_keyword w ↦ rw (eq-eqb head.start 0 (sym c.start.ensures ∙ w.if-start-eq0.true)) (sym w.is_keyword.ensures ∙ w.if-is_keyword.false)
+      | else-start-eq0-via-then-start-eq0+else-is_keyword w ↦ rw (eq-eqb head.start 0 (sym c.start.ensures ∙ w.if-start-eq0.true)) (sym (w.is_keyword.ensures ∙ keyword_is (codes "build") head.kind head.raw) ∙ w.if-is_keyword.false)
       | else-start-eq0-via-else-start-eq0 w ↦ let later : (head.start == 0) ≡ false = grind (arith, nat_tests, c.start.ensures, w.if-start-eq0.false) in rw later refl
     ] in
     of_kind (goal.at.returns-in-Ok-2 c).In-Ok c.unindented_line.result new (IsVersionLineOf (assignment_of line.text))
