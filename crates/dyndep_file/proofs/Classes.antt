@@ -7,7 +7,7 @@ use Rattle.dyndep_file.specs.Classes.{Symbol, WordSymbol, SignSymbol, IsPart, Dy
 use Rattle.dyndep_file.specs.Faults.{same_bytes, implicit_inputs_fault, after_rule_fault, rule_fault, implicit_outputs_fault, after_output_fault, output_fault, after_build, value_assigned, indented_fault, version_fault, build_or_other_fault, unindented_fault, text_fault, text_line_fault, lexical_fault_or}
 use Rattle.dyndep_file.specs.inner.BuildLines.{Names}
 use Rattle.dyndep_file.specs.declared.fault.LineFault.{LineFault}
-use Rattle.dyndep_file.proofs.LineLemmas.{build_class, same_bytes-true, first_word, starts, after_keyword, no_indent_at_token, no_indent_at_name, names_apart}
+use Rattle.dyndep_file.proofs.LineLemmas.{never, build_class, same_bytes-true, first_word, starts, after_keyword, no_indent_at_token, no_indent_at_name, names_apart}
 use Rattle.ninja_text.specs.Lexical.{lexical_fault}
 use Rattle.ninja_text.specs.Tokens.{TokenAt, tokens, value_of}
 use Rattle.ninja_text.specs.Assignments.{SeenAssignment, assignment_of}
@@ -22,8 +22,8 @@ use Rattle.dyndep_file.specs.declared.progress.Stage.TheVariants.{BeforeVersion,
 -- ---- the tokens of a build line that has no fault, by its parts
 
 -- contradiction: the fault is both present and absent
-pub faulty : {fault : LineFault} {A : Type 0} → ◌≡◌ {A = Option LineFault} (Some fault) None → A
-faulty h = absurd (cc)
+faulty : {fault : LineFault} {A : Type 0} → Some fault ≡ None → A
+faulty h = never (sym h)
 
 -- implicit inputs without fault are words alone
 inputs_are : (symbols : List Symbol) → implicit_inputs_fault symbols ≡ None → (words : List (List ℕ)) × (symbols ≡ map WordSymbol words)
@@ -106,10 +106,10 @@ index_of text comment =
 
 -- a text with tokens after the keyword begins with the keyword
 pub keyword_first : (at : Bool) (all more : List Symbol) → after_build at all ≡ Some more → (at ≡ true) × (all ≡ WordSymbol (codes "build") ∷ more)
-keyword_first at [] more h = absurd (let x : ◌≡◌ {A = Option (List Symbol)} None (Some more) = h in cc)
-keyword_first at (SignSymbol k ∷ all) more h = absurd (let x : ◌≡◌ {A = Option (List Symbol)} None (Some more) = h in cc)
+keyword_first at [] more h = never h
+keyword_first at (SignSymbol k ∷ all) more h = never h
 keyword_first at (WordSymbol word ∷ all) more h = elim (cases_Bool (at && same_bytes word (codes "build"))) [
-  | inr f ↦ absurd (let x : ◌≡◌ {A = Option (List Symbol)} None (Some more) = rw f at h in cc)
+  | inr f ↦ never (rw f at h)
   | inl t ↦
       let both = and_parts at (same_bytes word (codes "build")) t in
       let e : ◌≡◌ {A = Option (List Symbol)} (Some all) (Some more) = rw t at h in
@@ -138,7 +138,7 @@ index_of_class text comment (Build o os ins) is =
     let b = is.5 in
     rw (is.0, some (tokens text) b.4, no_indent_at_token text b.4, ap is_some (ap (after_build (begins_at_start (tokens text))) b.5 ∙ after_keyword (begins_at_start (tokens text)) _ b.4)) refl where
       some : (ts : List TokenAt) → IsTrue (begins_at_start ts) → is_empty ts ≡ false
-      some [] h = absurd (let x : false ≡ true = h in cc)
+      some [] h = cc
       some (t ∷ ts) h = refl
 index_of_class text comment (Binding flag) is =
     let indent : begins_with_space text ≡ true = is.2 in
@@ -243,9 +243,9 @@ module _ (ss : List StatementValue) (text : List ℕ) (sound : lexical_fault tex
   -- if a value is assigned to a name, there is such an assignment
   named_so : (name : List ℕ) (o : Option SeenAssignment) (n : ℕ) (v : List ℕ) → value_assigned name o ≡ Some (n, v)
       → (a : SeenAssignment) × (o ≡ Some a) × (a.name_start ≡ n) × (a.name ≡ name) × (value_of a.raw_value ≡ v)
-  named_so name None n v h = absurd (let x : ◌≡◌ {A = Option (ℕ × List ℕ)} None (Some (n, v)) = h in cc)
+  named_so name None n v h = never h
   named_so name (Some a) n v h = elim (cases_Bool (same_bytes a.name name)) [
-    | inr f ↦ absurd (let x : ◌≡◌ {A = Option (ℕ × List ℕ)} None (Some (n, v)) = rw f at h in cc)
+    | inr f ↦ never (rw f at h)
     | inl t ↦
         let e : ◌≡◌ {A = Option (ℕ × List ℕ)} (Some (a.name_start, value_of a.raw_value)) (Some (n, v)) = rw t at h in
         let same : ◌≡◌ {A = ℕ × List ℕ} (a.name_start, value_of a.raw_value) (n, v) = cc in

@@ -183,8 +183,8 @@ module _ (text : List ℕ) where
   binding_passes start value indent assigns =
       rw (assignment_not_empty text assigns.0 assigns.1, indent) (ap (λ v. indented_fault Open (is_some v)) (value_named (codes "restat") (assignment_of text) assigns.0 assigns.1 assigns.3))
 
--- a line that is not allowed makes no progress
-pub never : {end : ProgressValue} {A : Type 0} → ◌≡◌ {A = Option ProgressValue} None (Some end) → A
+-- contradiction: a value is both absent and present
+pub never : {X A : Type 0} {x : X} → None ≡ Some x → A
 never h = absurd (cc)
 
 -- a line of a class that is allowed at a stage has no fault there
@@ -239,7 +239,7 @@ pub has_name : (name : List ℕ) (found : Option SeenAssignment) (a : SeenAssign
 has_name name None a h = cc
 has_name name (Some b) a h = elim (cases_Bool (same_bytes b.name name)) [
   | inl t ↦ let same : ◌≡◌ {A = Option SeenAssignment} (Some a) (Some b) = rw t at h in (sym same, ap (λ (x : SeenAssignment). x.name) (let e : a ≡ b = cc in e) ∙ same_bytes-true b.name name t)
-  | inr f ↦ absurd (let x : ◌≡◌ {A = Option SeenAssignment} (Some a) None = rw f at h in cc)
+  | inr f ↦ never (sym (rw f at h))
 ]
 
 -- a blank line changes nothing if no statement is open

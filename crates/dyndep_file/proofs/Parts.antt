@@ -1,13 +1,12 @@
 -- The parts of a build line: the values of its words, and its paths as they are borrowed, read and written.
-use Rattle.std.proofs.Common.{◌≡◌, ℕ, Bool, false, List, [], ◌∷◌, refl, ap, ◌+◌, ◌<◌, cond, ◌++◌, length, map, get_or, Some, Bor, sym, ◌∙◌, arith, suc, take, codes, subst, append_assoc, length-append, Option, inr, Vec, Global, Ok, Err}
+use Rattle.std.proofs.Common.{◌≡◌, ℕ, Bool, false, List, [], ◌∷◌, refl, ap, ◌+◌, ◌<◌, cond, ◌++◌, length, map, get_or, Some, Bor, sym, ◌∙◌, take, codes, subst, append_assoc, Option, inr, Vec, Global, Ok, Err}
 use Rattle.std.specs.List.{position_from, flat_map}
 use Rattle.ninja_text.specs.Bytes.{line_feed}
 use Rattle.ninja_text.specs.Tokens.{value_of}
 use Rattle.std.specs.Prelude.{position, All, Result}
-use Rattle.std.proofs.lemmas.List.{map-append, take_more, get_or-map, length-map, append-nil, get_or_append_left, get_or-append-add}
+use Rattle.std.proofs.lemmas.List.{map-append, take_more, get_or-map, length-map}
 use Rattle.std.proofs.lemmas.Iterator.Adapters.{position_from-zero}
 use Rattle.dyndep_file.specs.inner.Paths.{lent_texts, texts}
-use Rattle.std.proofs.lemmas.Grind.{flat_map-append}
 use Rattle.ninja_text.specs.Escapes.{escaped}
 use Rattle.dyndep_file.specs.StatementValue.{StatementValue, statement_with}
 use Rattle.dyndep_file.specs.Writing.{part_text, build_line}
@@ -23,6 +22,10 @@ use Rattle.dyndep_file.specs.Faults.{output_fault, after_output_fault, implicit_
 use Rattle.dyndep_file.specs.BuildTokens.{symbol_of, symbols_left}
 use Rattle.dyndep_file.specs.inner.BuildLines.{IsNamed, IsFailureOf, TakesOr, TakesOutput, TakesWords, TakesOutputs, TakesInputs}
 use Rattle.dyndep_file.specs.declared.fault.LineFault.{LineFault}
+use Rattle.ninja_text.specs.Escapes.{IsWritable}
+use Rattle.std.proofs.lemmas.List.{flat_map_more}
+use Rattle.std.proofs.lemmas.List.Elements.{All-from_recursion, recursion_from_All}
+use Rattle.dyndep_file.proofs.WrittenText.{both_parts}
 use Rattle.dyndep_file.proofs.LineLemmas.{inputs_pass, outputs_pass, after_output_passes}
 
 -- ---- the index of the first element that passes a test, in a list and in a mapped list
@@ -51,33 +54,19 @@ text_at paths i other d lt = get_or-map (λ p. p.now) paths i other d lt
 pub same_length : (paths : List (Bor (List ℕ))) → length (lent_texts paths) ≡ length paths
 same_length paths = length-map paths (λ p. p.now)
 
--- what is written of one more element
-pub flat_map_next : {X : Type 0} (f : X → List ℕ) (xs : List X) (i : ℕ) (x : X) → i < length xs → get_or xs i x ≡ x → flat_map f (take (i + 1) xs) ≡ flat_map f (take i xs) ++ f x
-flat_map_next f xs i x lt is =
-    ap (flat_map f) (take_more xs i x lt ∙ ap (λ y. take i xs ++ y ∷ []) is) ∙ flat_map-append f (take i xs) (x ∷ [])
-    ∙ ap (λ t. flat_map f (take i xs) ++ t) (append-nil (f x))
-
--- the same of a path, given as it is borrowed
-pub flat_map_next_path : (f : List ℕ → List ℕ) (paths : List (Bor (List ℕ))) (i : ℕ) (other : Bor (List ℕ)) → i < length paths → flat_map f (take (i + 1) (lent_texts paths)) ≡ flat_map f (take i (lent_texts paths)) ++ f (get_or paths i other).now
-flat_map_next_path f paths i other lt =
+-- what is written of one more path
+pub path_more : (f : List ℕ → List ℕ) (start : List ℕ) (paths : List (Bor (List ℕ))) (i : ℕ) (other : Bor (List ℕ)) → i < length paths
+    → (start ++ flat_map f (take i (lent_texts paths))) ++ f (get_or paths i other).now ≡ start ++ flat_map f (take (i + 1) (lent_texts paths))
+path_more f start paths i other lt =
     let path = (get_or paths i other).now in
-    flat_map_next f (lent_texts paths) i path (subst (λ n. i < n) (sym (same_length paths)) lt) (text_at paths i other path lt)
-
--- a path that is written after what is there
-pub written_next : (start front text path : List ℕ) (byte : ℕ) → ((start ++ (front ++ text)) ++ byte ∷ []) ++ path ≡ start ++ (front ++ (text ++ byte ∷ path))
-written_next start front text path byte = simp append_assoc
+    flat_map_more f start (take i (lent_texts paths)) path
+    ∙ ap (λ xs. start ++ flat_map f xs) (ap (λ x. take i (lent_texts paths) ++ x ∷ []) (sym (text_at paths i other path lt)) ∙ sym (take_more (lent_texts paths) i path (subst (λ n. i < n) (sym (same_length paths)) lt)))
 
 -- what holds of all paths of a statement holds of those of each part
-pub first_part : (P : List ℕ → Type 0) (output : List ℕ) (outputs inputs : List (List ℕ)) → All P (output ∷ (outputs ++ inputs)) → All P outputs
-first_part P output outputs inputs a k d lt =
-    subst P (get_or_append_left outputs inputs d k lt)
-    (a (suc k) d (let both = length-append outputs inputs in omega (arith, both, lt)))
-
--- the same of the second of two lists
-pub second_part : (P : List ℕ → Type 0) (output : List ℕ) (outputs inputs : List (List ℕ)) → All P (output ∷ (outputs ++ inputs)) → All P inputs
-second_part P output outputs inputs a k d lt =
-    subst P (get_or-append-add outputs inputs k d)
-    (a (suc (length outputs + k)) d (let both = length-append outputs inputs in omega (arith, both, lt)))
+pub parts_writable : (output : List ℕ) (outputs inputs : List (List ℕ)) → All IsWritable (output ∷ (outputs ++ inputs)) → All IsWritable outputs × All IsWritable inputs
+parts_writable output outputs inputs all =
+    let each = both_parts IsWritable outputs inputs (recursion_from_All IsWritable (output ∷ (outputs ++ inputs)) all).1 in
+    (All-from_recursion IsWritable outputs each.0, All-from_recursion IsWritable inputs each.1)
 
 joined : (a b c d e f : List ℕ) → ((((a ++ b) ++ c) ++ d) ++ e) ++ f ≡ a ++ b ++ c ++ d ++ e ++ f
 joined a b c d e f = simp append_assoc
@@ -107,24 +96,24 @@ same_statement : {o p : List ℕ} {os ps is qs : List (List ℕ)} → o ≡ p �
 same_statement a b c = rw (a, b, c) refl
 
 -- the tokens of a build line, and what is left after the output, the implicit outputs and the rule
-module _ (all : List Symbol) (output : List ℕ) (after_output : List Symbol) (takes_output : TakesOutput all output after_output) where
+module _ {all : List Symbol} {output : List ℕ} {after_output : List Symbol} (takes_output : TakesOutput all output after_output) where
   -- the fault after the output is that of all
   pub fault_after_output : after_output_fault after_output ≡ output_fault all
   fault_after_output = sym (ap output_fault takes_output.are)
 
-  module _ (outputs : List (List ℕ)) (at_rule : List Symbol) (takes_outputs : TakesOutputs after_output outputs at_rule) where
+  module _ {outputs : List (List ℕ)} {at_rule : List Symbol} (takes_outputs : TakesOutputs after_output outputs at_rule) where
     -- so is the fault after the `:`
     pub fault_at_rule : rule_fault at_rule ≡ output_fault all
     fault_at_rule = sym (ap after_output_fault takes_outputs.are ∙ after_output_passes takes_outputs.part takes_outputs.words at_rule takes_outputs.is_part) ∙ fault_after_output
 
-    module _ (after_rule : List Symbol) (takes_rule : at_rule ≡ WordSymbol (codes "dyndep") ∷ after_rule) where
+    module _ {after_rule : List Symbol} (takes_rule : at_rule ≡ WordSymbol (codes "dyndep") ∷ after_rule) where
       -- and the fault after the rule
       pub fault_after_rule : after_rule_fault after_rule ≡ output_fault all
       fault_after_rule = sym (ap rule_fault takes_rule) ∙ fault_at_rule
 
       -- the parts are those of the statement that the tokens name
-      pub named : (inputs : List (List ℕ)) → TakesInputs after_rule inputs → IsNamed all (statement_with output outputs inputs false)
-      named inputs takes_inputs = (
+      pub named : {inputs : List (List ℕ)} → TakesInputs after_rule inputs → IsNamed all (statement_with output outputs inputs false)
+      named takes_inputs = (
         takes_output.word,
         takes_outputs.words,
         takes_inputs.words,
@@ -133,8 +122,7 @@ module _ (all : List Symbol) (output : List ℕ) (after_output : List Symbol) (t
           after = after_rule;
           is_before = takes_outputs.is_part;
           is_after = takes_inputs.is_part;
-          are = takes_output.are
-              ∙ ap (λ s. WordSymbol takes_output.word ∷ s) (takes_outputs.are ∙ ap (λ s. takes_outputs.part ++ SignSymbol Colon ∷ s) takes_rule);
+          are = takes_output.are ∙ ap (λ s. WordSymbol takes_output.word ∷ s) (takes_outputs.are ∙ ap (λ s. takes_outputs.part ++ SignSymbol Colon ∷ s) takes_rule);
         },
         same_statement takes_output.is takes_outputs.is takes_inputs.is,
       )
@@ -155,18 +143,18 @@ takes_next all values new_values value words new token taken steps is_word is pu
     (subst (TakesWords all (texts values)) (next_is words new token Word steps is_word) taken) is)
 
 -- the fault after words among the implicit outputs is that of all
-pub fault_in_outputs : (all : List Symbol) (values : List (List ℕ)) (left : List Symbol) → TakesWords all values left → implicit_outputs_fault all ≡ implicit_outputs_fault left
-fault_in_outputs all values left taken = ap implicit_outputs_fault taken.are ∙ outputs_pass taken.words left
+pub fault_in_outputs : {all : List Symbol} {values : List (List ℕ)} {left : List Symbol} → TakesWords all values left → implicit_outputs_fault all ≡ implicit_outputs_fault left
+fault_in_outputs {all} {values} {left} taken = ap implicit_outputs_fault taken.are ∙ outputs_pass taken.words left
 
 -- the same among the implicit inputs
-pub fault_in_inputs : (all : List Symbol) (values : List (List ℕ)) (left : List Symbol) → TakesWords all values left → implicit_inputs_fault all ≡ implicit_inputs_fault left
-fault_in_inputs all values left taken = ap implicit_inputs_fault taken.are ∙ inputs_pass taken.words left
+pub fault_in_inputs : {all : List Symbol} {values : List (List ℕ)} {left : List Symbol} → TakesWords all values left → implicit_inputs_fault all ≡ implicit_inputs_fault left
+fault_in_inputs {all} {values} {left} taken = ap implicit_inputs_fault taken.are ∙ inputs_pass taken.words left
 
 -- what a reading fails with, another fails with that has the same fault
-pub refuses : {T : Type 0} (fault other : Option LineFault) (is : T → Type 0) (failure : Failure LineFault) (result : Result T (Failure LineFault))
+pub refuses : {T : Type 0} {fault other : Option LineFault} (is : T → Type 0) (failure : Failure LineFault) (result : Result T (Failure LineFault))
     → IsErrAnd result (λ e. e ≡ failure) → fault ≡ other → IsFailureOf fault failure → TakesOr other is result
-refuses fault other is failure (Ok value) e same h = absurd e
-refuses fault other is failure (Err reason) e same h = subst (IsFailureOf other) (sym e) (subst (λ f. IsFailureOf f failure) same h)
+refuses is failure (Ok value) e same h = absurd e
+refuses {T} {fault} {other} is failure (Err reason) e same h = subst (IsFailureOf other) (sym e) (subst (λ f. IsFailureOf f failure) same h)
 
 -- `|`, the words after it and a `:` are a part of implicit outputs and that `:`
 pub takes_bar : (old between new : List Symbol) (result : Result (Vec (Vec ℕ Global) Global) (Failure LineFault)) → old ≡ SignSymbol Bar ∷ between

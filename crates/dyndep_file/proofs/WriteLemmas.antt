@@ -20,6 +20,7 @@ use Rattle.dyndep_file.specs.WriteFaults.{text_unless, text_or_fault, LeavesWrit
 use Rattle.dyndep_file.specs.declared.fault.WriteFault.{WriteFault}
 use Rattle.dyndep_file.specs.declared.fault.WriteFault.TheVariants.{Unwritable, StatementTooLong, Io}
 use Rattle.std.proofs.lemmas.Bool.{cases_Bool}
+use Rattle.dyndep_file.proofs.LineLemmas.{never}
 use Rattle.dyndep_file.proofs.Runs.{none_or_some}
 use Rattle.std.proofs.lemmas.Grind.{flat_map-append}
 use Rattle.dyndep_file.specs.Texts.{TextValue, IsTextOf, IsFinished}
@@ -46,7 +47,7 @@ no_fault index (Some path) long h = cc
 none_found : (i : ℕ) (paths : List (List ℕ)) → position_from (λ path. not (is_writable path)) i paths ≡ None ↔ AllByRecursion IsWritable paths
 none_found i [] = (λ h. tt, λ w. refl)
 none_found i (path ∷ paths) = let later = none_found (i + 1) paths in let meaning = is_writable-meaning path in (
-  λ h. elim (cases_Bool (is_writable path)) [ inl t ↦ (meaning.0 t, later.0 (rw t at h)) | inr f ↦ absurd (let x : ◌≡◌ {A = Option ℕ} (Some i) None = rw f at h in cc) ],
+  λ h. elim (cases_Bool (is_writable path)) [ inl t ↦ (meaning.0 t, later.0 (rw t at h)) | inr f ↦ never (sym (rw f at h)) ],
   λ w. rw (meaning.1 w.0) (later.1 w.1),
 )
 
@@ -149,34 +150,18 @@ made statements text h = given (write_fault statements) statements text.items h
 
 -- ---- statements that are added to a text one after another: what is written, and the first fault
 
--- ---- the first fault
-
-or_assoc : {X : Type 0} (a b c : Option X) → option_or a (option_or b c) ≡ option_or (option_or a b) c
-or_assoc None b c = refl
-or_assoc (Some x) b c = refl
-
--- the fault of two lists, the second of which is counted on from the first
-fault_from-append : (index : ℕ) (xs ys : List StatementValue) → fault_from index (xs ++ ys) ≡ option_or (fault_from index xs) (fault_from (index + length xs) ys)
-fault_from-append index [] ys = ap (λ n. fault_from n ys) (omega arith)
-fault_from-append index (x ∷ xs) ys =
-    ap (option_or (statement_fault index x)) (fault_from-append (index + 1) xs ys ∙ ap (λ n. option_or (fault_from (index + 1) xs) (fault_from n ys)) (omega arith))
-    ∙ or_assoc (statement_fault index x) (fault_from (index + 1) xs) (fault_from (index + length (x ∷ xs)) ys)
-
-or_nothing : {X : Type 0} (o : Option X) → option_or o None ≡ o
-or_nothing None = refl
-or_nothing (Some x) = refl
-
--- after statements without a fault, the fault is that of the next one, or of those after it
-behind : (before : List StatementValue) (s : StatementValue) (after : List StatementValue) → write_fault before ≡ None
-    → write_fault (before ++ s ∷ after) ≡ option_or (statement_fault (length before) s) (fault_from (length before + 1) after)
-behind before s after none =
-    fault_from-append 0 before (s ∷ after) ∙ ap (λ n. option_or (fault_from 0 before) (fault_from n (s ∷ after))) (omega arith)
-    ∙ ap (λ o. option_or o (fault_from (length before) (s ∷ after))) none
+-- after statements without a fault, the fault is that of those that follow
+behind : (index : ℕ) (before after : List StatementValue) → fault_from index before ≡ None → fault_from index (before ++ after) ≡ fault_from (index + length before) after
+behind index [] after none = ap (λ n. fault_from n after) (omega arith)
+behind index (s ∷ before) after none =
+    let both = or_none (statement_fault index s) (fault_from (index + 1) before) none in
+    rw (both.0) (behind (index + 1) before after both.1 ∙ ap (λ n. fault_from n after) (omega arith))
 
 -- the first fault of all statements
 pub fault_behind : (before : List StatementValue) (s : StatementValue) (after : List StatementValue) (fault : WriteFault) → write_fault before ≡ None
     → statement_fault (length before) s ≡ Some fault → write_fault (before ++ s ∷ after) ≡ Some fault
-fault_behind before s after fault none here = behind before s after none ∙ ap (λ o. option_or o (fault_from (length before + 1) after)) here
+fault_behind before s after fault none here =
+    behind 0 before (s ∷ after) none ∙ ap (λ n. fault_from n (s ∷ after)) (omega arith) ∙ ap (λ o. option_or o (fault_from (length before + 1) after)) here
 
 -- ---- the text
 
@@ -193,7 +178,7 @@ pub added : (statements : List StatementValue) (s : StatementValue) (old new : T
 added statements s old new is none short bytes count = record {
   bytes = bytes ∙ append_assoc old.bytes (build_line s) (binding_line s) ∙ ap (λ t. t ++ statement_text s) is.bytes ∙ sym (written statements s);
   count = omega (arith, count, is.count, length-append statements (s ∷ []));
-  unfaulted = behind statements s [] is.unfaulted ∙ or_nothing (statement_fault (length statements) s) ∙ unfaulted s (length statements) none short;
+  unfaulted = behind 0 statements (s ∷ []) is.unfaulted ∙ ap (λ o. option_or o None) (unfaulted s (0 + length statements) none short);
 }
 
 -- the whole text

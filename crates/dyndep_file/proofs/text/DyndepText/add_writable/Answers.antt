@@ -7,21 +7,17 @@ use Rattle.dyndep_file.specs.Writing.{build_line, binding_line}
 use Rattle.dyndep_file.specs.WriteFaults.{paths_of}
 use Rattle.dyndep_file.specs.declared.fault.WriteFault.TheVariants.{StatementTooLong}
 use Rattle.dyndep_file.specs.inner.Paths.{lent_texts}
-use Rattle.dyndep_file.proofs.Parts.{first_part, second_part, line_written}
+use Rattle.dyndep_file.proofs.Parts.{parts_writable, line_written}
 use Rattle.dyndep_file.proofs.WriteLemmas.{all_found, added, counted, too_long}
 use Rattle.dyndep_file.proofs.text.DyndepText.add_writable.Goals as goal
 use Rattle.dyndep_file.proofs.text.DyndepText.add_writable.Goals.{then-statement+in_ok-extend_from_slice-4, else-statement}
 use Rattle.dyndep_file.proofs.text.DyndepText.add_writable.Goals.{After-len}
 
 pub push_part-requires : goal.push_part-requires
-push_part-requires c =
-    first_part IsWritable c.statement.inside.output.now (lent_texts c.statement.inside.implicit_outputs.now) (lent_texts c.statement.inside.implicit_inputs.now)
-    (subst (λ s. All IsWritable (paths_of s)) (sym c.statement.view_is) c.requires)
+push_part-requires c = (parts_writable _ _ _ (subst (λ s. All IsWritable (paths_of s)) (sym c.statement.view_is) c.requires)).0
 
 pub push_part-requires-2 : goal.push_part-requires-2
-push_part-requires-2 c =
-    second_part IsWritable c.statement.inside.output.now (lent_texts c.statement.inside.implicit_outputs.now) (lent_texts c.statement.inside.implicit_inputs.now)
-    (subst (λ s. All IsWritable (paths_of s)) (sym c.statement.view_is) c.requires)
+push_part-requires-2 c = (parts_writable _ _ _ (subst (λ s. All IsWritable (paths_of s)) (sym c.statement.view_is) c.requires)).1
 
 -- the line that was built is that of the statement
 line : (c : After-len) → c.extend_from_slice-3.new.self.items ≡ build_line c.args.statement.now
