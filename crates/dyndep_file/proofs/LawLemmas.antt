@@ -16,7 +16,7 @@ use Rattle.ninja_text.specs.declared.failure.Failure.TheVariants.{Fault, Memory}
 use Rattle.ninja_text.proofs.ForCallers.{all_lent, faulty_next, faulty_rest, faulty_at_limit, line_end-append, divides_some, AllByRecursion-append, one_more_line}
 use Rattle.ninja_text.proofs.ForCallers as lines
 use Rattle.dyndep_file.specs.Steps.{ProgressValue, step, run}
-use Rattle.dyndep_file.specs.Reading.{dyndep_format, dyndep_faults, StandsFor, FaultAt, IsEndFault, HasReadFault, StandsForOnly}
+use Rattle.dyndep_file.specs.Reading.{dyndep_format, dyndep_faults, FaultAt, IsEndFault, HasReadFault, StandsForOnly}
 use Rattle.dyndep_file.specs.Reader.{LeadToStatements, DyndepReaderState, HasReadDyndep, FeedsDyndep, EndsDyndepFile, IsFaultAtEnd, IsReadFaultIn}
 use Rattle.dyndep_file.specs.inner.LineStates.{fault_of_cutter, PassesLine, RefusesLine, answer_at_end}
 use Rattle.dyndep_file.specs.StatementValue.{StatementValue}
@@ -29,6 +29,7 @@ use Rattle.dyndep_file.proofs.LineLemmas.{no_fault, never}
 use Rattle.dyndep_file.proofs.Runs.{none_or_some, runs_begin, begins_runs, run_more, run_is_file, stage_runs, is_past, one_list_of_statements}
 use Rattle.dyndep_file.specs.Grammar.{IsDyndepFile, comment_first, blank_first, version_line, body_end}
 use Rattle.dyndep_file.proofs.Classes.{class_one, can_stand}
+use Rattle.dyndep_file.specs.Laws.{OneList, NotBoth, OneOfBoth, OneReadFault, FaultStays}
 use Rattle.dyndep_file.specs.Writing.{dyndep_text}
 use Rattle.dyndep_file.specs.WriteFaults.{CanBeWritten}
 use Rattle.dyndep_file.proofs.WrittenText.{stands_for}
@@ -47,25 +48,26 @@ no_version classes h = go (list_any is_version classes) (is_open classes) h wher
 
 -- ---- what the reader rejects with is the first fault in the bytes
 
--- no dyndep file continues with a line that has a fault
-pub faulty_after : (classes : List DyndepClass) (line : List ℕ) (progress : ProgressValue) (f : LineFault) → LeadToStatements classes progress
-    → text_line_fault progress.stage (text_of_line line) (is_comment line) ≡ Some f → IsFaultyAfter dyndep_format classes line
-faulty_after classes line progress f led fault c is begun =
-    let whole = begins_runs (classes ++ c ∷ []) begun in
-    let last : run progress.stage progress.statements (c ∷ []) ≡ Some whole.0 = sym (run_more classes (c ∷ []) BeforeVersion [] progress led) ∙ whole.1 in
-    elim (none_or_some (step progress.stage progress.statements c)) [
-      | inl none ↦ never (rw none at last)
-      | inr steps ↦ let clash = sym (no_fault progress.stage progress.statements (text_of_line line) (is_comment line) c steps.0 is.1 steps.1) ∙ fault in absurd (cc)
-    ]
-
--- the fault of a line that is too long, and that of one that keeps the limit
+-- the fault of a line that is too long
 pub too_long_is : (classes : List DyndepClass) (line : List ℕ) → line_limit < length line → line_fault (stage_after classes) line ≡ Some LineTooLong
 too_long_is classes line past = rw (lt-ltb line_limit (length line) past) refl
 
-pub fault_is : (classes : List DyndepClass) (line : List ℕ) (progress : ProgressValue) (f : LineFault) → LeadToStatements classes progress → length line ≤ line_limit
-    → text_line_fault progress.stage (text_of_line line) (is_comment line) ≡ Some f → line_fault (stage_after classes) line ≡ Some f
-fault_is classes line progress f ran short h =
-    rw (le-ltb line_limit (length line) short) (subst (λ s. text_line_fault s (text_of_line line) (is_comment line) ≡ Some f) (stage_runs classes progress ran) h)
+-- a line that keeps the limit and whose text has a fault
+module _ (classes : List DyndepClass) (line : List ℕ) (progress : ProgressValue) (f : LineFault) (led : LeadToStatements classes progress)
+    (fault : text_line_fault progress.stage (text_of_line line) (is_comment line) ≡ Some f) where
+  -- no dyndep file continues with it
+  faulty_after : IsFaultyAfter dyndep_format classes line
+  faulty_after c is begun =
+      let whole = begins_runs (classes ++ c ∷ []) begun in
+      let last : run progress.stage progress.statements (c ∷ []) ≡ Some whole.0 = sym (run_more classes (c ∷ []) BeforeVersion [] progress led) ∙ whole.1 in
+      elim (none_or_some (step progress.stage progress.statements c)) [
+        | inl none ↦ never (rw none at last)
+        | inr steps ↦ never (sym (no_fault progress.stage progress.statements (text_of_line line) (is_comment line) c steps.0 is.1 steps.1) ∙ fault)
+      ]
+
+  -- the fault is that of the line
+  fault_is : length line ≤ line_limit → line_fault (stage_after classes) line ≡ Some f
+  fault_is short = rw (le-ltb line_limit (length line) short, ← stage_runs classes progress led) fault
 
 -- the next line's fault is in the bytes
 fault_of_next : (bytes : List ℕ) (lent : List LogicalLine) (progress : ProgressValue) (f : ReadFault) → AreReadTo dyndep_format LeadToStatements lent progress
@@ -80,7 +82,7 @@ fault_of_next bytes lent progress (AtLine n f) read (number, rest, begins, inr (
     let fault = subst (λ (l : LogicalLine). text_line_fault progress.stage l.text l.comment ≡ Some f) same refused.1 in
     inl (subst (λ m. FaultyLine dyndep_format dyndep_faults bytes m f) (sym (refused.0 ∙ ap (λ l. l.number) same))
     (faulty_next dyndep_format dyndep_faults bytes lent number rest read.classes begins read.texts (runs_begin read.classes progress read.led) line after f split is
-    (faulty_after read.classes line progress f read.led fault) (fault_is read.classes line progress f read.led short fault)))
+    (faulty_after read.classes line progress f read.led fault) (fault_is read.classes line progress f read.led fault short)))
 fault_of_next bytes lent progress Io read (number, rest, begins, inr (line, after, split, is, short, view, same, refused)) = absurd refused
 
 -- one more line of a class that is allowed leads on
@@ -147,7 +149,7 @@ line_decided classes line begun =
     elim (cases_lt line_limit (length line)) [
       | inl long ↦ inr (LineTooLong, too_long_is classes line long, λ c is on. absurd (omega (arith, long, is.0)))
       | inr short ↦ elim (none_or_some (text_line_fault ran.0.stage (text_of_line line) (is_comment line))) [
-        | inr f ↦ inr (f.0, fault_is classes line ran.0 f.0 ran.1 short f.1, faulty_after classes line ran.0 f.0 ran.1 f.1)
+        | inr f ↦ inr (f.0, fault_is classes line ran.0 f.0 ran.1 f.1 short, faulty_after classes line ran.0 f.0 ran.1 f.1)
         | inl none ↦
             let s = can_stand ran.0.stage ran.0.statements (text_of_line line) (is_comment line) none in
             inl (s.0, (short, s.1), runs_begin (classes ++ s.0 ∷ []) s.2.0 (led_on classes ran.0 s.2.0 s.0 ran.1 s.2.1))
@@ -199,15 +201,15 @@ decided = record {
 }
 
 -- a text stands for one list of statements at most
-pub one_list : (bytes : List ℕ) (ss ts : List StatementValue) → StandsFor bytes ss → StandsFor bytes ts → ss ≡ ts
+pub one_list : OneList
 one_list bytes ss ts a b = lines.one_value dyndep_format dyndep_faults decided bytes ss ts a b
 
 -- and if it does, it has no fault
-pub not_both : (bytes : List ℕ) (ss : List StatementValue) (found : FaultAt) → StandsFor bytes ss → HasReadFault bytes found → ⊥
+pub not_both : NotBoth
 not_both bytes ss found a f = lines.not_both dyndep_format dyndep_faults decided bytes ss found.line found.fault a f
 
 -- else it has one
-pub one_of_both : (bytes : List ℕ) → ((ss : List StatementValue) × StandsFor bytes ss) ⊎ ((found : FaultAt) × HasReadFault bytes found)
+pub one_of_both : OneOfBoth
 one_of_both bytes = elim (lines.value_or_fault dyndep_format dyndep_faults decided bytes) [ inl all ↦ inl all | inr stop ↦ inr (record { line = stop.0; fault = stop.1 }, stop.2) ]
 
 -- faults with the same number and the same reason are the same
@@ -215,7 +217,7 @@ found_same : {l m : ℕ} {f g : LineFault} → l ≡ m → f ≡ g → ◌≡◌
 found_same a b = rw (a, b) refl
 
 -- and just one
-pub one_fault : (bytes : List ℕ) (a b : FaultAt) → HasReadFault bytes a → HasReadFault bytes b → a ≡ b
+pub one_fault : OneReadFault
 one_fault bytes a b f g = let same = lines.one_fault dyndep_format dyndep_faults decided bytes a.line b.line a.fault b.fault f g in found_same same.0 same.1
 
 -- ---- the text of statements that can be written stands for them, and for no others
@@ -296,7 +298,7 @@ end_stays bytes more line e (l ∷ ls) rest d =
     })
 
 -- the fault is that of every text that begins with the bytes
-pub fault_stays : (bytes more : List ℕ) (line : ℕ) (fault : LineFault) → IsReadFaultIn bytes (AtLine line fault) → HasReadFault (bytes ++ more) (record { line = line; fault = fault })
+pub fault_stays : FaultStays
 fault_stays bytes more line fault (inl f) = inl (line_stays bytes more line fault f)
 fault_stays bytes more line fault (inr h) =
     let e : FaultyEnd dyndep_format dyndep_faults bytes line LineTooLong = subst (FaultyEnd dyndep_format dyndep_faults bytes line) h.1 h.0 in

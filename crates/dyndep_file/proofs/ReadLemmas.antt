@@ -9,7 +9,8 @@ use Rattle.ninja_text.specs.declared.failure.Failure.TheVariants.{Memory, Fault}
 use Rattle.dyndep_file.specs.Reader.{IsReadFaultOf, LeadToStatements, DyndepReaderState, HasReadDyndep, EndsDyndepFile, IsReadFailureIn}
 use Rattle.ninja_text.specs.Counting.{held, failures, Call, Counts}
 use Rattle.ninja_text.specs.declared.counting.Counted.{Counted}
-use Rattle.dyndep_file.specs.ReadingAll.{IsUnrefused, ReadTurn, bytes_of, bytes_read, GivesSome, ReadsInTurn, LastCall, AtEnd, last_bytes, has_failed, IsLastCall, Answer, AnswersLastCall, IsReadFrom}
+use Rattle.dyndep_file.specs.Laws.{GoesOnUnrefused}
+use Rattle.dyndep_file.specs.ReadingAll.{ReadTurn, bytes_of, bytes_read, GivesSome, ReadsInTurn, LastCall, AtEnd, last_bytes, has_failed, IsLastCall, Answer, AnswersLastCall, IsReadFrom}
 use Rattle.dyndep_file.specs.declared.fault.ReadFault.{ReadFault}
 use Rattle.dyndep_file.specs.declared.fault.ReadFault.TheVariants.{AtLine, Io}
 use Rattle.dyndep_file.proofs.Runs.{runs_begin}
@@ -37,7 +38,7 @@ keeps_consumes (Some p) None k = absurd k
 keeps_consumes (Some p) (Some q) k = sym k
 
 -- what a reader took has no fault
-pub unrefused : (bytes : List ℕ) (r : DyndepReaderState) → HasReadDyndep bytes r → IsUnrefused bytes
+pub unrefused : GoesOnUnrefused
 unrefused bytes r has line fault refused = lines.none_refused dyndep_format LeadToStatements PassesLine RefusesLine fault_of_cutter dyndep_faults decided runs_begin bytes r has line fault (elim refused [
   | inl line ↦ inl line
   | inr end ↦ inr (end.0, subst (IsEndFault end.0.rest end.0.classes) end.1 end.0.reason)

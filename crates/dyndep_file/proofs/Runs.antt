@@ -141,7 +141,7 @@ pub none_or_some : {X : Type 0} (o : Option X) → (o ≡ None) ⊎ ((x : X) × 
 none_or_some None = inl refl
 none_or_some (Some x) = inr (x, refl)
 
--- a run goes on over more lines from where it was
+-- a run continues over more lines
 abbrev run_on : List DyndepClass → Option ProgressValue → Option ProgressValue
 run_on classes ran = option_and_then (λ s. run s.stage s.statements classes) ran
 

@@ -23,6 +23,7 @@ use Rattle.std.proofs.lemmas.Bool.{cases_Bool}
 use Rattle.dyndep_file.proofs.LineLemmas.{never}
 use Rattle.dyndep_file.proofs.Runs.{none_or_some}
 use Rattle.std.proofs.lemmas.Grind.{flat_map-append}
+use Rattle.dyndep_file.specs.Laws.{OnlyTooLong, TooLongIfWritable, FirstFault}
 use Rattle.dyndep_file.specs.Texts.{TextValue, IsTextOf, IsFinished}
 use Rattle.dyndep_file.proofs.LawLemmas.{stands_for_only}
 
@@ -67,7 +68,7 @@ statement_written index s h =
 pub unfaulted : (s : StatementValue) (index : ℕ) → bad_path s ≡ None → length (build_line s) ≤ line_limit → statement_fault index s ≡ None
 unfaulted s index none short = rw (none, let no_longer : is_long s ≡ false = grind (arith, short) in no_longer) refl
 
--- and else that of its length
+-- and otherwise that of its length
 pub too_long : (s : StatementValue) (index : ℕ) → bad_path s ≡ None → line_limit + 1 ≤ length (build_line s) → statement_fault index s ≡ Some (StatementTooLong index)
 too_long s index none long = rw (none, let longer : is_long s ≡ true = grind (arith, long) in longer) refl
 
@@ -76,7 +77,7 @@ pub unwritable : (s : StatementValue) (index path : ℕ) → bad_path s ≡ Some
 unwritable s index path found = ap (λ o. fault_of index o (is_long s)) found
 
 -- a statement whose paths have escaped forms has no other fault than a build line that is too long
-pub one_too_long : (index : ℕ) (s : StatementValue) (fault : WriteFault) → All IsWritable (paths_of s) → statement_fault index s ≡ Some fault → fault ≡ StatementTooLong index
+pub one_too_long : TooLongIfWritable
 one_too_long index s fault w h = sym (cond_some (is_long s) (StatementTooLong index) fault (sym (ap (λ o. fault_of index o (is_long s)) (all_found (paths_of s) w)) ∙ h)).1
 
 -- no statement has the fault of a writer
@@ -112,7 +113,7 @@ of_one P index (s ∷ ss) fault each h = elim (none_or_some (statement_fault ind
 ]
 
 -- so the fault of statements whose paths have escaped forms is a build line that is too long
-pub only_too_long : (ss : List StatementValue) (fault : WriteFault) → All (λ s. All IsWritable (paths_of s)) ss → write_fault ss ≡ Some fault → (k : ℕ) × (fault ≡ StatementTooLong k)
+pub only_too_long : OnlyTooLong
 only_too_long ss fault w h =
     let one = of_one (λ s. All IsWritable (paths_of s)) 0 ss fault (recursion_from_All (λ s. All IsWritable (paths_of s)) ss w) h in
     (one.0, one_too_long one.0 one.1 fault one.2 one.3)
@@ -158,8 +159,7 @@ behind index (s ∷ before) after none =
     rw (both.0) (behind (index + 1) before after both.1 ∙ ap (λ n. fault_from n after) (omega arith))
 
 -- the first fault of all statements
-pub fault_behind : (before : List StatementValue) (s : StatementValue) (after : List StatementValue) (fault : WriteFault) → write_fault before ≡ None
-    → statement_fault (length before) s ≡ Some fault → write_fault (before ++ s ∷ after) ≡ Some fault
+pub fault_behind : FirstFault
 fault_behind before s after fault none here =
     behind 0 before (s ∷ after) none ∙ ap (λ n. fault_from n (s ∷ after)) (omega arith) ∙ ap (λ o. option_or o (fault_from (length before + 1) after)) here
 

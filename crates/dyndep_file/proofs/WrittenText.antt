@@ -39,8 +39,7 @@ module _ (text : List ℕ) (xs : List Symbol) (later : Written symbol false text
   first_path_written : (path : List ℕ) (paths : List (List ℕ)) → IsWritable path → Written symbol false (paths_text paths ++ text) (map WordSymbol (map escaped paths) ++ xs)
       → Written symbol true ((escaped path ++ paths_text paths) ++ text) (map WordSymbol (map escaped (path ∷ paths)) ++ xs)
   first_path_written path paths writable rest =
-      subst (λ t. Written symbol true t (map WordSymbol (map escaped (path ∷ paths)) ++ xs)) (sym (append_assoc (escaped path) (paths_text paths) text))
-      (written_path symbol path _ _ writable rest)
+      rw (append_assoc (escaped path) (paths_text paths) text) (written_path symbol path _ _ writable rest)
 
   paths_written : (paths : List (List ℕ)) → AllByRecursion IsWritable paths → Written symbol false (paths_text paths ++ text) (map WordSymbol (map escaped paths) ++ xs)
   paths_written [] writable = later
@@ -90,9 +89,7 @@ module _ (s : StatementValue) (can : CanBeWritten s) where
 
   inputs_written : Written symbol false (part_text s.implicit_inputs) (part_symbols (map escaped s.implicit_inputs))
   inputs_written =
-      subst (λ t. Written symbol false t (part_symbols (map escaped s.implicit_inputs))) (append-nil (part_text s.implicit_inputs))
-      (subst (λ xs. Written symbol false (part_text s.implicit_inputs ++ []) xs) (append-nil (part_symbols (map escaped s.implicit_inputs)))
-      (part_written [] [] (written_none symbol) s.implicit_inputs lists_can.1))
+      simp append-nil at (part_written [] [] (written_none symbol) s.implicit_inputs lists_can.1)
 
   after_output_written : Written symbol false (after_output_text s) (after_output_symbols s)
   after_output_written =
@@ -140,8 +137,7 @@ module _ (s : StatementValue) (can : CanBeWritten s) where
   pub build_classed : IsOfClass dyndep_format (build_line s) (build_class s)
   build_classed = (
     can.line,
-    subst (λ line. IsDyndepLine (text_of_line line) (is_comment line) (build_class s)) line_is
-        (subst (λ text. IsDyndepLine text false (build_class s)) (sym text_is) text_classed),
+    subst (λ line. IsDyndepLine (text_of_line line) (is_comment line) (build_class s)) line_is (rw text_is text_classed),
   )
 
 -- ---- all lines

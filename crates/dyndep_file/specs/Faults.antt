@@ -140,8 +140,8 @@ after_build at_start (WordSymbol word ∷ more) =
     if at_start && same_bytes word (codes "build") then Some more else None
 after_build at_start (SignSymbol other ∷ more) = None
 
--- where the name begins and what is assigned, if a line is an assignment to this name; None for
--- any other line
+-- the offset of the name and the value, if a line is an assignment to this name; None for any other
+-- line
 abbrev pub value_assigned : Name → Option SeenAssignment → Option (ℕ × Text)
 value_assigned name None = None
 value_assigned name (Some a) =
