@@ -1,6 +1,6 @@
 -- The class of a line: at most one, and one if the table has no fault for it.
 use Rattle.std.proofs.Common.{inl, inr, ◌≡◌, ℕ, List, [], ◌∷◌, ◌++◌, map, refl, ap, ◌∙◌, Some, None, ◌==◌, ◌&&◌, Bool, true, false, length, sym, arith}
-use Rattle.std.specs.Prelude.{Option, codes, IsTrue, is_some, if◌then◌else◌, nat_lt}
+use Rattle.std.specs.Prelude.{Option, codes, is_some, if◌then◌else◌, nat_lt}
 use Rattle.std.proofs.lemmas.Bool.{cases_Bool, eqb-true, and_parts}
 use Rattle.ninja_text.specs.declared.token.TokenKind.TheVariants.{Bar, DoubleBar, BarAt, Colon}
 use Rattle.dyndep_file.specs.Classes.{Symbol, WordSymbol, SignSymbol, IsPart, DyndepClass, Comment, Blank, Version, Build, Binding, symbols, begins_at_start, begins_with_space, IsBuild, Assigns, IsDyndepLine, is_version_one}
@@ -136,10 +136,12 @@ index_of_class text comment Version is =
     rw (is.0, assignment_not_empty text a is.3.1, no_indent_at_name text a is.3.1 is.3.2, no_keyword text a is.3.1 is.3.2 is.3.3) refl
 index_of_class text comment (Build o os ins) is =
     let b = is.5 in
-    rw (is.0, some (tokens text) b.4, no_indent_at_token text b.4, ap is_some (ap (after_build (begins_at_start (tokens text))) b.5 ∙ after_keyword (begins_at_start (tokens text)) _ b.4)) refl where
-      some : (ts : List TokenAt) → IsTrue (begins_at_start ts) → is_empty ts ≡ false
-      some [] h = cc
-      some (t ∷ ts) h = refl
+    rw (
+      is.0,
+      ap is_empty (first_word text (codes "build") _ (tokens text) refl b.5).are,
+      no_indent_at_token text b.4,
+      ap is_some (ap (after_build (begins_at_start (tokens text))) b.5 ∙ after_keyword (begins_at_start (tokens text)) _ b.4),
+    ) refl
 index_of_class text comment (Binding flag) is =
     let indent : begins_with_space text ≡ true = is.2 in
     rw (is.0, assignment_not_empty text (is.5).0 (is.5).1, indent) refl
@@ -199,10 +201,6 @@ same_build text o p os ps ins qs a b =
       sym (part_all a.1 ins a.3) ∙ ap words_before_colon after ∙ part_all b.1 qs b.3,
     )
 
--- build lines of the same paths are of the same class
-build_same : {o p : List ℕ} {os ps ins qs : List (List ℕ)} → o ≡ p → os ≡ ps → ins ≡ qs → Build o os ins ≡ Build p ps qs
-build_same a b c = rw (a, b, c) refl
-
 -- a line's text is of one class
 pub class_one : (text : List ℕ) (comment : Bool) (c d : DyndepClass) → IsDyndepLine text comment c → IsDyndepLine text comment d → c ≡ d
 class_one text comment Comment Comment p q = refl
@@ -210,14 +208,14 @@ class_one text comment Blank Blank p q = refl
 class_one text comment Version Version p q = refl
 class_one text comment (Build o os ins) (Build u us vs) p q =
     let same = same_build text p.2 q.2 p.3 q.3 p.4 q.4 p.5 q.5 in
-    build_same (p.6 ∙ ap value_of same.0 ∙ sym q.6) (p.7 ∙ ap (map value_of) same.1 ∙ sym q.7) (p.8 ∙ ap (map value_of) same.2 ∙ sym q.8)
+    rw (p.6, p.7, p.8, q.6, q.7, q.8, same.0, same.1, same.2) refl
 class_one text comment (Binding flag) (Binding other) p q =
     let a = p.5 in
     let b = q.5 in
     let found : ◌≡◌ {A = Option SeenAssignment} (Some a.0) (Some b.0) = sym a.1 ∙ b.1 in
     let same : a.0 ≡ b.0 = cc in
     let value : p.4 ≡ q.4 = sym a.4 ∙ ap (λ (s : SeenAssignment). value_of s.raw_value) same ∙ b.4 in
-    ap Binding (p.6 ∙ ap (λ (v : List ℕ). nat_lt 0 (length v)) value ∙ sym q.6)
+    rw (p.6, q.6, value) refl
 class_one text comment c d p q = absurd (let e : class_index c ≡ class_index d = sym (index_of_class text comment c p) ∙ index_of_class text comment d q in omega arith)
 
 -- lines of the class are allowed at the stage

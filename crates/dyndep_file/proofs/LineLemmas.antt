@@ -99,10 +99,7 @@ value_named name found a h e = ap (value_assigned name) h ∙ rw ((bytes_eq-Deci
 -- a version line
 pub unindented_version : (stage : Stage) (build : Option (List Symbol)) (found : Option SeenAssignment) (a : SeenAssignment) → found ≡ Some a → a.name ≡ codes "ninja_dyndep_version" → a.name_start ≡ 0
     → unindented_fault stage (value_assigned (codes "ninja_dyndep_version") found) build ≡ version_fault stage (value_of a.raw_value)
-unindented_version stage build found a h name start =
-    ap (λ v. unindented_fault stage v build) (value_named (codes "ninja_dyndep_version") found a h name) ∙ at_zero a.name_start start where
-      at_zero : (n : ℕ) → n ≡ 0 → unindented_fault stage (Some (n, value_of a.raw_value)) build ≡ version_fault stage (value_of a.raw_value)
-      at_zero n e = rw (eq-eqb n 0 e) refl
+unindented_version stage build found a h name start = rw (value_named (codes "ninja_dyndep_version") found a h name, eq-eqb a.name_start 0 start) refl
 
 -- a text whose first token is at its first byte is not indented
 pub no_indent_at_token : (text : List ℕ) → IsTrue (begins_at_start (tokens text)) → begins_with_space text ≡ false
@@ -220,19 +217,11 @@ last_set (x ∷ y ∷ ss) (suc n) s flag len at = ap (λ l. x ∷ l) (last_set (
 pub opens : (stage : Stage) (before after : List StatementValue) (statement : StatementValue) (symbols : List Symbol) → (stage ≡ NoneOpen) ⊎ (stage ≡ Open)
     → after ≡ before ++ statement ∷ [] → IsNamed symbols statement
     → (c : DyndepClass) × IsBuildOf symbols c × (step stage before c ≡ Some (record { stage = Open; statements = after }))
-opens stage before after statement symbols may pushed named =
-    let c = Build (value_of named.0) (map value_of named.1) (map value_of named.2) in (
-      c,
-      (named.0, named.1, named.2, named.3, refl),
-      steps stage may ∙ ap (λ (ss : List StatementValue). Some (record { stage = Open; statements = ss })) (sym (pushed ∙ ap (λ s. before ++ s ∷ []) named.4)),
-    ) where
-      steps : (stage : Stage) → (stage ≡ NoneOpen) ⊎ (stage ≡ Open) → step stage before (Build (value_of named.0) (map value_of named.1) (map value_of named.2))
-          ≡ Some (record {
-            stage = Open;
-            statements = before ++ record { output = value_of named.0; implicit_outputs = map value_of named.1; implicit_inputs = map value_of named.2; restat = false } ∷ [];
-          })
-      steps stage (inl e) = rw e refl
-      steps stage (inr e) = rw e refl
+opens stage before after statement symbols may pushed named = (
+  Build (value_of named.0) (map value_of named.1) (map value_of named.2),
+  (named.0, named.1, named.2, named.3, refl),
+  elim may [ inl e ↦ rw (e, pushed, named.4) refl | inr e ↦ rw (e, pushed, named.4) refl ],
+)
 
 -- an assignment that has the name
 pub has_name : (name : List ℕ) (found : Option SeenAssignment) (a : SeenAssignment) → Some a ≡ with_name name found → (found ≡ Some a) × (a.name ≡ name)

@@ -86,10 +86,11 @@ module _ {R : Type 0} (remaining : R → Option (List ℕ)) (reads : Call R) whe
   pub no_call : (old : R) (reader : DyndepReaderState) → HasReadDyndep [] reader → ReadSoFar old old reader 0
   no_call old reader h = record { turns = []; in_turn = refl; consumed = consumes_nothing (remaining old); has_read = h; counted = omega arith }
 
+module _ {R : Type 0} {remaining : R → Option (List ℕ)} {reads : Call R} where
   -- a call that gave bytes which were not rejected
-  pub one_more_call : (old now : R) (before after : DyndepReaderState) (calls : ℕ) (turn : ReadTurn R) → (s : ReadSoFar old now before calls) → GivesSome reads now turn
-      → Consumes (remaining now) (remaining turn.reader) (bytes_of turn) → HasReadDyndep (bytes_read s.turns ++ bytes_of turn) after → ReadSoFar old turn.reader after (calls + 1)
-  one_more_call old now before after calls turn s gives consumed fed =
+  pub one_more_call : {old now : R} {before : DyndepReaderState} {calls : ℕ} (after : DyndepReaderState) (turn : ReadTurn R) → (s : ReadSoFar remaining reads old now before calls) → GivesSome reads now turn
+      → Consumes (remaining now) (remaining turn.reader) (bytes_of turn) → HasReadDyndep (bytes_read s.turns ++ bytes_of turn) after → ReadSoFar remaining reads old turn.reader after (calls + 1)
+  one_more_call {old} {now} {before} {calls} after turn s gives consumed fed =
       let bytes : bytes_read s.turns ++ bytes_of turn ≡ bytes_read (s.turns ++ turn ∷ []) = flat_map_more bytes_of [] s.turns turn in
       record {
         turns = s.turns ++ turn ∷ [];
@@ -100,10 +101,10 @@ module _ {R : Type 0} (remaining : R → Option (List ℕ)) (reads : Call R) whe
       }
 
   -- the result after the last call
-  pub ended : (old new : Counted R) (now : R) (reader : DyndepReaderState) (calls : ℕ) (s : ReadSoFar (held old) now reader calls) (last : LastCall R) (result : Answer)
+  pub ended : (old new : Counted R) {now : R} {reader : DyndepReaderState} {calls : ℕ} (s : ReadSoFar remaining reads (held old) now reader calls) (last : LastCall R) (result : Answer)
       → IsLastCall reads now (held new) last → AnswersLastCall (bytes_read s.turns) last result → Counts (has_failed last) (failures old) (failures new)
       → Consumes (remaining now) (remaining (held new)) (last_bytes last) → (last ≡ AtEnd → IsAtEnd (remaining (held new))) → IsReadFrom remaining reads old new result
-  ended old new now reader calls s last result is answer count consumed at_end = record {
+  ended old new {now} {reader} {calls} s last result is answer count consumed at_end = record {
     turns = s.turns;
     before = now;
     last = last;
