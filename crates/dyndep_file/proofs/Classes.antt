@@ -57,7 +57,8 @@ outputs_are other h = faulty h
 
 -- what comes after the output without fault is a part of implicit outputs, `:` and the rest
 divided : (symbols : List Symbol) → after_output_fault symbols ≡ None
-    → (before : List Symbol) × (words : List (List ℕ)) × (rest : List Symbol) × IsPart Bar before words × (symbols ≡ before ++ SignSymbol Colon ∷ rest) × (rule_fault rest ≡ None)
+    → (before : List Symbol) × (words : List (List ℕ)) × (rest : List Symbol) × IsPart Bar before words × (symbols ≡ before ++ SignSymbol Colon ∷ rest) ×
+    (rule_fault rest ≡ None)
 divided (SignSymbol Bar ∷ more) h = let later = outputs_are more h in
     (SignSymbol Bar ∷ map WordSymbol later.0, later.0, later.1, inr refl, ap (λ s. SignSymbol Bar ∷ s) later.2, later.3)
 divided (SignSymbol Colon ∷ more) h = ([], [], more, inl (refl, refl), refl, h)
@@ -118,7 +119,8 @@ keyword_first at (WordSymbol word ∷ all) more h = elim (cases_Bool (at && same
 ]
 
 -- a version line does not begin with the keyword
-no_keyword : (text : List ℕ) (a : SeenAssignment) → assignment_of text ≡ Some a → a.name_start ≡ 0 → a.name ≡ codes "ninja_dyndep_version" → is_keyword_line text ≡ false
+no_keyword : (text : List ℕ) (a : SeenAssignment) → assignment_of text ≡ Some a → a.name_start ≡ 0 → a.name ≡ codes "ninja_dyndep_version" →
+    is_keyword_line text ≡ false
 no_keyword text a h start name = found (after_build (begins_at_start (tokens text)) (symbols text)) refl where
   found : (o : Option (List Symbol)) → after_build (begins_at_start (tokens text)) (symbols text) ≡ o → is_some o ≡ false
   found None e = refl
@@ -216,14 +218,15 @@ class_one text comment (Binding flag) (Binding other) p q =
     let same : a.0 ≡ b.0 = cc in
     let value : p.4 ≡ q.4 = sym a.4 ∙ ap (λ (s : SeenAssignment). value_of s.raw_value) same ∙ b.4 in
     rw (p.6, q.6, value) refl
-class_one text comment c d p q = absurd (let e : class_index c ≡ class_index d = sym (index_of_class text comment c p) ∙ index_of_class text comment d q in omega arith)
+class_one text comment c d p q =
+    absurd (let e : class_index c ≡ class_index d = sym (index_of_class text comment c p) ∙ index_of_class text comment d q in omega arith)
 
 -- lines of the class are allowed at the stage
 abbrev Steps : Stage → List StatementValue → DyndepClass → Type 0
 Steps stage ss c = (next : ProgressValue) × (step stage ss c ≡ Some next)
 
 -- a class that a text is of, and that is allowed at a stage
-abbrev pub CanStand : Stage → List StatementValue → List ℕ → Bool → Type 0
+abbrev CanStand : Stage → List StatementValue → List ℕ → Bool → Type 0
 CanStand stage ss text comment = (c : DyndepClass) × IsDyndepLine text comment c × Steps stage ss c
 
 -- a comment and a blank line are allowed at each stage
@@ -275,7 +278,8 @@ module _ (ss : List StatementValue) (text : List ℕ) (sound : lexical_fault tex
 
   -- a text that is neither indented nor a version line, and has no fault, is a build line that is
   -- allowed
-  build_or_not : (stage : Stage) (build : Option (List Symbol)) → after_build (begins_at_start (tokens text)) (symbols text) ≡ build → build_or_other_fault stage build ≡ None
+  build_or_not : (stage : Stage) (build : Option (List Symbol)) → after_build (begins_at_start (tokens text)) (symbols text) ≡ build →
+      build_or_other_fault stage build ≡ None
       → CanStand stage ss text false
   build_or_not stage None e h = faulty h
   build_or_not BeforeVersion (Some more) e h = faulty h
@@ -305,7 +309,8 @@ module _ (ss : List StatementValue) (text : List ℕ) (sound : lexical_fault tex
   ]
 
 -- a line's text without fault is of a class that is allowed there
-pub can_stand : (stage : Stage) (ss : List StatementValue) (text : List ℕ) (comment : Bool) → text_line_fault stage text comment ≡ None → CanStand stage ss text comment
+pub can_stand : (stage : Stage) (ss : List StatementValue) (text : List ℕ) (comment : Bool) → text_line_fault stage text comment ≡ None →
+    CanStand stage ss text comment
 can_stand stage ss text true h = (Comment, refl, (empty_steps stage ss).0)
 can_stand stage ss text false h = lexed (lexical_fault text) refl h where
   lexed : (o : Option LexFault) → lexical_fault text ≡ o → lexical_fault_or o (text_fault stage text) ≡ None → CanStand stage ss text false

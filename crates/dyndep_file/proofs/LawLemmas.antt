@@ -39,7 +39,7 @@ use Rattle.std.proofs.lemmas.List.{take-append-drop, take-append-le}
 -- ---- what a stage says of the version
 
 -- before the version no line is a version line
-pub no_version : (classes : List DyndepClass) → stage_after classes ≡ BeforeVersion → list_any is_version classes ≡ false
+no_version : (classes : List DyndepClass) → stage_after classes ≡ BeforeVersion → list_any is_version classes ≡ false
 no_version classes h = go (list_any is_version classes) (is_open classes) h where
   go : (version opened : Bool) → (if not version then BeforeVersion else if opened then Open else NoneOpen) ≡ BeforeVersion → version ≡ false
   go false opened h = refl
@@ -49,7 +49,7 @@ no_version classes h = go (list_any is_version classes) (is_open classes) h wher
 -- ---- what the reader rejects with is the first fault in the bytes
 
 -- the fault of a line that is too long
-pub too_long_is : (classes : List DyndepClass) (line : List ℕ) → line_limit < length line → line_fault (stage_after classes) line ≡ Some LineTooLong
+too_long_is : (classes : List DyndepClass) (line : List ℕ) → line_limit < length line → line_fault (stage_after classes) line ≡ Some LineTooLong
 too_long_is classes line past = rw (lt-ltb line_limit (length line) past) refl
 
 -- a line that keeps the limit and whose text has a fault
@@ -74,20 +74,24 @@ fault_of_next : (bytes : List ℕ) (lent : List LogicalLine) (progress : Progres
     → IsNextFault RefusesLine fault_of_cutter bytes lent progress f → IsReadFaultIn bytes f
 fault_of_next bytes lent progress f read (number, rest, begins, inl t) =
     subst (IsReadFaultIn bytes) (sym t.1)
-    (elim (faulty_at_limit dyndep_format dyndep_faults bytes lent number rest read.classes begins read.texts (runs_begin read.classes progress read.led) LineTooLong (too_long_is read.classes) t.0.0 t.0) [
+    (elim (faulty_at_limit dyndep_format dyndep_faults bytes lent number rest read.classes begins read.texts (runs_begin read.classes progress read.led)
+    LineTooLong (too_long_is read.classes) t.0.0 t.0) [
       | inl line ↦ inl line
       | inr end ↦ inr (end, refl)
     ])
 fault_of_next bytes lent progress (AtLine n f) read (number, rest, begins, inr (line, after, split, is, short, view, same, refused)) =
     let fault = subst (λ (l : LogicalLine). text_line_fault progress.stage l.text l.comment ≡ Some f) same refused.1 in
     inl (subst (λ m. FaultyLine dyndep_format dyndep_faults bytes m f) (sym (refused.0 ∙ ap (λ l. l.number) same))
-    (faulty_next dyndep_format dyndep_faults bytes lent number rest read.classes begins read.texts (runs_begin read.classes progress read.led) line after f split is
+    (faulty_next dyndep_format dyndep_faults bytes lent number rest read.classes begins read.texts (runs_begin read.classes progress read.led) line after f
+    split is
     (faulty_after read.classes line progress f read.led fault) (fault_is read.classes line progress f read.led fault short)))
 fault_of_next bytes lent progress Io read (number, rest, begins, inr (line, after, split, is, short, view, same, refused)) = absurd refused
 
 -- one more line of a class that is allowed leads on
-led_on : (classes : List DyndepClass) (old new : ProgressValue) (c : DyndepClass) → LeadToStatements classes old → step old.stage old.statements c ≡ Some new → LeadToStatements (classes ++ c ∷ []) new
-led_on classes old new c led steps = run_more classes (c ∷ []) BeforeVersion [] old led ∙ ap (option_and_then (λ (s : ProgressValue). run s.stage s.statements [])) steps
+led_on : (classes : List DyndepClass) (old new : ProgressValue) (c : DyndepClass) → LeadToStatements classes old → step old.stage old.statements c ≡ Some new →
+    LeadToStatements (classes ++ c ∷ []) new
+led_on classes old new c led steps = run_more classes (c ∷ []) BeforeVersion [] old led ∙
+    ap (option_and_then (λ (s : ProgressValue). run s.stage s.statements [])) steps
 
 -- a line that passes is of a class that leads on
 steps_on : (classes : List DyndepClass) (old new : ProgressValue) (line : LogicalLine) → LeadToStatements classes old → PassesLine old line new
@@ -96,32 +100,41 @@ steps_on classes old new line led (c, is, steps) = (c, is, led_on classes old ne
 
 -- what reading a piece returns and leaves
 pub fed : (bytes all : List ℕ) (old : DyndepReaderState) (result : Result Unit (Failure ReadFault)) (new : DyndepReaderState) → HasReadDyndep bytes old
-    → ((lent : List LogicalLine) → HasLentAll bytes lent old → FeedsLines PassesLine RefusesLine fault_of_cutter all lent old.state result new) → FeedsDyndep all result new
-fed bytes all old result new has feeds = lines.fed dyndep_format LeadToStatements PassesLine RefusesLine fault_of_cutter steps_on IsReadFaultIn fault_of_next bytes all old result new has feeds
+    → ((lent : List LogicalLine) → HasLentAll bytes lent old → FeedsLines PassesLine RefusesLine fault_of_cutter all lent old.state result new) →
+    FeedsDyndep all result new
+fed bytes all old result new has feeds =
+    lines.fed dyndep_format LeadToStatements PassesLine RefusesLine fault_of_cutter steps_on IsReadFaultIn fault_of_next bytes all old result new has feeds
 
 -- the result by what the reader of lines ends with
-abbrev pub answer_of : Result (ProgressValue × ℕ) (Failure ReadFault) → Result (List StatementValue) (Failure ReadFault)
+abbrev answer_of : Result (ProgressValue × ℕ) (Failure ReadFault) → Result (List StatementValue) (Failure ReadFault)
 answer_of (Ok end) = answer_at_end end.0.stage end.0.statements end.1
 answer_of (Err failure) = Err failure
 
 -- what is returned once all of the text was fed, and all lines read
-answered : (bytes : List ℕ) (lent : List LogicalLine) (classes : List DyndepClass) (stage : Stage) (statements : List StatementValue) (line : ℕ) → BeginsWith bytes lent line []
-    → AreTextsOfClasses dyndep_format lent classes → LeadToStatements classes (record { stage = stage; statements = statements }) → EndsDyndepFile bytes (answer_at_end stage statements line)
+answered : (bytes : List ℕ) (lent : List LogicalLine) (classes : List DyndepClass) (stage : Stage) (statements : List StatementValue) (line : ℕ) →
+    BeginsWith bytes lent line []
+    → AreTextsOfClasses dyndep_format lent classes → LeadToStatements classes (record { stage = stage; statements = statements }) →
+    EndsDyndepFile bytes (answer_at_end stage statements line)
 answered bytes lent classes BeforeVersion statements line begins texts led =
-    faulty_rest dyndep_format dyndep_faults bytes lent line [] classes begins texts (runs_begin classes _ led) NoVersion refl (refl, no_version classes (sym (stage_runs classes _ led)))
-answered bytes lent classes NoneOpen statements line begins texts led = all_lent dyndep_format bytes lent line classes statements begins texts (run_is_file classes _ led refl)
-answered bytes lent classes Open statements line begins texts led = all_lent dyndep_format bytes lent line classes statements begins texts (run_is_file classes _ led refl)
+    faulty_rest dyndep_format dyndep_faults bytes lent line
+    [] classes begins texts (runs_begin classes _ led) NoVersion refl (refl, no_version classes (sym (stage_runs classes _ led)))
+answered bytes lent classes NoneOpen statements line begins texts led =
+    all_lent dyndep_format bytes lent line classes statements begins texts (run_is_file classes _ led refl)
+answered bytes lent classes Open statements line begins texts led =
+    all_lent dyndep_format bytes lent line classes statements begins texts (run_is_file classes _ led refl)
 
 -- what is returned at the end of all bytes fed
 pub ended : (bytes : List ℕ) (r : DyndepReaderState) (result : Result (ProgressValue × ℕ) (Failure ReadFault)) → HasReadDyndep bytes r
     → ((lent : List LogicalLine) → HasLentAll bytes lent r → EndsLines fault_of_cutter bytes lent r.state result) → EndsDyndepFile bytes (answer_of result)
 ended bytes r (Ok end) has ends =
     let e = ends has.lent has.has in
-    answered bytes has.lent has.read.classes end.0.stage end.0.statements end.1 e.1 has.read.texts (subst (LeadToStatements has.read.classes) (sym e.0) has.read.led)
+    answered bytes has.lent has.read.classes end.0.stage end.0.statements end.1 e.1 has.read.texts
+    (subst (LeadToStatements has.read.classes) (sym e.0) has.read.led)
 ended bytes r (Err (Fault f)) has ends =
     let e = ends has.lent has.has in
     subst (λ (f : ReadFault). IsFaultAtEnd bytes (Fault f)) (sym e.4)
-    (faulty_rest dyndep_format dyndep_faults bytes has.lent e.0 e.1 has.read.classes e.2 has.read.texts (runs_begin has.read.classes r.state has.read.led) Truncated e.3.2 (e.3.0, e.3.1))
+    (faulty_rest dyndep_format dyndep_faults bytes has.lent e.0 e.1 has.read.classes e.2 has.read.texts (runs_begin has.read.classes r.state has.read.led)
+    Truncated e.3.2 (e.3.0, e.3.1))
 ended bytes r (Err Memory) has ends = absurd (ends has.lent has.has)
 
 -- ---- the laws themselves
@@ -210,7 +223,8 @@ not_both bytes ss found a f = lines.not_both dyndep_format dyndep_faults decided
 
 -- else it has one
 pub one_of_both : OneOfBoth
-one_of_both bytes = elim (lines.value_or_fault dyndep_format dyndep_faults decided bytes) [ inl all ↦ inl all | inr stop ↦ inr (record { line = stop.0; fault = stop.1 }, stop.2) ]
+one_of_both bytes = elim (lines.value_or_fault dyndep_format dyndep_faults decided bytes)
+    [ inl all ↦ inl all | inr stop ↦ inr (record { line = stop.0; fault = stop.1 }, stop.2) ]
 
 -- faults with the same number and the same reason are the same
 found_same : {l m : ℕ} {f g : LineFault} → l ≡ m → f ≡ g → ◌≡◌ {A = FaultAt} (record { line = l; fault = f }) (record { line = m; fault = g })
@@ -235,7 +249,8 @@ more_behind : (bytes front after more : List ℕ) → bytes ≡ front ++ after �
 more_behind bytes front after more e = ap (λ x. x ++ more) e ∙ append_assoc front after more
 
 -- a faulty line stays one
-line_stays : (bytes more : List ℕ) (line : ℕ) (fault : LineFault) → FaultyLine dyndep_format dyndep_faults bytes line fault → FaultyLine dyndep_format dyndep_faults (bytes ++ more) line fault
+line_stays : (bytes more : List ℕ) (line : ℕ) (fault : LineFault) → FaultyLine dyndep_format dyndep_faults bytes line fault →
+    FaultyLine dyndep_format dyndep_faults (bytes ++ more) line fault
 line_stays bytes more line fault f = record {
   before = f.before;
   line = f.line;
@@ -255,7 +270,8 @@ pub longer : (rest more line after : List ℕ) → rest ++ more ≡ line ++ afte
 longer rest more line after same none is_line = elim (cases_lt (length rest) (length line)) [
   | inl lt ↦ lt
   | inr within ↦
-      let front : take (length line) rest ≡ line = sym (take-append-le (length line) rest more within) ∙ ap (take (length line)) same ∙ take-append_seam line after in
+      let front : take (length line) rest ≡ line = sym (take-append-le (length line) rest more within) ∙ ap (take (length line)) same ∙
+      take-append_seam line after in
       let parts : rest ≡ line ++ drop (length line) rest = sym (take-append-drop (length line) rest) ∙ ap (λ x. x ++ drop (length line) rest) front in
       let clash : ◌≡◌ {A = Option LineEnd} None (Some _) = sym none ∙ ap line_end parts ∙ line_end-append line (drop (length line) rest) _ is_line.1 in
       absurd (cc)

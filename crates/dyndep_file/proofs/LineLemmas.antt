@@ -59,12 +59,14 @@ outputs_pass [] more = refl
 outputs_pass (w ∷ words) more = outputs_pass words more
 
 -- nor has what comes after the output, if it is a part of implicit outputs
-pub after_output_passes : (before : List Symbol) (words : List (List ℕ)) (more : List Symbol) → IsPart Bar before words → after_output_fault (before ++ SignSymbol Colon ∷ more) ≡ rule_fault more
+pub after_output_passes : (before : List Symbol) (words : List (List ℕ)) (more : List Symbol) → IsPart Bar before words →
+    after_output_fault (before ++ SignSymbol Colon ∷ more) ≡ rule_fault more
 after_output_passes before words more (inl h) = ap (λ b. after_output_fault (b ++ SignSymbol Colon ∷ more)) h.0
 after_output_passes before words more (inr h) = ap (λ b. after_output_fault (b ++ SignSymbol Colon ∷ more)) h ∙ outputs_pass words (SignSymbol Colon ∷ more)
 
 -- the tokens of a build line that keeps the grammar have no fault past the version
-build_passes : (stage : Stage) → (stage ≡ BeforeVersion → ⊥) → (before after : List Symbol) (o : List ℕ) (os is : List (List ℕ)) → IsPart Bar before os → IsPart Bar after is
+build_passes : (stage : Stage) → (stage ≡ BeforeVersion → ⊥) → (before after : List Symbol) (o : List ℕ) (os is : List (List ℕ)) → IsPart Bar before os →
+    IsPart Bar after is
     → build_fault stage (WordSymbol o ∷ before ++ SignSymbol Colon ∷ WordSymbol (codes "dyndep") ∷ after) ≡ None
 build_passes BeforeVersion past before after o os is b a = absurd (past refl)
 build_passes stage past before after o os is b a = after_output_passes before os (WordSymbol (codes "dyndep") ∷ after) b ∙ after_rule_passes after is a
@@ -77,12 +79,13 @@ pub record FirstWord (text word : List ℕ) : Type 0 where
   pub bytes : raw text token ≡ word
 
 -- only a word's symbol is a word, that of its bytes
-pub symbol_is_word : (k : TokenKind) (bytes word : List ℕ) → symbol k bytes ≡ WordSymbol word → bytes ≡ word
+symbol_is_word : (k : TokenKind) (bytes word : List ℕ) → symbol k bytes ≡ WordSymbol word → bytes ≡ word
 symbol_is_word Word bytes word h = cc
 symbol_is_word other bytes word h = cc
 
 -- a text whose symbols begin with a word has a first token, which is that word
-pub first_word : (text word : List ℕ) (more : List Symbol) (ts : List TokenAt) → tokens text ≡ ts → map (λ t. symbol t.kind (raw text t)) ts ≡ WordSymbol word ∷ more → FirstWord text word
+pub first_word : (text word : List ℕ) (more : List Symbol) (ts : List TokenAt) → tokens text ≡ ts →
+    map (λ t. symbol t.kind (raw text t)) ts ≡ WordSymbol word ∷ more → FirstWord text word
 first_word text word more [] e h = cc
 first_word text word more (t ∷ ts) e h =
     let head : symbol t.kind (raw text t) ≡ WordSymbol word = cc in
@@ -93,11 +96,13 @@ pub after_keyword : (at : Bool) (more : List Symbol) → at ≡ true → after_b
 after_keyword at more h = rw h refl
 
 -- what an assignment to a name assigns
-pub value_named : (name : List ℕ) (found : Option SeenAssignment) (a : SeenAssignment) → found ≡ Some a → a.name ≡ name → value_assigned name found ≡ Some (a.name_start, value_of a.raw_value)
+value_named : (name : List ℕ) (found : Option SeenAssignment) (a : SeenAssignment) → found ≡ Some a → a.name ≡ name →
+    value_assigned name found ≡ Some (a.name_start, value_of a.raw_value)
 value_named name found a h e = ap (value_assigned name) h ∙ rw ((bytes_eq-Decides a.name name).1 e) refl
 
 -- a version line
-pub unindented_version : (stage : Stage) (build : Option (List Symbol)) (found : Option SeenAssignment) (a : SeenAssignment) → found ≡ Some a → a.name ≡ codes "ninja_dyndep_version" → a.name_start ≡ 0
+pub unindented_version : (stage : Stage) (build : Option (List Symbol)) (found : Option SeenAssignment) (a : SeenAssignment) → found ≡ Some a →
+    a.name ≡ codes "ninja_dyndep_version" → a.name_start ≡ 0
     → unindented_fault stage (value_assigned (codes "ninja_dyndep_version") found) build ≡ version_fault stage (value_of a.raw_value)
 unindented_version stage build found a h name start = rw (value_named (codes "ninja_dyndep_version") found a h name, eq-eqb a.name_start 0 start) refl
 
@@ -123,7 +128,8 @@ no_indent_at_name (b ∷ bytes) a h start = elim (cases_Bool (b == 32)) [
 ]
 
 -- a version line is no build line: one begins with `n`, the other with `b`
-pub names_apart : (text : List ℕ) (t : TokenAt) (a : SeenAssignment) → assignment_of text ≡ Some a → a.name_start ≡ 0 → a.name ≡ codes "ninja_dyndep_version" → t.start ≡ 0
+pub names_apart : (text : List ℕ) (t : TokenAt) (a : SeenAssignment) → assignment_of text ≡ Some a → a.name_start ≡ 0 → a.name ≡ codes "ninja_dyndep_version" →
+    t.start ≡ 0
     → raw text t ≡ codes "build" → ⊥
 names_apart text t a h start name at word =
     let p = assignment_parts text a h in
@@ -134,7 +140,8 @@ names_apart text t a h start name at word =
 -- a text of each class, at a stage that allows the class
 module _ (text : List ℕ) where
   -- a text that is no comment and has no lexical fault has the fault of its tokens
-  without_lexical_fault : (stage : Stage) (comment : Bool) → comment ≡ false → lexical_fault text ≡ None → text_fault stage text ≡ None → text_line_fault stage text comment ≡ None
+  without_lexical_fault : (stage : Stage) (comment : Bool) → comment ≡ false → lexical_fault text ≡ None → text_fault stage text ≡ None →
+      text_line_fault stage text comment ≡ None
   without_lexical_fault stage comment c l t = rw (c, l) t
 
   -- a version line before all others has no fault
@@ -178,27 +185,32 @@ module _ (text : List ℕ) where
   -- a binding under an open statement has no fault
   binding_passes : (start : ℕ) (value : List ℕ) → IsTrue (begins_with_space text) → Assigns text (codes "restat") start value → text_fault Open text ≡ None
   binding_passes start value indent assigns =
-      rw (assignment_not_empty text assigns.0 assigns.1, indent) (ap (λ v. indented_fault Open (is_some v)) (value_named (codes "restat") (assignment_of text) assigns.0 assigns.1 assigns.3))
+      rw (assignment_not_empty text assigns.0 assigns.1, indent)
+      (ap (λ v. indented_fault Open (is_some v)) (value_named (codes "restat") (assignment_of text) assigns.0 assigns.1 assigns.3))
 
 -- contradiction: a value is both absent and present
 pub never : {X A : Type 0} {x : X} → None ≡ Some x → A
 never h = absurd (cc)
 
 -- a line of a class that is allowed at a stage has no fault there
-pub no_fault : (stage : Stage) (ss : List StatementValue) (text : List ℕ) (comment : Bool) (c : DyndepClass) (next : ProgressValue) → IsDyndepLine text comment c
+pub no_fault : (stage : Stage) (ss : List StatementValue) (text : List ℕ) (comment : Bool) (c : DyndepClass) (next : ProgressValue) →
+    IsDyndepLine text comment c
     → step stage ss c ≡ Some next → text_line_fault stage text comment ≡ None
 no_fault stage ss text comment Comment next is steps = rw is refl
 no_fault stage ss text comment Blank next is steps = without_lexical_fault text stage comment is.0 is.1 (rw (ap is_empty is.2) refl)
 no_fault BeforeVersion ss text comment Version next is steps = without_lexical_fault text BeforeVersion comment is.0 is.1 (version_passes text is.2 is.3 is.4)
-no_fault NoneOpen ss text comment (Build o os ins) next is steps = without_lexical_fault text NoneOpen comment is.0 is.1 (build_line_passes text NoneOpen (λ e. cc) is.2 is.3 is.4 is.5)
-no_fault Open ss text comment (Build o os ins) next is steps = without_lexical_fault text Open comment is.0 is.1 (build_line_passes text Open (λ e. cc) is.2 is.3 is.4 is.5)
+no_fault NoneOpen ss text comment (Build o os ins) next is steps =
+    without_lexical_fault text NoneOpen comment is.0 is.1 (build_line_passes text NoneOpen (λ e. cc) is.2 is.3 is.4 is.5)
+no_fault Open ss text comment (Build o os ins) next is steps =
+    without_lexical_fault text Open comment is.0 is.1 (build_line_passes text Open (λ e. cc) is.2 is.3 is.4 is.5)
 no_fault Open ss text comment (Binding flag) next is steps = without_lexical_fault text Open comment is.0 is.1 (binding_passes text is.3 is.4 is.2 is.5)
 no_fault stage ss text comment other next is steps = never steps
 
 -- ---- the class and the fault of a line, by its tokens or its assignment
 
 -- the same answer, under another reading of the fault and the class
-pub passes_as : {fault other : Option LineFault} (is as_is : DyndepClass → Type 0) (old : ProgressValue) (r : Result Unit (Failure LineFault)) (new : ProgressValue)
+pub passes_as : {fault other : Option LineFault} (is as_is : DyndepClass → Type 0) (old : ProgressValue) (r : Result Unit (Failure LineFault))
+    (new : ProgressValue)
     → other ≡ fault → ((c : DyndepClass) → is c → as_is c) → PassesOr fault is old r new → PassesOr other as_is old r new
 passes_as is as_is old (Ok u) new e turn h = (h.0, turn h.0 h.1, h.2)
 passes_as is as_is old (Err (Fault found)) new e turn h = e ∙ h
@@ -227,7 +239,8 @@ opens stage before after statement symbols may pushed named = (
 pub has_name : (name : List ℕ) (found : Option SeenAssignment) (a : SeenAssignment) → Some a ≡ with_name name found → (found ≡ Some a) × (a.name ≡ name)
 has_name name None a h = cc
 has_name name (Some b) a h = elim (cases_Bool (same_bytes b.name name)) [
-  | inl t ↦ let same : ◌≡◌ {A = Option SeenAssignment} (Some a) (Some b) = rw t at h in (sym same, ap (λ (x : SeenAssignment). x.name) (let e : a ≡ b = cc in e) ∙ same_bytes-true b.name name t)
+  | inl t ↦ let same : ◌≡◌ {A = Option SeenAssignment} (Some a) (Some b) = rw t at h in
+      (sym same, ap (λ (x : SeenAssignment). x.name) (let e : a ≡ b = cc in e) ∙ same_bytes-true b.name name t)
   | inr f ↦ never (sym (rw f at h))
 ]
 
@@ -244,7 +257,7 @@ starts_with_space (b ∷ text) = grind (arith, nat_tests)
 
 module _ (text : List ℕ) (sound : lexical_fault text ≡ None) where
   -- the symbols of the tokens that are read are those of the text
-  pub symbols_seen : (ts : List SeenToken) → ts ≡ seen_tokens text → map symbol_of ts ≡ symbols text
+  symbols_seen : (ts : List SeenToken) → ts ≡ seen_tokens text → map symbol_of ts ≡ symbols text
   symbols_seen ts e = ap (map symbol_of) e ∙ map-map symbol_of (with_raw text) (tokens text)
 
   -- a text without tokens is blank
@@ -255,20 +268,32 @@ module _ (text : List ℕ) (sound : lexical_fault text ≡ None) where
     nothing (t ∷ ts) h = cc
 
   -- a text whose tokens are read has some, and they begin at its first byte if the first one that is read does
-  seen_start : (head : SeenToken) (others : List SeenToken) (ts : List TokenAt) → head ∷ others ≡ map (with_raw text) ts → (is_empty ts ≡ false) × (begins_at_start ts ≡ (head.start == 0))
+  seen_start : (head : SeenToken) (others : List SeenToken) (ts : List TokenAt) → head ∷ others ≡ map (with_raw text) ts →
+      (is_empty ts ≡ false) × (begins_at_start ts ≡ (head.start == 0))
   seen_start head others [] h = cc
   seen_start head others (t ∷ ts) h = (refl, ap (λ (s : SeenToken). s.start == 0) (let same : with_raw text t ≡ head = cc in same))
 
   -- the class of a build line, by the tokens after the keyword
-  pub build_class : (more : List Symbol) → begins_at_start (tokens text) ≡ true → symbols text ≡ WordSymbol (codes "build") ∷ more → (c : DyndepClass) → IsBuildOf more c → IsDyndepLine text false c
+  pub build_class : (more : List Symbol) → begins_at_start (tokens text) ≡ true → symbols text ≡ WordSymbol (codes "build") ∷ more → (c : DyndepClass) →
+      IsBuildOf more c → IsDyndepLine text false c
   build_class more at_start are c is =
       let n = is.3 in
-      subst (IsDyndepLine text false) (sym is.4)
-      (refl, sound, is.0, is.1, is.2, (n.before, n.after, n.is_before, n.is_after, at_start, are ∙ ap (λ s. WordSymbol (codes "build") ∷ s) n.are), refl, refl, refl)
+      subst (IsDyndepLine text false) (sym is.4) (
+        refl,
+        sound,
+        is.0,
+        is.1,
+        is.2,
+        (n.before, n.after, n.is_before, n.is_after, at_start, are ∙ ap (λ s. WordSymbol (codes "build") ∷ s) n.are),
+        refl,
+        refl,
+        refl,
+      )
 
   module _ (stage : Stage) (head : SeenToken) (others : List SeenToken) (all : head ∷ others ≡ seen_tokens text) where
     -- an indented text
-    pub indented_text : begins_with_space text ≡ true → text_line_fault stage text false ≡ indented_fault stage (is_some (value_assigned (codes "restat") (assignment_of text)))
+    pub indented_text : begins_with_space text ≡ true →
+        text_line_fault stage text false ≡ indented_fault stage (is_some (value_assigned (codes "restat") (assignment_of text)))
     indented_text indent = rw (sound, (seen_start head others (tokens text) all).0, indent) refl
 
     -- a text that begins with the keyword
@@ -293,10 +318,11 @@ module _ (text : List ℕ) (sound : lexical_fault text ≡ None) where
         → text_line_fault stage text false ≡ unindented_fault stage (value_assigned (codes "ninja_dyndep_version") (assignment_of text)) None
     other_text begins indent =
         let start = seen_start head others (tokens text) all in
-        rw (sound, start.0, indent, start.1, ← symbols_seen (head ∷ others) all, refused (symbol_of head) (head.start == 0) (map symbol_of others) begins) refl where
-          refused : (s : Symbol) (b : Bool) (more : List Symbol) → (b && is_this_word (codes "build") s) ≡ false → after_build b (s ∷ more) ≡ None
-          refused (WordSymbol word) b more h = rw h refl
-          refused (SignSymbol kind) b more h = refl
+        rw (sound, start.0, indent, start.1, ← symbols_seen (head ∷ others) all, refused (symbol_of head) (head.start == 0) (map symbol_of others) begins) refl
+      where
+        refused : (s : Symbol) (b : Bool) (more : List Symbol) → (b && is_this_word (codes "build") s) ≡ false → after_build b (s ∷ more) ≡ None
+        refused (WordSymbol word) b more h = rw h refl
+        refused (SignSymbol kind) b more h = refl
 
   -- an indented assignment to `restat` is a binding
   pub binding_class : begins_with_space text ≡ true → (c : DyndepClass) → IsBindingOf (assignment_of text) c → IsDyndepLine text false c

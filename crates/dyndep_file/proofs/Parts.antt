@@ -35,19 +35,21 @@ from_mapped f p i [] = refl
 from_mapped f p i (x ∷ xs) = ap (λ o. cond (p (f x)) (Some i) o) (from_mapped f p (i + 1) xs)
 
 -- the first index is the same in the mapped list
-pub position-map : {A B : Type 0} (f : A → B) (p : B → Bool) (xs : List A) → position (λ a. p (f a)) xs ≡ position p (map f xs)
+position-map : {A B : Type 0} (f : A → B) (p : B → Bool) (xs : List A) → position (λ a. p (f a)) xs ≡ position p (map f xs)
 position-map f p xs = position_from-zero (λ a. p (f a)) xs ∙ from_mapped f p 0 xs ∙ sym (position_from-zero p (map f xs))
 
 -- the first index in the paths of a statement, as they are borrowed
 pub position-paths : (p : List ℕ → Bool) (output : Bor (List ℕ)) (outputs inputs : List (Bor (List ℕ)))
     → position (λ path. p path.now) (output ∷ (outputs ++ inputs)) ≡ position p (output.now ∷ (lent_texts outputs ++ lent_texts inputs))
 position-paths p output outputs inputs =
-    position-map (λ path. path.now) p (output ∷ (outputs ++ inputs)) ∙ ap (λ paths. position p (output.now ∷ paths)) (map-append (λ path. path.now) outputs inputs)
+    position-map (λ path. path.now) p (output ∷ (outputs ++ inputs)) ∙
+    ap (λ paths. position p (output.now ∷ paths)) (map-append (λ path. path.now) outputs inputs)
 
 -- ---- the paths of a part, and what is written of the first of them
 
 -- the bytes of the path at an index
-pub text_at : (paths : List (Bor (List ℕ))) (i : ℕ) (other : Bor (List ℕ)) (d : List ℕ) → i < length paths → get_or (lent_texts paths) i d ≡ (get_or paths i other).now
+pub text_at : (paths : List (Bor (List ℕ))) (i : ℕ) (other : Bor (List ℕ)) (d : List ℕ) → i < length paths →
+    get_or (lent_texts paths) i d ≡ (get_or paths i other).now
 text_at paths i other d lt = get_or-map (λ p. p.now) paths i other d lt
 
 -- there are as many as there are paths
@@ -60,10 +62,13 @@ pub path_more : (f : List ℕ → List ℕ) (start : List ℕ) (paths : List (Bo
 path_more f start paths i other lt =
     let path = (get_or paths i other).now in
     flat_map_more f start (take i (lent_texts paths)) path
-    ∙ ap (λ xs. start ++ flat_map f xs) (ap (λ x. take i (lent_texts paths) ++ x ∷ []) (sym (text_at paths i other path lt)) ∙ sym (take_more (lent_texts paths) i path (subst (λ n. i < n) (sym (same_length paths)) lt)))
+    ∙ ap (λ xs. start ++ flat_map f xs)
+    (ap (λ x. take i (lent_texts paths) ++ x ∷ []) (sym (text_at paths i other path lt)) ∙
+    sym (take_more (lent_texts paths) i path (subst (λ n. i < n) (sym (same_length paths)) lt)))
 
 -- what holds of all paths of a statement holds of those of each part
-pub parts_writable : (output : List ℕ) (outputs inputs : List (List ℕ)) → All IsWritable (output ∷ (outputs ++ inputs)) → All IsWritable outputs × All IsWritable inputs
+pub parts_writable : (output : List ℕ) (outputs inputs : List (List ℕ)) → All IsWritable (output ∷ (outputs ++ inputs)) →
+    All IsWritable outputs × All IsWritable inputs
 parts_writable output outputs inputs all =
     let each = both_parts IsWritable outputs inputs (recursion_from_All IsWritable (output ∷ (outputs ++ inputs)) all).1 in
     (All-from_recursion IsWritable outputs each.0, All-from_recursion IsWritable inputs each.1)
@@ -72,7 +77,8 @@ joined : (a b c d e f : List ℕ) → ((((a ++ b) ++ c) ++ d) ++ e) ++ f ≡ a +
 joined a b c d e f = simp append_assoc
 
 -- the parts of a build line, written one after another
-pub line_written : (s : StatementValue) {a b c d e f g : List ℕ} → a ≡ [] → b ≡ a ++ codes "build " → c ≡ b ++ escaped s.output → d ≡ c ++ part_text s.implicit_outputs
+pub line_written : (s : StatementValue) {a b c d e f g : List ℕ} → a ≡ [] → b ≡ a ++ codes "build " → c ≡ b ++ escaped s.output →
+    d ≡ c ++ part_text s.implicit_outputs
     → e ≡ d ++ codes ": dyndep" → f ≡ e ++ part_text s.implicit_inputs → g ≡ f ++ line_feed ∷ [] → g ≡ build_line s
 line_written s none word output outputs rule inputs end =
     rw (end, inputs, rule, outputs, output, word, none)
@@ -81,7 +87,7 @@ line_written s none word output outputs rule inputs end =
 -- ---- what reading the parts one after another gives
 
 -- one more word after words that were read
-pub takes_more : (old : List Symbol) (values : List (List ℕ)) (word value : List ℕ) (new : List Symbol)
+takes_more : (old : List Symbol) (values : List (List ℕ)) (word value : List ℕ) (new : List Symbol)
     → TakesWords old values (WordSymbol word ∷ new) → value ≡ value_of word → TakesWords old (values ++ value ∷ []) new
 takes_more old values word value new t is = record {
   words = t.words ++ word ∷ [];
@@ -104,7 +110,8 @@ module _ {all : List Symbol} {output : List ℕ} {after_output : List Symbol} (t
   module _ {outputs : List (List ℕ)} {at_rule : List Symbol} (takes_outputs : TakesOutputs after_output outputs at_rule) where
     -- so is the fault after the `:`
     pub fault_at_rule : rule_fault at_rule ≡ output_fault all
-    fault_at_rule = sym (ap after_output_fault takes_outputs.are ∙ after_output_passes takes_outputs.part takes_outputs.words at_rule takes_outputs.is_part) ∙ fault_after_output
+    fault_at_rule = sym (ap after_output_fault takes_outputs.are ∙ after_output_passes takes_outputs.part takes_outputs.words at_rule takes_outputs.is_part) ∙
+        fault_after_output
 
     module _ {after_rule : List Symbol} (takes_rule : at_rule ≡ WordSymbol (codes "dyndep") ∷ after_rule) where
       -- and the fault after the rule
@@ -122,7 +129,8 @@ module _ {all : List Symbol} {output : List ℕ} {after_output : List Symbol} (t
           after = after_rule;
           is_before = takes_outputs.is_part;
           is_after = takes_inputs.is_part;
-          are = takes_output.are ∙ ap (λ s. WordSymbol takes_output.word ∷ s) (takes_outputs.are ∙ ap (λ s. takes_outputs.part ++ SignSymbol Colon ∷ s) takes_rule);
+          are = takes_output.are ∙
+              ap (λ s. WordSymbol takes_output.word ∷ s) (takes_outputs.are ∙ ap (λ s. takes_outputs.part ++ SignSymbol Colon ∷ s) takes_rule);
         },
         same_statement takes_output.is takes_outputs.is takes_inputs.is,
       )
@@ -143,11 +151,13 @@ takes_next all values new_values value words new token taken steps is_word is pu
     (subst (TakesWords all (texts values)) (next_is words new token Word steps is_word) taken) is)
 
 -- the fault after words among the implicit outputs is that of all
-pub fault_in_outputs : {all : List Symbol} {values : List (List ℕ)} {left : List Symbol} → TakesWords all values left → implicit_outputs_fault all ≡ implicit_outputs_fault left
+pub fault_in_outputs : {all : List Symbol} {values : List (List ℕ)} {left : List Symbol} → TakesWords all values left →
+    implicit_outputs_fault all ≡ implicit_outputs_fault left
 fault_in_outputs {all} {values} {left} taken = ap implicit_outputs_fault taken.are ∙ outputs_pass taken.words left
 
 -- the same among the implicit inputs
-pub fault_in_inputs : {all : List Symbol} {values : List (List ℕ)} {left : List Symbol} → TakesWords all values left → implicit_inputs_fault all ≡ implicit_inputs_fault left
+pub fault_in_inputs : {all : List Symbol} {values : List (List ℕ)} {left : List Symbol} → TakesWords all values left →
+    implicit_inputs_fault all ≡ implicit_inputs_fault left
 fault_in_inputs {all} {values} {left} taken = ap implicit_inputs_fault taken.are ∙ inputs_pass taken.words left
 
 -- what a reading fails with, another fails with that has the same fault

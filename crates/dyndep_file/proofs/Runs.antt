@@ -40,13 +40,15 @@ progress_same : {x y : ProgressValue} → Ends (Some x) y → x ≡ y
 progress_same h = cc
 
 -- the binding of an open statement sets its flag
-binding_runs : {classes more : List DyndepClass} {flag : Bool} (start result : List StatementValue) (o : List ℕ) (outs ins : List (List ℕ)) → HasBinding classes flag more
+binding_runs : {classes more : List DyndepClass} {flag : Bool} (start result : List StatementValue) (o : List ℕ) (outs ins : List (List ℕ)) →
+    HasBinding classes flag more
     → RunsTo NoneOpen (start ++ statement_with o outs ins flag ∷ []) more result → RunsTo Open (start ++ statement_with o outs ins false ∷ []) classes result
 binding_runs start result o outs ins (binding_here {flag} {more}) r = subst (λ ss. RunsTo NoneOpen ss more result) (sym (flag_set start o outs ins flag)) r
 binding_runs start result o outs ins (comment_before b) r = binding_runs start result o outs ins b r
 
 -- statements that are added after one are added with it
-added_runs : {classes : List DyndepClass} {ss : List StatementValue} (stage : Stage) (start : List StatementValue) (s : StatementValue) → IsDyndepBody classes ss
+added_runs : {classes : List DyndepClass} {ss : List StatementValue} (stage : Stage) (start : List StatementValue) (s : StatementValue) →
+    IsDyndepBody classes ss
     → RunsTo stage (start ++ s ∷ []) classes ((start ++ s ∷ []) ++ ss) → RunsTo stage (start ++ s ∷ []) classes (start ++ s ∷ ss)
 added_runs {classes} {ss} stage start s b r = subst (RunsTo stage (start ++ s ∷ []) classes) (append_assoc start (s ∷ []) ss) r
 
@@ -90,15 +92,18 @@ Adds classes = (start : List StatementValue) (end : ProgressValue) → Ends (run
 
 -- and if one is
 abbrev AddsToOpen : List DyndepClass → Type 0
-AddsToOpen classes = (start : List StatementValue) (o : List ℕ) (outs ins : List (List ℕ)) (end : ProgressValue) → Ends (run Open (start ++ statement_with o outs ins false ∷ []) classes) end
+AddsToOpen classes = (start : List StatementValue) (o : List ℕ) (outs ins : List (List ℕ)) (end : ProgressValue) →
+    Ends (run Open (start ++ statement_with o outs ins false ∷ []) classes) end
     → Added (Build o outs ins ∷ classes) start end
 
 -- a run over no line ends with the statements that it began with, at the stage that it began at
-at_end : {stage : Stage} {start : List StatementValue} {end : ProgressValue} → Ends (Some (record { stage = stage; statements = start })) end → (end.statements ≡ start) × (end.stage ≡ stage)
+at_end : {stage : Stage} {start : List StatementValue} {end : ProgressValue} → Ends (Some (record { stage = stage; statements = start })) end →
+    (end.statements ≡ start) × (end.stage ≡ stage)
 at_end h = let same = sym (progress_same h) in (ap (λ s. s.statements) same, ap (λ s. s.stage) same)
 
 -- what is added after one statement is added with it
-with_first : {classes more : List DyndepClass} (start : List StatementValue) (s : StatementValue) (end : ProgressValue) → ((ss : List StatementValue) → IsDyndepBody classes ss → IsDyndepBody more (s ∷ ss))
+with_first : {classes more : List DyndepClass} (start : List StatementValue) (s : StatementValue) (end : ProgressValue) →
+    ((ss : List StatementValue) → IsDyndepBody classes ss → IsDyndepBody more (s ∷ ss))
     → Added classes (start ++ s ∷ []) end → Added more start end
 with_first start s end turn a = (s ∷ a.0, a.1 ∙ append_assoc start (s ∷ []) a.0, turn a.0 a.2)
 
@@ -128,7 +133,8 @@ run_adds (Binding flag ∷ classes) = (
 )
 
 -- lines that run past the version are a dyndep file with the statements that they run to
-pub run_is_file : (classes : List DyndepClass) (end : ProgressValue) → Ends (run BeforeVersion [] classes) end → is_past end.stage ≡ true → IsDyndepFile classes end.statements
+pub run_is_file : (classes : List DyndepClass) (end : ProgressValue) → Ends (run BeforeVersion [] classes) end → is_past end.stage ≡ true →
+    IsDyndepFile classes end.statements
 run_is_file [] end h past = absurd (let x : false ≡ true = ap is_past (sym (at_end h).1) ∙ past in cc)
 run_is_file (Comment ∷ classes) end h past = comment_first (run_is_file classes end h past)
 run_is_file (Blank ∷ classes) end h past = blank_first (run_is_file classes end h past)
@@ -145,7 +151,8 @@ none_or_some (Some x) = inr (x, refl)
 abbrev run_on : List DyndepClass → Option ProgressValue → Option ProgressValue
 run_on classes ran = option_and_then (λ s. run s.stage s.statements classes) ran
 
-run_append : (classes more : List DyndepClass) (stage : Stage) (start : List StatementValue) → run stage start (classes ++ more) ≡ run_on more (run stage start classes)
+run_append : (classes more : List DyndepClass) (stage : Stage) (start : List StatementValue) →
+    run stage start (classes ++ more) ≡ run_on more (run stage start classes)
 run_append [] more stage start = refl
 run_append (c ∷ classes) more stage start = elim (none_or_some (step stage start c)) [
   | inl none ↦ rw none refl
@@ -176,10 +183,12 @@ runs_begin (Binding flag ∷ classes) end h = never h
 
 -- a run over these lines ends with a statement open, or not, as this says
 abbrev EndsOpen : Stage → List DyndepClass → Bool → Type 0
-EndsOpen stage classes opened = (start : List StatementValue) (end : ProgressValue) → Ends (run stage start classes) end → end.stage ≡ (if opened then Open else NoneOpen)
+EndsOpen stage classes opened = (start : List StatementValue) (end : ProgressValue) → Ends (run stage start classes) end →
+    end.stage ≡ (if opened then Open else NoneOpen)
 
 -- the stage depends on the classes alone: if no statement was open before them, and if one was
-stages : (classes : List DyndepClass) → EndsOpen NoneOpen classes (is_open classes) × EndsOpen Open classes (list_all is_comment_class classes || is_open classes)
+stages : (classes : List DyndepClass) →
+    EndsOpen NoneOpen classes (is_open classes) × EndsOpen Open classes (list_all is_comment_class classes || is_open classes)
 stages [] = (λ start end h. (at_end h).1, λ start end h. (at_end h).1)
 stages (Comment ∷ classes) = stages classes
 stages (Blank ∷ classes) = let none = (stages classes).0 in (none, none)

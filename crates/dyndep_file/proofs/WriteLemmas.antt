@@ -32,7 +32,7 @@ use Rattle.dyndep_file.proofs.LawLemmas.{stands_for_only}
 abbrev fault_of : ℕ → Option ℕ → Bool → Option WriteFault
 fault_of index path long = option_or (option_map (λ path. Unwritable index path) path) (cond long (Some (StatementTooLong index)) None)
 
-abbrev pub bad_path : StatementValue → Option ℕ
+abbrev bad_path : StatementValue → Option ℕ
 bad_path s = position (λ path. not (is_writable path)) (paths_of s)
 
 abbrev is_long : StatementValue → Bool
@@ -65,11 +65,12 @@ statement_written index s h =
     record { paths = paths_written (paths_of s) both.0; line = let short = both.1 in grind (arith, short) }
 
 -- a statement whose paths have escaped forms has no fault if its build line keeps the limit
-pub unfaulted : (s : StatementValue) (index : ℕ) → bad_path s ≡ None → length (build_line s) ≤ line_limit → statement_fault index s ≡ None
+unfaulted : (s : StatementValue) (index : ℕ) → bad_path s ≡ None → length (build_line s) ≤ line_limit → statement_fault index s ≡ None
 unfaulted s index none short = rw (none, let no_longer : is_long s ≡ false = grind (arith, short) in no_longer) refl
 
 -- and otherwise that of its length
-pub too_long : (s : StatementValue) (index : ℕ) → bad_path s ≡ None → line_limit + 1 ≤ length (build_line s) → statement_fault index s ≡ Some (StatementTooLong index)
+pub too_long : (s : StatementValue) (index : ℕ) → bad_path s ≡ None → line_limit + 1 ≤ length (build_line s) →
+    statement_fault index s ≡ Some (StatementTooLong index)
 too_long s index none long = rw (none, let longer : is_long s ≡ true = grind (arith, long) in longer) refl
 
 -- a statement has the fault of its first path that cannot be escaped
@@ -78,7 +79,8 @@ unwritable s index path found = ap (λ o. fault_of index o (is_long s)) found
 
 -- a statement whose paths have escaped forms has no other fault than a build line that is too long
 pub one_too_long : TooLongIfWritable
-one_too_long index s fault w h = sym (cond_some (is_long s) (StatementTooLong index) fault (sym (ap (λ o. fault_of index o (is_long s)) (all_found (paths_of s) w)) ∙ h)).1
+one_too_long index s fault w h =
+    sym (cond_some (is_long s) (StatementTooLong index) fault (sym (ap (λ o. fault_of index o (is_long s)) (all_found (paths_of s) w)) ∙ h)).1
 
 -- no statement has the fault of a writer
 one_io : (index : ℕ) (path : Option ℕ) (long : Bool) (count : ℕ) → fault_of index path long ≡ Some (Io count) → ⊥
@@ -127,32 +129,40 @@ never_io ss count h =
 -- ---- what a call returns that writes
 
 -- the fault that is reported instead of a text
-pub reported : (fault : Option WriteFault) (statements : List StatementValue) (answer : WriteFault) → text_unless fault statements ≡ Err answer → fault ≡ Some answer
+reported : (fault : Option WriteFault) (statements : List StatementValue) (answer : WriteFault) → text_unless fault statements ≡ Err answer →
+    fault ≡ Some answer
 reported None statements answer h = cc
 reported (Some fault) statements answer h = cc
 
 -- the text that is made if there is no fault
-given : (fault : Option WriteFault) (statements : List StatementValue) (text : List ℕ) → text_unless fault statements ≡ Ok text → (fault ≡ None) × (text ≡ dyndep_text statements)
+given : (fault : Option WriteFault) (statements : List StatementValue) (text : List ℕ) → text_unless fault statements ≡ Ok text →
+    (fault ≡ None) × (text ≡ dyndep_text statements)
 given None statements text h = (refl, let same : dyndep_text statements ≡ text = cc in sym same)
 given (Some fault) statements text h = cc
 
 -- A failure to make the text is what a call may return before the first byte, when no call of the writer was made.
-pub failed : {W : Type 0} (contents : W → Option (List ℕ)) (writes : Call W) (out : Counted W) (text : List ℕ) (statements : List StatementValue) (failure : Failure WriteFault)
+pub failed : {W : Type 0} (contents : W → Option (List ℕ)) (writes : Call W) (out : Counted W) (text : List ℕ) (statements : List StatementValue)
+    (failure : Failure WriteFault)
     → Gives {T = Vec ℕ Global} (λ made. made.items) (Err failure) (text_or_fault statements)
-    → LeavesWriter contents out out text failure × StopsInTurn writes (held out) (held out) text failure × AnswersWriteFault {T = Unit {0}} (write_fault statements) (Err failure)
+    → LeavesWriter contents out out text failure × StopsInTurn writes (held out) (held out) text failure ×
+    AnswersWriteFault {T = Unit {0}} (write_fault statements) (Err failure)
 failed contents writes out text statements Memory h = (refl, refl, tt)
-failed contents writes out text statements (Fault (Unwritable statement path)) h = (refl, refl, reported (write_fault statements) statements (Unwritable statement path) h)
-failed contents writes out text statements (Fault (StatementTooLong statement)) h = (refl, refl, reported (write_fault statements) statements (StatementTooLong statement) h)
+failed contents writes out text statements (Fault (Unwritable statement path)) h =
+    (refl, refl, reported (write_fault statements) statements (Unwritable statement path) h)
+failed contents writes out text statements (Fault (StatementTooLong statement)) h =
+    (refl, refl, reported (write_fault statements) statements (StatementTooLong statement) h)
 failed contents writes out text statements (Fault (Io count)) h = absurd (never_io statements count (reported (write_fault statements) statements (Io count) h))
 
 -- A text that was made is the text of the statements, which have no fault.
-pub made : (statements : List StatementValue) (text : Vec ℕ Global) → Gives {T = Vec ℕ Global} (λ made. made.items) (Ok text) (text_or_fault statements) → (write_fault statements ≡ None) × (text.items ≡ dyndep_text statements)
+pub made : (statements : List StatementValue) (text : Vec ℕ Global) → Gives {T = Vec ℕ Global} (λ made. made.items) (Ok text) (text_or_fault statements) →
+    (write_fault statements ≡ None) × (text.items ≡ dyndep_text statements)
 made statements text h = given (write_fault statements) statements text.items h
 
 -- ---- statements that are added to a text one after another: what is written, and the first fault
 
 -- after statements without a fault, the fault is that of those that follow
-behind : (index : ℕ) (before after : List StatementValue) → fault_from index before ≡ None → fault_from index (before ++ after) ≡ fault_from (index + length before) after
+behind : (index : ℕ) (before after : List StatementValue) → fault_from index before ≡ None →
+    fault_from index (before ++ after) ≡ fault_from (index + length before) after
 behind index [] after none = ap (λ n. fault_from n after) (omega arith)
 behind index (s ∷ before) after none =
     let both = or_none (statement_fault index s) (fault_from (index + 1) before) none in
@@ -168,7 +178,8 @@ fault_behind before s after fault none here =
 -- a statement more
 written : (statements : List StatementValue) (s : StatementValue) → dyndep_text (statements ++ s ∷ []) ≡ dyndep_text statements ++ statement_text s
 written statements s =
-    ap (λ t. version_line ++ t) (flat_map-append statement_text statements (s ∷ []) ∙ ap (λ t. flat_map statement_text statements ++ t) (append-nil (statement_text s)))
+    ap (λ t. version_line ++ t)
+    (flat_map-append statement_text statements (s ∷ []) ∙ ap (λ t. flat_map statement_text statements ++ t) (append-nil (statement_text s)))
     ∙ sym (append_assoc version_line (flat_map statement_text statements) (statement_text s))
 
 pub added : (statements : List StatementValue) (s : StatementValue) (old new : TextValue) → IsTextOf statements old
@@ -182,7 +193,8 @@ added statements s old new is none short bytes count = record {
 }
 
 -- the whole text
-pub finished : (statements : List StatementValue) (text : TextValue) (bytes : List ℕ) → bytes ≡ text.bytes → IsTextOf statements text → IsFinished statements bytes
+pub finished : (statements : List StatementValue) (text : TextValue) (bytes : List ℕ) → bytes ≡ text.bytes → IsTextOf statements text →
+    IsFinished statements bytes
 finished statements text bytes same is =
     let all : bytes ≡ dyndep_text statements = same ∙ is.bytes in
     subst (IsFinished statements) (sym all) (record {
@@ -197,7 +209,8 @@ finished statements text bytes same is =
 lines_within : (statements : List StatementValue) → length statements ≤ length (flat_map statement_text statements)
 lines_within [] = omega arith
 lines_within (s ∷ ss) =
-    let both : length (flat_map statement_text (s ∷ ss)) ≡ length (statement_text s) + length (flat_map statement_text ss) = length-append (statement_text s) (flat_map statement_text ss) in
+    let both : length (flat_map statement_text (s ∷ ss)) ≡ length (statement_text s) + length (flat_map statement_text ss) =
+    length-append (statement_text s) (flat_map statement_text ss) in
     let line : length (statement_text s) ≡ length (build_line s) + length (binding_line s) = length-append (build_line s) (binding_line s) in
     let build : 1 ≤ length (build_line s) = omega arith in
     omega (arith, both, line, build, lines_within ss)
@@ -205,14 +218,17 @@ lines_within (s ∷ ss) =
 -- so one more does not stop the count
 pub counted : (statements : List StatementValue) (bytes : List ℕ) → bytes ≡ dyndep_text statements → length statements + 2 ≤ length bytes
 counted statements bytes same =
-    let both : length (dyndep_text statements) ≡ length version_line + length (flat_map statement_text statements) = length-append version_line (flat_map statement_text statements) in
+    let both : length (dyndep_text statements) ≡ length version_line + length (flat_map statement_text statements) =
+    length-append version_line (flat_map statement_text statements) in
     omega (arith, both, ap length same, lines_within statements)
 
 -- ---- what is returned if a statement has a fault
 
 -- after statements without one, its fault is that of all
-pub refused_behind : (before : List StatementValue) (s : StatementValue) (after : List StatementValue) (count : ℕ) (failure : Failure WriteFault) → write_fault before ≡ None → count ≡ length before
-    → ForFault (λ fault. statement_fault count s ≡ Some fault) failure → Gives {T = Vec ℕ Global} (λ text. text.items) (Err failure) (text_or_fault (before ++ s ∷ after))
+pub refused_behind : (before : List StatementValue) (s : StatementValue) (after : List StatementValue) (count : ℕ) (failure : Failure WriteFault) →
+    write_fault before ≡ None → count ≡ length before
+    → ForFault (λ fault. statement_fault count s ≡ Some fault) failure →
+    Gives {T = Vec ℕ Global} (λ text. text.items) (Err failure) (text_or_fault (before ++ s ∷ after))
 refused_behind before s after count Memory none is h = tt
 refused_behind before s after count (Fault fault) none is h =
     ap (λ o. text_unless o (before ++ s ∷ after)) (fault_behind before s after fault none (subst (λ n. statement_fault n s ≡ Some fault) is h))

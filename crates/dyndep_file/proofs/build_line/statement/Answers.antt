@@ -34,15 +34,18 @@ pub returns-in_default : goal.returns-in_default
 returns-in_default c = elim c.in_default.branch [
   | in_default-via-in-Some+else-eq w ↦
       ap output_fault (next_is c.args.words c.next.new.self w.in-Some.token w.in-Some.token.kind w.in-Some.ensures.steps refl)
-      ∙ no_output w.in-Some.token.kind w.in-Some.token.raw.now (symbols_left c.next.new.self) (λ is. same_false the_type _ _ (sym w.eq.ensures ∙ w.if-eq.false) (w.kind.ensures ∙ is))
+      ∙ no_output w.in-Some.token.kind w.in-Some.token.raw.now (symbols_left c.next.new.self)
+      (λ is. same_false the_type _ _ (sym w.eq.ensures ∙ w.if-eq.false) (w.kind.ensures ∙ is))
   | in_default-via-in_default w ↦ ap (λ ts. output_fault (map symbol_of ts)) w.in_default.ensures.steps.0
 ]
 
 -- the first word is the output
-output_is : (c : After-value) {output : List ℕ} → output ≡ value_of c.in-Some.token.raw.now → TakesOutput (symbols_left c.args.words) output (symbols_left c.next.new.self)
+output_is : (c : After-value) {output : List ℕ} → output ≡ value_of c.in-Some.token.raw.now →
+    TakesOutput (symbols_left c.args.words) output (symbols_left c.next.new.self)
 output_is c is = record {
   word = c.in-Some.token.raw.now;
-  are = next_is c.args.words c.next.new.self c.in-Some.token Word c.in-Some.ensures.steps (sym (same_true the_type (search rules) _ _ (sym c.eq.ensures ∙ c.if-eq.true)) ∙ c.kind.ensures);
+  are = next_is c.args.words c.next.new.self c.in-Some.token Word c.in-Some.ensures.steps
+      (sym (same_true the_type (search rules) _ _ (sym c.eq.ensures ∙ c.if-eq.true)) ∙ c.kind.ensures);
   is = is;
 }
 
@@ -50,7 +53,8 @@ output_is c is = record {
 rule_is : (c : After-implicit_inputs) → symbols_left c.implicit_outputs.new.words ≡ WordSymbol (codes "dyndep") ∷ symbols_left c.next-2.new.self
 rule_is c =
     let token = c.in-Some-next.token in
-    let rule = is_word-true (codes "dyndep") (symbol_of (seen_token token)) (sym (c.is_keyword.ensures ∙ keyword_is (codes "dyndep") token.kind token.raw.now) ∙ c.if-is_keyword.true) in
+    let rule = is_word-true (codes "dyndep") (symbol_of (seen_token token))
+    (sym (c.is_keyword.ensures ∙ keyword_is (codes "dyndep") token.kind token.raw.now) ∙ c.if-is_keyword.true) in
     ap (map symbol_of) c.in-Some-next.ensures.steps ∙ ap (λ s. s ∷ symbols_left c.next-2.new.self) rule
 
 pub returns-in_err-implicit_outputs : goal.returns-in_err-implicit_outputs
@@ -65,7 +69,8 @@ returns-in_default-next c =
       | in_default-next-via-in-Some-next+else-is_keyword w ↦
           let token = w.in-Some-next.token in
           ap (λ ts. rule_fault (map symbol_of ts)) w.in-Some-next.ensures.steps
-          ∙ no_rule (symbol_of (seen_token token)) (symbols_left c.next-2.new.self) (sym (w.is_keyword.ensures ∙ keyword_is (codes "dyndep") token.kind token.raw.now) ∙ w.if-is_keyword.false)
+          ∙ no_rule (symbol_of (seen_token token)) (symbols_left c.next-2.new.self)
+          (sym (w.is_keyword.ensures ∙ keyword_is (codes "dyndep") token.kind token.raw.now) ∙ w.if-is_keyword.false)
       | in_default-next-via-in_default-next w ↦ ap (λ ts. rule_fault (map symbol_of ts)) w.in_default-next.ensures.steps.0
     ]
 
@@ -73,9 +78,11 @@ pub returns-in_err-implicit_inputs : goal.returns-in_err-implicit_inputs
 returns-in_err-implicit_inputs c =
     let at = goal.at.returns-in_err-implicit_inputs c in
     refuses _ c.in_err-implicit_inputs.field-0.0 c.from_residual-in_err-implicit_inputs.result c.from_residual-in_err-implicit_inputs.ensures.1
-    (fault_after_rule (output_is at.After-value c.in_ok-output-in-Some.ensures) c.in_ok-implicit_outputs.ensures (rule_is at.After-implicit_inputs)) c.in_err-implicit_inputs.ensures
+    (fault_after_rule (output_is at.After-value c.in_ok-output-in-Some.ensures) c.in_ok-implicit_outputs.ensures (rule_is at.After-implicit_inputs))
+    c.in_err-implicit_inputs.ensures
 
 pub returns : goal.returns
 returns c =
     let at = goal.at.returns c in
-    named (output_is at.After-value c.in_ok-output-in-Some.ensures) c.in_ok-implicit_outputs.ensures (rule_is at.After-implicit_inputs) c.in_ok-implicit_inputs.ensures
+    named (output_is at.After-value c.in_ok-output-in-Some.ensures) c.in_ok-implicit_outputs.ensures (rule_is at.After-implicit_inputs)
+    c.in_ok-implicit_inputs.ensures

@@ -19,8 +19,10 @@ loop-token-preserved c = record {
 
 pub returns-in-Some : goal.returns-in-Some
 returns-in-Some c =
-    let head : (kind : TokenKind) → kind ≡ c.in-Some.token.kind → implicit_outputs_fault (symbols_left c.args.words.now) ≡ implicit_outputs_fault (symbol kind c.in-Some.token.raw.now ∷ symbols_left c.next.new.self)
-    = λ kind is. fault_in_outputs c.loop-token.invariant.taken ∙ ap implicit_outputs_fault (next_is c.loop-token.words c.next.new.self c.in-Some.token kind c.in-Some.ensures.steps is) in
+    let head : (kind : TokenKind) → kind ≡ c.in-Some.token.kind →
+    implicit_outputs_fault (symbols_left c.args.words.now) ≡ implicit_outputs_fault (symbol kind c.in-Some.token.raw.now ∷ symbols_left c.next.new.self)
+    = λ kind is. fault_in_outputs c.loop-token.invariant.taken ∙
+    ap implicit_outputs_fault (next_is c.loop-token.words c.next.new.self c.in-Some.token kind c.in-Some.ensures.steps is) in
     elim c.match-kind.branch [
       | in-Bar w ↦ head Bar w.in-Bar.ensures ∙ ap (λ f. Some f) (sym w.fault-is)
       | in-DoubleBar w ↦ head DoubleBar w.in-DoubleBar.ensures ∙ ap (λ f. Some f) (sym w.fault-is)

@@ -16,8 +16,10 @@ loop-token-preserved c =
 
 pub returns-in-loop-token : goal.returns-in-loop-token
 returns-in-loop-token c =
-    let head : (kind : TokenKind) → kind ≡ c.in-Some.token.kind → implicit_inputs_fault (symbols_left c.args.words) ≡ implicit_inputs_fault (symbol kind c.in-Some.token.raw.now ∷ symbols_left c.next.new.self)
-    = λ kind is. fault_in_inputs c.loop-token.invariant ∙ ap implicit_inputs_fault (next_is c.loop-token.token-iterator c.next.new.self c.in-Some.token kind c.in-Some.ensures.steps is) in
+    let head : (kind : TokenKind) → kind ≡ c.in-Some.token.kind →
+    implicit_inputs_fault (symbols_left c.args.words) ≡ implicit_inputs_fault (symbol kind c.in-Some.token.raw.now ∷ symbols_left c.next.new.self)
+    = λ kind is. fault_in_inputs c.loop-token.invariant ∙
+    ap implicit_inputs_fault (next_is c.loop-token.token-iterator c.next.new.self c.in-Some.token kind c.in-Some.ensures.steps is) in
     elim c.match-kind.branch [
       | in-Bar w ↦ elim w.in-Bar.is [
         | inl is ↦ head Bar (sym is ∙ c.kind.ensures) ∙ ap (λ f. Some f) (sym w.fault-is)

@@ -11,7 +11,8 @@ use Rattle.dyndep_file.proofs.progress.unindented_line.Goals.{After-is_version_o
 
 -- the assignment begins at the first byte of the line, and is to the version
 assigned : (c : After-is_version_one) → let a = seen_assignment c.in-Some.version in
-    ((option_map seen_assignment c.args.assignment ≡ Some a) × (a.name ≡ codes "ninja_dyndep_version")) × (a.name_start ≡ 0) × (is_version_one (value_of a.raw_value) ≡ c.is_version_one.result)
+    ((option_map seen_assignment c.args.assignment ≡ Some a) × (a.name ≡ codes "ninja_dyndep_version")) × (a.name_start ≡ 0) ×
+    (is_version_one (value_of a.raw_value) ≡ c.is_version_one.result)
 assigned c = (
   has_name (codes "ninja_dyndep_version") _ _ c.in-Some.ensures,
   sym c.name_start.ensures ∙ c.if-name_start-eq0.true,

@@ -22,7 +22,8 @@ returns-in-Ok-eq0 g c =
     (buffer, room, subst (λ k. g.R.ReadCall.reads (held c.read.input) (held c.read-in-read.new.self) (Ok k) buffer) none c.in-Ok-eq0.ensures.call)
     (c.finish.ensures.all _ c.read.invariant.so_far.has_read)
     (c.in-Ok-eq0.ensures.count ∙ c.read.invariant.count)
-    (subst (λ k. Consumes (g.R.ReadCall.remaining (held c.read.input)) (g.R.ReadCall.remaining (held c.read-in-read.new.self)) (take k buffer)) none c.in-Ok-eq0.ensures.bytes.0)
+    (subst (λ k. Consumes (g.R.ReadCall.remaining (held c.read.input)) (g.R.ReadCall.remaining (held c.read-in-read.new.self)) (take k buffer)) none
+    c.in-Ok-eq0.ensures.bytes.0)
     (λ _. c.in-Ok-eq0.ensures.bytes.1 none (omega (arith, room)))
 
 pub returns-in_err-feed-in-Ok : goal.returns-in_err-feed-in-Ok

@@ -33,9 +33,11 @@ loop-statement-preserved c =
     let all : List StatementValue = c.deref-statement-items.result.now in
     let i : ℕ = c.loop-statement.statement-index in
     let s : StatementValue = c.statement-item.result in
-    let next : take i all ++ s ∷ [] ≡ take (i + 1) all = ap (λ x. take i all ++ x ∷ []) c.statement-item.is ∙ sym (take_more all i s c.loop-statement-test.true) in
+    let next : take i all ++ s ∷ [] ≡ take (i + 1) all = ap (λ x. take i all ++ x ∷ []) c.statement-item.is ∙
+    sym (take_more all i s c.loop-statement-test.true) in
     subst (λ xs. IsTextOf xs c.add.new.self) next
-    (subst (λ (t : StatementValue). IsTextOf (take i all ++ t ∷ []) c.add.new.self) (lent (goal.at.loop-statement-preserved c).After-add) (c.in_ok-add.ensures.added (take i all) c.loop-statement.invariant))
+    (subst (λ (t : StatementValue). IsTextOf (take i all ++ t ∷ []) c.add.new.self) (lent (goal.at.loop-statement-preserved c).After-add)
+    (c.in_ok-add.ensures.added (take i all) c.loop-statement.invariant))
 
 pub returns-in_err-add-clause-text : goal.returns-in_err-add-clause-text
 returns-in_err-add-clause-text c =
@@ -44,9 +46,11 @@ returns-in_err-add-clause-text c =
     let i : ℕ = c.loop-statement.statement-index in
     let s : StatementValue = c.statement-item.result in
     let parts : take i all ++ s ∷ drop (i + 1) all ≡ c.args.self.now =
-    ap (λ x. take i all ++ x ∷ drop (i + 1) all) c.statement-item.is ∙ ap (λ xs. take i all ++ xs) (sym (drop_more all i s c.loop-statement-test.true)) ∙ take-append-drop i all
+    ap (λ x. take i all ++ x ∷ drop (i + 1) all) c.statement-item.is ∙ ap (λ xs. take i all ++ xs) (sym (drop_more all i s c.loop-statement-test.true)) ∙
+    take-append-drop i all
     ∙ c.deref-statement-items.ensures.value ∙ c.self.view_is in
-    rw (p.1, p.2, ← parts) (refused_behind (take i all) s (drop (i + 1) all) c.loop-statement.text.count _ c.loop-statement.invariant.unfaulted c.loop-statement.invariant.count
+    rw (p.1, p.2, ← parts)
+    (refused_behind (take i all) s (drop (i + 1) all) c.loop-statement.text.count _ c.loop-statement.invariant.unfaulted c.loop-statement.invariant.count
     (subst (λ (t : StatementValue). ForFault (λ fault. statement_fault c.loop-statement.text.count t ≡ Some fault) c.in_err-add.field-0.0)
     (lent (goal.at.returns-in_err-add-clause-text c).After-add) c.in_err-add.ensures.fault))
 
@@ -57,5 +61,6 @@ ended all statements i text bytes same past so_far finish = subst (λ xs. IsFini
 
 pub returns : goal.returns
 returns c =
-    let all = ended _ _ _ _ _ (c.deref-statement-items.ensures.value ∙ c.self.view_is) c.loop-statement-test.false c.loop-statement.invariant c.finish.ensures in
+    let all = ended _ _ _ _ _ (c.deref-statement-items.ensures.value ∙ c.self.view_is) c.loop-statement-test.false c.loop-statement.invariant c.finish.ensures
+    in
     record { text = all.text; unfaulted = all.unfaulted; meaning = all.meaning }

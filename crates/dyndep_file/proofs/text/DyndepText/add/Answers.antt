@@ -19,8 +19,10 @@ found c =
     (YieldsList-from_chain
     (YieldsList-at c.chain-paths.ensures.first (YieldsList-from_chain
     (YieldsList-at c.chain.ensures.first (YieldsList-from_slice (s.output ∷ []) c.iter.ensures.rest))
-    (YieldsList-at c.chain.ensures.second (YieldsList-from_slice s.implicit_outputs.now c.iter-2.ensures.rest)) c.chain.ensures.first_done c.chain.ensures.second_done))
-    (YieldsList-at c.chain-paths.ensures.second (YieldsList-from_slice s.implicit_inputs.now c.iter-3.ensures.rest)) c.chain-paths.ensures.first_done c.chain-paths.ensures.second_done)
+    (YieldsList-at c.chain.ensures.second (YieldsList-from_slice s.implicit_outputs.now c.iter-2.ensures.rest)) c.chain.ensures.first_done
+    c.chain.ensures.second_done))
+    (YieldsList-at c.chain-paths.ensures.second (YieldsList-from_slice s.implicit_inputs.now c.iter-3.ensures.rest)) c.chain-paths.ensures.first_done
+    c.chain-paths.ensures.second_done)
     (λ x b q k. search (rules, tests))
     ∙ position-paths (λ path. not (is_writable path)) s.output s.implicit_outputs.now s.implicit_inputs.now
     ∙ ap (λ t. position (λ path. not (is_writable path)) (paths_of t)) c.statement.view_is
