@@ -1,13 +1,13 @@
 -- The class of a line: at most one, and one if the table has no fault for it.
 use Rattle.std.proofs.Common.{inl, inr, ◌≡◌, ℕ, List, [], ◌∷◌, ◌++◌, map, refl, ap, ◌∙◌, Some, None, ◌==◌, ◌&&◌, Bool, true, false, length, sym, arith}
-use Rattle.std.specs.Prelude.{Option, codes, IsTrue, is_some, if◌then◌else◌, nat_lt}
+use Rattle.std.specs.Prelude.{Option, codes, is_some, if◌then◌else◌, nat_lt}
 use Rattle.std.proofs.lemmas.Bool.{cases_Bool, eqb-true, and_parts}
-use Rattle.ninja_text.specs.declared.token.TokenKind.TheVariants.{Word, Bar, DoubleBar, BarAt, Colon}
+use Rattle.ninja_text.specs.declared.token.TokenKind.TheVariants.{Bar, DoubleBar, BarAt, Colon}
 use Rattle.dyndep_file.specs.Classes.{Symbol, WordSymbol, SignSymbol, IsPart, DyndepClass, Comment, Blank, Version, Build, Binding, symbols, begins_at_start, begins_with_space, IsBuild, Assigns, IsDyndepLine, is_version_one}
 use Rattle.dyndep_file.specs.Faults.{same_bytes, implicit_inputs_fault, after_rule_fault, rule_fault, implicit_outputs_fault, after_output_fault, output_fault, after_build, value_assigned, indented_fault, version_fault, build_or_other_fault, unindented_fault, text_fault, text_line_fault, lexical_fault_or}
 use Rattle.dyndep_file.specs.inner.BuildLines.{Names}
 use Rattle.dyndep_file.specs.declared.fault.LineFault.{LineFault}
-use Rattle.dyndep_file.proofs.LineLemmas.{same_bytes-true, first_word, starts, after_keyword, no_indent_at_token, no_indent_at_name, names_apart}
+use Rattle.dyndep_file.proofs.LineLemmas.{never, build_class, same_bytes-true, first_word, starts, after_keyword, no_indent_at_token, no_indent_at_name, names_apart}
 use Rattle.ninja_text.specs.Lexical.{lexical_fault}
 use Rattle.ninja_text.specs.Tokens.{TokenAt, tokens, value_of}
 use Rattle.ninja_text.specs.Assignments.{SeenAssignment, assignment_of}
@@ -21,114 +21,66 @@ use Rattle.dyndep_file.specs.declared.progress.Stage.TheVariants.{BeforeVersion,
 
 -- ---- the tokens of a build line that has no fault, by its parts
 
--- the words up to the first `:`
-abbrev pub words_before_colon : List Symbol → List (List ℕ)
-words_before_colon [] = []
-words_before_colon (WordSymbol word ∷ more) = word ∷ words_before_colon more
-words_before_colon (SignSymbol Colon ∷ more) = []
-words_before_colon (SignSymbol other ∷ more) = words_before_colon more
-
--- what follows the first `:`
-abbrev pub after_colon : List Symbol → List Symbol
-after_colon [] = []
-after_colon (WordSymbol word ∷ more) = after_colon more
-after_colon (SignSymbol Colon ∷ more) = more
-after_colon (SignSymbol other ∷ more) = after_colon more
-
--- a fault is there, and is not
-pub faulty : {fault : LineFault} {A : Type 0} → ◌≡◌ {A = Option LineFault} (Some fault) None → A
-faulty h = absurd (cc)
+-- contradiction: the fault is both present and absent
+faulty : {fault : LineFault} {A : Type 0} → Some fault ≡ None → A
+faulty h = never (sym h)
 
 -- implicit inputs without fault are words alone
-inputs_are : (symbols : List Symbol) → implicit_inputs_fault symbols ≡ None → symbols ≡ map WordSymbol (words_before_colon symbols)
-inputs_are [] h = refl
-inputs_are (WordSymbol word ∷ more) h = ap (λ s. WordSymbol word ∷ s) (inputs_are more h)
-inputs_are (SignSymbol DoubleBar ∷ more) h = faulty h
+inputs_are : (symbols : List Symbol) → implicit_inputs_fault symbols ≡ None → (words : List (List ℕ)) × (symbols ≡ map WordSymbol words)
+inputs_are [] h = ([], refl)
+inputs_are (WordSymbol word ∷ more) h = let later = inputs_are more h in (word ∷ later.0, ap (λ s. WordSymbol word ∷ s) later.1)
 inputs_are (SignSymbol BarAt ∷ more) h = faulty h
+inputs_are (SignSymbol DoubleBar ∷ more) h = faulty h
 inputs_are (SignSymbol other ∷ more) h = faulty h
 
 -- what comes after the rule without fault is a part of implicit inputs
-inputs_part : (symbols : List Symbol) → after_rule_fault symbols ≡ None → IsPart Bar symbols (words_before_colon symbols)
-inputs_part [] h = inl (refl, refl)
-inputs_part (WordSymbol word ∷ more) h = faulty h
-inputs_part (SignSymbol Bar ∷ more) h = inr (ap (λ s. SignSymbol Bar ∷ s) (inputs_are more h))
-inputs_part (SignSymbol DoubleBar ∷ more) h = faulty h
-inputs_part (SignSymbol BarAt ∷ more) h = faulty h
-inputs_part (SignSymbol other ∷ more) h = faulty h
-
--- the rule, and the implicit inputs after it
-record Ruled (symbols : List Symbol) : Type 0 where
-  pub after : List Symbol
-  pub are : symbols ≡ WordSymbol (codes "dyndep") ∷ after
-  pub is_after : IsPart Bar after (words_before_colon after)
+inputs_part : (symbols : List Symbol) → after_rule_fault symbols ≡ None → (words : List (List ℕ)) × IsPart Bar symbols words
+inputs_part [] h = ([], inl (refl, refl))
+inputs_part (SignSymbol Bar ∷ more) h = let later = inputs_are more h in (later.0, inr (ap (λ s. SignSymbol Bar ∷ s) later.1))
+inputs_part (other ∷ more) h = faulty h
 
 -- what comes after `:` without fault is the rule and a part of implicit inputs
-ruled : (symbols : List Symbol) → rule_fault symbols ≡ None → Ruled symbols
-ruled [] h = faulty h
+ruled : (symbols : List Symbol) → rule_fault symbols ≡ None
+    → (after : List Symbol) × (words : List (List ℕ)) × (symbols ≡ WordSymbol (codes "dyndep") ∷ after) × IsPart Bar after words
 ruled (WordSymbol word ∷ more) h = elim (cases_Bool (same_bytes word (codes "dyndep"))) [
-  | inl t ↦ record { after = more; are = ap (λ w. WordSymbol w ∷ more) (same_bytes-true word (codes "dyndep") t); is_after = inputs_part more (rw t at h) }
+  | inl t ↦ let later = inputs_part more (rw t at h) in (more, later.0, ap (λ w. WordSymbol w ∷ more) (same_bytes-true word (codes "dyndep") t), later.1)
   | inr f ↦ faulty (rw f at h)
 ]
-ruled (SignSymbol other ∷ more) h = faulty h
-
--- the implicit outputs up to the `:`
-record Divided (symbols : List Symbol) : Type 0 where
-  pub before : List Symbol
-  pub are : symbols ≡ before ++ SignSymbol Colon ∷ after_colon symbols
-  pub is_before : IsPart Bar before (words_before_colon symbols)
-  pub rule : rule_fault (after_colon symbols) ≡ None
+ruled other h = faulty h
 
 -- implicit outputs without fault are words, and after them `:` and the rest
 outputs_are : (symbols : List Symbol) → implicit_outputs_fault symbols ≡ None
-    → (symbols ≡ map WordSymbol (words_before_colon symbols) ++ SignSymbol Colon ∷ after_colon symbols) × (rule_fault (after_colon symbols) ≡ None)
-outputs_are [] h = faulty h
-outputs_are (WordSymbol word ∷ more) h = let later = outputs_are more h in (ap (λ s. WordSymbol word ∷ s) later.0, later.1)
-outputs_are (SignSymbol Colon ∷ more) h = (refl, h)
-outputs_are (SignSymbol DoubleBar ∷ more) h = faulty h
-outputs_are (SignSymbol BarAt ∷ more) h = faulty h
-outputs_are (SignSymbol other ∷ more) h = faulty h
+    → (words : List (List ℕ)) × (rest : List Symbol) × (symbols ≡ map WordSymbol words ++ SignSymbol Colon ∷ rest) × (rule_fault rest ≡ None)
+outputs_are (WordSymbol word ∷ more) h = let later = outputs_are more h in (word ∷ later.0, later.1, ap (λ s. WordSymbol word ∷ s) later.2, later.3)
+outputs_are (SignSymbol Colon ∷ more) h = ([], more, refl, h)
+outputs_are other h = faulty h
 
 -- what comes after the output without fault is a part of implicit outputs, `:` and the rest
-divided : (symbols : List Symbol) → after_output_fault symbols ≡ None → Divided symbols
-divided [] h = faulty h
-divided (WordSymbol word ∷ more) h = faulty h
+divided : (symbols : List Symbol) → after_output_fault symbols ≡ None
+    → (before : List Symbol) × (words : List (List ℕ)) × (rest : List Symbol) × IsPart Bar before words × (symbols ≡ before ++ SignSymbol Colon ∷ rest) ×
+    (rule_fault rest ≡ None)
 divided (SignSymbol Bar ∷ more) h = let later = outputs_are more h in
-    record { before = SignSymbol Bar ∷ map WordSymbol (words_before_colon more); are = ap (λ s. SignSymbol Bar ∷ s) later.0; is_before = inr refl; rule = later.1 }
-divided (SignSymbol Colon ∷ more) h = record { before = []; are = refl; is_before = inl (refl, refl); rule = h }
-divided (SignSymbol DoubleBar ∷ more) h = faulty h
-divided (SignSymbol BarAt ∷ more) h = faulty h
-divided (SignSymbol Word ∷ more) h = faulty h
-
--- the parts of a build line without fault
-pub record Parts (symbols : List Symbol) : Type 0 where
-  pub output : List ℕ
-  pub more : List Symbol
-  pub is_first : symbols ≡ WordSymbol output ∷ more
-  pub after : List Symbol
-  pub rule : after_colon more ≡ WordSymbol (codes "dyndep") ∷ after
-  pub names : Names symbols output (words_before_colon more) (words_before_colon after)
+    (SignSymbol Bar ∷ map WordSymbol later.0, later.0, later.1, inr refl, ap (λ s. SignSymbol Bar ∷ s) later.2, later.3)
+divided (SignSymbol Colon ∷ more) h = ([], [], more, inl (refl, refl), refl, h)
+divided other h = faulty h
 
 -- tokens without fault are the parts of a build line
-pub parts : (symbols : List Symbol) → output_fault symbols ≡ None → Parts symbols
-parts [] h = faulty h
+parts : (symbols : List Symbol) → output_fault symbols ≡ None → (output : List ℕ) × (outputs inputs : List (List ℕ)) × Names symbols output outputs inputs
 parts (WordSymbol output ∷ more) h =
     let d = divided more h in
-    let r = ruled (after_colon more) d.rule in
-    record {
-      output = output;
-      more = more;
-      is_first = refl;
-      after = r.after;
-      rule = r.are;
-      names = record {
-        before = d.before;
-        after = r.after;
-        is_before = d.is_before;
-        is_after = r.is_after;
-        are = ap (λ s. WordSymbol output ∷ s) (d.are ∙ ap (λ s. d.before ++ SignSymbol Colon ∷ s) r.are);
-      };
-    }
-parts (SignSymbol other ∷ more) h = faulty h
+    let r = ruled d.2 d.5 in (
+      output,
+      d.1,
+      r.1,
+      record {
+        before = d.0;
+        after = r.0;
+        is_before = d.3;
+        is_after = r.3;
+        are = ap (λ s. WordSymbol output ∷ s) (d.4 ∙ ap (λ s. d.0 ++ SignSymbol Colon ∷ s) r.2);
+      },
+    )
+parts other h = faulty h
 
 -- ---- all classes
 
@@ -155,10 +107,10 @@ index_of text comment =
 
 -- a text with tokens after the keyword begins with the keyword
 pub keyword_first : (at : Bool) (all more : List Symbol) → after_build at all ≡ Some more → (at ≡ true) × (all ≡ WordSymbol (codes "build") ∷ more)
-keyword_first at [] more h = absurd (let x : ◌≡◌ {A = Option (List Symbol)} None (Some more) = h in cc)
-keyword_first at (SignSymbol k ∷ all) more h = absurd (let x : ◌≡◌ {A = Option (List Symbol)} None (Some more) = h in cc)
+keyword_first at [] more h = never h
+keyword_first at (SignSymbol k ∷ all) more h = never h
 keyword_first at (WordSymbol word ∷ all) more h = elim (cases_Bool (at && same_bytes word (codes "build"))) [
-  | inr f ↦ absurd (let x : ◌≡◌ {A = Option (List Symbol)} None (Some more) = rw f at h in cc)
+  | inr f ↦ never (rw f at h)
   | inl t ↦
       let both = and_parts at (same_bytes word (codes "build")) t in
       let e : ◌≡◌ {A = Option (List Symbol)} (Some all) (Some more) = rw t at h in
@@ -167,7 +119,8 @@ keyword_first at (WordSymbol word ∷ all) more h = elim (cases_Bool (at && same
 ]
 
 -- a version line does not begin with the keyword
-no_keyword : (text : List ℕ) (a : SeenAssignment) → assignment_of text ≡ Some a → a.name_start ≡ 0 → a.name ≡ codes "ninja_dyndep_version" → is_keyword_line text ≡ false
+no_keyword : (text : List ℕ) (a : SeenAssignment) → assignment_of text ≡ Some a → a.name_start ≡ 0 → a.name ≡ codes "ninja_dyndep_version" →
+    is_keyword_line text ≡ false
 no_keyword text a h start name = found (after_build (begins_at_start (tokens text)) (symbols text)) refl where
   found : (o : Option (List Symbol)) → after_build (begins_at_start (tokens text)) (symbols text) ≡ o → is_some o ≡ false
   found None e = refl
@@ -185,13 +138,29 @@ index_of_class text comment Version is =
     rw (is.0, assignment_not_empty text a is.3.1, no_indent_at_name text a is.3.1 is.3.2, no_keyword text a is.3.1 is.3.2 is.3.3) refl
 index_of_class text comment (Build o os ins) is =
     let b = is.5 in
-    rw (is.0, some (tokens text) b.4, no_indent_at_token text b.4, ap is_some (ap (after_build (begins_at_start (tokens text))) b.5 ∙ after_keyword (begins_at_start (tokens text)) _ b.4)) refl where
-      some : (ts : List TokenAt) → IsTrue (begins_at_start ts) → is_empty ts ≡ false
-      some [] h = absurd (let x : false ≡ true = h in cc)
-      some (t ∷ ts) h = refl
+    rw (
+      is.0,
+      ap is_empty (first_word text (codes "build") _ (tokens text) refl b.5).are,
+      no_indent_at_token text b.4,
+      ap is_some (ap (after_build (begins_at_start (tokens text))) b.5 ∙ after_keyword (begins_at_start (tokens text)) _ b.4),
+    ) refl
 index_of_class text comment (Binding flag) is =
     let indent : begins_with_space text ≡ true = is.2 in
     rw (is.0, assignment_not_empty text (is.5).0 (is.5).1, indent) refl
+
+-- the words up to the first `:`
+abbrev words_before_colon : List Symbol → List (List ℕ)
+words_before_colon [] = []
+words_before_colon (WordSymbol word ∷ more) = word ∷ words_before_colon more
+words_before_colon (SignSymbol Colon ∷ more) = []
+words_before_colon (SignSymbol other ∷ more) = words_before_colon more
+
+-- what follows the first `:`
+abbrev after_colon : List Symbol → List Symbol
+after_colon [] = []
+after_colon (WordSymbol word ∷ more) = after_colon more
+after_colon (SignSymbol Colon ∷ more) = more
+after_colon (SignSymbol other ∷ more) = after_colon more
 
 -- the parts of a build line follow from its symbols: the words before the `:`, and the rest after it
 words_before : (words : List (List ℕ)) (more : List Symbol)
@@ -234,10 +203,6 @@ same_build text o p os ps ins qs a b =
       sym (part_all a.1 ins a.3) ∙ ap words_before_colon after ∙ part_all b.1 qs b.3,
     )
 
--- build lines of the same paths are of the same class
-build_same : {o p : List ℕ} {os ps ins qs : List (List ℕ)} → o ≡ p → os ≡ ps → ins ≡ qs → Build o os ins ≡ Build p ps qs
-build_same a b c = rw (a, b, c) refl
-
 -- a line's text is of one class
 pub class_one : (text : List ℕ) (comment : Bool) (c d : DyndepClass) → IsDyndepLine text comment c → IsDyndepLine text comment d → c ≡ d
 class_one text comment Comment Comment p q = refl
@@ -245,30 +210,27 @@ class_one text comment Blank Blank p q = refl
 class_one text comment Version Version p q = refl
 class_one text comment (Build o os ins) (Build u us vs) p q =
     let same = same_build text p.2 q.2 p.3 q.3 p.4 q.4 p.5 q.5 in
-    build_same (p.6 ∙ ap value_of same.0 ∙ sym q.6) (p.7 ∙ ap (map value_of) same.1 ∙ sym q.7) (p.8 ∙ ap (map value_of) same.2 ∙ sym q.8)
+    rw (p.6, p.7, p.8, q.6, q.7, q.8, same.0, same.1, same.2) refl
 class_one text comment (Binding flag) (Binding other) p q =
     let a = p.5 in
     let b = q.5 in
     let found : ◌≡◌ {A = Option SeenAssignment} (Some a.0) (Some b.0) = sym a.1 ∙ b.1 in
     let same : a.0 ≡ b.0 = cc in
     let value : p.4 ≡ q.4 = sym a.4 ∙ ap (λ (s : SeenAssignment). value_of s.raw_value) same ∙ b.4 in
-    ap Binding (p.6 ∙ ap (λ (v : List ℕ). nat_lt 0 (length v)) value ∙ sym q.6)
-class_one text comment c d p q = absurd (let e : class_index c ≡ class_index d = sym (index_of_class text comment c p) ∙ index_of_class text comment d q in omega arith)
+    rw (p.6, q.6, value) refl
+class_one text comment c d p q =
+    absurd (let e : class_index c ≡ class_index d = sym (index_of_class text comment c p) ∙ index_of_class text comment d q in omega arith)
+
+-- lines of the class are allowed at the stage
+abbrev Steps : Stage → List StatementValue → DyndepClass → Type 0
+Steps stage ss c = (next : ProgressValue) × (step stage ss c ≡ Some next)
 
 -- a class that a text is of, and that is allowed at a stage
-pub record CanStand (stage : Stage) (ss : List StatementValue) (text : List ℕ) (comment : Bool) : Type 0 where
-  pub class : DyndepClass
-  pub is : IsDyndepLine text comment class
-  pub next : ProgressValue
-  pub steps : step stage ss class ≡ Some next
-
--- the same, by its parts
-passes : (stage : Stage) (ss : List StatementValue) (text : List ℕ) (comment : Bool) (c : DyndepClass) → IsDyndepLine text comment c
-    → ((next : ProgressValue) × (step stage ss c ≡ Some next)) → CanStand stage ss text comment
-passes stage ss text comment c is s = record { class = c; is = is; next = s.0; steps = s.1 }
+abbrev CanStand : Stage → List StatementValue → List ℕ → Bool → Type 0
+CanStand stage ss text comment = (c : DyndepClass) × IsDyndepLine text comment c × Steps stage ss c
 
 -- a comment and a blank line are allowed at each stage
-empty_steps : (stage : Stage) (ss : List StatementValue) → ((next : ProgressValue) × (step stage ss Comment ≡ Some next)) × ((next : ProgressValue) × (step stage ss Blank ≡ Some next))
+empty_steps : (stage : Stage) (ss : List StatementValue) → Steps stage ss Comment × Steps stage ss Blank
 empty_steps BeforeVersion ss = ((_, refl), (_, refl))
 empty_steps NoneOpen ss = ((_, refl), (_, refl))
 empty_steps Open ss = ((_, refl), (_, refl))
@@ -277,14 +239,14 @@ module _ (ss : List StatementValue) (text : List ℕ) (sound : lexical_fault tex
   -- a list without elements is the empty one
   no_tokens : (ts : List TokenAt) → is_empty ts ≡ true → ts ≡ []
   no_tokens [] h = refl
-  no_tokens (t ∷ ts) h = absurd (let x : false ≡ true = h in cc)
+  no_tokens (t ∷ ts) h = cc
 
   -- if a value is assigned to a name, there is such an assignment
   named_so : (name : List ℕ) (o : Option SeenAssignment) (n : ℕ) (v : List ℕ) → value_assigned name o ≡ Some (n, v)
       → (a : SeenAssignment) × (o ≡ Some a) × (a.name_start ≡ n) × (a.name ≡ name) × (value_of a.raw_value ≡ v)
-  named_so name None n v h = absurd (let x : ◌≡◌ {A = Option (ℕ × List ℕ)} None (Some (n, v)) = h in cc)
+  named_so name None n v h = never h
   named_so name (Some a) n v h = elim (cases_Bool (same_bytes a.name name)) [
-    | inr f ↦ absurd (let x : ◌≡◌ {A = Option (ℕ × List ℕ)} None (Some (n, v)) = rw f at h in cc)
+    | inr f ↦ never (rw f at h)
     | inl t ↦
         let e : ◌≡◌ {A = Option (ℕ × List ℕ)} (Some (a.name_start, value_of a.raw_value)) (Some (n, v)) = rw t at h in
         let same : ◌≡◌ {A = ℕ × List ℕ} (a.name_start, value_of a.raw_value) (n, v) = cc in
@@ -294,46 +256,30 @@ module _ (ss : List StatementValue) (text : List ℕ) (sound : lexical_fault tex
   -- an indented text without fault is a binding under an open statement
   indented : (stage : Stage) (v : Option (ℕ × List ℕ)) → value_assigned (codes "restat") (assignment_of text) ≡ v → begins_with_space text ≡ true
       → indented_fault stage (is_some v) ≡ None → CanStand stage ss text false
-  indented BeforeVersion v e indent h = faulty h
-  indented NoneOpen v e indent h = faulty h
-  indented Open None e indent h = faulty h
   indented Open (Some p) e indent h =
-      let a = named_so (codes "restat") (assignment_of text) p.0 p.1 e in
-      passes Open ss text false (Binding (nat_lt 0 (length p.1))) (refl, sound, indent, p.0, p.1, a, refl) (_, refl)
+      (Binding (nat_lt 0 (length p.1)), (refl, sound, indent, p.0, p.1, named_so (codes "restat") (assignment_of text) p.0 p.1 e, refl), (_, refl))
+  indented stage other e indent h = faulty h
 
   -- a version line without fault is one before all others
   version : (stage : Stage) (v : List ℕ) → Assigns text (codes "ninja_dyndep_version") 0 v → version_fault stage v ≡ None → CanStand stage ss text false
   version BeforeVersion v assigns h = elim (cases_Bool (is_version_one v)) [
-    | inl t ↦ passes BeforeVersion ss text false Version (refl, sound, v, assigns, t) (_, refl)
+    | inl t ↦ (Version, (refl, sound, v, assigns, t), (_, refl))
     | inr f ↦ faulty (rw f at h)
   ]
-  version NoneOpen v assigns h = faulty h
-  version Open v assigns h = faulty h
+  version stage v assigns h = faulty h
 
   -- a build line without fault is of the grammar
   built : (stage : Stage) (more : List Symbol) → after_build (begins_at_start (tokens text)) (symbols text) ≡ Some more
-      → ((o : List ℕ) (os ins : List (List ℕ)) → (next : ProgressValue) × (step stage ss (Build o os ins) ≡ Some next))
-      → output_fault more ≡ None → CanStand stage ss text false
+      → ((o : List ℕ) (os ins : List (List ℕ)) → Steps stage ss (Build o os ins)) → output_fault more ≡ None → CanStand stage ss text false
   built stage more e steps h =
       let k = keyword_first (begins_at_start (tokens text)) (symbols text) more e in
       let p = parts more h in
-      let n = p.names in
-      passes stage ss text false (Build (value_of p.output) (map value_of (words_before_colon p.more)) (map value_of (words_before_colon p.after))) (
-        refl,
-        sound,
-        p.output,
-        words_before_colon p.more,
-        words_before_colon p.after,
-        (n.before, n.after, n.is_before, n.is_after, k.0, k.1 ∙ ap (λ s. WordSymbol (codes "build") ∷ s) n.are),
-        refl,
-        refl,
-        refl,
-      )
-      (steps (value_of p.output) (map value_of (words_before_colon p.more)) (map value_of (words_before_colon p.after)))
+      (Build (value_of p.0) (map value_of p.1) (map value_of p.2), build_class text sound more k.0 k.1 _ (p.0, p.1, p.2, p.3, refl), steps _ _ _)
 
   -- a text that is neither indented nor a version line, and has no fault, is a build line that is
   -- allowed
-  build_or_not : (stage : Stage) (build : Option (List Symbol)) → after_build (begins_at_start (tokens text)) (symbols text) ≡ build → build_or_other_fault stage build ≡ None
+  build_or_not : (stage : Stage) (build : Option (List Symbol)) → after_build (begins_at_start (tokens text)) (symbols text) ≡ build →
+      build_or_other_fault stage build ≡ None
       → CanStand stage ss text false
   build_or_not stage None e h = faulty h
   build_or_not BeforeVersion (Some more) e h = faulty h
@@ -355,7 +301,7 @@ module _ (ss : List StatementValue) (text : List ℕ) (sound : lexical_fault tex
   -- a text without any fault is blank, a binding, a version line or a build line that is allowed
   sound_text : (stage : Stage) → text_fault stage text ≡ None → CanStand stage ss text false
   sound_text stage h = elim (cases_Bool (is_empty (tokens text))) [
-    | inl t ↦ passes stage ss text false Blank (refl, sound, no_tokens (tokens text) t) (empty_steps stage ss).1
+    | inl t ↦ (Blank, (refl, sound, no_tokens (tokens text) t), (empty_steps stage ss).1)
     | inr f ↦ elim (cases_Bool (begins_with_space text)) [
       | inl i ↦ indented stage _ refl i (rw (f, i) at h)
       | inr i ↦ unindented stage _ refl (rw (f, i) at h)
@@ -363,8 +309,9 @@ module _ (ss : List StatementValue) (text : List ℕ) (sound : lexical_fault tex
   ]
 
 -- a line's text without fault is of a class that is allowed there
-pub can_stand : (stage : Stage) (ss : List StatementValue) (text : List ℕ) (comment : Bool) → text_line_fault stage text comment ≡ None → CanStand stage ss text comment
-can_stand stage ss text true h = passes stage ss text true Comment refl (empty_steps stage ss).0
+pub can_stand : (stage : Stage) (ss : List StatementValue) (text : List ℕ) (comment : Bool) → text_line_fault stage text comment ≡ None →
+    CanStand stage ss text comment
+can_stand stage ss text true h = (Comment, refl, (empty_steps stage ss).0)
 can_stand stage ss text false h = lexed (lexical_fault text) refl h where
   lexed : (o : Option LexFault) → lexical_fault text ≡ o → lexical_fault_or o (text_fault stage text) ≡ None → CanStand stage ss text false
   lexed None e h = sound_text ss text e stage h

@@ -1,13 +1,13 @@
 -- The laws: a text has one list of statements or one fault, and not both, and its fault is that of every text that begins with it.
-use Rattle.std.proofs.Common.{inl, inr, ◌≡◌, false, List, ℕ, ◌<◌, ◌≤◌, [], ◌∷◌, ◌++◌, length, refl, sym, ap, ◌∙◌, subst, Option, Some, None, Ok, Err, ◌⊎◌, true, arith, Bool, cond, take, drop, append_assoc, length-append}
+use Rattle.std.proofs.Common.{inl, inr, ◌≡◌, false, List, ℕ, ◌<◌, ◌≤◌, [], ◌∷◌, ◌++◌, length, refl, sym, ap, ◌∙◌, subst, Option, Some, None, Ok, Err, ◌⊎◌, true, arith, Bool, not, take, drop, append_assoc, length-append}
 use Rattle.std.specs.List.{list_any, flat_map}
-use Rattle.std.proofs.lemmas.Bool.{cases_Bool, lt-ltb, le-ltb, cases_lt, le-leb, lt-leb}
+use Rattle.std.proofs.lemmas.Bool.{lt-ltb, le-ltb, cases_lt, le-leb, lt-leb}
 use Rattle.dyndep_file.specs.Classes.{DyndepClass, IsDyndepLine, Version}
 use Rattle.dyndep_file.specs.Faults.{is_version, is_open, stage_after, line_fault, text_line_fault}
 use Rattle.dyndep_file.specs.declared.progress.Stage.TheVariants.{BeforeVersion, NoneOpen, Open}
 use Rattle.std.specs.Prelude.{Result, if◌then◌else◌, nat_le, nat_lt, All}
 use Rattle.std.specs.Option.{option_and_then}
-use Rattle.ninja_text.specs.Lines.{line_limit, IsLine, LogicalLine, logical_line, text_of_line, is_comment, LineEnd, line_end, Divides}
+use Rattle.ninja_text.specs.Lines.{line_limit, IsLine, LogicalLine, text_of_line, is_comment, LineEnd, line_end, Divides}
 use Rattle.ninja_text.specs.LineReading.{BeginsWith, IsNextFault, HasLentAll, FeedsLines, EndsLines}
 use Rattle.ninja_text.specs.LineFormats.{AreTextsOfClasses, IsFaultyAfter, FaultyLine, IsOfClass, Begins, IsDecided, FaultyEnd}
 use Rattle.ninja_text.specs.FormatReading.{AreReadTo}
@@ -16,7 +16,7 @@ use Rattle.ninja_text.specs.declared.failure.Failure.TheVariants.{Fault, Memory}
 use Rattle.ninja_text.proofs.ForCallers.{all_lent, faulty_next, faulty_rest, faulty_at_limit, line_end-append, divides_some, AllByRecursion-append, one_more_line}
 use Rattle.ninja_text.proofs.ForCallers as lines
 use Rattle.dyndep_file.specs.Steps.{ProgressValue, step, run}
-use Rattle.dyndep_file.specs.Reading.{dyndep_format, dyndep_faults, StandsFor, FaultAt, IsEndFault, HasReadFault, StandsForOnly}
+use Rattle.dyndep_file.specs.Reading.{dyndep_format, dyndep_faults, FaultAt, IsEndFault, HasReadFault, StandsForOnly}
 use Rattle.dyndep_file.specs.Reader.{LeadToStatements, DyndepReaderState, HasReadDyndep, FeedsDyndep, EndsDyndepFile, IsFaultAtEnd, IsReadFaultIn}
 use Rattle.dyndep_file.specs.inner.LineStates.{fault_of_cutter, PassesLine, RefusesLine, answer_at_end}
 use Rattle.dyndep_file.specs.StatementValue.{StatementValue}
@@ -25,10 +25,11 @@ use Rattle.dyndep_file.specs.declared.fault.ReadFault.TheVariants.{AtLine, Io}
 use Rattle.dyndep_file.specs.declared.fault.LineFault.{LineFault}
 use Rattle.dyndep_file.specs.declared.fault.LineFault.TheVariants.{LineTooLong, Truncated, NoVersion}
 use Rattle.dyndep_file.specs.declared.progress.Stage.{Stage}
-use Rattle.dyndep_file.proofs.LineLemmas.{no_fault}
+use Rattle.dyndep_file.proofs.LineLemmas.{no_fault, never}
 use Rattle.dyndep_file.proofs.Runs.{none_or_some, runs_begin, begins_runs, run_more, run_is_file, stage_runs, is_past, one_list_of_statements}
 use Rattle.dyndep_file.specs.Grammar.{IsDyndepFile, comment_first, blank_first, version_line, body_end}
 use Rattle.dyndep_file.proofs.Classes.{class_one, can_stand}
+use Rattle.dyndep_file.specs.Laws.{OneList, NotBoth, OneOfBoth, OneReadFault, FaultStays}
 use Rattle.dyndep_file.specs.Writing.{dyndep_text}
 use Rattle.dyndep_file.specs.WriteFaults.{CanBeWritten}
 use Rattle.dyndep_file.proofs.WrittenText.{stands_for}
@@ -38,99 +39,102 @@ use Rattle.std.proofs.lemmas.List.{take-append-drop, take-append-le}
 -- ---- what a stage says of the version
 
 -- before the version no line is a version line
-pub no_version : (classes : List DyndepClass) → stage_after classes ≡ BeforeVersion → list_any is_version classes ≡ false
-no_version classes h = elim (cases_Bool (list_any is_version classes)) [
-  | inr f ↦ f
-  | inl t ↦ elim (cases_Bool (is_open classes)) [
-    | inl o ↦ absurd (let x : Open ≡ BeforeVersion = rw (t, o) at h in cc)
-    | inr o ↦ absurd (let x : NoneOpen ≡ BeforeVersion = rw (t, o) at h in cc)
-  ]
-]
+no_version : (classes : List DyndepClass) → stage_after classes ≡ BeforeVersion → list_any is_version classes ≡ false
+no_version classes h = go (list_any is_version classes) (is_open classes) h where
+  go : (version opened : Bool) → (if not version then BeforeVersion else if opened then Open else NoneOpen) ≡ BeforeVersion → version ≡ false
+  go false opened h = refl
+  go true true h = cc
+  go true false h = cc
 
 -- ---- what the reader rejects with is the first fault in the bytes
 
--- no dyndep file continues with a line that has a fault
-pub faulty_after : (classes : List DyndepClass) (line : List ℕ) (progress : ProgressValue) (f : LineFault) → run BeforeVersion [] classes ≡ Some progress
-    → text_line_fault progress.stage (text_of_line line) (is_comment line) ≡ Some f → IsFaultyAfter dyndep_format classes line
-faulty_after classes line progress f ran fault c is begun =
-    let whole = begins_runs (classes ++ c ∷ []) begun in
-    let last : run progress.stage progress.statements (c ∷ []) ≡ Some whole.0 = sym (run_more classes (c ∷ []) BeforeVersion [] progress ran) ∙ whole.1 in
-    let steps = stepped (step progress.stage progress.statements c) whole.0 last in
-    let clash : ◌≡◌ {A = Option LineFault} None (Some f) = sym (no_fault progress.stage progress.statements (text_of_line line) (is_comment line) c steps.0 is.1 steps.1) ∙ fault in cc where
-      stepped : (o : Option ProgressValue) (end : ProgressValue) → option_and_then (λ s. run s.stage s.statements []) o ≡ Some end → (next : ProgressValue) × (o ≡ Some next)
-      stepped None end h = absurd (let x : ◌≡◌ {A = Option ProgressValue} None (Some end) = h in cc)
-      stepped (Some next) end h = (next, refl)
-
--- the fault of a line that is too long, and that of one that keeps the limit
-pub too_long_is : (classes : List DyndepClass) (line : List ℕ) → line_limit < length line → line_fault (stage_after classes) line ≡ Some LineTooLong
+-- the fault of a line that is too long
+too_long_is : (classes : List DyndepClass) (line : List ℕ) → line_limit < length line → line_fault (stage_after classes) line ≡ Some LineTooLong
 too_long_is classes line past = rw (lt-ltb line_limit (length line) past) refl
 
-pub fault_is : (classes : List DyndepClass) (line : List ℕ) (progress : ProgressValue) (f : LineFault) → run BeforeVersion [] classes ≡ Some progress → length line ≤ line_limit
-    → text_line_fault progress.stage (text_of_line line) (is_comment line) ≡ Some f → line_fault (stage_after classes) line ≡ Some f
-fault_is classes line progress f ran short h =
-    rw (le-ltb line_limit (length line) short) (subst (λ s. text_line_fault s (text_of_line line) (is_comment line) ≡ Some f) (stage_runs classes progress ran) h)
+-- a line that keeps the limit and whose text has a fault
+module _ (classes : List DyndepClass) (line : List ℕ) (progress : ProgressValue) (f : LineFault) (led : LeadToStatements classes progress)
+    (fault : text_line_fault progress.stage (text_of_line line) (is_comment line) ≡ Some f) where
+  -- no dyndep file continues with it
+  faulty_after : IsFaultyAfter dyndep_format classes line
+  faulty_after c is begun =
+      let whole = begins_runs (classes ++ c ∷ []) begun in
+      let last : run progress.stage progress.statements (c ∷ []) ≡ Some whole.0 = sym (run_more classes (c ∷ []) BeforeVersion [] progress led) ∙ whole.1 in
+      elim (none_or_some (step progress.stage progress.statements c)) [
+        | inl none ↦ never (rw none at last)
+        | inr steps ↦ never (sym (no_fault progress.stage progress.statements (text_of_line line) (is_comment line) c steps.0 is.1 steps.1) ∙ fault)
+      ]
 
--- a line that is rejected is the first faulty one
-fault_of_line : (bytes : List ℕ) (lent : List LogicalLine) (number : ℕ) (rest : List ℕ) (progress : ProgressValue) (read : AreReadTo dyndep_format LeadToStatements lent progress) → BeginsWith bytes lent number rest
-    → (line after : List ℕ) (view : LogicalLine) (n : ℕ) (f : LineFault) → rest ≡ line ++ after → IsLine line → length line ≤ line_limit
-    → view ≡ record (logical_line [] line) { number = number } → n ≡ view.number → text_line_fault progress.stage view.text view.comment ≡ Some f → IsReadFaultIn bytes (AtLine n f)
-fault_of_line bytes lent number rest progress read begins line after view n f split is short same at fault =
-    let faulty : text_line_fault progress.stage (text_of_line line) (is_comment line) ≡ Some f = subst (λ l. text_line_fault progress.stage l.text l.comment ≡ Some f) same fault in
-    let line_is : n ≡ number = at ∙ ap (λ l. l.number) same in
-    let next : FaultyLine dyndep_format dyndep_faults bytes number f = faulty_next dyndep_format dyndep_faults bytes lent number rest read.classes begins read.texts (runs_begin read.classes progress read.led) line after f split is
-    (faulty_after read.classes line progress f read.led faulty) (fault_is read.classes line progress f read.led short faulty) in
-    inl (subst (λ m. FaultyLine dyndep_format dyndep_faults bytes m f) (sym line_is) next)
+  -- the fault is that of the line
+  fault_is : length line ≤ line_limit → line_fault (stage_after classes) line ≡ Some f
+  fault_is short = rw (le-ltb line_limit (length line) short, ← stage_runs classes progress led) fault
 
 -- the next line's fault is in the bytes
 fault_of_next : (bytes : List ℕ) (lent : List LogicalLine) (progress : ProgressValue) (f : ReadFault) → AreReadTo dyndep_format LeadToStatements lent progress
     → IsNextFault RefusesLine fault_of_cutter bytes lent progress f → IsReadFaultIn bytes f
 fault_of_next bytes lent progress f read (number, rest, begins, inl t) =
     subst (IsReadFaultIn bytes) (sym t.1)
-    (elim (faulty_at_limit dyndep_format dyndep_faults bytes lent number rest read.classes begins read.texts (runs_begin read.classes progress read.led) LineTooLong (too_long_is read.classes) t.0.0 t.0) [
+    (elim (faulty_at_limit dyndep_format dyndep_faults bytes lent number rest read.classes begins read.texts (runs_begin read.classes progress read.led)
+    LineTooLong (too_long_is read.classes) t.0.0 t.0) [
       | inl line ↦ inl line
       | inr end ↦ inr (end, refl)
     ])
 fault_of_next bytes lent progress (AtLine n f) read (number, rest, begins, inr (line, after, split, is, short, view, same, refused)) =
-    fault_of_line bytes lent number rest progress read begins line after view n f split is short same refused.0 refused.1
+    let fault = subst (λ (l : LogicalLine). text_line_fault progress.stage l.text l.comment ≡ Some f) same refused.1 in
+    inl (subst (λ m. FaultyLine dyndep_format dyndep_faults bytes m f) (sym (refused.0 ∙ ap (λ l. l.number) same))
+    (faulty_next dyndep_format dyndep_faults bytes lent number rest read.classes begins read.texts (runs_begin read.classes progress read.led) line after f
+    split is
+    (faulty_after read.classes line progress f read.led fault) (fault_is read.classes line progress f read.led fault short)))
 fault_of_next bytes lent progress Io read (number, rest, begins, inr (line, after, split, is, short, view, same, refused)) = absurd refused
+
+-- one more line of a class that is allowed leads on
+led_on : (classes : List DyndepClass) (old new : ProgressValue) (c : DyndepClass) → LeadToStatements classes old → step old.stage old.statements c ≡ Some new →
+    LeadToStatements (classes ++ c ∷ []) new
+led_on classes old new c led steps = run_more classes (c ∷ []) BeforeVersion [] old led ∙
+    ap (option_and_then (λ (s : ProgressValue). run s.stage s.statements [])) steps
 
 -- a line that passes is of a class that leads on
 steps_on : (classes : List DyndepClass) (old new : ProgressValue) (line : LogicalLine) → LeadToStatements classes old → PassesLine old line new
     → (c : DyndepClass) × IsDyndepLine line.text line.comment c × LeadToStatements (classes ++ c ∷ []) new
-steps_on classes old new line led (c, is, steps) =
-    (c, is, run_more classes (c ∷ []) BeforeVersion [] old led ∙ ap (option_and_then (λ (s : ProgressValue). run s.stage s.statements [])) steps)
+steps_on classes old new line led (c, is, steps) = (c, is, led_on classes old new c led steps)
 
 -- what reading a piece returns and leaves
 pub fed : (bytes all : List ℕ) (old : DyndepReaderState) (result : Result Unit (Failure ReadFault)) (new : DyndepReaderState) → HasReadDyndep bytes old
-    → ((lent : List LogicalLine) → HasLentAll bytes lent old → FeedsLines PassesLine RefusesLine fault_of_cutter all lent old.state result new) → FeedsDyndep all result new
-fed bytes all old result new has feeds = lines.fed dyndep_format LeadToStatements PassesLine RefusesLine fault_of_cutter steps_on IsReadFaultIn fault_of_next bytes all old result new has feeds
+    → ((lent : List LogicalLine) → HasLentAll bytes lent old → FeedsLines PassesLine RefusesLine fault_of_cutter all lent old.state result new) →
+    FeedsDyndep all result new
+fed bytes all old result new has feeds =
+    lines.fed dyndep_format LeadToStatements PassesLine RefusesLine fault_of_cutter steps_on IsReadFaultIn fault_of_next bytes all old result new has feeds
 
 -- the result by what the reader of lines ends with
-abbrev pub answer_of : Result (ProgressValue × ℕ) (Failure ReadFault) → Result (List StatementValue) (Failure ReadFault)
+abbrev answer_of : Result (ProgressValue × ℕ) (Failure ReadFault) → Result (List StatementValue) (Failure ReadFault)
 answer_of (Ok end) = answer_at_end end.0.stage end.0.statements end.1
 answer_of (Err failure) = Err failure
 
 -- what is returned once all of the text was fed, and all lines read
-answered : (bytes : List ℕ) (lent : List LogicalLine) (classes : List DyndepClass) (stage : Stage) (statements : List StatementValue) (line : ℕ) → BeginsWith bytes lent line []
-    → AreTextsOfClasses dyndep_format lent classes → LeadToStatements classes (record { stage = stage; statements = statements }) → EndsDyndepFile bytes (answer_at_end stage statements line)
+answered : (bytes : List ℕ) (lent : List LogicalLine) (classes : List DyndepClass) (stage : Stage) (statements : List StatementValue) (line : ℕ) →
+    BeginsWith bytes lent line []
+    → AreTextsOfClasses dyndep_format lent classes → LeadToStatements classes (record { stage = stage; statements = statements }) →
+    EndsDyndepFile bytes (answer_at_end stage statements line)
 answered bytes lent classes BeforeVersion statements line begins texts led =
-    let progress : ProgressValue = record { stage = BeforeVersion; statements = statements } in
-    faulty_rest dyndep_format dyndep_faults bytes lent line [] classes begins texts (runs_begin classes progress led) NoVersion refl (refl, no_version classes (sym (stage_runs classes progress led)))
+    faulty_rest dyndep_format dyndep_faults bytes lent line
+    [] classes begins texts (runs_begin classes _ led) NoVersion refl (refl, no_version classes (sym (stage_runs classes _ led)))
 answered bytes lent classes NoneOpen statements line begins texts led =
-    all_lent dyndep_format bytes lent line classes statements begins texts (run_is_file classes (record { stage = NoneOpen; statements = statements }) led refl)
+    all_lent dyndep_format bytes lent line classes statements begins texts (run_is_file classes _ led refl)
 answered bytes lent classes Open statements line begins texts led =
-    all_lent dyndep_format bytes lent line classes statements begins texts (run_is_file classes (record { stage = Open; statements = statements }) led refl)
+    all_lent dyndep_format bytes lent line classes statements begins texts (run_is_file classes _ led refl)
 
 -- what is returned at the end of all bytes fed
 pub ended : (bytes : List ℕ) (r : DyndepReaderState) (result : Result (ProgressValue × ℕ) (Failure ReadFault)) → HasReadDyndep bytes r
     → ((lent : List LogicalLine) → HasLentAll bytes lent r → EndsLines fault_of_cutter bytes lent r.state result) → EndsDyndepFile bytes (answer_of result)
 ended bytes r (Ok end) has ends =
     let e = ends has.lent has.has in
-    answered bytes has.lent has.read.classes end.0.stage end.0.statements end.1 e.1 has.read.texts (subst (LeadToStatements has.read.classes) (sym e.0) has.read.led)
+    answered bytes has.lent has.read.classes end.0.stage end.0.statements end.1 e.1 has.read.texts
+    (subst (LeadToStatements has.read.classes) (sym e.0) has.read.led)
 ended bytes r (Err (Fault f)) has ends =
     let e = ends has.lent has.has in
     subst (λ (f : ReadFault). IsFaultAtEnd bytes (Fault f)) (sym e.4)
-    (faulty_rest dyndep_format dyndep_faults bytes has.lent e.0 e.1 has.read.classes e.2 has.read.texts (runs_begin has.read.classes r.state has.read.led) Truncated e.3.2 (e.3.0, e.3.1))
+    (faulty_rest dyndep_format dyndep_faults bytes has.lent e.0 e.1 has.read.classes e.2 has.read.texts (runs_begin has.read.classes r.state has.read.led)
+    Truncated e.3.2 (e.3.0, e.3.1))
 ended bytes r (Err Memory) has ends = absurd (ends has.lent has.has)
 
 -- ---- the laws themselves
@@ -156,27 +160,20 @@ line_decided : (classes : List DyndepClass) (line : List ℕ) → Begins dyndep_
 line_decided classes line begun =
     let ran = begins_runs classes begun in
     elim (cases_lt line_limit (length line)) [
-      | inl long ↦ inr (LineTooLong, too_long_is classes line long, λ c is on. absurd (omega (arith, long, short_enough c is)))
+      | inl long ↦ inr (LineTooLong, too_long_is classes line long, λ c is on. absurd (omega (arith, long, is.0)))
       | inr short ↦ elim (none_or_some (text_line_fault ran.0.stage (text_of_line line) (is_comment line))) [
-        | inr f ↦ inr (f.0, fault_is classes line ran.0 f.0 ran.1 short f.1, faulty_after classes line ran.0 f.0 ran.1 f.1)
+        | inr f ↦ inr (f.0, fault_is classes line ran.0 f.0 ran.1 f.1 short, faulty_after classes line ran.0 f.0 ran.1 f.1)
         | inl none ↦
             let s = can_stand ran.0.stage ran.0.statements (text_of_line line) (is_comment line) none in
-            inl (
-              s.class,
-              (short, s.is),
-              runs_begin (classes ++ s.class ∷ []) s.next
-                  (run_more classes (s.class ∷ []) BeforeVersion [] ran.0 ran.1 ∙ ap (option_and_then (λ (p : ProgressValue). run p.stage p.statements [])) s.steps),
-            )
+            inl (s.0, (short, s.1), runs_begin (classes ++ s.0 ∷ []) s.2.0 (led_on classes ran.0 s.2.0 s.0 ran.1 s.2.1))
       ]
-    ] where
-      short_enough : (c : DyndepClass) → IsOfClass dyndep_format line c → length line ≤ line_limit
-      short_enough c is = is.0
+    ]
 
 -- lines with which a dyndep file begins are a whole one, or the end has a fault
 abbrev EndDecided : List DyndepClass → List ℕ → Type 0
 EndDecided classes rest = ((rest ≡ []) × (ss : List StatementValue) × IsDyndepFile classes ss) ⊎ ((fault : LineFault) × IsEndFault rest classes fault)
 
-at_stage : (classes : List DyndepClass) (end : ProgressValue) → run BeforeVersion [] classes ≡ Some end → (stage : Stage) → end.stage ≡ stage → EndDecided classes []
+at_stage : (classes : List DyndepClass) (end : ProgressValue) → LeadToStatements classes end → (stage : Stage) → end.stage ≡ stage → EndDecided classes []
 at_stage classes end ran BeforeVersion at = inr (NoVersion, (refl, no_version classes (sym (stage_runs classes end ran) ∙ at)))
 at_stage classes end ran NoneOpen at = inl (refl, end.statements, run_is_file classes end ran (ap is_past at))
 at_stage classes end ran Open at = inl (refl, end.statements, run_is_file classes end ran (ap is_past at))
@@ -217,23 +214,24 @@ decided = record {
 }
 
 -- a text stands for one list of statements at most
-pub one_list : (bytes : List ℕ) (ss ts : List StatementValue) → StandsFor bytes ss → StandsFor bytes ts → ss ≡ ts
+pub one_list : OneList
 one_list bytes ss ts a b = lines.one_value dyndep_format dyndep_faults decided bytes ss ts a b
 
 -- and if it does, it has no fault
-pub not_both : (bytes : List ℕ) (ss : List StatementValue) (found : FaultAt) → StandsFor bytes ss → HasReadFault bytes found → ⊥
+pub not_both : NotBoth
 not_both bytes ss found a f = lines.not_both dyndep_format dyndep_faults decided bytes ss found.line found.fault a f
 
 -- else it has one
-pub one_of_both : (bytes : List ℕ) → ((ss : List StatementValue) × StandsFor bytes ss) ⊎ ((found : FaultAt) × HasReadFault bytes found)
-one_of_both bytes = elim (lines.value_or_fault dyndep_format dyndep_faults decided bytes) [ inl all ↦ inl all | inr stop ↦ inr (record { line = stop.0; fault = stop.1 }, stop.2) ]
+pub one_of_both : OneOfBoth
+one_of_both bytes = elim (lines.value_or_fault dyndep_format dyndep_faults decided bytes)
+    [ inl all ↦ inl all | inr stop ↦ inr (record { line = stop.0; fault = stop.1 }, stop.2) ]
 
 -- faults with the same number and the same reason are the same
 found_same : {l m : ℕ} {f g : LineFault} → l ≡ m → f ≡ g → ◌≡◌ {A = FaultAt} (record { line = l; fault = f }) (record { line = m; fault = g })
 found_same a b = rw (a, b) refl
 
 -- and just one
-pub one_fault : (bytes : List ℕ) (a b : FaultAt) → HasReadFault bytes a → HasReadFault bytes b → a ≡ b
+pub one_fault : OneReadFault
 one_fault bytes a b f g = let same = lines.one_fault dyndep_format dyndep_faults decided bytes a.line b.line a.fault b.fault f g in found_same same.0 same.1
 
 -- ---- the text of statements that can be written stands for them, and for no others
@@ -251,7 +249,8 @@ more_behind : (bytes front after more : List ℕ) → bytes ≡ front ++ after �
 more_behind bytes front after more e = ap (λ x. x ++ more) e ∙ append_assoc front after more
 
 -- a faulty line stays one
-line_stays : (bytes more : List ℕ) (line : ℕ) (fault : LineFault) → FaultyLine dyndep_format dyndep_faults bytes line fault → FaultyLine dyndep_format dyndep_faults (bytes ++ more) line fault
+line_stays : (bytes more : List ℕ) (line : ℕ) (fault : LineFault) → FaultyLine dyndep_format dyndep_faults bytes line fault →
+    FaultyLine dyndep_format dyndep_faults (bytes ++ more) line fault
 line_stays bytes more line fault f = record {
   before = f.before;
   line = f.line;
@@ -271,20 +270,12 @@ pub longer : (rest more line after : List ℕ) → rest ++ more ≡ line ++ afte
 longer rest more line after same none is_line = elim (cases_lt (length rest) (length line)) [
   | inl lt ↦ lt
   | inr within ↦
-      let front : take (length line) rest ≡ line = sym (take-append-le (length line) rest more within) ∙ ap (take (length line)) same ∙ take-append_seam line after in
+      let front : take (length line) rest ≡ line = sym (take-append-le (length line) rest more within) ∙ ap (take (length line)) same ∙
+      take-append_seam line after in
       let parts : rest ≡ line ++ drop (length line) rest = sym (take-append-drop (length line) rest) ∙ ap (λ x. x ++ drop (length line) rest) front in
       let clash : ◌≡◌ {A = Option LineEnd} None (Some _) = sym none ∙ ap line_end parts ∙ line_end-append line (drop (length line) rest) _ is_line.1 in
       absurd (cc)
 ]
-
--- a length past the limit is found greater
-is_longer : (n : ℕ) → line_limit < n → nat_lt line_limit n ≡ true
-is_longer n h = grind (arith, h)
-
--- the fault of a line that is too long
-too_long : (other : Option LineFault) (long : Bool) → long ≡ true → cond long (Some LineTooLong) other ≡ Some LineTooLong
-too_long other true e = refl
-too_long other false e = absurd (cc)
 
 -- bytes at the end that reach the limit of a line stay so, or become a line that is too long
 end_stays : (bytes more : List ℕ) (line : ℕ) (e : FaultyEnd dyndep_format dyndep_faults bytes line LineTooLong) (lines : List (List ℕ)) (rest : List ℕ)
@@ -319,11 +310,11 @@ end_stays bytes more line e (l ∷ ls) rest d =
       begun = e.begun;
       faulty = λ c of_class begins. absurd (omega (arith, past, of_class.0));
       number = e.number;
-      reason = too_long (text_line_fault (stage_after e.classes) (text_of_line l) (is_comment l)) (nat_lt line_limit (length l)) (is_longer (length l) past);
+      reason = too_long_is e.classes l past;
     })
 
 -- the fault is that of every text that begins with the bytes
-pub fault_stays : (bytes more : List ℕ) (line : ℕ) (fault : LineFault) → IsReadFaultIn bytes (AtLine line fault) → HasReadFault (bytes ++ more) (record { line = line; fault = fault })
+pub fault_stays : FaultStays
 fault_stays bytes more line fault (inl f) = inl (line_stays bytes more line fault f)
 fault_stays bytes more line fault (inr h) =
     let e : FaultyEnd dyndep_format dyndep_faults bytes line LineTooLong = subst (FaultyEnd dyndep_format dyndep_faults bytes line) h.1 h.0 in

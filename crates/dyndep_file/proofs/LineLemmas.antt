@@ -1,17 +1,17 @@
 -- The class and the fault of a line: the tables of faults agree with the classes of lines, and both follow from the tokens or the assignment that are read.
 use Rattle.std.proofs.Common.{inl, inr, ◌≡◌, ℕ, Bool, true, false, List, [], ◌∷◌, ◌++◌, map, get_or, refl, sym, ap, ◌∙◌, subst, Some, None, arith, ◌==◌, eq-eqb, ◌⊎◌, ◌+◌, ◌&&◌, zero, suc, length, Ok, Err}
-use Rattle.std.specs.Prelude.{Option, IsTrue, if◌then◌else◌, codes, slice_range, is_some, Result, slice_set, slice_index_or, nat_lt, not}
+use Rattle.std.specs.Prelude.{bytes_eq, Option, IsTrue, codes, slice_range, is_some, Result, slice_set, slice_index_or, nat_lt, not}
 use Rattle.std.proofs.lemmas.List.{append-nil}
-use Rattle.std.proofs.lemmas.Bool.{cases_Bool, eqb-true, and_parts, and_from}
+use Rattle.std.proofs.lemmas.Bool.{cases_Bool, eqb-true, and_parts}
 use Rattle.ninja_text.specs.Lexical.{lexical_fault}
-use Rattle.ninja_text.specs.Tokens.{TokenAt, tokens, raw, value_of, SeenToken, with_raw, seen_tokens}
+use Rattle.ninja_text.specs.Tokens.{is_word_kind, TokenAt, tokens, raw, value_of, SeenToken, with_raw, seen_tokens}
 use Rattle.ninja_text.specs.declared.token.TokenKind.{TokenKind}
-use Rattle.ninja_text.specs.declared.token.TokenKind.TheVariants.{Word, Bar, DoubleBar, BarAt, Colon}
+use Rattle.ninja_text.specs.declared.token.TokenKind.TheVariants.{Word, Bar, Colon}
 use Rattle.ninja_text.specs.Assignments.{SeenAssignment, assignment_of}
-use Rattle.ninja_text.proofs.ForCallers.{token_indented, name_indented, assignment_parts, slice_first}
+use Rattle.ninja_text.proofs.ForCallers.{token_indented, name_indented, assignment_parts, assignment_not_empty, slice_first}
 use Rattle.dyndep_file.specs.StatementValue.{StatementValue}
 use Rattle.dyndep_file.specs.Classes.{DyndepClass, Comment, Blank, Version, Build, Binding, Symbol, WordSymbol, SignSymbol, symbol, symbols, begins_at_start, IsPart, IsBuild, Assigns, begins_with_space, is_version_one, IsDyndepLine}
-use Rattle.dyndep_file.specs.Faults.{same_bytes, implicit_inputs_fault, after_rule_fault, rule_fault, implicit_outputs_fault, after_output_fault, output_fault, after_build, value_assigned, indented_fault, build_fault, build_or_other_fault, version_fault, unindented_fault, text_fault, text_line_fault, lexical_fault_or}
+use Rattle.dyndep_file.specs.Faults.{same_bytes, implicit_inputs_fault, after_rule_fault, rule_fault, implicit_outputs_fault, after_output_fault, after_build, value_assigned, indented_fault, build_fault, build_or_other_fault, version_fault, unindented_fault, text_fault, text_line_fault}
 use Rattle.ninja_text.specs.Paths.{is_empty}
 use Rattle.dyndep_file.specs.BuildTokens.{is_this_word, symbol_of}
 use Rattle.dyndep_file.specs.Steps.{ProgressValue, step, with_last_restat}
@@ -19,6 +19,7 @@ use Rattle.dyndep_file.specs.declared.progress.Stage.{Stage}
 use Rattle.dyndep_file.specs.declared.progress.Stage.TheVariants.{BeforeVersion, NoneOpen, Open}
 use Rattle.std.specs.List.{starts_with}
 use Rattle.std.proofs.lemmas.Bool.Decides.{nat_tests}
+use Rattle.std.proofs.lemmas.Slice.Eq.{bytes_eq-Decides}
 use Rattle.std.proofs.lemmas.Simd.{map-map}
 use Rattle.ninja_text.specs.declared.failure.Failure.{Failure}
 use Rattle.ninja_text.specs.declared.failure.Failure.TheVariants.{Memory, Fault}
@@ -28,22 +29,19 @@ use Rattle.dyndep_file.specs.declared.fault.LineFault.{LineFault}
 
 -- ---- a line of a class that is allowed at a stage has no fault there
 
--- a list of bytes equals itself
-pub same_bytes-refl : (xs : List ℕ) → same_bytes xs xs ≡ true
-same_bytes-refl [] = refl
-same_bytes-refl (x ∷ xs) = and_from (x == x) (same_bytes xs xs) (eq-eqb x x refl) (same_bytes-refl xs)
-
 -- lists of bytes that are found equal are equal
 pub same_bytes-true : (xs ys : List ℕ) → same_bytes xs ys ≡ true → xs ≡ ys
-same_bytes-true [] [] h = refl
-same_bytes-true (x ∷ xs) (y ∷ ys) h = let p = and_parts (x == y) (same_bytes xs ys) h in let e : x ≡ y = eqb-true x y p.0 in rw (e, same_bytes-true xs ys p.1) refl
-same_bytes-true [] (y ∷ ys) h = absurd (let x : false ≡ true = h in cc)
-same_bytes-true (x ∷ xs) [] h = absurd (let x : false ≡ true = h in cc)
+same_bytes-true xs ys = (bytes_eq-Decides xs ys).0
+
+-- a token is a keyword if the grammar sees that word
+pub keyword_is : (word : List ℕ) (kind : TokenKind) (bytes : List ℕ) → (is_word_kind kind && bytes_eq bytes word) ≡ is_this_word word (symbol kind bytes)
+keyword_is word Word bytes = refl
+keyword_is word other bytes = refl
 
 -- only the word of these bytes passes the test for it
 pub is_word-true : (bytes : List ℕ) (s : Symbol) → is_this_word bytes s ≡ true → s ≡ WordSymbol bytes
 is_word-true bytes (WordSymbol word) h = ap WordSymbol (same_bytes-true word bytes h)
-is_word-true bytes (SignSymbol kind) h = absurd (let x : false ≡ true = h in cc)
+is_word-true bytes (SignSymbol kind) h = cc
 
 -- words among the implicit inputs have no fault
 pub inputs_pass : (words : List (List ℕ)) (more : List Symbol) → implicit_inputs_fault (map WordSymbol words ++ more) ≡ implicit_inputs_fault more
@@ -61,14 +59,17 @@ outputs_pass [] more = refl
 outputs_pass (w ∷ words) more = outputs_pass words more
 
 -- nor has what comes after the output, if it is a part of implicit outputs
-pub after_output_passes : (before : List Symbol) (words : List (List ℕ)) (more : List Symbol) → IsPart Bar before words → after_output_fault (before ++ SignSymbol Colon ∷ more) ≡ rule_fault more
+pub after_output_passes : (before : List Symbol) (words : List (List ℕ)) (more : List Symbol) → IsPart Bar before words →
+    after_output_fault (before ++ SignSymbol Colon ∷ more) ≡ rule_fault more
 after_output_passes before words more (inl h) = ap (λ b. after_output_fault (b ++ SignSymbol Colon ∷ more)) h.0
 after_output_passes before words more (inr h) = ap (λ b. after_output_fault (b ++ SignSymbol Colon ∷ more)) h ∙ outputs_pass words (SignSymbol Colon ∷ more)
 
--- the tokens of a build line that keeps the grammar have no fault
-build_passes : (before after : List Symbol) (o : List ℕ) (os is : List (List ℕ)) → IsPart Bar before os → IsPart Bar after is
-    → output_fault (WordSymbol o ∷ before ++ SignSymbol Colon ∷ WordSymbol (codes "dyndep") ∷ after) ≡ None
-build_passes before after o os is b a = after_output_passes before os (WordSymbol (codes "dyndep") ∷ after) b ∙ after_rule_passes after is a
+-- the tokens of a build line that keeps the grammar have no fault past the version
+build_passes : (stage : Stage) → (stage ≡ BeforeVersion → ⊥) → (before after : List Symbol) (o : List ℕ) (os is : List (List ℕ)) → IsPart Bar before os →
+    IsPart Bar after is
+    → build_fault stage (WordSymbol o ∷ before ++ SignSymbol Colon ∷ WordSymbol (codes "dyndep") ∷ after) ≡ None
+build_passes BeforeVersion past before after o os is b a = absurd (past refl)
+build_passes stage past before after o os is b a = after_output_passes before os (WordSymbol (codes "dyndep") ∷ after) b ∙ after_rule_passes after is a
 
 -- the token that a text begins with, and it is this word
 pub record FirstWord (text word : List ℕ) : Type 0 where
@@ -78,16 +79,14 @@ pub record FirstWord (text word : List ℕ) : Type 0 where
   pub bytes : raw text token ≡ word
 
 -- only a word's symbol is a word, that of its bytes
-pub symbol_is_word : (k : TokenKind) (bytes word : List ℕ) → symbol k bytes ≡ WordSymbol word → bytes ≡ word
+symbol_is_word : (k : TokenKind) (bytes word : List ℕ) → symbol k bytes ≡ WordSymbol word → bytes ≡ word
 symbol_is_word Word bytes word h = cc
-symbol_is_word Bar bytes word h = absurd (let x : SignSymbol Bar ≡ WordSymbol word = h in cc)
-symbol_is_word DoubleBar bytes word h = absurd (let x : SignSymbol DoubleBar ≡ WordSymbol word = h in cc)
-symbol_is_word BarAt bytes word h = absurd (let x : SignSymbol BarAt ≡ WordSymbol word = h in cc)
-symbol_is_word Colon bytes word h = absurd (let x : SignSymbol Colon ≡ WordSymbol word = h in cc)
+symbol_is_word other bytes word h = cc
 
 -- a text whose symbols begin with a word has a first token, which is that word
-pub first_word : (text word : List ℕ) (more : List Symbol) (ts : List TokenAt) → tokens text ≡ ts → map (λ t. symbol t.kind (raw text t)) ts ≡ WordSymbol word ∷ more → FirstWord text word
-first_word text word more [] e h = absurd (let x : ◌≡◌ {A = List Symbol} [] (WordSymbol word ∷ more) = h in cc)
+pub first_word : (text word : List ℕ) (more : List Symbol) (ts : List TokenAt) → tokens text ≡ ts →
+    map (λ t. symbol t.kind (raw text t)) ts ≡ WordSymbol word ∷ more → FirstWord text word
+first_word text word more [] e h = cc
 first_word text word more (t ∷ ts) e h =
     let head : symbol t.kind (raw text t) ≡ WordSymbol word = cc in
     record { token = t; rest = ts; are = e; bytes = symbol_is_word t.kind (raw text t) word head }
@@ -97,18 +96,15 @@ pub after_keyword : (at : Bool) (more : List Symbol) → at ≡ true → after_b
 after_keyword at more h = rw h refl
 
 -- what an assignment to a name assigns
-pub value_named : (name : List ℕ) (found : Option SeenAssignment) (a : SeenAssignment) → found ≡ Some a → a.name ≡ name → value_assigned name found ≡ Some (a.name_start, value_of a.raw_value)
-value_named name found a h e = ap (value_assigned name) h ∙ chosen (same_bytes a.name name) (subst (λ n. same_bytes n name ≡ true) (sym e) (same_bytes-refl name)) where
-  chosen : (b : Bool) → b ≡ true → ◌≡◌ {A = Option (ℕ × List ℕ)} (if b then Some (a.name_start, value_of a.raw_value) else None) (Some (a.name_start, value_of a.raw_value))
-  chosen b h = rw h refl
+value_named : (name : List ℕ) (found : Option SeenAssignment) (a : SeenAssignment) → found ≡ Some a → a.name ≡ name →
+    value_assigned name found ≡ Some (a.name_start, value_of a.raw_value)
+value_named name found a h e = ap (value_assigned name) h ∙ rw ((bytes_eq-Decides a.name name).1 e) refl
 
 -- a version line
-pub unindented_version : (stage : Stage) (build : Option (List Symbol)) (found : Option SeenAssignment) (a : SeenAssignment) → found ≡ Some a → a.name ≡ codes "ninja_dyndep_version" → a.name_start ≡ 0
+pub unindented_version : (stage : Stage) (build : Option (List Symbol)) (found : Option SeenAssignment) (a : SeenAssignment) → found ≡ Some a →
+    a.name ≡ codes "ninja_dyndep_version" → a.name_start ≡ 0
     → unindented_fault stage (value_assigned (codes "ninja_dyndep_version") found) build ≡ version_fault stage (value_of a.raw_value)
-unindented_version stage build found a h name start =
-    ap (λ v. unindented_fault stage v build) (value_named (codes "ninja_dyndep_version") found a h name) ∙ at_zero a.name_start start where
-      at_zero : (n : ℕ) → n ≡ 0 → unindented_fault stage (Some (n, value_of a.raw_value)) build ≡ version_fault stage (value_of a.raw_value)
-      at_zero n e = rw (eq-eqb n 0 e) refl
+unindented_version stage build found a h name start = rw (value_named (codes "ninja_dyndep_version") found a h name, eq-eqb a.name_start 0 start) refl
 
 -- a text whose first token is at its first byte is not indented
 pub no_indent_at_token : (text : List ℕ) → IsTrue (begins_at_start (tokens text)) → begins_with_space text ≡ false
@@ -132,7 +128,8 @@ no_indent_at_name (b ∷ bytes) a h start = elim (cases_Bool (b == 32)) [
 ]
 
 -- a version line is no build line: one begins with `n`, the other with `b`
-pub names_apart : (text : List ℕ) (t : TokenAt) (a : SeenAssignment) → assignment_of text ≡ Some a → a.name_start ≡ 0 → a.name ≡ codes "ninja_dyndep_version" → t.start ≡ 0
+pub names_apart : (text : List ℕ) (t : TokenAt) (a : SeenAssignment) → assignment_of text ≡ Some a → a.name_start ≡ 0 → a.name ≡ codes "ninja_dyndep_version" →
+    t.start ≡ 0
     → raw text t ≡ codes "build" → ⊥
 names_apart text t a h start name at word =
     let p = assignment_parts text a h in
@@ -143,87 +140,77 @@ names_apart text t a h start name at word =
 -- a text of each class, at a stage that allows the class
 module _ (text : List ℕ) where
   -- a text that is no comment and has no lexical fault has the fault of its tokens
-  without_lexical_fault : (stage : Stage) (comment : Bool) → comment ≡ false → lexical_fault text ≡ None → text_fault stage text ≡ None → text_line_fault stage text comment ≡ None
+  without_lexical_fault : (stage : Stage) (comment : Bool) → comment ≡ false → lexical_fault text ≡ None → text_fault stage text ≡ None →
+      text_line_fault stage text comment ≡ None
   without_lexical_fault stage comment c l t = rw (c, l) t
-
-  -- a text that is not indented, and has no fault as such, has none
-  unindented : (stage : Stage) → begins_with_space text ≡ false
-      → unindented_fault stage (value_assigned (codes "ninja_dyndep_version") (assignment_of text)) (after_build (begins_at_start (tokens text)) (symbols text)) ≡ None
-      → text_fault stage text ≡ None
-  unindented stage indent h = elim (cases_Bool (is_empty (tokens text))) [ inl e ↦ rw e refl | inr e ↦ rw (e, indent) h ]
 
   -- a version line before all others has no fault
   version_passes : (value : List ℕ) → Assigns text (codes "ninja_dyndep_version") 0 value → IsTrue (is_version_one value) → text_fault BeforeVersion text ≡ None
   version_passes value assigns good =
       let a = assigns.0 in
-      unindented BeforeVersion (no_indent_at_name text a assigns.1 assigns.2)
-      (unindented_version BeforeVersion (after_build (begins_at_start (tokens text)) (symbols text)) (assignment_of text) a assigns.1 assigns.3 assigns.2
+      rw (assignment_not_empty text a assigns.1, no_indent_at_name text a assigns.1 assigns.2)
+      (unindented_version BeforeVersion _ (assignment_of text) a assigns.1 assigns.3 assigns.2
       ∙ subst (λ v. version_fault BeforeVersion v ≡ None) (sym assigns.4) (rw good refl))
-
-  -- a text that begins with the keyword `build` at its first byte has the fault of a build line, whatever it assigns
-  pub no_version : (stage : Stage) (build : Option (List Symbol)) (t : TokenAt) → t.start ≡ 0 → raw text t ≡ codes "build" → (o : Option SeenAssignment) → assignment_of text ≡ o
-      → unindented_fault stage (value_assigned (codes "ninja_dyndep_version") o) build ≡ build_or_other_fault stage build
-  no_version stage build t at word None e = refl
-  no_version stage build t at word (Some a) e = elim (cases_Bool (same_bytes a.name (codes "ninja_dyndep_version"))) [
-    | inr f ↦ rw f refl
-    | inl s ↦ elim (cases_Bool (a.name_start == 0)) [
-      | inr f ↦ rw (s, f) refl
-      | inl z ↦ absurd (names_apart text t a e (eqb-true a.name_start 0 z) (same_bytes-true a.name (codes "ninja_dyndep_version") s) at word)
-    ]
-  ]
 
   -- if the tokens begin at the first byte, the first of them does
   pub starts : (t : TokenAt) (ts : List TokenAt) → tokens text ≡ t ∷ ts → IsTrue (begins_at_start (tokens text)) → t.start ≡ 0
   starts t ts e h = let zero : (t.start == 0) ≡ true = subst (λ x. IsTrue (begins_at_start x)) e h in eqb-true t.start 0 zero
 
-  -- past the version, tokens without fault are a build line without fault
-  build_fault_none : (stage : Stage) (more : List Symbol) → (stage ≡ BeforeVersion → ⊥) → output_fault more ≡ None → build_fault stage more ≡ None
-  build_fault_none BeforeVersion more past h = absurd (past refl)
-  build_fault_none NoneOpen more past h = h
-  build_fault_none Open more past h = h
+  -- a text that begins with the keyword `build` at its first byte has the fault of a build line, whatever it assigns
+  module _ (more : List Symbol) (at_start : begins_at_start (tokens text) ≡ true) (are : symbols text ≡ WordSymbol (codes "build") ∷ more) where
+    no_version : (stage : Stage) (build : Option (List Symbol)) (o : Option SeenAssignment) → assignment_of text ≡ o
+        → unindented_fault stage (value_assigned (codes "ninja_dyndep_version") o) build ≡ build_or_other_fault stage build
+    no_version stage build None e = refl
+    no_version stage build (Some a) e = elim (cases_Bool (same_bytes a.name (codes "ninja_dyndep_version"))) [
+      | inr f ↦ rw f refl
+      | inl s ↦ elim (cases_Bool (a.name_start == 0)) [
+        | inr f ↦ rw (s, f) refl
+        | inl z ↦
+            let word = first_word text (codes "build") more (tokens text) refl are in
+            absurd (names_apart text word.token a e (eqb-true a.name_start 0 z) (same_bytes-true a.name (codes "ninja_dyndep_version") s)
+            (starts word.token word.rest word.are at_start) word.bytes)
+      ]
+    ]
+
+    keyword_fault : (stage : Stage) → text_fault stage text ≡ build_fault stage more
+    keyword_fault stage =
+        rw (ap is_empty (first_word text (codes "build") more (tokens text) refl are).are, no_indent_at_token text at_start)
+        (no_version stage _ (assignment_of text) refl
+        ∙ ap (build_or_other_fault stage) (ap (after_build (begins_at_start (tokens text))) are ∙ after_keyword (begins_at_start (tokens text)) more at_start))
 
   -- past the version, a build line that keeps the grammar has no fault
   build_line_passes : (stage : Stage) → (stage ≡ BeforeVersion → ⊥) → (o : List ℕ) (os is : List (List ℕ)) → IsBuild text o os is → text_fault stage text ≡ None
-  build_line_passes stage past o os is b =
-      let more = WordSymbol o ∷ b.0 ++ SignSymbol Colon ∷ WordSymbol (codes "dyndep") ∷ b.1 in
-      let word = first_word text (codes "build") more (tokens text) refl b.5 in
-      let keyword : after_build (begins_at_start (tokens text)) (symbols text) ≡ Some more = ap (after_build (begins_at_start (tokens text))) b.5 ∙ after_keyword (begins_at_start (tokens text)) more b.4 in
-      unindented stage (no_indent_at_token text b.4)
-      (no_version stage (after_build (begins_at_start (tokens text)) (symbols text)) word.token (starts word.token word.rest word.are b.4) word.bytes (assignment_of text) refl
-      ∙ ap (build_or_other_fault stage) keyword ∙ build_fault_none stage more past (build_passes b.0 b.1 o os is b.2 b.3))
+  build_line_passes stage past o os is b = keyword_fault _ b.4 b.5 stage ∙ build_passes stage past b.0 b.1 o os is b.2 b.3
 
   -- a binding under an open statement has no fault
   binding_passes : (start : ℕ) (value : List ℕ) → IsTrue (begins_with_space text) → Assigns text (codes "restat") start value → text_fault Open text ≡ None
-  binding_passes start value indent assigns = elim (cases_Bool (is_empty (tokens text))) [
-    | inl e ↦ rw e refl
-    | inr e ↦ rw (e, indent) (ap (λ v. indented_fault Open (is_some v)) (value_named (codes "restat") (assignment_of text) assigns.0 assigns.1 assigns.3))
-  ]
+  binding_passes start value indent assigns =
+      rw (assignment_not_empty text assigns.0 assigns.1, indent)
+      (ap (λ v. indented_fault Open (is_some v)) (value_named (codes "restat") (assignment_of text) assigns.0 assigns.1 assigns.3))
 
--- a line that is not allowed makes no progress
-pub never : {end : ProgressValue} {A : Type 0} → ◌≡◌ {A = Option ProgressValue} None (Some end) → A
+-- contradiction: a value is both absent and present
+pub never : {X A : Type 0} {x : X} → None ≡ Some x → A
 never h = absurd (cc)
 
 -- a line of a class that is allowed at a stage has no fault there
-pub no_fault : (stage : Stage) (ss : List StatementValue) (text : List ℕ) (comment : Bool) (c : DyndepClass) (next : ProgressValue) → IsDyndepLine text comment c
+pub no_fault : (stage : Stage) (ss : List StatementValue) (text : List ℕ) (comment : Bool) (c : DyndepClass) (next : ProgressValue) →
+    IsDyndepLine text comment c
     → step stage ss c ≡ Some next → text_line_fault stage text comment ≡ None
 no_fault stage ss text comment Comment next is steps = rw is refl
 no_fault stage ss text comment Blank next is steps = without_lexical_fault text stage comment is.0 is.1 (rw (ap is_empty is.2) refl)
 no_fault BeforeVersion ss text comment Version next is steps = without_lexical_fault text BeforeVersion comment is.0 is.1 (version_passes text is.2 is.3 is.4)
-no_fault NoneOpen ss text comment Version next is steps = never steps
-no_fault Open ss text comment Version next is steps = never steps
-no_fault BeforeVersion ss text comment (Build o os ins) next is steps = never steps
 no_fault NoneOpen ss text comment (Build o os ins) next is steps =
-    without_lexical_fault text NoneOpen comment is.0 is.1 (build_line_passes text NoneOpen (λ e. let x : NoneOpen ≡ BeforeVersion = e in cc) is.2 is.3 is.4 is.5)
+    without_lexical_fault text NoneOpen comment is.0 is.1 (build_line_passes text NoneOpen (λ e. cc) is.2 is.3 is.4 is.5)
 no_fault Open ss text comment (Build o os ins) next is steps =
-    without_lexical_fault text Open comment is.0 is.1 (build_line_passes text Open (λ e. let x : Open ≡ BeforeVersion = e in cc) is.2 is.3 is.4 is.5)
-no_fault BeforeVersion ss text comment (Binding flag) next is steps = never steps
-no_fault NoneOpen ss text comment (Binding flag) next is steps = never steps
+    without_lexical_fault text Open comment is.0 is.1 (build_line_passes text Open (λ e. cc) is.2 is.3 is.4 is.5)
 no_fault Open ss text comment (Binding flag) next is steps = without_lexical_fault text Open comment is.0 is.1 (binding_passes text is.3 is.4 is.2 is.5)
+no_fault stage ss text comment other next is steps = never steps
 
 -- ---- the class and the fault of a line, by its tokens or its assignment
 
 -- the same answer, under another reading of the fault and the class
-pub passes_as : {fault other : Option LineFault} (is as_is : DyndepClass → Type 0) (old : ProgressValue) (r : Result Unit (Failure LineFault)) (new : ProgressValue)
+pub passes_as : {fault other : Option LineFault} (is as_is : DyndepClass → Type 0) (old : ProgressValue) (r : Result Unit (Failure LineFault))
+    (new : ProgressValue)
     → other ≡ fault → ((c : DyndepClass) → is c → as_is c) → PassesOr fault is old r new → PassesOr other as_is old r new
 passes_as is as_is old (Ok u) new e turn h = (h.0, turn h.0 h.1, h.2)
 passes_as is as_is old (Err (Fault found)) new e turn h = e ∙ h
@@ -242,26 +229,19 @@ last_set (x ∷ y ∷ ss) (suc n) s flag len at = ap (λ l. x ∷ l) (last_set (
 pub opens : (stage : Stage) (before after : List StatementValue) (statement : StatementValue) (symbols : List Symbol) → (stage ≡ NoneOpen) ⊎ (stage ≡ Open)
     → after ≡ before ++ statement ∷ [] → IsNamed symbols statement
     → (c : DyndepClass) × IsBuildOf symbols c × (step stage before c ≡ Some (record { stage = Open; statements = after }))
-opens stage before after statement symbols may pushed named =
-    let c = Build (value_of named.0) (map value_of named.1) (map value_of named.2) in (
-      c,
-      (named.0, named.1, named.2, named.3, refl),
-      steps stage may ∙ ap (λ (ss : List StatementValue). Some (record { stage = Open; statements = ss })) (sym (pushed ∙ ap (λ s. before ++ s ∷ []) named.4)),
-    ) where
-      steps : (stage : Stage) → (stage ≡ NoneOpen) ⊎ (stage ≡ Open) → step stage before (Build (value_of named.0) (map value_of named.1) (map value_of named.2))
-          ≡ Some (record {
-            stage = Open;
-            statements = before ++ record { output = value_of named.0; implicit_outputs = map value_of named.1; implicit_inputs = map value_of named.2; restat = false } ∷ [];
-          })
-      steps stage (inl e) = rw e refl
-      steps stage (inr e) = rw e refl
+opens stage before after statement symbols may pushed named = (
+  Build (value_of named.0) (map value_of named.1) (map value_of named.2),
+  (named.0, named.1, named.2, named.3, refl),
+  elim may [ inl e ↦ rw (e, pushed, named.4) refl | inr e ↦ rw (e, pushed, named.4) refl ],
+)
 
 -- an assignment that has the name
 pub has_name : (name : List ℕ) (found : Option SeenAssignment) (a : SeenAssignment) → Some a ≡ with_name name found → (found ≡ Some a) × (a.name ≡ name)
-has_name name None a h = absurd (let x : ◌≡◌ {A = Option SeenAssignment} (Some a) None = h in cc)
+has_name name None a h = cc
 has_name name (Some b) a h = elim (cases_Bool (same_bytes b.name name)) [
-  | inl t ↦ let same : ◌≡◌ {A = Option SeenAssignment} (Some a) (Some b) = rw t at h in (sym same, ap (λ (x : SeenAssignment). x.name) (let e : a ≡ b = cc in e) ∙ same_bytes-true b.name name t)
-  | inr f ↦ absurd (let x : ◌≡◌ {A = Option SeenAssignment} (Some a) None = rw f at h in cc)
+  | inl t ↦ let same : ◌≡◌ {A = Option SeenAssignment} (Some a) (Some b) = rw t at h in
+      (sym same, ap (λ (x : SeenAssignment). x.name) (let e : a ≡ b = cc in e) ∙ same_bytes-true b.name name t)
+  | inr f ↦ never (sym (rw f at h))
 ]
 
 -- a blank line changes nothing if no statement is open
@@ -277,7 +257,7 @@ starts_with_space (b ∷ text) = grind (arith, nat_tests)
 
 module _ (text : List ℕ) (sound : lexical_fault text ≡ None) where
   -- the symbols of the tokens that are read are those of the text
-  pub symbols_seen : (ts : List SeenToken) → ts ≡ seen_tokens text → map symbol_of ts ≡ symbols text
+  symbols_seen : (ts : List SeenToken) → ts ≡ seen_tokens text → map symbol_of ts ≡ symbols text
   symbols_seen ts e = ap (map symbol_of) e ∙ map-map symbol_of (with_raw text) (tokens text)
 
   -- a text without tokens is blank
@@ -285,79 +265,64 @@ module _ (text : List ℕ) (sound : lexical_fault text ≡ None) where
   blank ts e none = (refl, sound, nothing (tokens text) (sym e ∙ none)) where
     nothing : (ts : List TokenAt) → map (with_raw text) ts ≡ [] → ts ≡ []
     nothing [] h = refl
-    nothing (t ∷ ts) h = absurd (let x : with_raw text t ∷ map (with_raw text) ts ≡ [] = h in cc)
+    nothing (t ∷ ts) h = cc
 
-  -- the first token of a text
-  record First (head : SeenToken) : Type 0 where
-    token : TokenAt
-    rest : List TokenAt
-    are : tokens text ≡ token ∷ rest
-    is : with_raw text token ≡ head
+  -- a text whose tokens are read has some, and they begin at its first byte if the first one that is read does
+  seen_start : (head : SeenToken) (others : List SeenToken) (ts : List TokenAt) → head ∷ others ≡ map (with_raw text) ts →
+      (is_empty ts ≡ false) × (begins_at_start ts ≡ (head.start == 0))
+  seen_start head others [] h = cc
+  seen_start head others (t ∷ ts) h = (refl, ap (λ (s : SeenToken). s.start == 0) (let same : with_raw text t ≡ head = cc in same))
 
-  -- the first token that is read is the first of the text
-  first : (head : SeenToken) (others : List SeenToken) → head ∷ others ≡ seen_tokens text → First head
-  first head others h = go (tokens text) refl h where
-    go : (ts : List TokenAt) → tokens text ≡ ts → head ∷ others ≡ map (with_raw text) ts → First head
-    go [] e h = absurd (let x : head ∷ others ≡ [] = h in cc)
-    go (t ∷ ts) e h = record { token = t; rest = ts; are = e; is = let x : with_raw text t ≡ head = cc in x }
-
-  -- the text's fault, if it has a token
-  with_tokens : (head : SeenToken) (others : List SeenToken) → head ∷ others ≡ seen_tokens text → is_empty (tokens text) ≡ false
-  with_tokens head others h = let f = first head others h in ap is_empty f.are
+  -- the class of a build line, by the tokens after the keyword
+  pub build_class : (more : List Symbol) → begins_at_start (tokens text) ≡ true → symbols text ≡ WordSymbol (codes "build") ∷ more → (c : DyndepClass) →
+      IsBuildOf more c → IsDyndepLine text false c
+  build_class more at_start are c is =
+      let n = is.3 in
+      subst (IsDyndepLine text false) (sym is.4) (
+        refl,
+        sound,
+        is.0,
+        is.1,
+        is.2,
+        (n.before, n.after, n.is_before, n.is_after, at_start, are ∙ ap (λ s. WordSymbol (codes "build") ∷ s) n.are),
+        refl,
+        refl,
+        refl,
+      )
 
   module _ (stage : Stage) (head : SeenToken) (others : List SeenToken) (all : head ∷ others ≡ seen_tokens text) where
     -- an indented text
-    pub indented_text : begins_with_space text ≡ true
-        → lexical_fault_or (lexical_fault text) (text_fault stage text) ≡ indented_fault stage (is_some (value_assigned (codes "restat") (assignment_of text)))
-    indented_text indent = rw (sound, with_tokens head others all, indent) refl
-
-    unindented_text : begins_with_space text ≡ false → lexical_fault_or (lexical_fault text) (text_fault stage text)
-        ≡ unindented_fault stage (value_assigned (codes "ninja_dyndep_version") (assignment_of text)) (after_build (begins_at_start (tokens text)) (symbols text))
-    unindented_text indent = rw (sound, with_tokens head others all, indent) refl
-
-    starts_as : begins_at_start (tokens text) ≡ (head.start == 0)
-    starts_as = let f = first head others all in ap begins_at_start f.are ∙ ap (λ (t : SeenToken). t.start == 0) f.is
+    pub indented_text : begins_with_space text ≡ true →
+        text_line_fault stage text false ≡ indented_fault stage (is_some (value_assigned (codes "restat") (assignment_of text)))
+    indented_text indent = rw (sound, (seen_start head others (tokens text) all).0, indent) refl
 
     -- a text that begins with the keyword
     module _ (begins : ((head.start == 0) && is_this_word (codes "build") (symbol_of head)) ≡ true) where
       both : ((head.start == 0) ≡ true) × (is_this_word (codes "build") (symbol_of head) ≡ true)
       both = and_parts (head.start == 0) (is_this_word (codes "build") (symbol_of head)) begins
 
-      keyword : symbol_of head ≡ WordSymbol (codes "build")
-      keyword = is_word-true (codes "build") (symbol_of head) both.1
-
       at_start : begins_at_start (tokens text) ≡ true
-      at_start = starts_as ∙ both.0
+      at_start = (seen_start head others (tokens text) all).1 ∙ both.0
 
-      symbols_are : symbols text ≡ WordSymbol (codes "build") ∷ map symbol_of others
-      symbols_are = sym (symbols_seen (head ∷ others) all) ∙ ap (λ s. s ∷ map symbol_of others) keyword
+      are : symbols text ≡ WordSymbol (codes "build") ∷ map symbol_of others
+      are = sym (symbols_seen (head ∷ others) all) ∙ ap (λ s. s ∷ map symbol_of others) (is_word-true (codes "build") (symbol_of head) both.1)
 
-      pub keyword_text : lexical_fault_or (lexical_fault text) (text_fault stage text) ≡ build_fault stage (map symbol_of others)
-      keyword_text =
-          let f = first head others all in
-          let start : f.token.start ≡ 0 = ap (λ (t : SeenToken). t.start) f.is ∙ eqb-true head.start 0 both.0 in
-          let bytes : raw text f.token ≡ codes "build" = ap (λ (t : SeenToken). t.raw) f.is ∙ symbol_is_word head.kind head.raw (codes "build") keyword in
-          unindented_text (no_indent_at_token text at_start)
-          ∙ no_version text stage (after_build (begins_at_start (tokens text)) (symbols text)) f.token start bytes (assignment_of text) refl
-          ∙ ap (build_or_other_fault stage) (ap (after_build (begins_at_start (tokens text))) symbols_are ∙ after_keyword (begins_at_start (tokens text)) (map symbol_of others) at_start)
+      pub keyword_text : text_line_fault stage text false ≡ build_fault stage (map symbol_of others)
+      keyword_text = rw sound (keyword_fault text (map symbol_of others) at_start are stage)
 
       pub keyword_class : (c : DyndepClass) → IsBuildOf (map symbol_of others) c → IsDyndepLine text false c
-      keyword_class c is =
-          let n = is.3 in
-          subst (IsDyndepLine text false) (sym is.4)
-          (refl, sound, is.0, is.1, is.2, (n.before, n.after, n.is_before, n.is_after, at_start, symbols_are ∙ ap (λ s. WordSymbol (codes "build") ∷ s) n.are), refl, refl, refl)
+      keyword_class = build_class (map symbol_of others) at_start are
 
     -- a text that is not indented and does not begin with the keyword
     pub other_text : ((head.start == 0) && is_this_word (codes "build") (symbol_of head)) ≡ false → begins_with_space text ≡ false
-        → lexical_fault_or (lexical_fault text) (text_fault stage text) ≡ unindented_fault stage (value_assigned (codes "ninja_dyndep_version") (assignment_of text)) None
-    other_text begins indent = unindented_text indent ∙ ap (unindented_fault stage (value_assigned (codes "ninja_dyndep_version") (assignment_of text))) none where
-      refused : (s : Symbol) (b : Bool) (more : List Symbol) → (b && is_this_word (codes "build") s) ≡ false → after_build b (s ∷ more) ≡ None
-      refused (WordSymbol word) b more h = rw h refl
-      refused (SignSymbol kind) b more h = refl
-
-      none : after_build (begins_at_start (tokens text)) (symbols text) ≡ None
-      none = ap (after_build (begins_at_start (tokens text))) (sym (symbols_seen (head ∷ others) all))
-          ∙ refused (symbol_of head) (begins_at_start (tokens text)) (map symbol_of others) (subst (λ b. (b && is_this_word (codes "build") (symbol_of head)) ≡ false) (sym starts_as) begins)
+        → text_line_fault stage text false ≡ unindented_fault stage (value_assigned (codes "ninja_dyndep_version") (assignment_of text)) None
+    other_text begins indent =
+        let start = seen_start head others (tokens text) all in
+        rw (sound, start.0, indent, start.1, ← symbols_seen (head ∷ others) all, refused (symbol_of head) (head.start == 0) (map symbol_of others) begins) refl
+      where
+        refused : (s : Symbol) (b : Bool) (more : List Symbol) → (b && is_this_word (codes "build") s) ≡ false → after_build b (s ∷ more) ≡ None
+        refused (WordSymbol word) b more h = rw h refl
+        refused (SignSymbol kind) b more h = refl
 
   -- an indented assignment to `restat` is a binding
   pub binding_class : begins_with_space text ≡ true → (c : DyndepClass) → IsBindingOf (assignment_of text) c → IsDyndepLine text false c

@@ -1,15 +1,12 @@
 -- The parts of a build line: the values of its words, and its paths as they are borrowed, read and written.
-use Rattle.std.proofs.Common.{◌≡◌, ℕ, ◌==◌, ◌||◌, Bool, true, false, List, [], ◌∷◌, refl, ap, ◌+◌, ◌<◌, cond, ◌++◌, length, map, get_or, Some, None, Bor, sym, ◌∙◌, arith, suc, take, codes, subst, append_assoc, length-append, Option, inr, Vec, Global, Ok, Err}
-use Rattle.std.specs.List.{list_any, position_from, flat_map}
-use Rattle.ninja_text.specs.Bytes.{dollar, line_feed}
+use Rattle.std.proofs.Common.{◌≡◌, ℕ, Bool, false, List, [], ◌∷◌, refl, ap, ◌+◌, ◌<◌, cond, ◌++◌, length, map, get_or, Some, Bor, sym, ◌∙◌, take, codes, subst, append_assoc, Option, inr, Vec, Global, Ok, Err}
+use Rattle.std.specs.List.{position_from, flat_map}
+use Rattle.ninja_text.specs.Bytes.{line_feed}
 use Rattle.ninja_text.specs.Tokens.{value_of}
-use Rattle.std.specs.Prelude.{position, nat_lt, All, Result}
-use Rattle.std.proofs.lemmas.List.Sums.{position_or_len_is}
-use Rattle.std.proofs.lemmas.Bool.{le-ltb}
-use Rattle.std.proofs.lemmas.List.{map-append, take_more, get_or-map, length-map, append-nil, get_or_append_left, get_or-append-add}
+use Rattle.std.specs.Prelude.{position, All, Result}
+use Rattle.std.proofs.lemmas.List.{map-append, take_more, get_or-map, length-map}
 use Rattle.std.proofs.lemmas.Iterator.Adapters.{position_from-zero}
 use Rattle.dyndep_file.specs.inner.Paths.{lent_texts, texts}
-use Rattle.std.proofs.lemmas.Grind.{flat_map-append}
 use Rattle.ninja_text.specs.Escapes.{escaped}
 use Rattle.dyndep_file.specs.StatementValue.{StatementValue, statement_with}
 use Rattle.dyndep_file.specs.Writing.{part_text, build_line}
@@ -25,91 +22,63 @@ use Rattle.dyndep_file.specs.Faults.{output_fault, after_output_fault, implicit_
 use Rattle.dyndep_file.specs.BuildTokens.{symbol_of, symbols_left}
 use Rattle.dyndep_file.specs.inner.BuildLines.{IsNamed, IsFailureOf, TakesOr, TakesOutput, TakesWords, TakesOutputs, TakesInputs}
 use Rattle.dyndep_file.specs.declared.fault.LineFault.{LineFault}
+use Rattle.ninja_text.specs.Escapes.{IsWritable}
+use Rattle.std.proofs.lemmas.List.{flat_map_more}
+use Rattle.std.proofs.lemmas.List.Elements.{All-from_recursion, recursion_from_All}
+use Rattle.dyndep_file.proofs.WrittenText.{both_parts}
 use Rattle.dyndep_file.proofs.LineLemmas.{inputs_pass, outputs_pass, after_output_passes}
 
--- ---- what bytes without `$` stand for
-
--- of two tests that both fail, each does
-neither : (a b : Bool) → (a || b) ≡ false → (a ≡ false) × (b ≡ false)
-neither false b h = (refl, h)
-neither true b h = absurd (let x : true ≡ false = h in cc)
-
--- bytes without `$` stand for themselves
-pub plain_value : (bytes : List ℕ) → list_any (λ b. b == dollar) bytes ≡ false → value_of bytes ≡ bytes
-plain_value [] h = refl
-plain_value (a ∷ []) h = refl
-plain_value (a ∷ b ∷ []) h =
-    let both = neither (a == dollar) (list_any (λ x. x == dollar) (b ∷ [])) h in
-    rw both.0 refl
-plain_value (a ∷ b ∷ c ∷ bytes) h =
-    let both = neither (a == dollar) (list_any (λ x. x == dollar) (b ∷ c ∷ bytes)) h in
-    rw both.0 (ap (λ rest. a ∷ rest) (plain_value (b ∷ c ∷ bytes) both.1))
-
 -- ---- the index of the first element that passes a test, in a list and in a mapped list
-
--- no element passes
-pub position_none : {X : Type 0} (p : X → Bool) (xs : List X) (d : X) → ((k : ℕ) → k < length xs → p (get_or xs k d) ≡ false) → position p xs ≡ None
-position_none p xs d before =
-    ap (λ n. cond (nat_lt n (length xs)) (Some n) None) (position_or_len_is p xs (length xs) d (omega arith) before (λ lt. absurd (omega (arith, lt))))
-    ∙ ap (λ b. cond b (Some (length xs)) None) (le-ltb (length xs) (length xs) (omega arith))
 
 from_mapped : {A B : Type 0} (f : A → B) (p : B → Bool) (i : ℕ) (xs : List A) → position_from (λ a. p (f a)) i xs ≡ position_from p i (map f xs)
 from_mapped f p i [] = refl
 from_mapped f p i (x ∷ xs) = ap (λ o. cond (p (f x)) (Some i) o) (from_mapped f p (i + 1) xs)
 
 -- the first index is the same in the mapped list
-pub position-map : {A B : Type 0} (f : A → B) (p : B → Bool) (xs : List A) → position (λ a. p (f a)) xs ≡ position p (map f xs)
+position-map : {A B : Type 0} (f : A → B) (p : B → Bool) (xs : List A) → position (λ a. p (f a)) xs ≡ position p (map f xs)
 position-map f p xs = position_from-zero (λ a. p (f a)) xs ∙ from_mapped f p 0 xs ∙ sym (position_from-zero p (map f xs))
 
 -- the first index in the paths of a statement, as they are borrowed
 pub position-paths : (p : List ℕ → Bool) (output : Bor (List ℕ)) (outputs inputs : List (Bor (List ℕ)))
     → position (λ path. p path.now) (output ∷ (outputs ++ inputs)) ≡ position p (output.now ∷ (lent_texts outputs ++ lent_texts inputs))
 position-paths p output outputs inputs =
-    position-map (λ path. path.now) p (output ∷ (outputs ++ inputs)) ∙ ap (λ paths. position p (output.now ∷ paths)) (map-append (λ path. path.now) outputs inputs)
+    position-map (λ path. path.now) p (output ∷ (outputs ++ inputs)) ∙
+    ap (λ paths. position p (output.now ∷ paths)) (map-append (λ path. path.now) outputs inputs)
 
 -- ---- the paths of a part, and what is written of the first of them
 
 -- the bytes of the path at an index
-pub text_at : (paths : List (Bor (List ℕ))) (i : ℕ) (other : Bor (List ℕ)) (d : List ℕ) → i < length paths → get_or (lent_texts paths) i d ≡ (get_or paths i other).now
+pub text_at : (paths : List (Bor (List ℕ))) (i : ℕ) (other : Bor (List ℕ)) (d : List ℕ) → i < length paths →
+    get_or (lent_texts paths) i d ≡ (get_or paths i other).now
 text_at paths i other d lt = get_or-map (λ p. p.now) paths i other d lt
 
 -- there are as many as there are paths
 pub same_length : (paths : List (Bor (List ℕ))) → length (lent_texts paths) ≡ length paths
 same_length paths = length-map paths (λ p. p.now)
 
--- what is written of one more element
-pub flat_map_next : {X : Type 0} (f : X → List ℕ) (xs : List X) (i : ℕ) (x : X) → i < length xs → get_or xs i x ≡ x → flat_map f (take (i + 1) xs) ≡ flat_map f (take i xs) ++ f x
-flat_map_next f xs i x lt is =
-    ap (flat_map f) (take_more xs i x lt ∙ ap (λ y. take i xs ++ y ∷ []) is) ∙ flat_map-append f (take i xs) (x ∷ [])
-    ∙ ap (λ t. flat_map f (take i xs) ++ t) (append-nil (f x))
-
--- the same of a path, given as it is borrowed
-pub flat_map_next_path : (f : List ℕ → List ℕ) (paths : List (Bor (List ℕ))) (i : ℕ) (other : Bor (List ℕ)) → i < length paths → flat_map f (take (i + 1) (lent_texts paths)) ≡ flat_map f (take i (lent_texts paths)) ++ f (get_or paths i other).now
-flat_map_next_path f paths i other lt =
+-- what is written of one more path
+pub path_more : (f : List ℕ → List ℕ) (start : List ℕ) (paths : List (Bor (List ℕ))) (i : ℕ) (other : Bor (List ℕ)) → i < length paths
+    → (start ++ flat_map f (take i (lent_texts paths))) ++ f (get_or paths i other).now ≡ start ++ flat_map f (take (i + 1) (lent_texts paths))
+path_more f start paths i other lt =
     let path = (get_or paths i other).now in
-    flat_map_next f (lent_texts paths) i path (subst (λ n. i < n) (sym (same_length paths)) lt) (text_at paths i other path lt)
-
--- a path that is written after what is there
-pub written_next : (start front text path : List ℕ) (byte : ℕ) → ((start ++ (front ++ text)) ++ byte ∷ []) ++ path ≡ start ++ (front ++ (text ++ byte ∷ path))
-written_next start front text path byte = simp append_assoc
+    flat_map_more f start (take i (lent_texts paths)) path
+    ∙ ap (λ xs. start ++ flat_map f xs)
+    (ap (λ x. take i (lent_texts paths) ++ x ∷ []) (sym (text_at paths i other path lt)) ∙
+    sym (take_more (lent_texts paths) i path (subst (λ n. i < n) (sym (same_length paths)) lt)))
 
 -- what holds of all paths of a statement holds of those of each part
-pub first_part : (P : List ℕ → Type 0) (output : List ℕ) (outputs inputs : List (List ℕ)) → All P (output ∷ (outputs ++ inputs)) → All P outputs
-first_part P output outputs inputs a k d lt =
-    subst P (get_or_append_left outputs inputs d k lt)
-    (a (suc k) d (let both = length-append outputs inputs in omega (arith, both, lt)))
-
--- the same of the second of two lists
-pub second_part : (P : List ℕ → Type 0) (output : List ℕ) (outputs inputs : List (List ℕ)) → All P (output ∷ (outputs ++ inputs)) → All P inputs
-second_part P output outputs inputs a k d lt =
-    subst P (get_or-append-add outputs inputs k d)
-    (a (suc (length outputs + k)) d (let both = length-append outputs inputs in omega (arith, both, lt)))
+pub parts_writable : (output : List ℕ) (outputs inputs : List (List ℕ)) → All IsWritable (output ∷ (outputs ++ inputs)) →
+    All IsWritable outputs × All IsWritable inputs
+parts_writable output outputs inputs all =
+    let each = both_parts IsWritable outputs inputs (recursion_from_All IsWritable (output ∷ (outputs ++ inputs)) all).1 in
+    (All-from_recursion IsWritable outputs each.0, All-from_recursion IsWritable inputs each.1)
 
 joined : (a b c d e f : List ℕ) → ((((a ++ b) ++ c) ++ d) ++ e) ++ f ≡ a ++ b ++ c ++ d ++ e ++ f
 joined a b c d e f = simp append_assoc
 
 -- the parts of a build line, written one after another
-pub line_written : (s : StatementValue) {a b c d e f g : List ℕ} → a ≡ [] → b ≡ a ++ codes "build " → c ≡ b ++ escaped s.output → d ≡ c ++ part_text s.implicit_outputs
+pub line_written : (s : StatementValue) {a b c d e f g : List ℕ} → a ≡ [] → b ≡ a ++ codes "build " → c ≡ b ++ escaped s.output →
+    d ≡ c ++ part_text s.implicit_outputs
     → e ≡ d ++ codes ": dyndep" → f ≡ e ++ part_text s.implicit_inputs → g ≡ f ++ line_feed ∷ [] → g ≡ build_line s
 line_written s none word output outputs rule inputs end =
     rw (end, inputs, rule, outputs, output, word, none)
@@ -118,7 +87,7 @@ line_written s none word output outputs rule inputs end =
 -- ---- what reading the parts one after another gives
 
 -- one more word after words that were read
-pub takes_more : (old : List Symbol) (values : List (List ℕ)) (word value : List ℕ) (new : List Symbol)
+takes_more : (old : List Symbol) (values : List (List ℕ)) (word value : List ℕ) (new : List Symbol)
     → TakesWords old values (WordSymbol word ∷ new) → value ≡ value_of word → TakesWords old (values ++ value ∷ []) new
 takes_more old values word value new t is = record {
   words = t.words ++ word ∷ [];
@@ -133,24 +102,25 @@ same_statement : {o p : List ℕ} {os ps is qs : List (List ℕ)} → o ≡ p �
 same_statement a b c = rw (a, b, c) refl
 
 -- the tokens of a build line, and what is left after the output, the implicit outputs and the rule
-module _ (all : List Symbol) (output : List ℕ) (after_output : List Symbol) (takes_output : TakesOutput all output after_output) where
+module _ {all : List Symbol} {output : List ℕ} {after_output : List Symbol} (takes_output : TakesOutput all output after_output) where
   -- the fault after the output is that of all
   pub fault_after_output : after_output_fault after_output ≡ output_fault all
   fault_after_output = sym (ap output_fault takes_output.are)
 
-  module _ (outputs : List (List ℕ)) (at_rule : List Symbol) (takes_outputs : TakesOutputs after_output outputs at_rule) where
+  module _ {outputs : List (List ℕ)} {at_rule : List Symbol} (takes_outputs : TakesOutputs after_output outputs at_rule) where
     -- so is the fault after the `:`
     pub fault_at_rule : rule_fault at_rule ≡ output_fault all
-    fault_at_rule = sym (ap after_output_fault takes_outputs.are ∙ after_output_passes takes_outputs.part takes_outputs.words at_rule takes_outputs.is_part) ∙ fault_after_output
+    fault_at_rule = sym (ap after_output_fault takes_outputs.are ∙ after_output_passes takes_outputs.part takes_outputs.words at_rule takes_outputs.is_part) ∙
+        fault_after_output
 
-    module _ (after_rule : List Symbol) (takes_rule : at_rule ≡ WordSymbol (codes "dyndep") ∷ after_rule) where
+    module _ {after_rule : List Symbol} (takes_rule : at_rule ≡ WordSymbol (codes "dyndep") ∷ after_rule) where
       -- and the fault after the rule
       pub fault_after_rule : after_rule_fault after_rule ≡ output_fault all
       fault_after_rule = sym (ap rule_fault takes_rule) ∙ fault_at_rule
 
       -- the parts are those of the statement that the tokens name
-      pub named : (inputs : List (List ℕ)) → TakesInputs after_rule inputs → IsNamed all (statement_with output outputs inputs false)
-      named inputs takes_inputs = (
+      pub named : {inputs : List (List ℕ)} → TakesInputs after_rule inputs → IsNamed all (statement_with output outputs inputs false)
+      named takes_inputs = (
         takes_output.word,
         takes_outputs.words,
         takes_inputs.words,
@@ -159,8 +129,8 @@ module _ (all : List Symbol) (output : List ℕ) (after_output : List Symbol) (t
           after = after_rule;
           is_before = takes_outputs.is_part;
           is_after = takes_inputs.is_part;
-          are = takes_output.are
-              ∙ ap (λ s. WordSymbol takes_output.word ∷ s) (takes_outputs.are ∙ ap (λ s. takes_outputs.part ++ SignSymbol Colon ∷ s) takes_rule);
+          are = takes_output.are ∙
+              ap (λ s. WordSymbol takes_output.word ∷ s) (takes_outputs.are ∙ ap (λ s. takes_outputs.part ++ SignSymbol Colon ∷ s) takes_rule);
         },
         same_statement takes_output.is takes_outputs.is takes_inputs.is,
       )
@@ -181,18 +151,20 @@ takes_next all values new_values value words new token taken steps is_word is pu
     (subst (TakesWords all (texts values)) (next_is words new token Word steps is_word) taken) is)
 
 -- the fault after words among the implicit outputs is that of all
-pub fault_in_outputs : (all : List Symbol) (values : List (List ℕ)) (left : List Symbol) → TakesWords all values left → implicit_outputs_fault all ≡ implicit_outputs_fault left
-fault_in_outputs all values left taken = ap implicit_outputs_fault taken.are ∙ outputs_pass taken.words left
+pub fault_in_outputs : {all : List Symbol} {values : List (List ℕ)} {left : List Symbol} → TakesWords all values left →
+    implicit_outputs_fault all ≡ implicit_outputs_fault left
+fault_in_outputs {all} {values} {left} taken = ap implicit_outputs_fault taken.are ∙ outputs_pass taken.words left
 
 -- the same among the implicit inputs
-pub fault_in_inputs : (all : List Symbol) (values : List (List ℕ)) (left : List Symbol) → TakesWords all values left → implicit_inputs_fault all ≡ implicit_inputs_fault left
-fault_in_inputs all values left taken = ap implicit_inputs_fault taken.are ∙ inputs_pass taken.words left
+pub fault_in_inputs : {all : List Symbol} {values : List (List ℕ)} {left : List Symbol} → TakesWords all values left →
+    implicit_inputs_fault all ≡ implicit_inputs_fault left
+fault_in_inputs {all} {values} {left} taken = ap implicit_inputs_fault taken.are ∙ inputs_pass taken.words left
 
 -- what a reading fails with, another fails with that has the same fault
-pub refuses : {T : Type 0} (fault other : Option LineFault) (is : T → Type 0) (failure : Failure LineFault) (result : Result T (Failure LineFault))
+pub refuses : {T : Type 0} {fault other : Option LineFault} (is : T → Type 0) (failure : Failure LineFault) (result : Result T (Failure LineFault))
     → IsErrAnd result (λ e. e ≡ failure) → fault ≡ other → IsFailureOf fault failure → TakesOr other is result
-refuses fault other is failure (Ok value) e same h = absurd e
-refuses fault other is failure (Err reason) e same h = subst (IsFailureOf other) (sym e) (subst (λ f. IsFailureOf f failure) same h)
+refuses is failure (Ok value) e same h = absurd e
+refuses {T} {fault} {other} is failure (Err reason) e same h = subst (IsFailureOf other) (sym e) (subst (λ f. IsFailureOf f failure) same h)
 
 -- `|`, the words after it and a `:` are a part of implicit outputs and that `:`
 pub takes_bar : (old between new : List Symbol) (result : Result (Vec (Vec ℕ Global) Global) (Failure LineFault)) → old ≡ SignSymbol Bar ∷ between

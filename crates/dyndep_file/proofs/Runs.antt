@@ -1,10 +1,11 @@
 -- The grammar of a dyndep file, and runs over its lines: they give the same statements, and continue with the same lines.
 use Rattle.std.proofs.Common.{inl, inr, ◌⊎◌, ◌||◌, ◌≡◌, ℕ, Bool, true, false, List, [], ◌∷◌, ◌++◌, refl, sym, ap, ◌∙◌, subst, append_assoc, Some, None}
 use Rattle.std.specs.Prelude.{Option, if◌then◌else◌}
+use Rattle.std.specs.Option.{option_and_then}
 use Rattle.std.specs.List.{list_all}
 use Rattle.dyndep_file.specs.Faults.{is_open, is_comment_class, stage_after}
 use Rattle.std.proofs.lemmas.List.{append-nil}
-use Rattle.dyndep_file.specs.StatementValue.{StatementValue}
+use Rattle.dyndep_file.specs.StatementValue.{StatementValue, statement_with}
 use Rattle.dyndep_file.specs.Classes.{DyndepClass, Comment, Blank, Version, Build, Binding}
 use Rattle.dyndep_file.specs.Grammar.{HasBinding, binding_here, comment_before, IsDyndepBody, body_end, body_comment, body_blank, body_build, body_build_binding, IsDyndepFile}
 use Rattle.dyndep_file.specs.Grammar.{comment_first, blank_first, version_line, BeginsDyndepFile}
@@ -13,83 +14,67 @@ use Rattle.dyndep_file.specs.declared.progress.Stage.{Stage}
 use Rattle.dyndep_file.specs.declared.progress.Stage.TheVariants.{BeforeVersion, NoneOpen, Open}
 use Rattle.dyndep_file.proofs.LineLemmas.{never}
 
--- a statement, by its paths and its flag
-abbrev pub statement : List ℕ → List (List ℕ) → List (List ℕ) → Bool → StatementValue
-statement output outputs inputs flag = record { output = output; implicit_outputs = outputs; implicit_inputs = inputs; restat = flag }
-
 -- whether the version line has come
 abbrev pub is_past : Stage → Bool
 is_past BeforeVersion = false
 is_past NoneOpen = true
 is_past Open = true
 
+-- what a run returns that ends so
+abbrev Ends : Option ProgressValue → ProgressValue → Type 0
+Ends ran end = ran ≡ Some end
+
 -- the lines lead past the version, to these statements
-pub record RunsTo (stage : Stage) (start : List StatementValue) (classes : List DyndepClass) (result : List StatementValue) : Type 0 where
-  pub final : Stage
-  pub is : run stage start classes ≡ Some (record { stage = final; statements = result })
-  pub past : is_past final ≡ true
+abbrev RunsTo : Stage → List StatementValue → List DyndepClass → List StatementValue → Type 0
+RunsTo stage start classes result = (final : Stage) × Ends (run stage start classes) (record { stage = final; statements = result }) × (is_past final ≡ true)
 
 -- the flag of a statement that was added last
-with_last_restat-push : (ss : List StatementValue) (output : List ℕ) (outputs inputs : List (List ℕ)) (flag : Bool)
-    → with_last_restat flag (ss ++ statement output outputs inputs false ∷ []) ≡ ss ++ statement output outputs inputs flag ∷ []
-with_last_restat-push [] output outputs inputs flag = refl
-with_last_restat-push (s ∷ []) output outputs inputs flag = refl
-with_last_restat-push (s ∷ t ∷ ss) output outputs inputs flag = ap (λ xs. s ∷ xs) (with_last_restat-push (t ∷ ss) output outputs inputs flag)
+flag_set : (ss : List StatementValue) (output : List ℕ) (outputs inputs : List (List ℕ)) (flag : Bool)
+    → with_last_restat flag (ss ++ statement_with output outputs inputs false ∷ []) ≡ ss ++ statement_with output outputs inputs flag ∷ []
+flag_set [] output outputs inputs flag = refl
+flag_set (s ∷ []) output outputs inputs flag = refl
+flag_set (s ∷ t ∷ ss) output outputs inputs flag = ap (λ xs. s ∷ xs) (flag_set (t ∷ ss) output outputs inputs flag)
 
 -- equal results are of equal progress
-progress_same : {x y : ProgressValue} → ◌≡◌ {A = Option ProgressValue} (Some x) (Some y) → x ≡ y
+progress_same : {x y : ProgressValue} → Ends (Some x) y → x ≡ y
 progress_same h = cc
 
--- what may follow if no statement is open may follow if one is
-open_runs : (classes : List DyndepClass) (start result : List StatementValue) → RunsTo NoneOpen start classes result → RunsTo Open start classes result
-open_runs [] start result r =
-    let same : start ≡ result = ap (λ s. s.statements) (progress_same r.is) in
-    record { final = Open; is = ap (λ ss. Some (record { stage = Open; statements = ss })) same; past = refl }
-open_runs (Comment ∷ classes) start result r =
-    let later = open_runs classes start result (record { final = r.final; is = r.is; past = r.past }) in record { final = later.final; is = later.is; past = later.past }
-open_runs (Blank ∷ classes) start result r = record { final = r.final; is = r.is; past = r.past }
-open_runs (Version ∷ classes) start result r = absurd (let x : None ≡ Some (record { stage = r.final; statements = result }) = r.is in cc)
-open_runs (Build o outs ins ∷ classes) start result r = record { final = r.final; is = r.is; past = r.past }
-open_runs (Binding flag ∷ classes) start result r = absurd (let x : None ≡ Some (record { stage = r.final; statements = result }) = r.is in cc)
-
 -- the binding of an open statement sets its flag
-binding_runs : {classes more : List DyndepClass} {flag : Bool} (start result : List StatementValue) (o : List ℕ) (outs ins : List (List ℕ)) → HasBinding classes flag more
-    → RunsTo NoneOpen (start ++ statement o outs ins flag ∷ []) more result → RunsTo Open (start ++ statement o outs ins false ∷ []) classes result
-binding_runs start result o outs ins (binding_here {flag} {more}) r =
-    record { final = r.final; is = ap (λ ss. run NoneOpen ss more) (with_last_restat-push start o outs ins flag) ∙ r.is; past = r.past }
-binding_runs start result o outs ins (comment_before b) r = let later = binding_runs start result o outs ins b r in record { final = later.final; is = later.is; past = later.past }
+binding_runs : {classes more : List DyndepClass} {flag : Bool} (start result : List StatementValue) (o : List ℕ) (outs ins : List (List ℕ)) →
+    HasBinding classes flag more
+    → RunsTo NoneOpen (start ++ statement_with o outs ins flag ∷ []) more result → RunsTo Open (start ++ statement_with o outs ins false ∷ []) classes result
+binding_runs start result o outs ins (binding_here {flag} {more}) r = subst (λ ss. RunsTo NoneOpen ss more result) (sym (flag_set start o outs ins flag)) r
+binding_runs start result o outs ins (comment_before b) r = binding_runs start result o outs ins b r
 
--- statements added after one that was added are added with it
-pushed_runs : (stage : Stage) (classes : List DyndepClass) (start : List StatementValue) (s : StatementValue) (ss : List StatementValue)
+-- statements that are added after one are added with it
+added_runs : {classes : List DyndepClass} {ss : List StatementValue} (stage : Stage) (start : List StatementValue) (s : StatementValue) →
+    IsDyndepBody classes ss
     → RunsTo stage (start ++ s ∷ []) classes ((start ++ s ∷ []) ++ ss) → RunsTo stage (start ++ s ∷ []) classes (start ++ s ∷ ss)
-pushed_runs stage classes start s ss r = subst (RunsTo stage (start ++ s ∷ []) classes) (append_assoc start (s ∷ []) ss) r
+added_runs {classes} {ss} stage start s b r = subst (RunsTo stage (start ++ s ∷ []) classes) (append_assoc start (s ∷ []) ss) r
 
--- the lines of a body run to its statements
-body_runs : {classes : List DyndepClass} {ss : List StatementValue} (start : List StatementValue) → IsDyndepBody classes ss → RunsTo NoneOpen start classes (start ++ ss)
-body_runs start body_end = record { final = NoneOpen; is = ap (λ ss. Some (record { stage = NoneOpen; statements = ss })) (sym (append-nil start)); past = refl }
-body_runs start (body_comment b) = let r = body_runs start b in record { final = r.final; is = r.is; past = r.past }
-body_runs start (body_blank b) = let r = body_runs start b in record { final = r.final; is = r.is; past = r.past }
-body_runs start (body_build {output} {outputs} {inputs} {classes} {statements} b) =
-    let s = statement output outputs inputs false in
-    let r = pushed_runs Open classes start s statements (open_runs classes (start ++ s ∷ []) ((start ++ s ∷ []) ++ statements) (body_runs (start ++ s ∷ []) b)) in
-    record { final = r.final; is = r.is; past = r.past }
-body_runs start (body_build_binding {output} {outputs} {inputs} {classes} {more} {flag} {statements} d b) =
-    let s = statement output outputs inputs flag in
-    let r = binding_runs start (start ++ s ∷ statements) output outputs inputs d (pushed_runs NoneOpen more start s statements (body_runs (start ++ s ∷ []) b)) in
-    record { final = r.final; is = r.is; past = r.past }
+-- the lines of a body run to its statements, whether a statement is open before them or none
+body_runs : {classes : List DyndepClass} {ss : List StatementValue} (opened : Bool) (start : List StatementValue) → IsDyndepBody classes ss
+    → RunsTo (if opened then Open else NoneOpen) start classes (start ++ ss)
+body_runs true start body_end = (Open, ap (λ ss. run Open ss []) (sym (append-nil start)), refl)
+body_runs false start body_end = (NoneOpen, ap (λ ss. run NoneOpen ss []) (sym (append-nil start)), refl)
+body_runs true start (body_comment b) = body_runs true start b
+body_runs false start (body_comment b) = body_runs false start b
+body_runs true start (body_blank b) = body_runs false start b
+body_runs false start (body_blank b) = body_runs false start b
+body_runs true start (body_build b) = added_runs Open start _ b (body_runs true _ b)
+body_runs false start (body_build b) = added_runs Open start _ b (body_runs true _ b)
+body_runs true start (body_build_binding d b) = binding_runs start _ _ _ _ d (added_runs NoneOpen start _ b (body_runs false _ b))
+body_runs false start (body_build_binding d b) = binding_runs start _ _ _ _ d (added_runs NoneOpen start _ b (body_runs false _ b))
 
 -- the lines of a dyndep file run to its statements
-pub file_runs : {classes : List DyndepClass} {ss : List StatementValue} → IsDyndepFile classes ss → RunsTo BeforeVersion [] classes ss
-file_runs (comment_first b) = let r = file_runs b in record { final = r.final; is = r.is; past = r.past }
-file_runs (blank_first b) = let r = file_runs b in record { final = r.final; is = r.is; past = r.past }
-file_runs (version_line b) = let r = body_runs [] b in record { final = r.final; is = r.is; past = r.past }
+file_runs : {classes : List DyndepClass} {ss : List StatementValue} → IsDyndepFile classes ss → RunsTo BeforeVersion [] classes ss
+file_runs (comment_first b) = file_runs b
+file_runs (blank_first b) = file_runs b
+file_runs (version_line b) = body_runs false [] b
 
 -- lines of these classes are a dyndep file with one list of statements at most
 pub one_list_of_statements : {classes : List DyndepClass} {ss ts : List StatementValue} → IsDyndepFile classes ss → IsDyndepFile classes ts → ss ≡ ts
-one_list_of_statements {classes} {ss} {ts} a b =
-    let r = file_runs a in
-    let q = file_runs b in
-    ap (λ s. s.statements) (progress_same (sym r.is ∙ q.is))
+one_list_of_statements a b = ap (λ s. s.statements) (progress_same (sym (file_runs a).1 ∙ (file_runs b).1))
 
 -- a comment is allowed after a build line
 insert_comment : {o : List ℕ} {outs ins : List (List ℕ)} {classes : List DyndepClass} {ss : List StatementValue} → IsDyndepBody (Build o outs ins ∷ classes) ss
@@ -98,59 +83,62 @@ insert_comment (body_build b) = body_build (body_comment b)
 insert_comment (body_build_binding d b) = body_build_binding (comment_before d) b
 
 -- the statements that a run adds, and its lines are a body with them
-record Added (classes : List DyndepClass) (start : List StatementValue) (end : ProgressValue) : Type 0 where
-  statements : List StatementValue
-  are : end.statements ≡ start ++ statements
-  grammar : IsDyndepBody classes statements
+abbrev Added : List DyndepClass → List StatementValue → ProgressValue → Type 0
+Added classes start end = (ss : List StatementValue) × (end.statements ≡ start ++ ss) × IsDyndepBody classes ss
 
--- the statements that any run over these lines adds, if no statement is open and if one is
-record RunAdds (classes : List DyndepClass) : Type 0 where
-  none : (start : List StatementValue) (end : ProgressValue) → run NoneOpen start classes ≡ Some end → Added classes start end
-  one : (start : List StatementValue) (o : List ℕ) (outs ins : List (List ℕ)) (end : ProgressValue) → run Open (start ++ statement o outs ins false ∷ []) classes ≡ Some end
-      → Added (Build o outs ins ∷ classes) start end
+-- the statements that any run over these lines adds, if no statement is open
+abbrev Adds : List DyndepClass → Type 0
+Adds classes = (start : List StatementValue) (end : ProgressValue) → Ends (run NoneOpen start classes) end → Added classes start end
 
--- a run over no line ends with the statements that it began with
-at_end : {stage : Stage} {start : List StatementValue} {end : ProgressValue} → ◌≡◌ {A = Option ProgressValue} (Some (record { stage = stage; statements = start })) (Some end) → end.statements ≡ start
-at_end {stage} {start} {end} h = sym (ap (λ s. s.statements) (progress_same h))
+-- and if one is
+abbrev AddsToOpen : List DyndepClass → Type 0
+AddsToOpen classes = (start : List StatementValue) (o : List ℕ) (outs ins : List (List ℕ)) (end : ProgressValue) →
+    Ends (run Open (start ++ statement_with o outs ins false ∷ []) classes) end
+    → Added (Build o outs ins ∷ classes) start end
+
+-- a run over no line ends with the statements that it began with, at the stage that it began at
+at_end : {stage : Stage} {start : List StatementValue} {end : ProgressValue} → Ends (Some (record { stage = stage; statements = start })) end →
+    (end.statements ≡ start) × (end.stage ≡ stage)
+at_end h = let same = sym (progress_same h) in (ap (λ s. s.statements) same, ap (λ s. s.stage) same)
+
+-- what is added after one statement is added with it
+with_first : {classes more : List DyndepClass} (start : List StatementValue) (s : StatementValue) (end : ProgressValue) →
+    ((ss : List StatementValue) → IsDyndepBody classes ss → IsDyndepBody more (s ∷ ss))
+    → Added classes (start ++ s ∷ []) end → Added more start end
+with_first start s end turn a = (s ∷ a.0, a.1 ∙ append_assoc start (s ∷ []) a.0, turn a.0 a.2)
 
 -- a run past the version adds just the statements that its lines are a body with
-run_adds : (classes : List DyndepClass) → RunAdds classes
-run_adds [] = record {
-  none = λ start end h. record { statements = []; are = at_end h ∙ sym (append-nil start); grammar = body_end };
-  one = λ start o outs ins end h. record { statements = statement o outs ins false ∷ []; are = at_end h; grammar = body_build body_end };
-}
-run_adds (Comment ∷ classes) = let later = run_adds classes in record {
-  none = λ start end h. let a = later.none start end h in record { statements = a.statements; are = a.are; grammar = body_comment a.grammar };
-  one = λ start o outs ins end h. let a = later.one start o outs ins end h in record { statements = a.statements; are = a.are; grammar = insert_comment a.grammar };
-}
-run_adds (Blank ∷ classes) = let later = run_adds classes in record {
-  none = λ start end h. let a = later.none start end h in record { statements = a.statements; are = a.are; grammar = body_blank a.grammar };
-  one = λ start o outs ins end h. let a = later.none (start ++ statement o outs ins false ∷ []) end h in
-      record { statements = statement o outs ins false ∷ a.statements; are = a.are ∙ append_assoc start (statement o outs ins false ∷ []) a.statements; grammar = body_build (body_blank a.grammar) };
-}
-run_adds (Version ∷ classes) = record { none = λ start end h. never h; one = λ start o outs ins end h. never h }
-run_adds (Build p ps qs ∷ classes) = let later = run_adds classes in record {
-  none = λ start end h. let a = later.one start p ps qs end h in record { statements = a.statements; are = a.are; grammar = a.grammar };
-  one = λ start o outs ins end h. let a = later.one (start ++ statement o outs ins false ∷ []) p ps qs end h in
-      record { statements = statement o outs ins false ∷ a.statements; are = a.are ∙ append_assoc start (statement o outs ins false ∷ []) a.statements; grammar = body_build a.grammar };
-}
-run_adds (Binding flag ∷ classes) = let later = run_adds classes in record {
-  none = λ start end h. never h;
-  one = λ start o outs ins end h.
-      let a = later.none (start ++ statement o outs ins flag ∷ []) end (sym (ap (λ ss. run NoneOpen ss classes) (with_last_restat-push start o outs ins flag)) ∙ h) in
-      record {
-        statements = statement o outs ins flag ∷ a.statements;
-        are = a.are ∙ append_assoc start (statement o outs ins flag ∷ []) a.statements;
-        grammar = body_build_binding binding_here a.grammar;
-      };
-}
+run_adds : (classes : List DyndepClass) → Adds classes × AddsToOpen classes
+run_adds [] = (
+  λ start end h. ([], (at_end h).0 ∙ sym (append-nil start), body_end),
+  λ start o outs ins end h. (statement_with o outs ins false ∷ [], (at_end h).0, body_build body_end),
+)
+run_adds (Comment ∷ classes) = let later = run_adds classes in (
+  λ start end h. let a = later.0 start end h in (a.0, a.1, body_comment a.2),
+  λ start o outs ins end h. let a = later.1 start o outs ins end h in (a.0, a.1, insert_comment a.2),
+)
+run_adds (Blank ∷ classes) = let later = run_adds classes in (
+  λ start end h. let a = later.0 start end h in (a.0, a.1, body_blank a.2),
+  λ start o outs ins end h. with_first start _ end (λ ss b. body_build (body_blank b)) (later.0 _ end h),
+)
+run_adds (Version ∷ classes) = (λ start end h. never h, λ start o outs ins end h. never h)
+run_adds (Build p ps qs ∷ classes) = let later = (run_adds classes).1 in (
+  λ start end h. later start p ps qs end h,
+  λ start o outs ins end h. with_first start _ end (λ ss b. body_build b) (later _ p ps qs end h),
+)
+run_adds (Binding flag ∷ classes) = (
+  λ start end h. never h,
+  λ start o outs ins end h. with_first start (statement_with o outs ins flag) end (λ ss b. body_build_binding binding_here b)
+      ((run_adds classes).0 _ end (subst (λ ss. Ends (run NoneOpen ss classes) end) (flag_set start o outs ins flag) h)),
+)
 
 -- lines that run past the version are a dyndep file with the statements that they run to
-pub run_is_file : (classes : List DyndepClass) (end : ProgressValue) → run BeforeVersion [] classes ≡ Some end → is_past end.stage ≡ true → IsDyndepFile classes end.statements
-run_is_file [] end h past = absurd (let x : false ≡ true = ap (λ s. is_past s.stage) (progress_same h) ∙ past in cc)
+pub run_is_file : (classes : List DyndepClass) (end : ProgressValue) → Ends (run BeforeVersion [] classes) end → is_past end.stage ≡ true →
+    IsDyndepFile classes end.statements
+run_is_file [] end h past = absurd (let x : false ≡ true = ap is_past (sym (at_end h).1) ∙ past in cc)
 run_is_file (Comment ∷ classes) end h past = comment_first (run_is_file classes end h past)
 run_is_file (Blank ∷ classes) end h past = blank_first (run_is_file classes end h past)
-run_is_file (Version ∷ classes) end h past = let a = (run_adds classes).none [] end h in subst (IsDyndepFile (Version ∷ classes)) (sym a.are) (version_line a.grammar)
+run_is_file (Version ∷ classes) end h past = let a = (run_adds classes).0 [] end h in subst (IsDyndepFile (Version ∷ classes)) (sym a.1) (version_line a.2)
 run_is_file (Build o outs ins ∷ classes) end h past = never h
 run_is_file (Binding flag ∷ classes) end h past = never h
 
@@ -159,69 +147,60 @@ pub none_or_some : {X : Type 0} (o : Option X) → (o ≡ None) ⊎ ((x : X) × 
 none_or_some None = inl refl
 none_or_some (Some x) = inr (x, refl)
 
--- a run over more lines passes through the fewer
-run_front : (classes more : List DyndepClass) (stage : Stage) (start : List StatementValue) (end : ProgressValue) → run stage start (classes ++ more) ≡ Some end
-    → (mid : ProgressValue) × (run stage start classes ≡ Some mid) × (run mid.stage mid.statements more ≡ Some end)
-run_front [] more stage start end h = (record { stage = stage; statements = start }, refl, h)
-run_front (c ∷ classes) more stage start end h = elim (none_or_some (step stage start c)) [
-  | inl e ↦ absurd (let x : ◌≡◌ {A = Option ProgressValue} None (Some end) = rw e at h in cc)
-  | inr o ↦ let later = run_front classes more o.0.stage o.0.statements end (rw o.1 at h) in (later.0, rw o.1 later.1, later.2)
+-- a run continues over more lines
+abbrev run_on : List DyndepClass → Option ProgressValue → Option ProgressValue
+run_on classes ran = option_and_then (λ s. run s.stage s.statements classes) ran
+
+run_append : (classes more : List DyndepClass) (stage : Stage) (start : List StatementValue) →
+    run stage start (classes ++ more) ≡ run_on more (run stage start classes)
+run_append [] more stage start = refl
+run_append (c ∷ classes) more stage start = elim (none_or_some (step stage start c)) [
+  | inl none ↦ rw none refl
+  | inr next ↦ rw (next.1) (run_append classes more next.0.stage next.0.statements)
 ]
 
--- and continues from there
-pub run_more : (classes more : List DyndepClass) (stage : Stage) (start : List StatementValue) (mid : ProgressValue) → run stage start classes ≡ Some mid
+pub run_more : (classes more : List DyndepClass) (stage : Stage) (start : List StatementValue) (mid : ProgressValue) → Ends (run stage start classes) mid
     → run stage start (classes ++ more) ≡ run mid.stage mid.statements more
-run_more [] more stage start mid h = ap (λ s. run s.stage s.statements more) (progress_same h)
-run_more (c ∷ classes) more stage start mid h = elim (none_or_some (step stage start c)) [
-  | inl e ↦ absurd (let x : ◌≡◌ {A = Option ProgressValue} None (Some mid) = rw e at h in cc)
-  | inr o ↦ rw o.1 (run_more classes more o.0.stage o.0.statements mid (rw o.1 at h))
-]
+run_more classes more stage start mid h = run_append classes more stage start ∙ ap (run_on more) h
 
 -- lines that some dyndep file begins with can be run over
-pub begins_runs : (classes : List DyndepClass) → BeginsDyndepFile classes → (end : ProgressValue) × (run BeforeVersion [] classes ≡ Some end)
-begins_runs classes b =
-    let r = file_runs b.2 in
-    let front = run_front classes b.0 BeforeVersion [] (record { stage = r.final; statements = b.1 }) r.is in
-    (front.0, front.1)
+pub begins_runs : (classes : List DyndepClass) → BeginsDyndepFile classes → (end : ProgressValue) × Ends (run BeforeVersion [] classes) end
+begins_runs classes b = elim (none_or_some (run BeforeVersion [] classes)) [
+  | inr ran ↦ ran
+  | inl none ↦ never (sym (run_append classes b.0 BeforeVersion [] ∙ ap (run_on b.0) none) ∙ (file_runs b.2).1)
+]
 
 -- and some dyndep file begins with lines that can be run over
-pub runs_begin : (classes : List DyndepClass) (end : ProgressValue) → run BeforeVersion [] classes ≡ Some end → BeginsDyndepFile classes
+pub runs_begin : (classes : List DyndepClass) (end : ProgressValue) → Ends (run BeforeVersion [] classes) end → BeginsDyndepFile classes
 runs_begin [] end h = (Version ∷ [], [], version_line body_end)
 runs_begin (Comment ∷ classes) end h = let b = runs_begin classes end h in (b.0, b.1, comment_first b.2)
 runs_begin (Blank ∷ classes) end h = let b = runs_begin classes end h in (b.0, b.1, blank_first b.2)
 runs_begin (Version ∷ classes) end h =
-    let a = (run_adds classes).none [] end h in
-    ([], a.statements, subst (λ cs. IsDyndepFile cs a.statements) (sym (append-nil (Version ∷ classes))) (version_line a.grammar))
+    let a = (run_adds classes).0 [] end h in
+    ([], a.0, subst (λ cs. IsDyndepFile cs a.0) (sym (append-nil (Version ∷ classes))) (version_line a.2))
 runs_begin (Build o outs ins ∷ classes) end h = never h
 runs_begin (Binding flag ∷ classes) end h = never h
 
--- the stage after these lines, if no statement was open before them and if one was
-record Stages (classes : List DyndepClass) : Type 0 where
-  none : (start : List StatementValue) (end : ProgressValue) → run NoneOpen start classes ≡ Some end → end.stage ≡ (if is_open classes then Open else NoneOpen)
-  one : (start : List StatementValue) (end : ProgressValue) → run Open start classes ≡ Some end → end.stage ≡ (if list_all is_comment_class classes || is_open classes then Open else NoneOpen)
+-- a run over these lines ends with a statement open, or not, as this says
+abbrev EndsOpen : Stage → List DyndepClass → Bool → Type 0
+EndsOpen stage classes opened = (start : List StatementValue) (end : ProgressValue) → Ends (run stage start classes) end →
+    end.stage ≡ (if opened then Open else NoneOpen)
 
--- a run over no line ends at the stage that it began at
-stage_same : {stage : Stage} {start : List StatementValue} {end : ProgressValue} → ◌≡◌ {A = Option ProgressValue} (Some (record { stage = stage; statements = start })) (Some end) → end.stage ≡ stage
-stage_same h = sym (ap (λ s. s.stage) (progress_same h))
-
--- the stage depends on the classes alone
-stages : (classes : List DyndepClass) → Stages classes
-stages [] = record { none = λ start end h. stage_same h; one = λ start end h. stage_same h }
-stages (Comment ∷ classes) = let later = stages classes in record { none = λ start end h. later.none start end h; one = λ start end h. later.one start end h }
-stages (Blank ∷ classes) = let later = stages classes in record { none = λ start end h. later.none start end h; one = λ start end h. later.none start end h }
-stages (Version ∷ classes) = record { none = λ start end h. never h; one = λ start end h. never h }
-stages (Build o outs ins ∷ classes) =
-    let later = stages classes in record {
-      none = λ start end h. later.one (start ++ statement o outs ins false ∷ []) end h;
-      one = λ start end h. later.one (start ++ statement o outs ins false ∷ []) end h;
-    }
-stages (Binding flag ∷ classes) = let later = stages classes in record { none = λ start end h. never h; one = λ start end h. later.none (with_last_restat flag start) end h }
+-- the stage depends on the classes alone: if no statement was open before them, and if one was
+stages : (classes : List DyndepClass) →
+    EndsOpen NoneOpen classes (is_open classes) × EndsOpen Open classes (list_all is_comment_class classes || is_open classes)
+stages [] = (λ start end h. (at_end h).1, λ start end h. (at_end h).1)
+stages (Comment ∷ classes) = stages classes
+stages (Blank ∷ classes) = let none = (stages classes).0 in (none, none)
+stages (Version ∷ classes) = (λ start end h. never h, λ start end h. never h)
+stages (Build o outs ins ∷ classes) = let one = (stages classes).1 in (λ start end h. one _ end h, λ start end h. one _ end h)
+stages (Binding flag ∷ classes) = (λ start end h. never h, λ start end h. (stages classes).0 _ end h)
 
 -- a run from the beginning of a file ends at the stage after its lines
-pub stage_runs : (classes : List DyndepClass) (end : ProgressValue) → run BeforeVersion [] classes ≡ Some end → end.stage ≡ stage_after classes
-stage_runs [] end h = stage_same h
+pub stage_runs : (classes : List DyndepClass) (end : ProgressValue) → Ends (run BeforeVersion [] classes) end → end.stage ≡ stage_after classes
+stage_runs [] end h = (at_end h).1
 stage_runs (Comment ∷ classes) end h = stage_runs classes end h
 stage_runs (Blank ∷ classes) end h = stage_runs classes end h
-stage_runs (Version ∷ classes) end h = (stages classes).none [] end h
+stage_runs (Version ∷ classes) end h = (stages classes).0 [] end h
 stage_runs (Build o outs ins ∷ classes) end h = never h
 stage_runs (Binding flag ∷ classes) end h = never h

@@ -36,24 +36,22 @@ part_is (word ∷ words) = inr refl
 
 -- Paths, and a part, in front of a text.
 module _ (text : List ℕ) (xs : List Symbol) (later : Written symbol false text xs) where
-  first_path_written : (path : List ℕ) (paths : List (List ℕ)) → IsWritable path → Written symbol false (paths_text paths ++ text) (map WordSymbol (map escaped paths) ++ xs)
+  first_path_written : (path : List ℕ) (paths : List (List ℕ)) → IsWritable path →
+      Written symbol false (paths_text paths ++ text) (map WordSymbol (map escaped paths) ++ xs)
       → Written symbol true ((escaped path ++ paths_text paths) ++ text) (map WordSymbol (map escaped (path ∷ paths)) ++ xs)
   first_path_written path paths writable rest =
-      subst (λ t. Written symbol true t (map WordSymbol (map escaped (path ∷ paths)) ++ xs)) (sym (append_assoc (escaped path) (paths_text paths) text))
-      (written_path symbol path (paths_text paths ++ text) (map WordSymbol (map escaped paths) ++ xs) writable rest)
+      rw (append_assoc (escaped path) (paths_text paths) text) (written_path symbol path _ _ writable rest)
 
-  paths_written : (paths : List (List ℕ)) → AllByRecursion IsWritable paths → Written symbol false (paths_text paths ++ text) (map WordSymbol (map escaped paths) ++ xs)
+  paths_written : (paths : List (List ℕ)) → AllByRecursion IsWritable paths →
+      Written symbol false (paths_text paths ++ text) (map WordSymbol (map escaped paths) ++ xs)
   paths_written [] writable = later
-  paths_written (path ∷ paths) writable =
-      written_space symbol ((escaped path ++ paths_text paths) ++ text) (map WordSymbol (map escaped (path ∷ paths)) ++ xs)
-      (first_path_written path paths writable.0 (paths_written paths writable.1))
+  paths_written (path ∷ paths) writable = written_space symbol _ _ (first_path_written path paths writable.0 (paths_written paths writable.1))
 
-  part_written : (paths : List (List ℕ)) → AllByRecursion IsWritable paths → Written symbol false (part_text paths ++ text) (part_symbols (map escaped paths) ++ xs)
+  part_written : (paths : List (List ℕ)) → AllByRecursion IsWritable paths →
+      Written symbol false (part_text paths ++ text) (part_symbols (map escaped paths) ++ xs)
   part_written [] writable = later
   part_written (path ∷ paths) writable =
-      let words = map WordSymbol (map escaped (path ∷ paths)) ++ xs in
-      written_space symbol (124 ∷ 32 ∷ ((escaped path ++ paths_text paths) ++ text)) (SignSymbol Bar ∷ words)
-      (written_bar symbol ((escaped path ++ paths_text paths) ++ text) words (first_path_written path paths writable.0 (paths_written paths writable.1)))
+      written_space symbol _ _ (written_bar symbol _ _ (first_path_written path paths writable.0 (paths_written paths writable.1)))
 
 -- A build line without its end, from its rule, from after its output, and whole; and the symbols of
 -- each.
@@ -69,13 +67,13 @@ after_output_text s = part_text s.implicit_outputs ++ (58 ∷ 32 ∷ rule_text s
 abbrev after_output_symbols : StatementValue → List Symbol
 after_output_symbols s = part_symbols (map escaped s.implicit_outputs) ++ (SignSymbol Colon ∷ rule_symbols s)
 
-abbrev pub line_text : StatementValue → List ℕ
+abbrev line_text : StatementValue → List ℕ
 line_text s = codes "build" ++ (32 ∷ (escaped s.output ++ after_output_text s))
 
 abbrev line_symbols : StatementValue → List Symbol
 line_symbols s = WordSymbol (codes "build") ∷ WordSymbol (escaped s.output) ∷ after_output_symbols s
 
-abbrev pub build_class : StatementValue → DyndepClass
+abbrev build_class : StatementValue → DyndepClass
 build_class s = Build s.output s.implicit_outputs s.implicit_inputs
 
 values_of : (paths : List (List ℕ)) → AllByRecursion IsWritable paths → paths ≡ map value_of (map escaped paths)
@@ -95,22 +93,18 @@ module _ (s : StatementValue) (can : CanBeWritten s) where
 
   inputs_written : Written symbol false (part_text s.implicit_inputs) (part_symbols (map escaped s.implicit_inputs))
   inputs_written =
-      subst (λ t. Written symbol false t (part_symbols (map escaped s.implicit_inputs))) (append-nil (part_text s.implicit_inputs))
-      (subst (λ xs. Written symbol false (part_text s.implicit_inputs ++ []) xs) (append-nil (part_symbols (map escaped s.implicit_inputs)))
-      (part_written [] [] (written_none symbol) s.implicit_inputs lists_can.1))
+      simp append-nil at (part_written [] [] (written_none symbol) s.implicit_inputs lists_can.1)
 
   after_output_written : Written symbol false (after_output_text s) (after_output_symbols s)
   after_output_written =
-      part_written (58 ∷ 32 ∷ rule_text s) (SignSymbol Colon ∷ rule_symbols s)
-      (written_colon symbol (32 ∷ rule_text s) (rule_symbols s)
-      (written_space symbol (rule_text s) (rule_symbols s) (written_word symbol (codes "dyndep") (part_text s.implicit_inputs) (part_symbols (map escaped s.implicit_inputs)) refl inputs_written)))
+      part_written _ (SignSymbol Colon ∷ rule_symbols s)
+      (written_colon symbol _ (rule_symbols s) (written_space symbol _ _ (written_word symbol (codes "dyndep") _ _ refl inputs_written)))
       s.implicit_outputs lists_can.0
 
   line_written : Written symbol true (line_text s) (line_symbols s)
   line_written =
-      written_word symbol (codes "build") (32 ∷ (escaped s.output ++ after_output_text s)) (WordSymbol (escaped s.output) ∷ after_output_symbols s) refl
-      (written_space symbol (escaped s.output ++ after_output_text s) (WordSymbol (escaped s.output) ∷ after_output_symbols s)
-      (written_path symbol s.output (after_output_text s) (after_output_symbols s) paths_can.0 after_output_written))
+      written_word symbol (codes "build") _ (WordSymbol (escaped s.output) ∷ after_output_symbols s) refl
+      (written_space symbol _ _ (written_path symbol s.output _ _ paths_can.0 after_output_written))
 
   line_says : IsBuild (line_text s) (escaped s.output) (map escaped s.implicit_outputs) (map escaped s.implicit_inputs)
   line_says =
@@ -123,7 +117,7 @@ module _ (s : StatementValue) (can : CanBeWritten s) where
         written_tokens symbol (line_text s) (line_symbols s) line_written,
       )
 
-  pub text_classed : IsDyndepLine (line_text s) false (build_class s)
+  text_classed : IsDyndepLine (line_text s) false (build_class s)
   text_classed = (
     refl,
     written_sound symbol (line_text s) (line_symbols s) line_written,
@@ -137,29 +131,28 @@ module _ (s : StatementValue) (can : CanBeWritten s) where
   )
 
   -- the line, its end included
-  pub line_is : line_text s ++ 10 ∷ [] ≡ build_line s
+  line_is : line_text s ++ 10 ∷ [] ≡ build_line s
   line_is = simp append_assoc
 
-  pub text_is : text_of_line (line_text s ++ 10 ∷ []) ≡ line_text s
+  text_is : text_of_line (line_text s ++ 10 ∷ []) ≡ line_text s
   text_is = written_text symbol (line_text s) (line_symbols s) line_written refl
 
-  pub build_is_line : IsLine (build_line s)
+  build_is_line : IsLine (build_line s)
   build_is_line = subst IsLine line_is (written_line symbol (line_text s) (line_symbols s) line_written refl)
 
-  pub build_classed : IsOfClass dyndep_format (build_line s) (build_class s)
+  build_classed : IsOfClass dyndep_format (build_line s) (build_class s)
   build_classed = (
     can.line,
-    subst (λ line. IsDyndepLine (text_of_line line) (is_comment line) (build_class s)) line_is
-        (subst (λ text. IsDyndepLine text false (build_class s)) (sym text_is) text_classed),
+    subst (λ line. IsDyndepLine (text_of_line line) (is_comment line) (build_class s)) line_is (rw text_is text_classed),
   )
 
 -- ---- all lines
 
 -- the lines that hold no path
-abbrev pub first_line : List ℕ
+abbrev first_line : List ℕ
 first_line = codes "ninja_dyndep_version = 1" ++ 10 ∷ []
 
-abbrev pub restat_line : List ℕ
+abbrev restat_line : List ℕ
 restat_line = codes "  restat = 1" ++ 10 ∷ []
 
 first_classed : IsOfClass dyndep_format first_line Version
@@ -167,23 +160,23 @@ first_classed =
     let version : SeenAssignment = record { name_start = 0; name = codes "ninja_dyndep_version"; raw_value = codes "1" } in
     (omega arith, (refl, refl, codes "1", (version, refl, refl, refl, refl), refl))
 
-pub restat_assigns : Assigns (codes "  restat = 1") (codes "restat") 2 (codes "1")
+restat_assigns : Assigns (codes "  restat = 1") (codes "restat") 2 (codes "1")
 restat_assigns = let restat : SeenAssignment = record { name_start = 2; name = codes "restat"; raw_value = codes "1" } in (restat, refl, refl, refl, refl)
 
 restat_classed : IsOfClass dyndep_format restat_line (Binding true)
 restat_classed = (omega arith, (refl, refl, refl, 2, codes "1", restat_assigns, refl))
 
 -- the lines of a statement, its binding only if the flag is set, and their classes
-abbrev pub flag_lines : Bool → List (List ℕ)
+abbrev flag_lines : Bool → List (List ℕ)
 flag_lines flag = if flag then restat_line ∷ [] else []
 
-abbrev pub flag_classes : Bool → List DyndepClass
+abbrev flag_classes : Bool → List DyndepClass
 flag_classes flag = if flag then Binding true ∷ [] else []
 
-abbrev pub lines_of : StatementValue → List (List ℕ)
+abbrev lines_of : StatementValue → List (List ℕ)
 lines_of s = build_line s ∷ flag_lines s.restat
 
-abbrev pub classes_of : StatementValue → List DyndepClass
+abbrev classes_of : StatementValue → List DyndepClass
 classes_of s = Build s.output s.implicit_outputs s.implicit_inputs ∷ flag_classes s.restat
 
 flag_are_lines : (flag : Bool) → AllByRecursion IsLine (flag_lines flag)
@@ -200,11 +193,15 @@ are_lines (s ∷ ss) can = AllByRecursion-append IsLine (lines_of s) (flat_map l
 
 are_classed : (ss : List StatementValue) → AllByRecursion CanBeWritten ss → AreOfClasses dyndep_format (flat_map lines_of ss) (flat_map classes_of ss)
 are_classed [] can = tt
-are_classed (s ∷ ss) can = AreOfClasses-append dyndep_format (lines_of s) (flat_map lines_of ss) (classes_of s) (flat_map classes_of ss) (build_classed s can.0, flag_classed s.restat) (are_classed ss can.1)
+are_classed (s ∷ ss) can =
+    AreOfClasses-append dyndep_format (lines_of s) (flat_map lines_of ss) (classes_of s) (flat_map classes_of ss) (build_classed s can.0, flag_classed s.restat)
+    (are_classed ss can.1)
 
 -- the lines of one statement and its flag, in front of a body
-build_with_flag : (output : List ℕ) (outputs inputs : List (List ℕ)) (flag : Bool) (classes : List DyndepClass) (ss : List StatementValue) → IsDyndepBody classes ss
-    → IsDyndepBody (Build output outputs inputs ∷ (flag_classes flag ++ classes)) (record { output = output; implicit_outputs = outputs; implicit_inputs = inputs; restat = flag } ∷ ss)
+build_with_flag : (output : List ℕ) (outputs inputs : List (List ℕ)) (flag : Bool) (classes : List DyndepClass) (ss : List StatementValue) →
+    IsDyndepBody classes ss
+    → IsDyndepBody (Build output outputs inputs ∷ (flag_classes flag ++ classes))
+    (record { output = output; implicit_outputs = outputs; implicit_inputs = inputs; restat = flag } ∷ ss)
 build_with_flag output outputs inputs true classes ss body = body_build_binding binding_here body
 build_with_flag output outputs inputs false classes ss body = body_build body
 
@@ -224,13 +221,13 @@ lines_text (s ∷ ss) =
     ∙ ap (λ t. statement_text s ++ t) (lines_text ss)
 
 -- all lines, and their classes
-abbrev pub lines_for : List StatementValue → List (List ℕ)
+abbrev lines_for : List StatementValue → List (List ℕ)
 lines_for ss = first_line ∷ flat_map lines_of ss
 
-abbrev pub classes_for : List StatementValue → List DyndepClass
+abbrev classes_for : List StatementValue → List DyndepClass
 classes_for ss = Version ∷ flat_map classes_of ss
 
-pub divided_for : (ss : List StatementValue) → AllByRecursion CanBeWritten ss → Divides (dyndep_text ss) (lines_for ss) []
+divided_for : (ss : List StatementValue) → AllByRecursion CanBeWritten ss → Divides (dyndep_text ss) (lines_for ss) []
 divided_for ss can = record {
   whole = ap (λ t. first_line ++ t) (sym (lines_text ss)) ∙ sym (append-nil (first_line ++ joined (flat_map lines_of ss)));
   each = ((24, refl), are_lines ss can);
@@ -240,4 +237,10 @@ divided_for ss can = record {
 pub stands_for : (ss : List StatementValue) → All CanBeWritten ss → StandsFor (dyndep_text ss) ss
 stands_for ss all =
     let can = recursion_from_All CanBeWritten ss all in
-    record { lines = lines_for ss; classes = classes_for ss; divided = divided_for ss can; classed = (first_classed, are_classed ss can); grammar = version_line (written_body ss) }
+    record {
+      lines = lines_for ss;
+      classes = classes_for ss;
+      divided = divided_for ss can;
+      classed = (first_classed, are_classed ss can);
+      grammar = version_line (written_body ss);
+    }

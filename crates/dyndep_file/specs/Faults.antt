@@ -1,6 +1,6 @@
 -- The fault of a line of a dyndep file, by the lines before it: a table of lines, and one of the
 -- tokens of a build line. Both follow the Ninja 1.11 manual, "Dyndep file reference".
-use Rattle.std.specs.Prelude.{ℕ, Bool, true, false, ◌==◌, ◌&&◌, ◌||◌, not, nat_lt, if◌then◌else◌, is_some, List, [], ◌∷◌, length, codes, Option, Some, None}
+use Rattle.std.specs.Prelude.{bytes_eq, ℕ, Bool, true, false, ◌==◌, ◌&&◌, ◌||◌, not, nat_lt, if◌then◌else◌, is_some, List, [], ◌∷◌, length, codes, Option, Some, None}
 use Rattle.std.specs.List.{list_any, list_all}
 use Rattle.ninja_text.specs.Bytes.{Bytes, Text, Name}
 use Rattle.ninja_text.specs.Paths.{is_empty}
@@ -19,10 +19,7 @@ use Rattle.dyndep_file.specs.declared.progress.Stage.TheVariants.{BeforeVersion,
 
 -- whether two lists of bytes are equal
 abbrev pub same_bytes : Bytes → Bytes → Bool
-same_bytes [] [] = true
-same_bytes (x ∷ xs) (y ∷ ys) = (x == y) && same_bytes xs ys
-same_bytes [] (y ∷ ys) = false
-same_bytes (x ∷ xs) [] = false
+same_bytes = bytes_eq
 
 -- ---- the columns of the table of lines: what comes before a line
 
@@ -143,8 +140,8 @@ after_build at_start (WordSymbol word ∷ more) =
     if at_start && same_bytes word (codes "build") then Some more else None
 after_build at_start (SignSymbol other ∷ more) = None
 
--- where the name begins and what is assigned, if a line is an assignment to this name; None for
--- any other line
+-- the offset of the name and the value, if a line is an assignment to this name; None for any other
+-- line
 abbrev pub value_assigned : Name → Option SeenAssignment → Option (ℕ × Text)
 value_assigned name None = None
 value_assigned name (Some a) =

@@ -11,7 +11,7 @@ use Rattle.ninja_text.specs.declared.failure.Failure.TheVariants.{Memory, Fault}
 use Rattle.dyndep_file.specs.StatementValue.{StatementValue}
 use Rattle.dyndep_file.specs.Classes.{DyndepClass}
 use Rattle.dyndep_file.specs.Steps.{ProgressValue, run}
-use Rattle.dyndep_file.specs.Reading.{dyndep_format, dyndep_faults, StandsFor}
+use Rattle.dyndep_file.specs.Reading.{dyndep_format, dyndep_faults, StandsFor, HasReadFault}
 use Rattle.dyndep_file.specs.declared.fault.ReadFault.{ReadFault}
 use Rattle.dyndep_file.specs.declared.fault.ReadFault.TheVariants.{AtLine, Io}
 use Rattle.dyndep_file.specs.declared.fault.LineFault.TheVariants.{LineTooLong}
@@ -40,6 +40,11 @@ IsReadFaultIn bytes Io = ⊥
 -- An allocation failed, or the fault is in the bytes.
 abbrev pub IsReadFailureIn : Bytes → Failure ReadFault → Type 0
 IsReadFailureIn bytes failure = ForFault (IsReadFaultIn bytes) failure
+
+-- The fault is the one that the text has, in its first faulty line or at its end.
+abbrev pub IsReadFaultOf : Bytes → ReadFault → Type 0
+IsReadFaultOf bytes (AtLine line fault) = HasReadFault bytes (record { line = line; fault = fault })
+IsReadFaultOf bytes Io = ⊥
 
 -- What `feed` returns, and what the reader is then; by all bytes fed, this call's with them, to a
 -- reader that had rejected none.

@@ -10,8 +10,8 @@ ghost use Rattle.dyndep_file.specs.inner.Paths.{texts};
 
 use crate::fault::LineFault;
 use crate::statement::Statement;
-use ninja_text::{Failure, Token, TokenKind, Words};
-use std::alloc::{AllocError, Global};
+use ninja_text::{Failure, TokenKind, Words};
+use std::alloc::Global;
 
 /// Returns the statement of a build line, or the error of the first token that is not allowed.
 pub(crate) fn statement(alloc: Global, words: Words<'_>) -> Result<Statement, Failure<LineFault>>
@@ -20,12 +20,12 @@ pub(crate) fn statement(alloc: Global, words: Words<'_>) -> Result<Statement, Fa
 {
     let mut words = words;
     let output = match words.next() {
-        Some(token) if token.kind() == TokenKind::Word => word_value(alloc, token)?,
+        Some(token) if token.kind() == TokenKind::Word => token.value(alloc)?,
         _ => return Err(Failure::Fault(LineFault::NoOutput)),
     };
     let implicit_outputs = implicit_outputs(alloc, &mut words)?;
     match words.next() {
-        Some(token) if is_keyword(token, b"dyndep") => {}
+        Some(token) if token.is_keyword(b"dyndep") => {}
         _ => return Err(Failure::Fault(LineFault::BadRule)),
     }
     let implicit_inputs = implicit_inputs(alloc, words)?;
@@ -69,7 +69,7 @@ fn words_to_colon(alloc: Global, words: &mut Words<'_>) -> Result<Vec<Vec<u8>>, 
     while let Some(token) = words.next() {
         let fault = match token.kind() {
             TokenKind::Word => {
-                values.push(word_value(alloc, token)?)?;
+                values.push(token.value(alloc)?)?;
                 continue;
             }
             TokenKind::Colon => return Ok(values),
@@ -110,7 +110,7 @@ fn words_to_end(alloc: Global, words: Words<'_>) -> Result<Vec<Vec<u8>>, Failure
     for token in words {
         let fault = match token.kind() {
             TokenKind::Word => {
-                values.push(word_value(alloc, token)?)?;
+                values.push(token.value(alloc)?)?;
                 continue;
             }
             TokenKind::Bar | TokenKind::Colon => LineFault::BadLine,
@@ -120,32 +120,4 @@ fn words_to_end(alloc: Global, words: Words<'_>) -> Result<Vec<Vec<u8>>, Failure
         return Err(Failure::Fault(fault));
     }
     Ok(values)
-}
-
-/// Returns whether a token is this keyword, without escapes.
-pub(crate) fn is_keyword(token: Token<'_>, keyword: &[u8]) -> bool
-    ensures { result ≡ is_this_word keyword.now (symbol_of (seen_token token.entry)) }
-{
-    token.kind() == TokenKind::Word && is_same(token.raw(), keyword)
-}
-
-/// Returns whether two slices have the same bytes.
-pub(crate) fn is_same(bytes: &[u8], other: &[u8]) -> bool
-    ensures { result ≡ same_bytes bytes.now other.now }
-{
-    bytes == other
-}
-
-/// Returns the value of a word.
-fn word_value(alloc: Global, token: Token<'_>) -> Result<Vec<u8>, AllocError>
-    ensures { IfOk result (λ bytes. bytes.items ≡ value_of (seen_token token.entry).raw) }
-{
-    let raw = token.raw();
-    let mut bytes = Vec::with_capacity(alloc, raw.len())?;
-    if raw.contains(&b'$') {
-        token.value_into(&mut bytes)?;
-    } else {
-        bytes.extend_from_slice(raw)?;
-    }
-    Ok(bytes)
 }

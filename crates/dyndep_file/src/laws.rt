@@ -24,7 +24,7 @@ pub fn one_fault()
 {}
 
 /// A reader without an error was fed no faulty line, and no line that is too long.
-pub fn unrefused()
+pub fn accepted_bytes_have_no_fault()
     ensures { GoesOnUnrefused }
 {}
 
@@ -46,13 +46,13 @@ pub fn first_fault()
 {}
 
 /// The text of statements that can be written stands for these statements and for no other list.
-pub fn written_text()
+pub fn written_text_stands_for_statements()
     ensures { (statements : List StatementValue) →
         All CanBeWritten statements → StandsForOnly (dyndep_text statements) statements }
 {}
 
 /// A list of statements has no error if and only if each of them can be written.
-pub fn writable_statements()
+pub fn faultless_statements_can_be_written()
     ensures { (statements : List StatementValue) →
         write_fault statements ≡ None ↔ All CanBeWritten statements }
 {}

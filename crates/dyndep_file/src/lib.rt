@@ -1,9 +1,9 @@
 //! Ninja's dyndep files (Ninja 1.11 manual, "Dynamic dependencies"): statements, reader and writer.
 //!
 //! - A [`Dyndep`] is a list of [`Statement`]s.
-//! - [`DyndepReader`] reads a text that arrives in pieces of any size, and [`read_all`] reads one from
-//!   any reader. The result does not depend on the pieces: it is the list that the grammar
-//!   (`specs/Grammar.antt`) gives the whole text, or the first faulty line and its error
+//! - [`Dyndep::of`] reads a whole text, [`DyndepReader`] one that arrives in pieces of any size, and
+//!   [`read_all`] one from any reader. The result does not depend on the pieces: it is the list that
+//!   the grammar (`specs/Grammar.antt`) gives the whole text, or the first faulty line and its error
 //!   (`specs/Reading.antt`, `specs/Faults.antt`).
 //! - [`Dyndep::to_text`] returns the text of the statements (`specs/Writing.antt`). [`DyndepText`]
 //!   builds it from statements that borrow their paths (`specs/Texts.antt`), and [`write`] writes it.

@@ -8,11 +8,11 @@ ghost use Rattle.dyndep_file.specs.Faults.{value_assigned, indented_fault, build
 ghost use Rattle.dyndep_file.specs.BuildTokens.{symbols_left};
 ghost use Rattle.dyndep_file.specs.inner.LineReading.{PassesOr, IsBuildOf, IsBindingOf, IsVersionLineOf, with_name};
 
-use crate::build_line::{is_keyword, is_same, statement};
+use crate::build_line::statement;
 use crate::fault::{LineFault, ReadFault};
 use crate::statement::Statement;
 use ninja_text::{Assignment, CutFault, Failure, Line, LineState, Words, assignment, words};
-use std::alloc::{AllocError, Global};
+use std::alloc::Global;
 use std::marker::Model;
 
 /// The stage of a file: which lines are allowed next.
@@ -90,7 +90,7 @@ fn read_text(
         }
         return Ok(());
     };
-    if first.start() == 0 && is_keyword(first, b"build") {
+    if first.start() == 0 && first.is_keyword(b"build") {
         return build_line(alloc, progress, tokens);
     }
     match assignment(line) {
@@ -120,7 +120,7 @@ fn indented_line(
     let Some(binding) = named(assignment, b"restat") else {
         return Err(Failure::Fault(LineFault::BadBinding));
     };
-    let value = assigned_value(alloc, binding)?;
+    let value = binding.value(alloc)?;
     if let Some(statement) = progress.statements.last_mut() {
         statement.restat = !value.is_empty();
     }
@@ -171,7 +171,7 @@ fn unindented_line(
         Stage::BeforeVersion => {}
         Stage::NoneOpen | Stage::Open => return Err(Failure::Fault(LineFault::SecondVersion)),
     }
-    let value = assigned_value(alloc, version)?;
+    let value = version.value(alloc)?;
     if !is_version_one(&value) {
         return Err(Failure::Fault(LineFault::BadVersion));
     }
@@ -185,19 +185,9 @@ fn named<'a>(assignment: Option<Assignment<'a>>, name: &[u8]) -> Option<Assignme
         ≡ with_name name.now (option_map seen_assignment assignment.entry) }
 {
     match assignment {
-        Some(found) if is_same(found.name(), name) => Some(found),
+        Some(found) if found.name() == name => Some(found),
         _ => None,
     }
-}
-
-/// Returns the assigned value.
-fn assigned_value(alloc: Global, assignment: Assignment<'_>) -> Result<Vec<u8>, AllocError>
-    ensures { IfOk result (λ value.
-        value.items ≡ value_of (seen_assignment assignment.entry).raw_value) }
-{
-    let mut value = Vec::with_capacity(alloc, assignment.raw_value().len())?;
-    assignment.value_into(&mut value)?;
-    Ok(value)
 }
 
 /// Returns whether a version is the number `1` or `1.0`. Other text may follow.

@@ -81,6 +81,28 @@ impl DyndepReader {
     }
 }
 
+impl Dyndep {
+    ghost use Rattle.std.specs.Prelude.{IfOk, IfErr};
+    ghost use Rattle.ninja_text.specs.Failure.{ForFault};
+    ghost use Rattle.dyndep_file.specs.Reading.{StandsForOnly};
+    ghost use Rattle.dyndep_file.specs.Reader.{IsReadFaultOf};
+
+    /// Returns the statements of a whole dyndep file (Ninja 1.11 manual, "Dyndep file reference").
+    ///
+    /// # Errors
+    ///
+    /// Returns the error of the first faulty line or of the end, as [`DyndepReader`] does, or
+    /// [`Failure::Memory`] if an allocation fails. It never returns `Io`.
+    pub fn of(alloc: Global, text: &[u8]) -> Result<Dyndep, Failure<ReadFault>>
+        ensures statements { IfOk result (StandsForOnly text.now) }
+        ensures fault { IfErr result (ForFault (IsReadFaultOf text.now)) }
+    {
+        let mut reader = DyndepReader::new(alloc);
+        reader.feed(text)?;
+        reader.finish()
+    }
+}
+
 /// Reads a dyndep file up to the reader's end, at most 4,096 bytes per call.
 ///
 /// # Errors

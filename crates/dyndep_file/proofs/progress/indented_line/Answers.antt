@@ -33,13 +33,16 @@ returns c =
             let some : 0 < vec_len old = w.in-Some-last_mut.ensures.variant.0 refl in
             let set = last_set old.items (vec_len old - 1) (the_view w.statement.inside) (not w.is_empty.result) (omega (arith, old.ok.0))
             (subst (λ (s : StatementValue). s ≡ slice_index_or old.items (vec_len old - 1) s) (sym w.statement.view_is) w.in-Some-last_mut.ensures.value) in
-            binds c.args.progress.now.stage c.args.progress.now.statements c.match-last_mut.progress-inside.statements.items (nat_lt 0 (length bytes)) (not w.is_empty.result)
+            binds c.args.progress.now.stage c.args.progress.now.statements c.match-last_mut.progress-inside.statements.items (nat_lt 0 (length bytes))
+            (not w.is_empty.result)
             stage (not_empty bytes (vec_len value) w.is_empty.result w.is_empty.ensures (value.ok.0 ∙ ap length c.in_ok-value.ensures))
             (ap (λ p. p.statements.items) w.progress-inside-is ∙ set ∙ ap (with_last_restat (not w.is_empty.result)) before)
         | in_default-last_mut w ↦
-            binds c.args.progress.now.stage c.args.progress.now.statements c.match-last_mut.progress-inside.statements.items (nat_lt 0 (length bytes)) (nat_lt 0 (length bytes))
+            binds c.args.progress.now.stage c.args.progress.now.statements c.match-last_mut.progress-inside.statements.items (nat_lt 0 (length bytes))
+            (nat_lt 0 (length bytes))
             stage refl
-            (ap (λ p. p.statements.items) w.progress-inside-is ∙ none_last old.items (nat_lt 0 (length bytes)) (λ some. w.in_default-last_mut.ensures.variant.1 (omega (arith, some, old.ok.0)))
+            (ap (λ p. p.statements.items) w.progress-inside-is ∙
+            none_last old.items (nat_lt 0 (length bytes)) (λ some. w.in_default-last_mut.ensures.variant.1 (omega (arith, some, old.ok.0)))
             ∙ ap (with_last_restat (nat_lt 0 (length bytes))) before)
       ],
     )

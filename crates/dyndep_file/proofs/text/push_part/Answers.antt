@@ -1,9 +1,7 @@
-use Rattle.std.proofs.Common.{ℕ, ◌<◌, List, Bor, ◌∷◌, [], ◌++◌, take, codes, get_or, ap, sym, subst, ◌∙◌}
-use Rattle.std.specs.List.{flat_map}
+use Rattle.std.proofs.Common.{ℕ, ◌<◌, List, Bor, ◌∷◌, [], ◌++◌, codes, get_or, append_assoc, ap, sym, subst, ◌∙◌}
 use Rattle.ninja_text.specs.Escapes.{escaped, IsWritable}
 use Rattle.dyndep_file.specs.Writing.{spaced}
-use Rattle.dyndep_file.specs.inner.Paths.{lent_texts}
-use Rattle.dyndep_file.proofs.Parts.{text_at, same_length, flat_map_next_path, written_next}
+use Rattle.dyndep_file.proofs.Parts.{text_at, same_length, path_more}
 use Rattle.dyndep_file.proofs.text.push_part.Goals as goal
 
 pub escape_into-requires : goal.escape_into-requires
@@ -17,5 +15,5 @@ loop-path-preserved c =
     let path : List ℕ = (get_or c.args.paths.now c.loop-path.path-index other).now in
     c.in_ok-escape_into.ensures.ok
     ∙ ap (λ text. text ++ escaped path) (c.in_ok-extend_from_slice-2.ensures.items ∙ ap (λ text. text ++ 32 ∷ []) c.loop-path.invariant)
-    ∙ written_next c.args.text.now.items (codes " |") (flat_map spaced (take c.loop-path.path-index (lent_texts c.args.paths.now))) (escaped path) 32
-    ∙ ap (λ text. c.args.text.now.items ++ (codes " |" ++ text)) (sym (flat_map_next_path spaced c.args.paths.now c.loop-path.path-index other c.loop-path-test.true))
+    ∙ append_assoc _ (32 ∷ []) (escaped path) ∙ append_assoc c.args.text.now.items _ (spaced path)
+    ∙ ap (λ text. c.args.text.now.items ++ text) (path_more spaced (codes " |") c.args.paths.now c.loop-path.path-index other c.loop-path-test.true)

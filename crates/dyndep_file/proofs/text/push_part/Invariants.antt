@@ -1,8 +1,9 @@
-use Rattle.std.proofs.Common.{◌≡◌, ◌++◌, take, map, codes}
+use Rattle.std.proofs.Common.{◌≡◌, ◌++◌, take, codes}
 use Rattle.std.specs.List.{flat_map}
 use Rattle.dyndep_file.specs.Writing.{spaced}
+use Rattle.dyndep_file.specs.inner.Paths.{lent_texts}
 use Rattle.dyndep_file.proofs.text.push_part.Given as goal
 
 -- the paths so far are after what was there
 abbrev pub invariant-loop-path : goal.invariant-loop-path
-invariant-loop-path l = l.text.items ≡ l.fn.text.items ++ (codes " |" ++ flat_map spaced (take l.path-index (map (λ path. path.now) l.paths)))
+invariant-loop-path l = l.text.items ≡ l.fn.text.items ++ (codes " |" ++ flat_map spaced (take l.path-index (lent_texts l.paths)))

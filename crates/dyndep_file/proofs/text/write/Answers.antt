@@ -9,7 +9,8 @@ use Rattle.dyndep_file.proofs.text.write.Goals as goal
 pub returns-in_err-text : goal.returns-in_err-text
 returns-in_err-text g c =
     let p = err_from_is_err_and c.from_residual.result c.from_residual.ensures.1 in
-    let f = failed g.W.WriteCall.contents g.W.WriteCall.writes c.args.out.now (dyndep_text c.args.dyndep.now) c.args.dyndep.now c.in_err-text.field-0.0 c.in_err-text.ensures.text in
+    let f = failed g.W.WriteCall.contents g.W.WriteCall.writes c.args.out.now (dyndep_text c.args.dyndep.now) c.args.dyndep.now c.in_err-text.field-0.0
+    c.in_err-text.ensures.text in
     record { text = rw (p.1, p.2) f.0; calls = rw (p.1, p.2) f.1; fault = rw (p.1, p.2) f.2; meaning = rw (p.1) tt }
 
 pub returns-in-Ok : goal.returns-in-Ok
@@ -17,7 +18,8 @@ returns-in-Ok g c =
     let same = made c.args.dyndep.now c.in_ok-text.text c.in_ok-text.ensures.text in
     record {
       text = subst (λ text. IsWritten g.W.WriteCall.contents c.args.out.now c.write_text.new.self text) (c.deref.ensures.value ∙ same.1) c.in-Ok.ensures.bytes;
-      calls = subst (λ text. IsTakenInTurn g.W.WriteCall.writes (held c.args.out.now) (held c.write_text.new.self) text (length text)) (c.deref.ensures.value ∙ same.1) c.in-Ok.ensures.calls;
+      calls = subst (λ text. IsTakenInTurn g.W.WriteCall.writes (held c.args.out.now) (held c.write_text.new.self) text (length text))
+          (c.deref.ensures.value ∙ same.1) c.in-Ok.ensures.calls;
       fault = same.0;
       meaning = subst (λ text. StandsForOnly text c.args.dyndep.now) same.1 c.in_ok-text.ensures.meaning;
     }
