@@ -92,6 +92,10 @@ abbrev pub behind : List (List ℕ) → Result (List (List ℕ)) PathFault → R
 behind paths (Ok more) = Ok (paths ++ more)
 behind paths (Err fault) = Err fault
 
+pub behind_none : (found : Result (List (List ℕ)) PathFault) → found ≡ behind [] found
+behind_none (Ok more) = refl
+behind_none (Err fault) = refl
+
 -- if there are strings, there are paths
 pub paths_somehow : (texts paths : List (List ℕ)) → paths_of texts ≡ Ok paths → texts ≢ [] → paths ≢ []
 paths_somehow [] paths is some = absurd (some refl)

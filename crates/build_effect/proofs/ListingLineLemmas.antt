@@ -1,8 +1,6 @@
 -- The row of a line, by its tokens or its assignment, and what a build line says, by its parts.
-use Rattle.std.proofs.Common.{◌≡◌, ℕ, arith, length, ◌==◌, ◌&&◌, Bool, true, false, List, [], ◌∷◌, map, Vec, Global, Ok, Err, refl, sym, ap, ◌∙◌, Option, Some, None}
+use Rattle.std.proofs.Common.{◌≡◌, ℕ, arith, length, ◌==◌, ◌&&◌, Bool, true, false, List, [], ◌∷◌, map, Ok, Err, refl, sym, ap, ◌∙◌, Option, Some, None}
 use Rattle.std.specs.Prelude.{codes, not, if◌then◌else◌}
-use Rattle.std.proofs.lemmas.Bool.Decides.{nat_tests}
-use Rattle.dep_order.specs.Rows.{rows}
 use Rattle.ninja_text.specs.Lexical.{lexical_fault}
 use Rattle.ninja_text.specs.Tokens.{TokenAt, SeenToken, tokens, raw, with_raw, seen_tokens}
 use Rattle.ninja_text.specs.Assignments.{assignment_of}
@@ -108,10 +106,30 @@ pub right_are : (outputs implicit_outputs inputs implicit_inputs order_only : Li
     }) else None)
 right_are outputs implicit_outputs inputs implicit_inputs order_only rule name s0 s1 s2 s3 e n a m b l d whole is = rw (is, e, n, m, l, d, b, a) refl
 
+-- what a build line says, by the tokens that are left after each of its parts
+module _ (symbols bar colon behind right needed order over : List Symbol) (rule : List ℕ) (a : bar ≡ past_words symbols) (b : colon ≡ past_part (past_sign Bar bar) bar)
+    (sign : past_sign Colon colon ≡ Some behind) (word : behind ≡ WordSymbol rule ∷ right) (d : needed ≡ past_words right) (e : order ≡ past_part (past_sign Bar needed) needed)
+    (f : over ≡ past_part (past_sign DoubleBar order) order) where
+  pub walked : (whole : Bool) → whole ≡ not (is_empty (front_words symbols)) && is_rule_name rule && is_empty over → edge_texts symbols ≡ (if whole then Some (record {
+    rule = rule;
+    outputs = front_words symbols;
+    implicit_outputs = part_words (past_sign Bar bar);
+    inputs = front_words right;
+    implicit_inputs = part_words (past_sign Bar needed);
+    order_only = part_words (past_sign DoubleBar order);
+  }) else None)
+  walked whole is =
+      left_texts symbols bar colon _ _ refl a refl b ∙ ap (right_texts (front_words symbols) (part_words (past_sign Bar bar))) (sign ∙ ap (λ symbols. Some symbols) word)
+      ∙ right_are _ _ _ _ _ rule rule right needed order over refl refl d refl e refl f whole is
+
 -- whether there are outputs, by how many there are
-pub outputs_are : (outputs : List (Vec ℕ Global)) (len : ℕ) (none : Bool) → len ≡ length outputs → (len == 0) ≡ none → is_empty (rows outputs) ≡ none
-outputs_are [] len none count test = (let x : (0 == 0) ≡ none = rw count at test in x)
-outputs_are (o ∷ os) len none count test = let some : (len == 0) ≡ false = grind (arith, nat_tests) in sym some ∙ test
+pub no_outputs : (outputs : List (List ℕ)) (len : ℕ) → len ≡ length outputs → len ≡ 0 → is_empty outputs ≡ true
+no_outputs [] len count none = refl
+no_outputs (o ∷ os) len count none = absurd (omega arith)
+
+pub some_outputs : (outputs : List (List ℕ)) (len : ℕ) → len ≡ length outputs → (len ≡ 0 → ⊥) → is_empty outputs ≡ false
+some_outputs [] len count some = absurd (some count)
+some_outputs (o ∷ os) len count some = refl
 
 -- whether a token is left over, by the next one
 pub left_over : (words after : Words) (token : Option Token) (is : Bool) → YieldsFirstBy seen_token tokens_left words token after → is_some token ≡ is → is_empty (symbols_left words) ≡ not is

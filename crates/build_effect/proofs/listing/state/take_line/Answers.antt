@@ -24,8 +24,8 @@ invariant_of-state-else-state c =
 pub returns-in-Open-default-false : goal.returns-in-Open-default-false
 returns-in-Open-default-false c =
     let i = c.in-Open-default-false.is in
-    let t = c.in-Open-default-false.field-1-test in
-    let opened : c.state-in-Restat.inside.binding ≡ Open c.in-Open-default-false.dyndep false = cc in
-    let b = restat_passes c.args.state.now.binding c.args.state.now.edges c.set_last_restat.new.edges.items c.in-Restat.flag c.in-Open-default-false.dyndep
+    let t = c.in-Open-default-false.has_restat-test in
+    let opened : c.state-in-Restat.inside.binding ≡ Open c.in-Open-default-false.has_dyndep false = cc in
+    let b = restat_passes c.args.state.now.binding c.args.state.now.edges c.set_last_restat.new.edges.items c.in-Restat.flag c.in-Open-default-false.has_dyndep
     (ap (λ v. v.binding) (sym c.state-in-Restat.view_is) ∙ opened) (c.set_last_restat.ensures ∙ ap (λ v. with_last_restat c.in-Restat.flag v.edges) c.state-in-Restat.view_is) in
     (b.0, (RestatRow c.in-Restat.flag, c.in_ok-row_of.ensures ∙ ap (λ r. Ok (row_value r)) c.in-Restat.is, b.1), b.2)
