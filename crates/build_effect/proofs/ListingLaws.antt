@@ -1,6 +1,6 @@
 -- The reader of edge listings, line by line, and the laws of lines and of texts.
 use Rattle.std.proofs.Common.{◌≡◌, ◌≢◌, ℕ, ◌+◌, ◌<◌, Bool, true, false, zero, suc, List, [], ◌∷◌, ◌++◌, length, refl, sym, ap, ◌∙◌, Some, None, Ok, Err, arith, inl, inr, ◌≤◌, subst, ◌⊎◌}
-use Rattle.std.specs.Prelude.{Result, All, slice_set, slice_index_or, nat_lt}
+use Rattle.std.specs.Prelude.{Result, IfOk, IfErr, All, slice_set, slice_index_or, nat_lt}
 use Rattle.ninja_text.specs.Paths.{path_of}
 use Rattle.ninja_text.specs.declared.fault.PathFault.{PathFault}
 use Rattle.build_effect.specs.EdgeValue.{EdgeValue}
@@ -21,13 +21,13 @@ use Rattle.ninja_text.proofs.ForCallers as lines
 use Rattle.build_effect.specs.ListingFaults.{IsTextCause, IsLineCause}
 use Rattle.build_effect.specs.ListingSteps.{ListingValue}
 use Rattle.build_effect.specs.ListingReading.{listing_format, listing_faults, Lists, HasFaultyLine, HasFaultyEnd, IsEndCause, HasListingFault}
-use Rattle.build_effect.specs.ListingReaders.{LeadToEdges, ListingReaderState, HasReadListing, FeedsListing, EndsListing, line_failure, IsListingFaultIn}
+use Rattle.build_effect.specs.ListingReaders.{LeadToEdges, ListingReaderState, HasReadListing, FeedsListing, EndsListing, line_failure, IsListingFaultIn, IsListingFault}
 use Rattle.build_effect.specs.inner.ReadLines.{fault_of_cutter, PassesLine, RefusesLine}
 use Rattle.build_effect.specs.declared.fault.LineCause.{LineCause}
 use Rattle.build_effect.specs.declared.fault.LineCause.TheVariants as causes
 use Rattle.build_effect.specs.declared.fault.LineFault.{LineFault}
 use Rattle.build_effect.specs.declared.fault.ListFault.{ListFault}
-use Rattle.build_effect.specs.declared.fault.ListFault.TheVariants.{NoGraph}
+use Rattle.build_effect.specs.declared.fault.ListFault.TheVariants.{AtLine, NoGraph}
 use Rattle.build_effect.specs.Faults.{IsGraphFault}
 use Rattle.build_effect.specs.declared.fault.GraphFault.{GraphFault}
 use Rattle.build_effect.proofs.ListingClasses.{class_holds, one_class}
@@ -194,6 +194,19 @@ graph_failure (Fault fault) = Fault (NoGraph fault)
 pub no_graph : (bytes : List ℕ) (edges : List EdgeValue) (failure : Failure GraphFault) → Lists bytes edges → ForFault (IsGraphFault edges) failure → EndsListing bytes (Err (graph_failure failure))
 no_graph bytes edges (Fault fault) lists is = (edges, lists, is)
 no_graph bytes edges Memory lists is = tt
+
+-- the fault of a whole text, by what reading it or its end returned
+pub stopped : (bytes : List ℕ) (failure : Failure ListFault) (new : ListingReaderState) → FeedsListing bytes (Err failure) new → ForFault (IsListingFault bytes) failure
+stopped bytes Memory new h = tt
+stopped bytes (Fault (AtLine fault)) new h = elim h.1 [ inl line ↦ inl line | inr end ↦ inr end.0 ]
+stopped bytes (Fault (NoGraph fault)) new h = absurd h
+
+pub whole_read : (bytes : List ℕ) (result : Result (List EdgeValue) (Failure ListFault)) → EndsListing bytes result
+    → IfOk result (Lists bytes) × IfErr result (ForFault (IsListingFault bytes))
+whole_read bytes (Ok edges) h = (h, tt)
+whole_read bytes (Err Memory) h = (tt, tt)
+whole_read bytes (Err (Fault (AtLine fault))) h = (tt, inr h)
+whole_read bytes (Err (Fault (NoGraph fault))) h = (tt, h)
 
 -- the failure of a call as a fault of the listing
 pub turned_to : {F : Type 0} (turn : F → ListFault) (all : Failure F → Failure ListFault) → all Memory ≡ Memory → ((fault : F) → all (Fault fault) ≡ Fault (turn fault))

@@ -102,6 +102,30 @@ impl ListingReader {
     }
 }
 
+impl Graph {
+    ghost use Rattle.std.specs.Prelude.{IfErr, IfOk};
+    ghost use Rattle.ninja_text.specs.Failure.{ForFault};
+    ghost use Rattle.build_effect.specs.ListingReading.{Lists};
+    ghost use Rattle.build_effect.specs.ListingReaders.{IsListingFault};
+
+    /// Returns the graph of the edges that a text lists. A [`ListingReader`] that is fed the text
+    /// returns the same.
+    ///
+    /// # Errors
+    ///
+    /// - E3: the first faulty line, or else the last line has no end.
+    /// - E1 or E2: otherwise, the edges listed are not a graph, as [`Graph::new`] reports it.
+    /// - `Memory`: an allocation fails.
+    pub fn of(alloc: Global, text: &[u8]) -> Result<Graph, Failure<ListFault>>
+        ensures graph { IfOk result (Lists text.now) }
+        ensures fault { IfErr result (ForFault (IsListingFault text.now)) }
+    {
+        let mut reader = ListingReader::new(alloc);
+        reader.feed(text)?;
+        reader.finish()
+    }
+}
+
 impl LineState for ListingState {
     type Fault = LineFault;
 
