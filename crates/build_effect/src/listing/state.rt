@@ -1,15 +1,17 @@
 //! The edges of the lines so far, and what the next line does to them.
 ghost use Rattle.std.specs.Prelude.{◌≡◌, ◌≢◌, [], IfOk, All};
+ghost use Rattle.ninja_text.specs.Failure.{Gives};
 ghost use Rattle.ninja_text.specs.LineViews.{seen_line};
+ghost use Rattle.ninja_text.specs.Paths.{path_of};
 ghost use Rattle.build_effect.specs.ListingSteps.{ListingValue};
-ghost use Rattle.build_effect.specs.inner.ListingWalk.{with_last_restat, edge_paths};
+ghost use Rattle.build_effect.specs.inner.ListingWalk.{with_last_dyndep, with_last_restat, edge_paths};
 ghost use Rattle.build_effect.specs.inner.ListingRows.{TakesRow, ReadsText, row_value, GivesEdge};
 
 use crate::fault::LineCause;
 use crate::graph::Edge;
 use crate::listing::rows::{EdgeTexts, Row, row_of};
 use crate::listing::strings::path_of;
-use ninja_text::{Failure, Line, PathFault};
+use ninja_text::{Failure, Line, Path, PathFault};
 use std::alloc::Global;
 use std::marker::Model;
 
@@ -96,11 +98,9 @@ fn dyndep_row(
     else {
         return Err(Failure::Fault(LineCause::Form));
     };
-    match path_of(alloc, text) {
+    match dyndep_path(alloc, &state.edges, text) {
         Ok(path) => {
-            if let Some(edge) = state.edges.last_mut() {
-                edge.dyndep = Some(path);
-            }
+            set_last_dyndep(&mut state.edges, path);
             state.binding = Binding::Open {
                 has_dyndep: true,
                 has_restat,
@@ -108,6 +108,30 @@ fn dyndep_row(
             Ok(())
         }
         Err(failure) => Err(failure.map(LineCause::BadPath)),
+    }
+}
+
+/// Returns the path of a string. Most edges of a target name one dyndep file, so the path shares that
+/// of the edge before the last one if it is the same.
+fn dyndep_path(alloc: Global, edges: &[Edge], text: Vec<u8>) -> Result<Path, Failure<PathFault>>
+    ensures { Gives (λ path. path) result (path_of text.items) }
+{
+    if edges.len() > 1 {
+        let before = &edges[edges.len() - 2];
+        if let Some(path) = &before.dyndep {
+            if path.bytes() == text.as_slice() {
+                return Ok(path.copy(alloc)?);
+            }
+        }
+    }
+    path_of(alloc, text)
+}
+
+fn set_last_dyndep(edges: &mut Vec<Edge>, path: Path)
+    ensures { edges.new.items ≡ with_last_dyndep path edges.old.items }
+{
+    if let Some(edge) = edges.last_mut() {
+        edge.dyndep = Some(path);
     }
 }
 
