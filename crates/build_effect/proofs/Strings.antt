@@ -52,7 +52,8 @@ within_range text spans from to within = All-take (IsWithin text) (to - from) (d
 -- ---- the five lists of a build line
 
 -- a list between two others
-between : {joined all : List (List ℕ)} {from to : ℕ} (before part after : List (List ℕ)) → joined ≡ before ++ part → all ≡ joined ++ after → from ≡ length before → to ≡ length joined
+between : {joined all : List (List ℕ)} {from to : ℕ} (before part after : List (List ℕ)) → joined ≡ before ++ part → all ≡ joined ++ after →
+    from ≡ length before → to ≡ length joined
     → slice_range all from to ≡ part
 between {joined} {all} {from} {to} before part after both whole start end =
     ap (λ xs. take (to - from) (drop from xs)) (whole ∙ ap (λ xs. xs ++ after) both ∙ append_assoc before part after)
@@ -83,7 +84,8 @@ pub record AreParts (all o i n m l : List (List ℕ)) (ends : ListEnds) : Type 0
 pub counted : {s0 s1 : List (List ℕ)} {a : ℕ} (o : List (List ℕ)) → s0 ≡ [] → s1 ≡ s0 ++ o → a ≡ length s1 → a ≡ length o
 counted o none is a = a ∙ ap length (is ∙ ap (λ s. s ++ o) none)
 
-pub parts_are : {s0 s1 s2 s3 s4 s5 : List (List ℕ)} {a b c d : ℕ} (o i n m l : List (List ℕ)) → s0 ≡ [] → s1 ≡ s0 ++ o → a ≡ length s1 → s2 ≡ s1 ++ i → b ≡ length s2
+pub parts_are : {s0 s1 s2 s3 s4 s5 : List (List ℕ)} {a b c d : ℕ} (o i n m l : List (List ℕ)) → s0 ≡ [] → s1 ≡ s0 ++ o → a ≡ length s1 → s2 ≡ s1 ++ i →
+    b ≡ length s2
     → s3 ≡ s2 ++ n → c ≡ length s3 → s4 ≡ s3 ++ m → d ≡ length s4 → s5 ≡ s4 ++ l
     → AreParts s5 o i n m l (record { outputs = a; implicit_outputs = b; inputs = c; implicit_inputs = d })
 parts_are {s0} {s1} {s2} {s3} {s4} {s5} o i n m l none e1 a e2 b e3 c e4 d e5 =

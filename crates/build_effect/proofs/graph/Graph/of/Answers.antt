@@ -9,7 +9,9 @@ returns-in_err-feed-clause-fault c =
     rw (p.1, p.2) (stopped c.args.text.now c.in_err-feed.field-0.0 c.feed.new.self (c.in_err-feed.ensures.all [] c.new-reader.ensures))
 
 pub returns-clause-graph : goal.returns-clause-graph
-returns-clause-graph c = (whole_read c.args.text.now c.finish.result (c.finish.ensures.all c.args.text.now (c.in_ok-feed.ensures.all [] c.new-reader.ensures))).0
+returns-clause-graph c =
+    (whole_read c.args.text.now c.finish.result (c.finish.ensures.all c.args.text.now (c.in_ok-feed.ensures.all [] c.new-reader.ensures))).0
 
 pub returns-clause-fault : goal.returns-clause-fault
-returns-clause-fault c = (whole_read c.args.text.now c.finish.result (c.finish.ensures.all c.args.text.now (c.in_ok-feed.ensures.all [] c.new-reader.ensures))).1
+returns-clause-fault c =
+    (whole_read c.args.text.now c.finish.result (c.finish.ensures.all c.args.text.now (c.in_ok-feed.ensures.all [] c.new-reader.ensures))).1

@@ -18,7 +18,8 @@ returns-in_default c =
     let symbols = symbols_left c.args.words in
     let bar = symbols_left c.front_words.new.tokens in
     sym (left_texts symbols bar (symbols_left c.part.new.tokens) _ _ refl c.in_ok-outputs.ensures.rest refl c.in_ok-implicit_outputs.ensures.rest
-    ∙ ap (right_texts (front_words symbols) (part_words (past_sign Bar bar))) c.if-not-pass_sign.ensures ∙ no_rule _ _ (symbols_left c.pass_sign.new.tokens) c.in_default.ensures.0)
+    ∙ ap (right_texts (front_words symbols) (part_words (past_sign Bar bar))) c.if-not-pass_sign.ensures ∙
+    no_rule _ _ (symbols_left c.pass_sign.new.tokens) c.in_default.ensures.0)
 
 pub returns-then-outputs-eq0 : goal.returns-then-outputs-eq0
 returns-then-outputs-eq0 c =
@@ -28,7 +29,8 @@ returns-then-outputs-eq0 c =
     let count = counted outputs c.in_ok-strings.ensures c.in_ok-outputs.ensures.words c.in_ok-outputs.ensures.count in
     let whole : false ≡ not (is_empty outputs) && is_rule_name rule && is_empty last =
     elim c.then-outputs-eq0.branch [
-      | then-outputs-eq0-via-then-outputs-eq0 w ↦ without_output (is_empty outputs) (is_rule_name rule) (is_empty last) (no_outputs outputs _ count w.if-outputs-eq0.true)
+      | then-outputs-eq0-via-then-outputs-eq0 w ↦
+          without_output (is_empty outputs) (is_rule_name rule) (is_empty last) (no_outputs outputs _ count w.if-outputs-eq0.true)
       | then-outputs-eq0-via-else-outputs-eq0+then-not-is_rule_name w ↦ without_name (is_empty outputs) (is_rule_name rule) (is_empty last)
           (ap is_rule_name (sym w.raw.ensures) ∙ sym w.is_rule_name.ensures ∙ w.if-not-is_rule_name.true)
       | then-outputs-eq0-via-else-outputs-eq0+else-not-is_rule_name+then-is_some w ↦ without_end (is_empty outputs) (is_rule_name rule) (is_empty last)
@@ -36,7 +38,8 @@ returns-then-outputs-eq0 c =
     ] in
     sym (walked (symbols_left c.args.words) (symbols_left c.front_words.new.tokens) (symbols_left c.part.new.tokens) (symbols_left c.pass_sign.new.tokens)
     (symbols_left c.next_word.new.tokens) (symbols_left c.front_words-2.new.tokens) (symbols_left c.part-2.new.tokens) last rule
-    c.in_ok-outputs.ensures.rest c.in_ok-implicit_outputs.ensures.rest c.if-not-pass_sign.ensures c.in-Some.ensures c.in_ok-inputs.ensures.rest c.in_ok-implicit_inputs.ensures.rest
+    c.in_ok-outputs.ensures.rest c.in_ok-implicit_outputs.ensures.rest c.if-not-pass_sign.ensures c.in-Some.ensures c.in_ok-inputs.ensures.rest
+    c.in_ok-implicit_inputs.ensures.rest
     c.in_ok-part.ensures.rest false whole)
 
 pub invariant_of-result : goal.invariant_of-result
@@ -46,9 +49,11 @@ invariant_of-result c =
     let right = symbols_left c.next_word.new.tokens in
     let needed = symbols_left c.front_words-2.new.tokens in
     let order = symbols_left c.part-2.new.tokens in
-    let parts = parts_are (front_words symbols) (words_of_part Bar bar) (front_words right) (words_of_part Bar needed) (words_of_part DoubleBar order) c.in_ok-strings.ensures
+    let parts = parts_are (front_words symbols) (words_of_part Bar bar) (front_words right) (words_of_part Bar needed) (words_of_part DoubleBar order)
+    c.in_ok-strings.ensures
     c.in_ok-outputs.ensures.words c.in_ok-outputs.ensures.count c.in_ok-implicit_outputs.ensures.words c.in_ok-implicit_outputs.ensures.count
-    c.in_ok-inputs.ensures.words c.in_ok-inputs.ensures.count c.in_ok-implicit_inputs.ensures.words c.in_ok-implicit_inputs.ensures.count c.in_ok-part.ensures.words in
+    c.in_ok-inputs.ensures.words c.in_ok-inputs.ensures.count c.in_ok-implicit_inputs.ensures.words c.in_ok-implicit_inputs.ensures.count
+    c.in_ok-part.ensures.words in
     let count = counted (front_words symbols) c.in_ok-strings.ensures c.in_ok-outputs.ensures.words c.in_ok-outputs.ensures.count in
     parts.sound (λ none. c.if-outputs-eq0.false (count ∙ ap length none))
 
@@ -64,7 +69,8 @@ returns c =
     let rule = (seen_token c.in-Some.rule).raw in
     let parts = parts_are outputs (words_of_part Bar bar) (front_words right) (words_of_part Bar needed) (words_of_part DoubleBar order) c.in_ok-strings.ensures
     c.in_ok-outputs.ensures.words c.in_ok-outputs.ensures.count c.in_ok-implicit_outputs.ensures.words c.in_ok-implicit_outputs.ensures.count
-    c.in_ok-inputs.ensures.words c.in_ok-inputs.ensures.count c.in_ok-implicit_inputs.ensures.words c.in_ok-implicit_inputs.ensures.count c.in_ok-part.ensures.words in
+    c.in_ok-inputs.ensures.words c.in_ok-inputs.ensures.count c.in_ok-implicit_inputs.ensures.words c.in_ok-implicit_inputs.ensures.count
+    c.in_ok-part.ensures.words in
     let count = counted outputs c.in_ok-strings.ensures c.in_ok-outputs.ensures.words c.in_ok-outputs.ensures.count in
     let whole : true ≡ not (is_empty outputs) && is_rule_name rule && is_empty last =
     is_whole (is_empty outputs) (is_rule_name rule) (is_empty last) (some_outputs outputs _ count c.if-outputs-eq0.false)
@@ -80,5 +86,6 @@ returns c =
       order_only = words_of_part DoubleBar order;
     })) (c.in_ok-from_slice.ensures.items ∙ c.raw-2.ensures)
     ∙ sym (walked symbols bar (symbols_left c.part.new.tokens) (symbols_left c.pass_sign.new.tokens) right needed order last rule
-    c.in_ok-outputs.ensures.rest c.in_ok-implicit_outputs.ensures.rest c.if-not-pass_sign.ensures c.in-Some.ensures c.in_ok-inputs.ensures.rest c.in_ok-implicit_inputs.ensures.rest
+    c.in_ok-outputs.ensures.rest c.in_ok-implicit_outputs.ensures.rest c.if-not-pass_sign.ensures c.in-Some.ensures c.in_ok-inputs.ensures.rest
+    c.in_ok-implicit_inputs.ensures.rest
     c.in_ok-part.ensures.rest true whole)

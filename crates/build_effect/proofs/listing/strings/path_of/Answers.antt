@@ -5,4 +5,5 @@ use Rattle.build_effect.proofs.Strings.{whole_range}
 use Rattle.build_effect.proofs.listing.strings.path_of.Goals as goal
 
 pub returns : goal.returns
-returns c = subst (λ text. Gives (λ path. path) c.within.result (path_of text)) (whole_range _ _ c.len-end.ensures ∙ c.in_ok-shared.ensures) c.within.ensures.meaning
+returns c = subst (λ text. Gives (λ path. path) c.within.result (path_of text)) (whole_range _ _ c.len-end.ensures ∙ c.in_ok-shared.ensures)
+    c.within.ensures.meaning

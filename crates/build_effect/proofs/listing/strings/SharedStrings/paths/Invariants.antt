@@ -10,5 +10,6 @@ use Rattle.build_effect.proofs.listing.strings.SharedStrings.paths.Given as goal
 abbrev pub invariant-loop-span : goal.invariant-loop-span
 invariant-loop-span l = record {
   within : AreWithin (rc_slice_items l.self-inside.text) l.span-items;
-  paths : paths_of (slice_range l.self l.from l.to) ≡ behind l.paths.items (paths_of (texts_of (rc_slice_items l.self-inside.text) (drop l.span-index l.span-items)));
+  paths : paths_of (slice_range l.self l.from l.to) ≡
+      behind l.paths.items (paths_of (texts_of (rc_slice_items l.self-inside.text) (drop l.span-index l.span-items)));
 }
