@@ -2,30 +2,32 @@
 use Rattle.std.proofs.Common.{◌≡◌, ◌≢◌, ℕ, zero, suc, ◌<◌, ◌⊎◌, List, [], ◌∷◌, length, Some, refl, ap, subst, sym, ◌∙◌, inl, inr, arith}
 use Rattle.std.specs.Prelude.{slice_get}
 use Rattle.std.proofs.lemmas.Option.{slice_get_within}
-use Rattle.build_effect.proofs.Lists.{path_option_decides, same_lists}
+use Rattle.build_effect.proofs.Lists.{path_option_decides, same_lists, from_some}
 use Rattle.build_effect.specs.EdgeValue.{EdgeValue}
 use Rattle.build_effect.specs.Graphs.{Names}
 use Rattle.build_effect.specs.Effect.{IsTheOneOn, Extends, OnlyEffect, extended}
 use Rattle.build_effect.specs.Premises.{AddsAt, MeetsPremises}
 use Rattle.build_effect.specs.Files.{NamedFile, AreFiles, FilesMeet, Applies, GainsExactly, AreFileIndices, AnyOrder, SameFiles, OrdersEndAlike}
-use Rattle.ninja_text.proofs.ForCallers.{same_some, element_at}
+use Rattle.ninja_text.proofs.ForCallers.{element_at}
 use Rattle.build_effect.proofs.Effects.{ComesTo, origin_in, one_effect}
 use Rattle.dyndep_file.specs.StatementValue.{StatementValue}
 
 -- the origin of an edge of the graph after an effect
-pub comes_to : (g : List EdgeValue) (name : List ℕ) (additions : List StatementValue) (new : List EdgeValue) → Extends g name additions new → (i : ℕ) (x : EdgeValue) → slice_get new i ≡ Some x → ComesTo g name additions i x
+pub comes_to : (g : List EdgeValue) (name : List ℕ) (additions : List StatementValue) (new : List EdgeValue) → Extends g name additions new →
+    (i : ℕ) (x : EdgeValue) → slice_get new i ≡ Some x → ComesTo g name additions i x
 comes_to g name additions new gives i x here =
     let within : i < length new = slice_get_within _ _ _ here in
-    let at : (e : EdgeValue) × (slice_get g i ≡ Some e) = element_at g i (omega (arith, gives.same_edges)) in
+    let at = element_at g i (omega (arith, gives.same_edges)) in
     elim (path_option_decides at.0.dyndep (Some name)) [
-      | inl names ↦ let n = gives.named i at.0 at.1 names in (at.0, at.1, inr (names, n.0, n.1, n.2, same_some _ _ (sym here ∙ n.3)))
-      | inr others ↦ (at.0, at.1, inl (others, same_some _ _ (sym here ∙ gives.others i at.0 at.1 others)))
+      | inl names ↦ let n = gives.named i at.0 at.1 names in (at.0, at.1, inr (names, n.0, n.1, n.2, from_some (sym here ∙ n.3)))
+      | inr others ↦ (at.0, at.1, inl (others, from_some (sym here ∙ gives.others i at.0 at.1 others)))
     ]
 
 -- an edge that names another file stays as it is
-module _ (g : List EdgeValue) (name : List ℕ) (additions : List StatementValue) (new : List EdgeValue) (gives : Extends g name additions new) (other : List ℕ) (differ : name ≢ other) where
+module _ (g : List EdgeValue) (name : List ℕ) (additions : List StatementValue) (new : List EdgeValue) (gives : Extends g name additions new) (other : List ℕ)
+    (differ : name ≢ other) where
   not_both : (e : EdgeValue) → Names other e → e.dyndep ≢ Some name
-  not_both e names same = differ (same_some _ _ (sym same ∙ names))
+  not_both e names same = differ (from_some (sym same ∙ names))
 
   untouched : (i : ℕ) (x : EdgeValue) → slice_get new i ≡ Some x → Names other x → slice_get g i ≡ Some x
   untouched i x here names =
@@ -39,7 +41,8 @@ module _ (g : List EdgeValue) (name : List ℕ) (additions : List StatementValue
   kept i e here names = gives.others i e here (not_both e names)
 
   -- the premises of another file still hold
-  still_meets : (more : List StatementValue) → MeetsPremises g other more → ((k l i j : ℕ) (file : List ℕ) → AddsAt additions k i file → AddsAt more l j file → ⊥) → MeetsPremises new other more
+  still_meets : (more : List StatementValue) → MeetsPremises g other more →
+      ((k l i j : ℕ) (file : List ℕ) → AddsAt additions k i file → AddsAt more l j file → ⊥) → MeetsPremises new other more
   still_meets more meets apart =
       record {
         made_once = gives.made_once;
@@ -61,44 +64,56 @@ record RestMeets (files : List NamedFile) (g : List EdgeValue) (order : List ℕ
 
 tail_indices : (files : List NamedFile) (n : ℕ) (order : List ℕ) → AreFileIndices files (n ∷ order) → AreFileIndices files order
 tail_indices files n order indices =
-    record { within = λ p m e. indices.within (suc p) m e; differ = λ p q m e f. let same : suc p ≡ suc q = indices.differ (suc p) (suc q) m e f in omega (arith, same) }
+    record { within = λ p m e. indices.within (suc p) m e; differ = λ p q m e f. let same = indices.differ (suc p) (suc q) m e f in omega arith }
 
 -- an index of the rest is not the first
 not_first : (files : List NamedFile) (n : ℕ) (order : List ℕ) → AreFileIndices files (n ∷ order) → (p m : ℕ) → slice_get order p ≡ Some m → n ≡ m → ⊥
-not_first files n order indices p m e same = let same_index : 0 ≡ suc p = indices.differ 0 (suc p) m (ap Some same) e in omega (arith, same_index)
+not_first files n order indices p m e same = let same_index = indices.differ 0 (suc p) m (ap Some same) e in omega arith
 
 module _ (files : List NamedFile) (start : List EdgeValue) (are : AreFiles files) (all : FilesMeet start files) where
   gains_named : (n : ℕ) (order : List ℕ) (g : List EdgeValue) → AreFileIndices files (n ∷ order) → (f : NamedFile) → slice_get files n ≡ Some f →
       (mid : List EdgeValue) → Extends g f.name f.additions mid → (new : List EdgeValue) → GainsExactly files mid order new →
-      (p m : ℕ) (h : NamedFile) (i : ℕ) (e : EdgeValue) → slice_get (n ∷ order) p ≡ Some m → slice_get files m ≡ Some h → slice_get g i ≡ Some e → Names h.name e →
+      (p m : ℕ) (h : NamedFile) (i : ℕ) (e : EdgeValue) → slice_get (n ∷ order) p ≡ Some m → slice_get files m ≡ Some h → slice_get g i ≡ Some e →
+      Names h.name e →
       (k : ℕ) × (a : StatementValue) × IsTheOneOn h.additions e k a × (slice_get new i ≡ Some (extended e a))
   gains_named n order g indices f at mid first new more zero m h i e listed there here names =
-      let same : f ≡ h = same_some _ _ (sym at ∙ ap (slice_get files) (same_some _ _ listed) ∙ there) in
+      let same : f ≡ h = cc in
       let gained = first.named i e here (names ∙ ap (λ (x : NamedFile). Some x.name) (sym same)) in
       let last = more.others i (extended e gained.1) gained.3 (λ q l x at_q at_l again.
-      not_first files n order indices q l at_q (all.names_differ n l f x at at_l (same_some _ _ (sym (names ∙ ap (λ (x : NamedFile). Some x.name) (sym same)) ∙ again)))) in
+      not_first files n order indices q l at_q
+      (all.names_differ n l f x at at_l (from_some (sym (names ∙ ap (λ (x : NamedFile). Some x.name) (sym same)) ∙ again)))) in
       (gained.0, gained.1, subst (λ (x : NamedFile). IsTheOneOn x.additions e gained.0 gained.1) same gained.2, last)
   gains_named n order g indices f at mid first new more (suc p) m h i e listed there here names =
-      let unnamed : e.dyndep ≢ Some f.name = λ same. not_first files n order indices p m listed (all.names_differ n m f h at there (same_some _ _ (sym same ∙ names))) in
+      let unnamed : e.dyndep ≢ Some f.name = λ same.
+      not_first files n order indices p m listed (all.names_differ n m f h at there (from_some (sym same ∙ names))) in
       more.named p m h i e listed there (first.others i e here unnamed) names
 
   gains_others : (n : ℕ) (order : List ℕ) (g : List EdgeValue) → AreFileIndices files (n ∷ order) → (f : NamedFile) → slice_get files n ≡ Some f →
       (mid : List EdgeValue) → Extends g f.name f.additions mid → (new : List EdgeValue) → GainsExactly files mid order new →
-      (i : ℕ) (e : EdgeValue) → slice_get g i ≡ Some e → ((p m : ℕ) (h : NamedFile) → slice_get (n ∷ order) p ≡ Some m → slice_get files m ≡ Some h → e.dyndep ≢ Some h.name) → slice_get new i ≡ Some e
+      (i : ℕ) (e : EdgeValue) → slice_get g i ≡ Some e →
+      ((p m : ℕ) (h : NamedFile) → slice_get (n ∷ order) p ≡ Some m → slice_get files m ≡ Some h → e.dyndep ≢ Some h.name) → slice_get new i ≡ Some e
   gains_others n order g indices f at mid first new more i e here none =
       more.others i e (first.others i e here (none 0 n f refl at)) (λ p m h listed there. none (suc p) m h listed there)
 
   -- the gains of the first file and those of the rest
   gains : (n : ℕ) (order : List ℕ) (g : List EdgeValue) → AreFileIndices files (n ∷ order) → (f : NamedFile) → slice_get files n ≡ Some f →
-      (mid : List EdgeValue) → Extends g f.name f.additions mid → (new : List EdgeValue) → GainsExactly files mid order new → GainsExactly files g (n ∷ order) new
+      (mid : List EdgeValue) → Extends g f.name f.additions mid → (new : List EdgeValue) → GainsExactly files mid order new →
+      GainsExactly files g (n ∷ order) new
   gains n order g indices f at mid first new more =
-      record { same_edges = more.same_edges ∙ first.same_edges; named = gains_named n order g indices f at mid first new more; others = gains_others n order g indices f at mid first new more }
+      record {
+        same_edges = more.same_edges ∙
+            first.same_edges;
+        named = gains_named n order g indices f at mid first new more;
+        others = gains_others n order g indices f at mid first new more;
+      }
 
-  run : (order : List ℕ) (g : List EdgeValue) → AreFileIndices files order → RestMeets files g order → (new : List EdgeValue) × Applies files g order new × GainsExactly files g order new
+  run : (order : List ℕ) (g : List EdgeValue) → AreFileIndices files order → RestMeets files g order →
+      (new : List EdgeValue) × Applies files g order new × GainsExactly files g order new
   run [] g indices rest = (g, refl, record { same_edges = refl; named = λ p n f i e none. cc; others = λ i e here none. here })
   run (n ∷ order) g indices rest =
-      let at : (f : NamedFile) × (slice_get files n ≡ Some f) = element_at files n (indices.within 0 n refl) in
-      let first = one_effect g at.0.name at.0.statements at.0.additions (are.canonical n at.0 at.1) (are.added_once n at.0 at.1) (rest.each 0 n at.0 refl at.1) in
+      let at = element_at files n (indices.within 0 n refl) in
+      let first = one_effect g at.0.name at.0.statements at.0.additions (are.canonical n at.0 at.1) (are.added_once n at.0 at.1) (rest.each 0 n at.0 refl at.1)
+      in
       let left : RestMeets files first.0 order = record {
         each = λ p m h e there. still_meets g at.0.name at.0.additions first.0 first.1 h.name
             (λ same. not_first files n order indices p m e (all.names_differ n m at.0 h at.1 there same)) h.additions (rest.each (suc p) m h e there)
@@ -114,9 +129,9 @@ any_order files g order are all indices = run files g are all order g indices (r
 same_end : (files : List NamedFile) (order : List ℕ) (g a b : List EdgeValue) → Applies files g order a → Applies files g order b → a ≡ b
 same_end files [] g a b p q = p ∙ sym q
 same_end files (n ∷ order) g a b p q =
-    let file : p.0 ≡ q.0 = same_some _ _ (sym p.2 ∙ q.2) in
+    let file : p.0 ≡ q.0 = cc in
     let again : OnlyEffect g p.0.name p.0.statements q.1 = subst (λ (f : NamedFile). OnlyEffect g f.name f.statements q.1) (sym file) q.3 in
-    let mid : q.1 ≡ p.1 = p.3.only q.1 again.effect in
+    let mid = p.3.only q.1 again.effect in
     same_end files order p.1 a b p.4 (subst (λ x. Applies files x order b) mid q.4)
 
 -- the edge names one of the files of these indices
@@ -126,14 +141,16 @@ NamesOne files order e = (p : ℕ) × (n : ℕ) × (f : NamedFile) × (slice_get
 abbrev NamesNone : List NamedFile → List ℕ → EdgeValue → Type 0
 NamesNone files order e = (p n : ℕ) (f : NamedFile) → slice_get order p ≡ Some n → slice_get files n ≡ Some f → e.dyndep ≢ Some f.name
 
-names_none_more : (files : List NamedFile) (n : ℕ) (order : List ℕ) (e : EdgeValue) (f : NamedFile) → slice_get files n ≡ Some f → e.dyndep ≢ Some f.name → NamesNone files order e → NamesNone files (n ∷ order) e
-names_none_more files n order e f at not none zero m h listed there = subst (λ (x : NamedFile). e.dyndep ≢ Some x.name) (same_some _ _ (sym at ∙ ap (slice_get files) (same_some _ _ listed) ∙ there)) not
+names_none_more : (files : List NamedFile) (n : ℕ) (order : List ℕ) (e : EdgeValue) (f : NamedFile) → slice_get files n ≡ Some f → e.dyndep ≢ Some f.name →
+    NamesNone files order e → NamesNone files (n ∷ order) e
+names_none_more files n order e f at not none zero m h listed there =
+    subst (λ (x : NamedFile). e.dyndep ≢ Some x.name) (from_some (sym at ∙ ap (slice_get files) (from_some listed) ∙ there)) not
 names_none_more files n order e f at not none (suc p) m h listed there = none p m h listed there
 
 names_one : (files : List NamedFile) (order : List ℕ) → AreFileIndices files order → (e : EdgeValue) → NamesOne files order e ⊎ NamesNone files order e
 names_one files [] indices e = inr (λ p n f none. cc)
 names_one files (n ∷ order) indices e =
-    let at : (f : NamedFile) × (slice_get files n ≡ Some f) = element_at files n (indices.within 0 n refl) in
+    let at = element_at files n (indices.within 0 n refl) in
     elim (path_option_decides e.dyndep (Some at.0.name)) [
       | inl names ↦ inl (0, n, at.0, refl, at.1, names)
       | inr not ↦ elim (names_one files order (tail_indices files n order indices) e) [
@@ -148,16 +165,16 @@ same_gains : (files : List NamedFile) (g : List EdgeValue) (order other : List �
 same_gains files g order other a b indices same p q =
     same_lists a b (p.same_edges ∙ sym q.same_edges) (λ i x y ex ey.
     let within : i < length a = slice_get_within _ _ _ ex in
-    let at : (e : EdgeValue) × (slice_get g i ≡ Some e) = element_at g i (omega (arith, p.same_edges)) in
+    let at = element_at g i (omega (arith, p.same_edges)) in
     elim (names_one files order indices at.0) [
       | inl h ↦
           let there = same.0 h.0 h.1 h.3 in
           let u = p.named h.0 h.1 h.2 i at.0 h.3 h.4 at.1 h.5 in
           let v = q.named there.0 h.1 h.2 i at.0 there.1 h.4 at.1 h.5 in
           let same_index : v.0 ≡ u.0 = u.2.only v.0 v.1 v.2.is v.2.on in
-          let addition : u.1 ≡ v.1 = same_some _ _ (sym u.2.is ∙ ap (slice_get h.2.additions) (sym same_index) ∙ v.2.is) in
-          same_some _ _ (sym ex ∙ u.3 ∙ ap (λ z. Some (extended at.0 z)) addition ∙ sym v.3 ∙ ey)
-      | inr none ↦ same_some _ _ (sym ex ∙ p.others i at.0 at.1 none ∙ sym (q.others i at.0 at.1 (λ r n f listed there.
+          let addition : u.1 ≡ v.1 = from_some (sym u.2.is ∙ ap (slice_get h.2.additions) (sym same_index) ∙ v.2.is) in
+          from_some (sym ex ∙ u.3 ∙ ap (λ z. Some (extended at.0 z)) addition ∙ sym v.3 ∙ ey)
+      | inr none ↦ from_some (sym ex ∙ p.others i at.0 at.1 none ∙ sym (q.others i at.0 at.1 (λ r n f listed there.
           let back = same.1 r n listed in none back.0 n f back.1 there)) ∙ ey)
     ])
 

@@ -2,6 +2,7 @@ mod Lists
 mod MakerTables
 mod PathTexts
 mod StatementChecks
+mod Strings
 mod Effects
 mod Extensions
 mod FileOrders

@@ -2,7 +2,7 @@
 use Rattle.std.proofs.Common.{inl, inr, ◌≡◌, ℕ, Bool, true, false, List, [], ◌∷◌, ◌++◌, Err, refl, sym, ap, ◌∙◌, subst, Option, Some, None}
 use Rattle.std.specs.Prelude.{Result, if◌then◌else◌}
 use Rattle.std.specs.Option.{option_and_then}
-use Rattle.std.proofs.lemmas.Bool.{cases_Bool}
+use Rattle.std.proofs.lemmas.Bool.{cases_Bool, false≢true, true≢false}
 use Rattle.ninja_text.specs.Lexical.{lexical_fault}
 use Rattle.ninja_text.specs.declared.fault.LexFault.{LexFault}
 use Rattle.ninja_text.specs.declared.fault.PathFault.{PathFault}
@@ -45,22 +45,26 @@ row_kind (DyndepRow text) = (text, refl)
 row_kind (RestatRow flag) = (flag, refl)
 
 -- a line of a row that may come has a step
-kind_steps : (binding : Binding) (row : Row) (c : ListingClass) (es : List EdgeValue) → may_stand binding row ≡ true → IsOfKind row c → (next : ListingValue) × (step binding es c ≡ Some next)
+kind_steps : (binding : Binding) (row : Row) (c : ListingClass) (es : List EdgeValue) → may_stand binding row ≡ true → IsOfKind row c →
+    (next : ListingValue) × (step binding es c ≡ Some next)
 kind_steps binding CommentRow c es stands is = (record { edges = es; binding = binding }, ap (step binding es) is)
 kind_steps binding BlankRow c es stands is = (record { edges = es; binding = Closed }, ap (step binding es) is)
 kind_steps binding (BuildRow t) c es stands is = (record { edges = es ++ bound is.0 None None ∷ []; binding = Open false false }, ap (step binding es) is.1)
-kind_steps Closed (DyndepRow text) c es stands is = absurd (let x : false ≡ true = stands in cc)
-kind_steps Closed (RestatRow flag) c es stands is = absurd (let x : false ≡ true = stands in cc)
-kind_steps (Open true restat) (DyndepRow text) c es stands is = absurd (let x : false ≡ true = stands in cc)
-kind_steps (Open false restat) (DyndepRow text) c es stands is = (record { edges = with_last_dyndep is.0 es; binding = Open true restat }, ap (step (Open false restat) es) is.1)
-kind_steps (Open dyndep true) (RestatRow flag) c es stands is = absurd (let x : false ≡ true = stands in cc)
-kind_steps (Open dyndep false) (RestatRow flag) c es stands is = (record { edges = with_last_restat is.0 es; binding = Open dyndep true }, ap (step (Open dyndep false) es) is.1)
+kind_steps Closed (DyndepRow text) c es stands is = absurd (false≢true stands)
+kind_steps Closed (RestatRow flag) c es stands is = absurd (false≢true stands)
+kind_steps (Open true restat) (DyndepRow text) c es stands is = absurd (false≢true stands)
+kind_steps (Open false restat) (DyndepRow text) c es stands is =
+    (record { edges = with_last_dyndep is.0 es; binding = Open true restat }, ap (step (Open false restat) es) is.1)
+kind_steps (Open dyndep true) (RestatRow flag) c es stands is = absurd (false≢true stands)
+kind_steps (Open dyndep false) (RestatRow flag) c es stands is =
+    (record { edges = with_last_restat is.0 es; binding = Open dyndep true }, ap (step (Open dyndep false) es) is.1)
 
 no_step : {A : Type 0} {next : ListingValue} → ◌≡◌ {A = Option ListingValue} None (Some next) → A
 no_step h = absurd (cc)
 
 -- and a line that has a step may come
-step_stands : (binding : Binding) (row : Row) (c : ListingClass) (es : List EdgeValue) (next : ListingValue) → IsOfKind row c → step binding es c ≡ Some next → may_stand binding row ≡ true
+step_stands : (binding : Binding) (row : Row) (c : ListingClass) (es : List EdgeValue) (next : ListingValue) → IsOfKind row c → step binding es c ≡ Some next →
+    may_stand binding row ≡ true
 step_stands binding CommentRow c es next is steps = refl
 step_stands binding BlankRow c es next is steps = refl
 step_stands binding (BuildRow t) c es next is steps = refl
@@ -72,7 +76,8 @@ step_stands (Open dyndep true) (RestatRow flag) c es next is steps = no_step (sy
 step_stands (Open dyndep false) (RestatRow flag) c es next is steps = refl
 
 -- the step of one line that is run
-one_step : (o : Option ListingValue) (end : ListingValue) → option_and_then (λ s. run s.binding s.edges []) o ≡ Some end → (next : ListingValue) × (o ≡ Some next)
+one_step : (o : Option ListingValue) (end : ListingValue) → option_and_then (λ s. run s.binding s.edges []) o ≡ Some end →
+    (next : ListingValue) × (o ≡ Some next)
 one_step None end h = no_step h
 one_step (Some next) end h = (next, refl)
 
@@ -102,8 +107,9 @@ no_cause : {A : Type 0} {x : LineCause} → ◌≡◌ {A = Option LineCause} Non
 no_cause h = absurd (cc)
 
 -- a row that may not come is a binding
-misplaced : (binding : Binding) (text : List ℕ) (comment : Bool) (row : Row) → TextIsOfRow text comment row → may_stand binding row ≡ false → (comment ≡ false) × (lexical_fault text ≡ None)
-misplaced binding text comment CommentRow is h = absurd (let x : true ≡ false = h in cc)
+misplaced : (binding : Binding) (text : List ℕ) (comment : Bool) (row : Row) → TextIsOfRow text comment row → may_stand binding row ≡ false →
+    (comment ≡ false) × (lexical_fault text ≡ None)
+misplaced binding text comment CommentRow is h = absurd (true≢false h)
 misplaced binding text comment BlankRow is h = (is.0, is.1)
 misplaced binding text comment (BuildRow t) is h = (is.0, is.1)
 misplaced binding text comment (DyndepRow value) is h = (is.0, is.1)
@@ -111,11 +117,14 @@ misplaced binding text comment (RestatRow flag) is h = (is.0, is.1)
 
 -- After lines of these classes a line has a class that may come, or it has a cause, and the walk finds it.
 pub data LineCases (classes : List ListingClass) (text : List ℕ) (comment : Bool) : Type 0 where
-  goes_on : (c : ListingClass) → IsListingLine text comment c → BeginsListing (classes ++ c ∷ []) → text_cause (open_from Closed classes) text comment ≡ None → LineCases classes text comment
-  stops_by : (cause : LineCause) → IsTextCause classes text comment cause → text_cause (open_from Closed classes) text comment ≡ Some cause → LineCases classes text comment
+  goes_on : (c : ListingClass) → IsListingLine text comment c → BeginsListing (classes ++ c ∷ []) → text_cause (open_from Closed classes) text comment ≡ None →
+      LineCases classes text comment
+  stops_by : (cause : LineCause) → IsTextCause classes text comment cause → text_cause (open_from Closed classes) text comment ≡ Some cause →
+      LineCases classes text comment
 
 -- the only cause that a line with a class can have is its form
-pub class_has_form : (classes : List ListingClass) (text : List ℕ) (comment : Bool) (cause : LineCause) (c : ListingClass) → IsTextCause classes text comment cause → IsListingLine text comment c → cause ≡ Form
+pub class_has_form : (classes : List ListingClass) (text : List ℕ) (comment : Bool) (cause : LineCause) (c : ListingClass) →
+    IsTextCause classes text comment cause → IsListingLine text comment c → cause ≡ Form
 class_has_form classes text comment (Lexical fault) c is of = no_row (sym (faulty_row text comment fault is.0 is.1) ∙ row_found text comment of.0 of.1)
 class_has_form classes text comment Form c is of = refl
 class_has_form classes text comment (BadPath fault) c is of =
@@ -128,15 +137,18 @@ module _ (classes : List ListingClass) (begun : BeginsListing classes) (text : L
   standing row = may_stand (open_from Closed classes) row
 
   -- the cause that the walk finds for a row, by whether it may come
-  cause_of_row : (row : Row) (o : Bool) → TextIsOfRow text comment row → standing row ≡ o → text_cause (open_from Closed classes) text comment ≡ (if o then path_cause (class_of_row row) else Some Form)
+  cause_of_row : (row : Row) (o : Bool) → TextIsOfRow text comment row → standing row ≡ o →
+      text_cause (open_from Closed classes) text comment ≡ (if o then path_cause (class_of_row row) else Some Form)
   cause_of_row row o is h = ap (row_cause (open_from Closed classes)) (row_found text comment row is) ∙ rw h refl
 
   pub line_cases : LineCases classes text comment
   line_cases = elim (row_cases text comment) [
     | row_is row r ↦ elim (cases_Bool (standing row)) [
       | inl m ↦ elim (class_cases row) [
-        | inl c ↦ goes_on c.0 (row, r, c.1) (stands_begins classes row c.0 (class_kind row c.0 c.1) begun m) (cause_of_row row true r m ∙ ap path_cause (class_found row c.0 c.1))
-        | inr f ↦ stops_by (BadPath f.0) (row, r, stands_begins classes row (as_class row) (row_kind row) begun m, f.1) (cause_of_row row true r m ∙ ap path_cause f.2)
+        | inl c ↦ goes_on c.0 (row, r, c.1) (stands_begins classes row c.0 (class_kind row c.0 c.1) begun m)
+            (cause_of_row row true r m ∙ ap path_cause (class_found row c.0 c.1))
+        | inr f ↦ stops_by (BadPath f.0) (row, r, stands_begins classes row (as_class row) (row_kind row) begun m, f.1)
+            (cause_of_row row true r m ∙ ap path_cause f.2)
       ]
       | inr m ↦
           let p = misplaced (open_from Closed classes) text comment row r m in
@@ -144,7 +156,7 @@ module _ (classes : List ListingClass) (begun : BeginsListing classes) (text : L
             p.0,
             p.1,
             λ other is stands. (let same = one_row text comment other row is r in
-                let x : true ≡ false = sym (begins_stands classes other (as_class other) (row_kind other) stands) ∙ ap standing same ∙ m in cc),
+                let x = sym (begins_stands classes other (as_class other) (row_kind other) stands) ∙ ap standing same ∙ m in cc),
           ) (cause_of_row row false r m)
     ]
     | lexical_is fault c l ↦ stops_by (Lexical fault) (c, l) (ap (row_cause (open_from Closed classes)) (faulty_row text comment fault c l))
@@ -159,20 +171,23 @@ module _ (classes : List ListingClass) (begun : BeginsListing classes) (text : L
   ]
 
   -- and no listing continues with it
-  pub cause_stops : (cause : LineCause) (c : ListingClass) → IsTextCause classes text comment cause → IsListingLine text comment c → BeginsListing (classes ++ c ∷ []) → ⊥
+  pub cause_stops : (cause : LineCause) (c : ListingClass) → IsTextCause classes text comment cause → IsListingLine text comment c →
+      BeginsListing (classes ++ c ∷ []) → ⊥
   cause_stops cause c is of on =
       let form = subst (IsTextCause classes text comment) (class_has_form classes text comment cause c is of) is in
       form.2 of.0 of.1 (stands_begins classes of.0 (as_class of.0) (row_kind of.0) begun (begins_stands classes of.0 c (class_kind of.0 c of.2) on))
 
 -- a line has at most one cause: a cause of one kind excludes the other kinds
-sound_row_of : (text : List ℕ) (comment : Bool) (row : Row) (fault : LexFault) {A : Type 0} → TextIsOfRow text comment row → comment ≡ false → lexical_fault text ≡ Some fault → A
+sound_row_of : (text : List ℕ) (comment : Bool) (row : Row) (fault : LexFault) {A : Type 0} → TextIsOfRow text comment row → comment ≡ false →
+    lexical_fault text ≡ Some fault → A
 sound_row_of text comment row fault is c l = no_row (sym (faulty_row text comment fault c l) ∙ row_found text comment row is)
 
 no_fault : {A : Type 0} {fault : LexFault} → ◌≡◌ {A = Option LexFault} None (Some fault) → A
 no_fault h = absurd (cc)
 
-pub one_text_cause : (classes : List ListingClass) (text : List ℕ) (comment : Bool) (x y : LineCause) → IsTextCause classes text comment x → IsTextCause classes text comment y → y ≡ x
-one_text_cause classes text comment (Lexical f) (Lexical g) a b = let e : ◌≡◌ {A = Option LexFault} (Some g) (Some f) = sym b.1 ∙ a.1 in cc
+pub one_text_cause : (classes : List ListingClass) (text : List ℕ) (comment : Bool) (x y : LineCause) → IsTextCause classes text comment x →
+    IsTextCause classes text comment y → y ≡ x
+one_text_cause classes text comment (Lexical f) (Lexical g) a b = let e = sym b.1 ∙ a.1 in cc
 one_text_cause classes text comment (Lexical f) Form a b = no_fault (sym b.1 ∙ a.1)
 one_text_cause classes text comment (Lexical f) (BadPath g) a b = sound_row_of text comment b.0 f b.1 a.0 a.1
 one_text_cause classes text comment Form (Lexical g) a b = no_fault (sym a.1 ∙ b.1)
@@ -181,7 +196,7 @@ one_text_cause classes text comment Form (BadPath g) a b = absurd (a.2 b.0 b.1 b
 one_text_cause classes text comment (BadPath f) (Lexical g) a b = sound_row_of text comment a.0 g a.1 b.0 b.1
 one_text_cause classes text comment (BadPath f) Form a b = absurd (b.2 a.0 a.1 a.2)
 one_text_cause classes text comment (BadPath f) (BadPath g) a b =
-    let e : ◌≡◌ {A = Result ListingClass PathFault} (Err g) (Err f) = sym (refused_class b.0 g b.3) ∙ ap class_of_row (one_row text comment b.0 a.0 b.1 a.1) ∙ refused_class a.0 f a.3 in cc
+    let e = sym (refused_class b.0 g b.3) ∙ ap class_of_row (one_row text comment b.0 a.0 b.1 a.1) ∙ refused_class a.0 f a.3 in cc
 one_text_cause classes text comment LineTooLong y a b = absurd a
 one_text_cause classes text comment Truncated y a b = absurd a
 one_text_cause classes text comment x LineTooLong a b = absurd b

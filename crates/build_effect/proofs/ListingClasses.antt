@@ -2,7 +2,7 @@
 use Rattle.std.proofs.Common.{inl, inr, ◌⊎◌, ◌≡◌, ℕ, Bool, true, false, List, [], ◌∷◌, ◌++◌, append_assoc, length, map, Ok, Err, refl, sym, ap, ◌∙◌, subst, Option, Some, None}
 use Rattle.std.specs.Prelude.{codes, nat_lt, Result}
 use Rattle.std.proofs.lemmas.List.{map-append, append-nil}
-use Rattle.std.proofs.lemmas.Bool.{cases_Bool}
+use Rattle.std.proofs.lemmas.Bool.{cases_Bool, false≢true}
 use Rattle.ninja_text.specs.Lexical.{lexical_fault}
 use Rattle.ninja_text.specs.Tokens.{TokenAt, tokens, value_of}
 use Rattle.ninja_text.specs.Assignments.{SeenAssignment, assignment_of}
@@ -34,7 +34,7 @@ no_row h = absurd (cc)
 
 -- a text whose first token begins it has a token
 start_token : (ts : List TokenAt) → begins_at_start ts ≡ true → is_empty ts ≡ false
-start_token [] h = absurd (let x : false ≡ true = h in cc)
+start_token [] h = absurd (false≢true h)
 start_token (t ∷ ts) h = refl
 
 -- the row of an assignment to a name
@@ -62,7 +62,8 @@ module _ (text : List ℕ) (comment : Bool) where
   row_found (BuildRow texts) is =
       let e = edge_found (symbols text) is.3 is.4 in
       sound_found is.0 is.1 (Ok (BuildRow texts)) (rw (start_token (tokens text) is.2, no_indent_at_token text is.2)
-      (ap (λ ss. unindented_row (after_build (begins_at_start (tokens text)) ss)) e.1 ∙ ap unindented_row (after_keyword (begins_at_start (tokens text)) e.0 is.2)
+      (ap (λ ss. unindented_row (after_build (begins_at_start (tokens text)) ss)) e.1 ∙
+      ap unindented_row (after_keyword (begins_at_start (tokens text)) e.0 is.2)
       ∙ ap build_row e.2 ∙ ap (λ t. Ok (BuildRow t)) (sym is.5)))
   row_found (DyndepRow value) is =
       let a = is.4 in
@@ -128,10 +129,10 @@ module _ (text : List ℕ) (comment : Bool) where
 -- the walk finds canonical paths
 pub paths_found : (texts paths : List (List ℕ)) → ArePaths texts paths → paths_of texts ≡ Ok paths
 paths_found [] [] are = refl
-paths_found [] (path ∷ paths) are = absurd (let x : ◌≡◌ {A = List (Result (List ℕ) PathFault)} [] (Ok path ∷ map (λ p. Ok p) paths) = are in cc)
-paths_found (text ∷ texts) [] are = absurd (let x : ◌≡◌ {A = List (Result (List ℕ) PathFault)} (path_of text ∷ map path_of texts) [] = are in cc)
+paths_found [] (path ∷ paths) are = absurd (let x = are in cc)
+paths_found (text ∷ texts) [] are = absurd (let x = are in cc)
 paths_found (text ∷ texts) (path ∷ paths) are =
-    let h : ◌≡◌ {A = List (Result (List ℕ) PathFault)} (path_of text ∷ map path_of texts) (Ok path ∷ map (λ p. Ok p) paths) = are in
+    let h = are in
     let first : path_of text ≡ Ok path = cc in
     let more : ArePaths texts paths = (let y : map path_of texts ≡ map (λ p. Ok p) paths = cc in y) in
     rw (first, paths_found texts paths more) refl
@@ -140,9 +141,9 @@ paths_found (text ∷ texts) (path ∷ paths) are =
 refused_at : (before : List (List ℕ)) (text : List ℕ) (after paths : List (List ℕ)) (fault : PathFault) → ArePaths before paths → path_of text ≡ Err fault
     → paths_of (before ++ text ∷ after) ≡ Err fault
 refused_at [] text after paths fault are refused = rw refused refl
-refused_at (b ∷ before) text after [] fault are refused = absurd (let x : ◌≡◌ {A = List (Result (List ℕ) PathFault)} (path_of b ∷ map path_of before) [] = are in cc)
+refused_at (b ∷ before) text after [] fault are refused = absurd (let x = are in cc)
 refused_at (b ∷ before) text after (path ∷ paths) fault are refused =
-    let h : ◌≡◌ {A = List (Result (List ℕ) PathFault)} (path_of b ∷ map path_of before) (Ok path ∷ map (λ p. Ok p) paths) = are in
+    let h = are in
     let first : path_of b ≡ Ok path = cc in
     let more : ArePaths before paths = (let y : map path_of before ≡ map (λ p. Ok p) paths = cc in y) in
     rw (first, refused_at before text after paths fault more refused) refl
@@ -153,7 +154,8 @@ refused_found texts fault r = ap paths_of r.whole ∙ refused_at r.before r.text
 -- strings, one list after another
 are_both : (xs ys ps qs : List (List ℕ)) → ArePaths xs ps → ArePaths ys qs → ArePaths (xs ++ ys) (ps ++ qs)
 are_both xs ys ps qs a b =
-    map-append path_of xs ys ∙ ap (λ r. r ++ map path_of ys) a ∙ ap (λ r. map (λ p. Ok p) ps ++ r) b ∙ sym (map-append {B = Result (List ℕ) PathFault} (λ p. Ok p) ps qs)
+    map-append path_of xs ys ∙ ap (λ r. r ++ map path_of ys) a ∙ ap (λ r. map (λ p. Ok p) ps ++ r) b ∙
+    sym (map-append {B = Result (List ℕ) PathFault} (λ p. Ok p) ps qs)
 
 refused_front : (xs ys : List (List ℕ)) (fault : PathFault) → IsFirstRefused xs fault → IsFirstRefused (xs ++ ys) fault
 refused_front xs ys fault r = record {
@@ -237,7 +239,8 @@ abbrev Outcome : {T : Type 0} → (T → Type 0) → List (List ℕ) → Result 
 Outcome {T} P texts found = ((t : T) × P t) ⊎ ((fault : PathFault) × IsFirstRefused texts fault × (found ≡ Err fault))
 
 -- the strings of one list, and then those that follow them
-then_cases : {T : Type 0} (P : T → Type 0) (xs ys : List (List ℕ)) (next : List (List ℕ) → Result T PathFault) → ((ps : List (List ℕ)) → ArePaths xs ps → Outcome P ys (next ps))
+then_cases : {T : Type 0} (P : T → Type 0) (xs ys : List (List ℕ)) (next : List (List ℕ) → Result T PathFault) →
+    ((ps : List (List ℕ)) → ArePaths xs ps → Outcome P ys (next ps))
     → Outcome P (xs ++ ys) (then_paths (paths_of xs) next)
 then_cases P xs ys next go = elim (path_cases xs) [
   | inl p ↦ elim (go p.0 p.1) [
@@ -255,7 +258,14 @@ edge_cases t =
     then_cases (AreEdgePaths t) t.implicit_inputs (t.order_only ++ []) _ (λ implicit_inputs d.
     then_cases (AreEdgePaths t) t.order_only [] _ (λ order_only e.
     inl (
-      record { rule = t.rule; outputs = outputs; implicit_outputs = implicit_outputs; inputs = inputs; implicit_inputs = implicit_inputs; order_only = order_only },
+      record {
+        rule = t.rule;
+        outputs = outputs;
+        implicit_outputs = implicit_outputs;
+        inputs = inputs;
+        implicit_inputs = implicit_inputs;
+        order_only = order_only;
+      },
       record { rule = refl; outputs = a; implicit_outputs = b; inputs = c; implicit_inputs = d; order_only = e },
     ))))))
 
@@ -287,7 +297,8 @@ all_paths (BuildRow t) c is =
       ap (map path_of) (side_by_side t) ∙ are_both t.outputs (from_implicit_outputs t) p.outputs (from_implicit_outputs p) a.outputs
           (are_both t.implicit_outputs (from_inputs t) p.implicit_outputs (from_inputs p) a.implicit_outputs
           (are_both t.inputs (from_implicit_inputs t) p.inputs (from_implicit_inputs p) a.inputs
-          (are_both t.implicit_inputs (t.order_only ++ []) p.implicit_inputs (p.order_only ++ []) a.implicit_inputs (are_both t.order_only [] p.order_only [] a.order_only refl)))),
+          (are_both t.implicit_inputs (t.order_only ++ []) p.implicit_inputs (p.order_only ++ []) a.implicit_inputs
+          (are_both t.order_only [] p.order_only [] a.order_only refl)))),
     )
 all_paths (DyndepRow text) c is = (is.0 ∷ [], ap (λ r. r ∷ []) is.1)
 all_paths (RestatRow flag) c is = ([], refl)
@@ -297,9 +308,11 @@ pub refused_class : (row : Row) (fault : PathFault) → IsFirstRefused (path_tex
 refused_class row fault r = elim (class_cases row) [
   | inl c ↦
       let p = all_paths row c.0 c.1 in
-      absurd (let x : ◌≡◌ {A = Result (List (List ℕ)) PathFault} (Ok p.0) (Err fault) = sym (paths_found (path_texts row) p.0 p.1) ∙ refused_found (path_texts row) fault r in cc)
+      absurd (let x = sym (paths_found (path_texts row) p.0 p.1) ∙ refused_found (path_texts row) fault r in cc)
   | inr f ↦
-      let same : f.0 ≡ fault = (let x : ◌≡◌ {A = Result (List (List ℕ)) PathFault} (Err f.0) (Err fault) = sym (refused_found (path_texts row) f.0 f.1) ∙ refused_found (path_texts row) fault r in cc) in
+      let same : f.0 ≡ fault =
+      (let x : ◌≡◌ {A = Result (List (List ℕ)) PathFault} (Err f.0) (Err fault) = sym (refused_found (path_texts row) f.0 f.1) ∙
+      refused_found (path_texts row) fault r in cc) in
       subst (λ g. class_of_row row ≡ Err g) same f.2
 ]
 

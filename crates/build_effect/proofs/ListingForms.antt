@@ -1,8 +1,9 @@
 -- The walk over the tokens of a build line finds what the definition says about the whole list of tokens.
 use Rattle.std.proofs.Common.{inl, inr, append_assoc, ◌≡◌, ◌≢◌, ℕ, ◌&&◌, Bool, true, false, List, [], ◌∷◌, ◌++◌, map, refl, sym, ap, ◌∙◌, subst, Option, Some, None}
+use Rattle.build_effect.proofs.Lists.{none_some}
 use Rattle.std.specs.Prelude.{IsTrue, codes, not, if◌then◌else◌}
 use Rattle.std.proofs.lemmas.List.{append-nil}
-use Rattle.std.proofs.lemmas.Bool.{cases_Bool, and_parts}
+use Rattle.std.proofs.lemmas.Bool.{cases_Bool, and_parts, false≢true, true≢false}
 use Rattle.ninja_text.specs.Tokens.{value_of}
 use Rattle.ninja_text.specs.declared.token.TokenKind.{TokenKind}
 use Rattle.ninja_text.specs.declared.token.TokenKind.TheVariants.{Bar, DoubleBar, Colon}
@@ -31,9 +32,9 @@ front_meant (WordSymbol word ∷ more) = ap (λ ws. value_of word ∷ ws) (front
 front_meant (SignSymbol sign ∷ more) = refl
 
 some_raw : (ss : List Symbol) → is_empty (front_words ss) ≡ false → raw_words ss ≢ []
-some_raw [] h = absurd (let x : true ≡ false = h in cc)
-some_raw (WordSymbol word ∷ more) h = λ e. (let x : word ∷ raw_words more ≡ [] = e in cc)
-some_raw (SignSymbol sign ∷ more) h = absurd (let x : true ≡ false = h in cc)
+some_raw [] h = absurd (true≢false h)
+some_raw (WordSymbol word ∷ more) h = λ e. (let x = e in cc)
+some_raw (SignSymbol sign ∷ more) h = absurd (true≢false h)
 
 -- the part that a sign begins, or nothing, and its words in their escaped form
 abbrev part_symbols : TokenKind → Option (List Symbol) → List Symbol
@@ -57,17 +58,17 @@ sign_is : (sign kind : TokenKind) → is_sign sign kind ≡ true → kind ≡ si
 sign_is Bar Bar h = refl
 sign_is DoubleBar DoubleBar h = refl
 sign_is Colon Colon h = refl
-sign_is sign kind h = absurd (let x : false ≡ true = h in cc)
+sign_is sign kind h = absurd (false≢true h)
 
 sign_at : (sign : TokenKind) (ss more : List Symbol) → past_sign sign ss ≡ Some more → ss ≡ SignSymbol sign ∷ more
-sign_at sign [] more h = absurd (let x : ◌≡◌ {A = Option (List Symbol)} None (Some more) = h in cc)
-sign_at sign (WordSymbol word ∷ others) more h = absurd (let x : ◌≡◌ {A = Option (List Symbol)} None (Some more) = h in cc)
+sign_at sign [] more h = none_some h
+sign_at sign (WordSymbol word ∷ others) more h = none_some h
 sign_at sign (SignSymbol kind ∷ others) more h = elim (cases_Bool (is_sign sign kind)) [
   | inl t ↦
-      let k : kind ≡ sign = sign_is sign kind t in
-      let m : others ≡ more = (let x : ◌≡◌ {A = Option (List Symbol)} (Some others) (Some more) = rw t at h in cc) in
+      let k = sign_is sign kind t in
+      let m : others ≡ more = cc in
       rw (k, m) refl
-  | inr f ↦ absurd (let x : ◌≡◌ {A = Option (List Symbol)} None (Some more) = rw f at h in cc)
+  | inr f ↦ none_some (rw f at h)
 ]
 
 part_at : (sign : TokenKind) (ss : List Symbol) (o : Option (List Symbol)) → past_sign sign ss ≡ o → ss ≡ part_symbols sign o ++ past_part o ss
@@ -105,25 +106,26 @@ record IsRight (outputs implicit_outputs : List (List ℕ)) (o : Option (List Sy
 -- a list that the test finds empty is empty
 pub none_left : {A : Type 0} (ss : List A) → is_empty ss ≡ true → ss ≡ []
 none_left [] h = refl
-none_left (s ∷ ss) h = absurd (let x : false ≡ true = h in cc)
+none_left (s ∷ ss) h = absurd (false≢true h)
 
 has_some : (b : Bool) → not b ≡ true → b ≡ false
-has_some true h = absurd (let x : false ≡ true = h in cc)
+has_some true h = absurd (false≢true h)
 has_some false h = refl
 
-right_at : (outputs implicit_outputs : List (List ℕ)) (o : Option (List Symbol)) (t : EdgeTexts) → right_texts outputs implicit_outputs o ≡ Some t → IsRight outputs implicit_outputs o t
-right_at outputs implicit_outputs None t h = absurd (let x : ◌≡◌ {A = Option EdgeTexts} None (Some t) = h in cc)
-right_at outputs implicit_outputs (Some []) t h = absurd (let x : ◌≡◌ {A = Option EdgeTexts} None (Some t) = h in cc)
-right_at outputs implicit_outputs (Some (SignSymbol sign ∷ more)) t h = absurd (let x : ◌≡◌ {A = Option EdgeTexts} None (Some t) = h in cc)
-right_at outputs implicit_outputs (Some (WordSymbol rule ∷ more)) t h = elim (cases_Bool (not (is_empty outputs) && is_rule_name rule && is_empty (after_order more))) [
-  | inl e ↦
-      let p = and_parts (not (is_empty outputs) && is_rule_name rule) (is_empty (after_order more)) e in
-      let q = and_parts (not (is_empty outputs)) (is_rule_name rule) p.0 in
-      let same : said outputs implicit_outputs rule more ≡ t =
-      (let x : ◌≡◌ {A = Option EdgeTexts} (Some (said outputs implicit_outputs rule more)) (Some t) = rw e at h in cc) in
-      record { rule = rule; more = more; at = refl; some = has_some (is_empty outputs) q.0; named = q.1; over = none_left (after_order more) p.1; is = same }
-  | inr f ↦ absurd (let x : ◌≡◌ {A = Option EdgeTexts} None (Some t) = rw f at h in cc)
-]
+right_at : (outputs implicit_outputs : List (List ℕ)) (o : Option (List Symbol)) (t : EdgeTexts) → right_texts outputs implicit_outputs o ≡ Some t →
+    IsRight outputs implicit_outputs o t
+right_at outputs implicit_outputs None t h = none_some h
+right_at outputs implicit_outputs (Some []) t h = none_some h
+right_at outputs implicit_outputs (Some (SignSymbol sign ∷ more)) t h = none_some h
+right_at outputs implicit_outputs (Some (WordSymbol rule ∷ more)) t h =
+    elim (cases_Bool (not (is_empty outputs) && is_rule_name rule && is_empty (after_order more))) [
+      | inl e ↦
+          let p = and_parts (not (is_empty outputs) && is_rule_name rule) (is_empty (after_order more)) e in
+          let q = and_parts (not (is_empty outputs)) (is_rule_name rule) p.0 in
+          let same : said outputs implicit_outputs rule more ≡ t = cc in
+          record { rule = rule; more = more; at = refl; some = has_some (is_empty outputs) q.0; named = q.1; over = none_left (after_order more) p.1; is = same }
+      | inr f ↦ none_some (rw f at h)
+    ]
 
 -- the words of a build line, in their escaped form
 abbrev raw_texts : List Symbol → Option (List Symbol) → List ℕ → List Symbol → EdgeTexts
@@ -136,33 +138,39 @@ raw_texts ss made rule more = record {
   order_only = part_raw (past_sign DoubleBar (from_order more));
 }
 
-said_meant : (ss : List Symbol) (made : Option (List Symbol)) (rule : List ℕ) (more : List Symbol) → said (front_words ss) (part_words made) rule more ≡ meant (raw_texts ss made rule more)
+said_meant : (ss : List Symbol) (made : Option (List Symbol)) (rule : List ℕ) (more : List Symbol) →
+    said (front_words ss) (part_words made) rule more ≡ meant (raw_texts ss made rule more)
 said_meant ss made rule more =
-    rw (front_meant ss, part_meant made, front_meant more, part_meant (past_sign Bar (past_words more)), part_meant (past_sign DoubleBar (from_order more))) refl
+    rw (front_meant ss, part_meant made, front_meant more, part_meant (past_sign Bar (past_words more)), part_meant (past_sign DoubleBar (from_order more)))
+    refl
 
 -- the tokens of a build line, each part before all that follows it
 side_by_side : (words : EdgeTexts) (made needed waited_for : List Symbol)
-    → WordSymbol (codes "build") ∷ map WordSymbol words.outputs ++ made ++ SignSymbol Colon ∷ WordSymbol words.rule ∷ map WordSymbol words.inputs ++ needed ++ waited_for
-    ≡ WordSymbol (codes "build") ∷ (map WordSymbol words.outputs ++ (made ++ (SignSymbol Colon ∷ WordSymbol words.rule ∷ (map WordSymbol words.inputs ++ (needed ++ waited_for)))))
+    → WordSymbol (codes "build") ∷ map WordSymbol words.outputs ++ made ++ SignSymbol Colon ∷ WordSymbol words.rule ∷ map WordSymbol words.inputs ++ needed ++
+    waited_for
+    ≡ WordSymbol (codes "build") ∷
+    (map WordSymbol words.outputs ++ (made ++ (SignSymbol Colon ∷ WordSymbol words.rule ∷ (map WordSymbol words.inputs ++ (needed ++ waited_for)))))
 side_by_side words made needed waited_for = simp append_assoc
 
 -- a build line says the strings that the walk finds
-pub edge_holds : (ss : List Symbol) (t : EdgeTexts) → edge_texts ss ≡ Some t → (words : EdgeTexts) × IsEdgeLine (WordSymbol (codes "build") ∷ ss) words × (t ≡ meant words)
+pub edge_holds : (ss : List Symbol) (t : EdgeTexts) → edge_texts ss ≡ Some t →
+    (words : EdgeTexts) × IsEdgeLine (WordSymbol (codes "build") ∷ ss) words × (t ≡ meant words)
 edge_holds ss t h =
     let left = past_words ss in
     let made = past_sign Bar left in
     let colon = past_part made left in
-    let f : IsRight (front_words ss) (part_words made) (past_sign Colon colon) t = right_at (front_words ss) (part_words made) (past_sign Colon colon) t h in
+    let f = right_at (front_words ss) (part_words made) (past_sign Colon colon) t h in
     let right = past_words f.more in
     let needed = past_sign Bar right in
     let order = from_order f.more in
     let waited_for = past_sign DoubleBar order in
-    let words : EdgeTexts = raw_texts ss made f.rule f.more in
+    let words = raw_texts ss made f.rule f.more in
     let last : order ≡ part_symbols DoubleBar waited_for =
     part_at DoubleBar order waited_for refl ∙ ap (λ s. part_symbols DoubleBar waited_for ++ s) f.over ∙ append-nil (part_symbols DoubleBar waited_for) in
     let inputs : f.more ≡ map WordSymbol (raw_words f.more) ++ (part_symbols Bar needed ++ part_symbols DoubleBar waited_for) =
     front_at f.more ∙ ap (λ s. map WordSymbol (raw_words f.more) ++ s) (part_at Bar right needed refl ∙ ap (λ s. part_symbols Bar needed ++ s) last) in
-    let from_colon : colon ≡ SignSymbol Colon ∷ WordSymbol f.rule ∷ (map WordSymbol (raw_words f.more) ++ (part_symbols Bar needed ++ part_symbols DoubleBar waited_for)) =
+    let from_colon : colon ≡
+    SignSymbol Colon ∷ WordSymbol f.rule ∷ (map WordSymbol (raw_words f.more) ++ (part_symbols Bar needed ++ part_symbols DoubleBar waited_for)) =
     sign_at Colon colon (WordSymbol f.rule ∷ f.more) f.at ∙ ap (λ s. SignSymbol Colon ∷ WordSymbol f.rule ∷ s) inputs in (
       words,
       (
@@ -213,7 +221,8 @@ module _ (sign : TokenKind) (same : is_sign sign sign ≡ true) (rest : List Sym
   part_past part words (inl p) = ap (λ x. past_part (past_sign sign (x ++ rest)) (x ++ rest)) p.0 ∙ ap (λ o. past_part o rest) apart
   part_past part words (inr e) =
       ap (λ x. past_part (past_sign sign (x ++ rest)) (x ++ rest)) e
-      ∙ ap (λ (b : Bool). past_part (if b then Some (map WordSymbol words ++ rest) else None) (SignSymbol sign ∷ map WordSymbol words ++ rest)) same ∙ past_is words rest s
+      ∙ ap (λ (b : Bool). past_part (if b then Some (map WordSymbol words ++ rest) else None) (SignSymbol sign ∷ map WordSymbol words ++ rest)) same ∙
+      past_is words rest s
 
 -- order-only inputs are not implicit inputs
 no_bar : (part : List Symbol) (words : List (List ℕ)) → IsPart DoubleBar part words → past_sign Bar part ≡ None
@@ -264,11 +273,13 @@ module _ (words : EdgeTexts) (made needed waited_for : List Symbol) (m : IsPart 
       let bar = no_bar waited_for words.order_only w in
       left_texts left_symbols (made ++ colon_symbols) colon_symbols _ _ (sym (front_is words.outputs _ made_stops)) (sym (past_is words.outputs _ made_stops))
       (sym (part_is Bar refl colon_symbols colon_stops refl made _ m)) (sym (part_past Bar refl colon_symbols colon_stops refl made _ m))
-      ∙ right_are (map value_of words.outputs) (map value_of words.implicit_outputs) _ _ _ words.rule words.rule right_symbols (needed ++ waited_for) waited_for [] refl
+      ∙ right_are (map value_of words.outputs) (map value_of words.implicit_outputs) _ _ _ words.rule words.rule right_symbols (needed ++ waited_for) waited_for
+      [] refl
       (sym (front_is words.inputs _ needed_stops)) (sym (past_is words.inputs _ needed_stops)) (sym (part_is Bar refl waited_for order_stops bar needed _ n))
       (sym (part_past Bar refl waited_for order_stops bar needed _ n)) (sym order_is) (sym order_past) true is_whole
 
 -- the walk finds the strings that a build line says
-pub edge_found : (all : List Symbol) (words : EdgeTexts) → IsEdgeLine all words → (more : List Symbol) × (all ≡ WordSymbol (codes "build") ∷ more) × (edge_texts more ≡ Some (meant words))
+pub edge_found : (all : List Symbol) (words : EdgeTexts) → IsEdgeLine all words →
+    (more : List Symbol) × (all ≡ WordSymbol (codes "build") ∷ more) × (edge_texts more ≡ Some (meant words))
 edge_found all words e =
     (left_symbols words e.0 e.1 e.2 e.3 e.4 e.5 e.6 e.7, e.8 ∙ side_by_side words e.0 e.1 e.2, edge_of_parts words e.0 e.1 e.2 e.3 e.4 e.5 e.6 e.7)

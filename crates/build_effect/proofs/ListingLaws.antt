@@ -1,6 +1,6 @@
 -- The reader of edge listings, line by line, and the laws of lines and of texts.
 use Rattle.std.proofs.Common.{◌≡◌, ◌≢◌, ℕ, ◌+◌, ◌<◌, Bool, true, false, zero, suc, List, [], ◌∷◌, ◌++◌, length, refl, sym, ap, ◌∙◌, Some, None, Ok, Err, arith, inl, inr, ◌≤◌, subst, ◌⊎◌}
-use Rattle.std.specs.Prelude.{Result, All, slice_set, slice_index_or, nat_lt}
+use Rattle.std.specs.Prelude.{Result, IfOk, IfErr, All, slice_set, slice_index_or, nat_lt}
 use Rattle.ninja_text.specs.Paths.{path_of}
 use Rattle.ninja_text.specs.declared.fault.PathFault.{PathFault}
 use Rattle.build_effect.specs.EdgeValue.{EdgeValue}
@@ -21,13 +21,13 @@ use Rattle.ninja_text.proofs.ForCallers as lines
 use Rattle.build_effect.specs.ListingFaults.{IsTextCause, IsLineCause}
 use Rattle.build_effect.specs.ListingSteps.{ListingValue}
 use Rattle.build_effect.specs.ListingReading.{listing_format, listing_faults, Lists, HasFaultyLine, HasFaultyEnd, IsEndCause, HasListingFault}
-use Rattle.build_effect.specs.ListingReaders.{LeadToEdges, ListingReaderState, HasReadListing, FeedsListing, EndsListing, line_failure, IsListingFaultIn}
+use Rattle.build_effect.specs.ListingReaders.{LeadToEdges, ListingReaderState, HasReadListing, FeedsListing, EndsListing, line_failure, IsListingFaultIn, IsListingFault}
 use Rattle.build_effect.specs.inner.ReadLines.{fault_of_cutter, PassesLine, RefusesLine}
 use Rattle.build_effect.specs.declared.fault.LineCause.{LineCause}
 use Rattle.build_effect.specs.declared.fault.LineCause.TheVariants as causes
 use Rattle.build_effect.specs.declared.fault.LineFault.{LineFault}
 use Rattle.build_effect.specs.declared.fault.ListFault.{ListFault}
-use Rattle.build_effect.specs.declared.fault.ListFault.TheVariants.{NoGraph}
+use Rattle.build_effect.specs.declared.fault.ListFault.TheVariants.{AtLine, NoGraph}
 use Rattle.build_effect.specs.Faults.{IsGraphFault}
 use Rattle.build_effect.specs.declared.fault.GraphFault.{GraphFault}
 use Rattle.build_effect.proofs.ListingClasses.{class_holds, one_class}
@@ -58,7 +58,8 @@ abbrev pub HaveOutputs : List EdgeValue → Type 0
 HaveOutputs es = All (λ e. e.outputs ≢ []) es
 
 -- this still holds if the last edge is changed and keeps its outputs
-pub outputs_kept : (change : EdgeValue → EdgeValue) → ((e : EdgeValue) → (change e).outputs ≡ e.outputs) → (es : List EdgeValue) → HaveOutputs es → HaveOutputs (with_last change es)
+pub outputs_kept : (change : EdgeValue → EdgeValue) → ((e : EdgeValue) → (change e).outputs ≡ e.outputs) → (es : List EdgeValue) → HaveOutputs es →
+    HaveOutputs (with_last change es)
 outputs_kept change same [] all k d lt = absurd (omega arith)
 outputs_kept change same (e ∷ []) all zero d lt = λ h. all zero d (omega arith) (sym (same e) ∙ h)
 outputs_kept change same (e ∷ []) all (suc k) d lt = absurd (omega arith)
@@ -73,17 +74,20 @@ outputs_pushed (f ∷ es) e all some zero d lt = all zero d (omega arith)
 outputs_pushed (f ∷ es) e all some (suc k) d lt = outputs_pushed es e (λ k d lt. all (suc k) d (omega arith)) some k d (omega arith)
 
 -- a binding of `dyndep` passes
-pub dyndep_passes : (binding : Binding) (es new : List EdgeValue) (text path : List ℕ) (restat : Bool) → binding ≡ Open false restat → path_of text ≡ Ok path → new ≡ with_last_dyndep path es
+pub dyndep_passes : (binding : Binding) (es new : List EdgeValue) (text path : List ℕ) (restat : Bool) → binding ≡ Open false restat → path_of text ≡ Ok path →
+    new ≡ with_last_dyndep path es
     → (c : ListingClass) × (dyndep_class (path_of text) ≡ Ok c) × (step binding es c ≡ Some (record { edges = new; binding = Open true restat }))
 dyndep_passes binding es new text path restat opened is set = (Dyndep path, ap dyndep_class is, rw (opened, set) refl)
 
 -- a binding of `restat` passes
 pub restat_passes : (binding : Binding) (es new : List EdgeValue) (flag dyndep : Bool) → binding ≡ Open dyndep false → new ≡ with_last_restat flag es
-    → (c : ListingClass) × (◌≡◌ {A = Result ListingClass PathFault} (Ok (Restat flag)) (Ok c)) × (step binding es c ≡ Some (record { edges = new; binding = Open dyndep true }))
+    → (c : ListingClass) × (◌≡◌ {A = Result ListingClass PathFault} (Ok (Restat flag)) (Ok c)) ×
+    (step binding es c ≡ Some (record { edges = new; binding = Open dyndep true }))
 restat_passes binding es new flag dyndep opened set = (Restat flag, refl, rw (opened, set) refl)
 
 -- a build line passes
-pub build_passes : (binding : Binding) (es new : List EdgeValue) (edge : EdgeValue) (paths : Result EdgeTexts PathFault) (t : EdgeTexts) → paths ≡ Ok t → edge ≡ bound t None None
+pub build_passes : (binding : Binding) (es new : List EdgeValue) (edge : EdgeValue) (paths : Result EdgeTexts PathFault) (t : EdgeTexts) → paths ≡ Ok t →
+    edge ≡ bound t None None
     → new ≡ es ++ edge ∷ [] → (c : ListingClass) × (build_class paths ≡ Ok c) × (step binding es c ≡ Some (record { edges = new; binding = Open false false }))
 build_passes binding es new edge paths t is same pushed = (Build t, ap build_class is, rw (pushed, same) refl)
 
@@ -92,15 +96,19 @@ abbrev pub behind : List (List ℕ) → Result (List (List ℕ)) PathFault → R
 behind paths (Ok more) = Ok (paths ++ more)
 behind paths (Err fault) = Err fault
 
+pub behind_none : (found : Result (List (List ℕ)) PathFault) → found ≡ behind [] found
+behind_none (Ok more) = refl
+behind_none (Err fault) = refl
+
 -- if there are strings, there are paths
 pub paths_somehow : (texts paths : List (List ℕ)) → paths_of texts ≡ Ok paths → texts ≢ [] → paths ≢ []
 paths_somehow [] paths is some = absurd (some refl)
 paths_somehow (text ∷ texts) [] is some = absurd (no_path (path_of text) (paths_of texts) is) where
   no_path : (found : Result (List ℕ) PathFault) (more : Result (List (List ℕ)) PathFault) → with_path found more ≡ Ok [] → ⊥
-  no_path (Err fault) more h = let x : ◌≡◌ {A = Result (List (List ℕ)) PathFault} (Err fault) (Ok []) = h in cc
-  no_path (Ok path) (Err fault) h = let x : ◌≡◌ {A = Result (List (List ℕ)) PathFault} (Err fault) (Ok []) = h in cc
-  no_path (Ok path) (Ok more) h = let x : ◌≡◌ {A = Result (List (List ℕ)) PathFault} (Ok (path ∷ more)) (Ok []) = h in let y : path ∷ more ≡ [] = cc in cc
-paths_somehow (text ∷ texts) (path ∷ paths) is some = λ h. (let x : path ∷ paths ≡ [] = h in cc)
+  no_path (Err fault) more h = let x = h in cc
+  no_path (Ok path) (Err fault) h = let x = h in cc
+  no_path (Ok path) (Ok more) h = let x = h in let y : path ∷ more ≡ [] = cc in cc
+paths_somehow (text ∷ texts) (path ∷ paths) is some = λ h. (let x = h in cc)
 
 -- the paths of a build line, by those of its parts
 pub edge_answer : (t : EdgeTexts) (o i n m l : List (List ℕ)) → paths_of t.outputs ≡ Ok o → paths_of t.implicit_outputs ≡ Ok i → paths_of t.inputs ≡ Ok n
@@ -111,7 +119,8 @@ edge_answer t o i n m l a b c d e = rw (a, b, c, d, e) refl
 -- ---- what the reader returns, by the lines that it has read
 
 -- the cause of a text is that of its line, if the line is not too long
-pub cause_of_text : (classes : List ListingClass) (line : List ℕ) (cause : LineCause) → length line ≤ line_limit → IsTextCause classes (text_of_line line) (is_comment line) cause → IsLineCause classes line cause
+pub cause_of_text : (classes : List ListingClass) (line : List ℕ) (cause : LineCause) → length line ≤ line_limit →
+    IsTextCause classes (text_of_line line) (is_comment line) cause → IsLineCause classes line cause
 cause_of_text classes line causes.LineTooLong short is = absurd is
 cause_of_text classes line causes.Truncated short is = absurd is
 cause_of_text classes line (causes.Lexical fault) short is = (short, is)
@@ -123,15 +132,19 @@ ran : (classes : List ListingClass) (value : ListingValue) → LeadToEdges class
 ran classes value led = listing_is_run classes value led.0 led.1
 
 -- a line that is rejected is the first faulty one
-fault_of_line : (bytes : List ℕ) (lent : List LogicalLine) (number : ℕ) (rest : List ℕ) (value : ListingValue) (read : AreReadTo listing_format LeadToEdges lent value) → BeginsWith bytes lent number rest
+fault_of_line : (bytes : List ℕ) (lent : List LogicalLine) (number : ℕ) (rest : List ℕ) (value : ListingValue)
+    (read : AreReadTo listing_format LeadToEdges lent value) → BeginsWith bytes lent number rest
     → (line after : List ℕ) (seen : LogicalLine) (f : LineFault) → rest ≡ line ++ after → IsLine line → length line ≤ line_limit
-    → seen ≡ record (logical_line [] line) { number = number } → f.line ≡ seen.number → text_cause value.binding seen.text seen.comment ≡ Some f.cause → HasFaultyLine bytes f
+    → seen ≡ record (logical_line [] line) { number = number } → f.line ≡ seen.number → text_cause value.binding seen.text seen.comment ≡ Some f.cause →
+    HasFaultyLine bytes f
 fault_of_line bytes lent number rest value read begins line after seen f split is short same at fault =
     let begun = runs_begin read.classes value (ran read.classes value read.led) in
-    let faulty : text_cause value.binding (text_of_line line) (is_comment line) ≡ Some f.cause = subst (λ l. text_cause value.binding l.text l.comment ≡ Some f.cause) same fault in
-    let cause = cause_holds read.classes begun (text_of_line line) (is_comment line) f.cause (subst (λ b. text_cause b (text_of_line line) (is_comment line) ≡ Some f.cause) read.led.1 faulty) in
-    let next : HasFaultyLine bytes (record { line = number; cause = f.cause }) = faulty_next listing_format listing_faults bytes lent number rest read.classes begins read.texts begun line after f.cause split is
-    (λ c of on. cause_stops read.classes begun (text_of_line line) (is_comment line) f.cause c cause of.1 on) (cause_of_text read.classes line f.cause short cause) in
+    let faulty : text_cause value.binding (text_of_line line) (is_comment line) ≡ Some f.cause = cc in
+    let cause = cause_holds read.classes begun (text_of_line line) (is_comment line) f.cause
+    (subst (λ b. text_cause b (text_of_line line) (is_comment line) ≡ Some f.cause) read.led.1 faulty) in
+    let next = faulty_next listing_format listing_faults bytes lent number rest read.classes begins read.texts begun line after f.cause split is
+    (λ c of on. cause_stops read.classes begun (text_of_line line) (is_comment line) f.cause c cause of.1 on)
+    (cause_of_text read.classes line f.cause short cause) in
     subst (λ n. HasFaultyLine bytes (record { line = n; cause = f.cause })) (sym (at ∙ ap (λ l. l.number) same)) next
 
 -- the next line's fault is in the bytes
@@ -139,7 +152,8 @@ fault_of_next : (bytes : List ℕ) (lent : List LogicalLine) (value : ListingVal
     → IsNextFault RefusesLine fault_of_cutter bytes lent value f → IsListingFaultIn bytes f
 fault_of_next bytes lent value f read (number, rest, begins, inl t) =
     subst (IsListingFaultIn bytes) (sym t.1)
-    (elim (faulty_at_limit listing_format listing_faults bytes lent number rest read.classes begins read.texts (runs_begin read.classes value (ran read.classes value read.led)) causes.LineTooLong (λ line past. past) t.0.0 t.0) [
+    (elim (faulty_at_limit listing_format listing_faults bytes lent number rest read.classes begins read.texts
+    (runs_begin read.classes value (ran read.classes value read.led)) causes.LineTooLong (λ line past. past) t.0.0 t.0) [
       | inl line ↦ inl line
       | inr end ↦ inr (end, refl)
     ])
@@ -158,27 +172,32 @@ steps_on classes old new line led (c, is, steps) =
 pub fed : (bytes all : List ℕ) (old : ListingReaderState) (result : Result Unit (Failure LineFault)) (new : ListingReaderState) → HasReadListing bytes old
     → ((lent : List LogicalLine) → HasLentAll bytes lent old → FeedsLines PassesLine RefusesLine fault_of_cutter all lent old.state result new)
     → Reads HasReadListing IsListingFaultIn all result new
-fed bytes all old result new has feeds = lines.fed listing_format LeadToEdges PassesLine RefusesLine fault_of_cutter steps_on IsListingFaultIn fault_of_next bytes all old result new has feeds
+fed bytes all old result new has feeds =
+    lines.fed listing_format LeadToEdges PassesLine RefusesLine fault_of_cutter steps_on IsListingFaultIn fault_of_next bytes all old result new has feeds
 
 -- a line's failure as one of the listing
-pub fails : (all : List ℕ) (failure : Failure LineFault) (new : ListingReaderState) → Reads HasReadListing IsListingFaultIn all (Err failure) new → FeedsListing all (Err (line_failure failure)) new
+pub fails : (all : List ℕ) (failure : Failure LineFault) (new : ListingReaderState) → Reads HasReadListing IsListingFaultIn all (Err failure) new →
+    FeedsListing all (Err (line_failure failure)) new
 fails all (Fault fault) new is = is
 fails all Memory new is = is.0
 
 -- what the edges are that all lines led to
 pub listed : (bytes : List ℕ) (r : ListingReaderState) (end : ListingValue × ℕ) → HasReadListing bytes r
-    → ((lent : List LogicalLine) → HasLentAll bytes lent r → EndsLines {S = ListingValue} {F = LineFault} fault_of_cutter bytes lent r.state (Ok end)) → Lists bytes end.0.edges
+    → ((lent : List LogicalLine) → HasLentAll bytes lent r → EndsLines {S = ListingValue} {F = LineFault} fault_of_cutter bytes lent r.state (Ok end)) →
+    Lists bytes end.0.edges
 listed bytes r end has ends =
     let e = ends has.lent has.has in
     all_lent listing_format bytes has.lent end.1 has.read.classes end.0.edges e.1 has.read.texts (subst (LeadToEdges has.read.classes) (sym e.0) has.read.led).0
 
 -- which fault the end of all bytes has
 pub ended : (bytes : List ℕ) (r : ListingReaderState) (failure : Failure LineFault) → HasReadListing bytes r
-    → ((lent : List LogicalLine) → HasLentAll bytes lent r → EndsLines {S = ListingValue} {F = LineFault} fault_of_cutter bytes lent r.state (Err failure)) → EndsListing bytes (Err (line_failure failure))
+    → ((lent : List LogicalLine) → HasLentAll bytes lent r → EndsLines {S = ListingValue} {F = LineFault} fault_of_cutter bytes lent r.state (Err failure)) →
+    EndsListing bytes (Err (line_failure failure))
 ended bytes r (Fault f) has ends =
     let e = ends has.lent has.has in
     subst (HasFaultyEnd bytes) (sym e.4)
-    (faulty_rest listing_format listing_faults bytes has.lent e.0 e.1 has.read.classes e.2 has.read.texts (runs_begin has.read.classes r.state (ran has.read.classes r.state has.read.led)) causes.Truncated e.3.2 (e.3.0, e.3.1))
+    (faulty_rest listing_format listing_faults bytes has.lent e.0 e.1 has.read.classes e.2 has.read.texts
+    (runs_begin has.read.classes r.state (ran has.read.classes r.state has.read.led)) causes.Truncated e.3.2 (e.3.0, e.3.1))
 ended bytes r Memory has ends = absurd (ends has.lent has.has)
 
 -- why edges are not a graph, as a failure of the listing
@@ -187,12 +206,28 @@ graph_failure Memory = Memory
 graph_failure (Fault fault) = Fault (NoGraph fault)
 
 -- why the edges listed are not a graph
-pub no_graph : (bytes : List ℕ) (edges : List EdgeValue) (failure : Failure GraphFault) → Lists bytes edges → ForFault (IsGraphFault edges) failure → EndsListing bytes (Err (graph_failure failure))
+pub no_graph : (bytes : List ℕ) (edges : List EdgeValue) (failure : Failure GraphFault) → Lists bytes edges → ForFault (IsGraphFault edges) failure →
+    EndsListing bytes (Err (graph_failure failure))
 no_graph bytes edges (Fault fault) lists is = (edges, lists, is)
 no_graph bytes edges Memory lists is = tt
 
+-- the fault of a whole text, by what reading it or its end returned
+pub stopped : (bytes : List ℕ) (failure : Failure ListFault) (new : ListingReaderState) → FeedsListing bytes (Err failure) new →
+    ForFault (IsListingFault bytes) failure
+stopped bytes Memory new h = tt
+stopped bytes (Fault (AtLine fault)) new h = elim h.1 [ inl line ↦ inl line | inr end ↦ inr end.0 ]
+stopped bytes (Fault (NoGraph fault)) new h = absurd h
+
+pub whole_read : (bytes : List ℕ) (result : Result (List EdgeValue) (Failure ListFault)) → EndsListing bytes result
+    → IfOk result (Lists bytes) × IfErr result (ForFault (IsListingFault bytes))
+whole_read bytes (Ok edges) h = (h, tt)
+whole_read bytes (Err Memory) h = (tt, tt)
+whole_read bytes (Err (Fault (AtLine fault))) h = (tt, inr h)
+whole_read bytes (Err (Fault (NoGraph fault))) h = (tt, h)
+
 -- the failure of a call as a fault of the listing
-pub turned_to : {F : Type 0} (turn : F → ListFault) (all : Failure F → Failure ListFault) → all Memory ≡ Memory → ((fault : F) → all (Fault fault) ≡ Fault (turn fault))
+pub turned_to : {F : Type 0} (turn : F → ListFault) (all : Failure F → Failure ListFault) → all Memory ≡ Memory →
+    ((fault : F) → all (Fault fault) ≡ Fault (turn fault))
     → (failure : Failure F) (result : Failure ListFault) → Turns (λ fault turned. turned ≡ turn fault) failure result → result ≡ all failure
 turned_to turn all memory faults Memory result is = is ∙ sym memory
 turned_to turn all memory faults (Fault fault) result is = is.2 ∙ ap (λ f. Fault f) is.1 ∙ sym (faults fault)
@@ -222,29 +257,32 @@ line_or_cause classes line begun = elim (cases_Bool (nat_lt line_limit (length l
 ]
 
 -- the law: not both
-pub cause_is_faulty : (classes : List ListingClass) (line : List ℕ) (cause : LineCause) → BeginsListing classes → IsLineCause classes line cause → IsFaultyAfter listing_format classes line
+pub cause_is_faulty : (classes : List ListingClass) (line : List ℕ) (cause : LineCause) → BeginsListing classes → IsLineCause classes line cause →
+    IsFaultyAfter listing_format classes line
 cause_is_faulty classes line cause begun is = elim (cause_parts classes line cause is) [
-  | inl long ↦ λ c of on. omega (arith, long.1, of.0)
+  | inl long ↦ λ c of on. omega arith
   | inr h ↦ λ c of on. cause_stops classes begun (text_of_line line) (is_comment line) cause c h.1 of.1 on
 ]
 
 -- the law: at most one cause
-pub one_cause : (classes : List ListingClass) (line : List ℕ) (cause other : LineCause) → IsLineCause classes line cause → IsLineCause classes line other → other ≡ cause
+pub one_cause : (classes : List ListingClass) (line : List ℕ) (cause other : LineCause) → IsLineCause classes line cause → IsLineCause classes line other →
+    other ≡ cause
 one_cause classes line cause other a b = elim (cause_parts classes line cause a) [
   | inl x ↦ elim (cause_parts classes line other b) [
     | inl y ↦ y.0 ∙ sym x.0
-    | inr y ↦ absurd (omega (arith, x.1, y.0))
+    | inr y ↦ absurd (omega arith)
   ]
   | inr x ↦ elim (cause_parts classes line other b) [
-    | inl y ↦ absurd (omega (arith, x.0, y.1))
+    | inl y ↦ absurd (omega arith)
     | inr y ↦ one_text_cause classes (text_of_line line) (is_comment line) cause other x.1 y.1
   ]
 ]
 
 -- the law: the only cause that a line with a class can have is its form
-pub line_has_form : (classes : List ListingClass) (line : List ℕ) (cause : LineCause) (c : ListingClass) → IsLineCause classes line cause → IsOfClass listing_format line c → cause ≡ Form
+pub line_has_form : (classes : List ListingClass) (line : List ℕ) (cause : LineCause) (c : ListingClass) → IsLineCause classes line cause →
+    IsOfClass listing_format line c → cause ≡ Form
 line_has_form classes line cause c is of = elim (cause_parts classes line cause is) [
-  | inl x ↦ absurd (omega (arith, x.1, of.0))
+  | inl x ↦ absurd (omega arith)
   | inr x ↦ class_has_form classes (text_of_line line) (is_comment line) cause c x.1 of.1
 ]
 
@@ -253,21 +291,22 @@ line_has_form classes line cause c is of = elim (cause_parts classes line cause 
 -- no bytes have no fault at their end
 no_end_cause : (cause : LineCause) → IsEndCause [] cause → ⊥
 no_end_cause LineTooLong h = omega arith
-no_end_cause Truncated h = omega (arith, h.0)
+no_end_cause Truncated h = omega arith
 no_end_cause other h = h
 
 -- an end has at most one cause
 one_end_cause : (rest : List ℕ) (x y : LineCause) → IsEndCause rest x → IsEndCause rest y → y ≡ x
 one_end_cause rest LineTooLong LineTooLong a b = refl
-one_end_cause rest LineTooLong Truncated a b = absurd (omega (arith, a, b.1))
-one_end_cause rest Truncated LineTooLong a b = absurd (omega (arith, a.1, b))
+one_end_cause rest LineTooLong Truncated a b = absurd (omega arith)
+one_end_cause rest Truncated LineTooLong a b = absurd (omega arith)
 one_end_cause rest Truncated Truncated a b = refl
 one_end_cause rest LineTooLong other a b = absurd b
 one_end_cause rest Truncated other a b = absurd b
 one_end_cause rest other y a b = absurd a
 
 -- lines with which some listing begins are a whole one, or the bytes after them have a cause
-end_decided : (classes : List ListingClass) (rest : List ℕ) → BeginsListing classes → ((rest ≡ []) × (es : List EdgeValue) × IsListing classes es) ⊎ ((cause : LineCause) × IsEndCause rest cause)
+end_decided : (classes : List ListingClass) (rest : List ℕ) → BeginsListing classes →
+    ((rest ≡ []) × (es : List EdgeValue) × IsListing classes es) ⊎ ((cause : LineCause) × IsEndCause rest cause)
 end_decided classes [] begun = let ran = begins_runs classes begun in inl (refl, ran.0.edges, run_is_listing classes ran.0 ran.1)
 end_decided classes (b ∷ rest) begun = elim (cases_lt (length (b ∷ rest)) line_limit) [
   | inl lt ↦ inr (Truncated, (omega arith, lt))
@@ -277,7 +316,8 @@ end_decided classes (b ∷ rest) begun = elim (cases_lt (length (b ∷ rest)) li
 -- ---- each line and each end is decided, and so is each text
 
 line_decided : (classes : List ListingClass) (line : List ℕ) → BeginsListing classes
-    → ((c : ListingClass) × IsOfClass listing_format line c × BeginsListing (classes ++ c ∷ [])) ⊎ ((cause : LineCause) × IsLineCause classes line cause × IsFaultyAfter listing_format classes line)
+    → ((c : ListingClass) × IsOfClass listing_format line c × BeginsListing (classes ++ c ∷ [])) ⊎
+    ((cause : LineCause) × IsLineCause classes line cause × IsFaultyAfter listing_format classes line)
 line_decided classes line begun = elim (line_or_cause classes line begun) [
   | inl on ↦ inl on
   | inr stop ↦ inr (stop.0, stop.1, cause_is_faulty classes line stop.0 begun stop.1)
@@ -305,7 +345,8 @@ not_both bytes es found a f = lines.not_both listing_format listing_faults decid
 
 -- the law: edges or a fault
 pub listing_or_fault : (bytes : List ℕ) → ((edges : List EdgeValue) × Lists bytes edges) ⊎ ((fault : LineFault) × HasListingFault bytes fault)
-listing_or_fault bytes = elim (lines.value_or_fault listing_format listing_faults decided bytes) [ inl all ↦ inl all | inr stop ↦ inr (record { line = stop.0; cause = stop.1 }, stop.2) ]
+listing_or_fault bytes = elim (lines.value_or_fault listing_format listing_faults decided bytes)
+    [ inl all ↦ inl all | inr stop ↦ inr (record { line = stop.0; cause = stop.1 }, stop.2) ]
 
 -- equal lines with equal causes are one fault
 fault_same : {l m : ℕ} {x y : LineCause} → l ≡ m → x ≡ y → ◌≡◌ {A = LineFault} (record { line = l; cause = x }) (record { line = m; cause = y })

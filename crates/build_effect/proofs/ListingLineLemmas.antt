@@ -1,8 +1,6 @@
 -- The row of a line, by its tokens or its assignment, and what a build line says, by its parts.
-use Rattle.std.proofs.Common.{◌≡◌, ℕ, arith, length, ◌==◌, ◌&&◌, Bool, true, false, List, [], ◌∷◌, map, Vec, Global, Ok, Err, refl, sym, ap, ◌∙◌, Option, Some, None}
+use Rattle.std.proofs.Common.{◌≡◌, ℕ, arith, length, ◌==◌, ◌&&◌, Bool, true, false, List, [], ◌∷◌, map, Ok, Err, refl, sym, ap, ◌∙◌, Option, Some, None}
 use Rattle.std.specs.Prelude.{codes, not, if◌then◌else◌}
-use Rattle.std.proofs.lemmas.Bool.Decides.{nat_tests}
-use Rattle.dep_order.specs.Rows.{rows}
 use Rattle.ninja_text.specs.Lexical.{lexical_fault}
 use Rattle.ninja_text.specs.Tokens.{TokenAt, SeenToken, tokens, raw, with_raw, seen_tokens}
 use Rattle.ninja_text.specs.Assignments.{assignment_of}
@@ -24,17 +22,18 @@ use Rattle.build_effect.specs.declared.fault.LineCause.TheVariants.{Lexical}
 
 -- if there is a first token, the line is not blank
 not_blank : (text : List ℕ) (ts : List TokenAt) (head : SeenToken) (others : List SeenToken) → head ∷ others ≡ map (with_raw text) ts → is_empty ts ≡ false
-not_blank text [] head others h = absurd (let x : head ∷ others ≡ [] = h in cc)
+not_blank text [] head others h = absurd (let x = h in cc)
 not_blank text (t ∷ ts) head others h = refl
 
 -- a line with a lexical fault
-pub faulty_row : (text : List ℕ) (comment : Bool) (fault : LexFault) → comment ≡ false → lexical_fault text ≡ Some fault → row_of text comment ≡ Err (Lexical fault)
+pub faulty_row : (text : List ℕ) (comment : Bool) (fault : LexFault) → comment ≡ false → lexical_fault text ≡ Some fault →
+    row_of text comment ≡ Err (Lexical fault)
 faulty_row text comment fault no_comment is = rw (no_comment, is) refl
 
 -- if there is no token, the line is blank
 no_token : (text : List ℕ) (ts : List TokenAt) → [] ≡ map (with_raw text) ts → is_empty ts ≡ true
 no_token text [] h = refl
-no_token text (t ∷ ts) h = absurd (let x : [] ≡ with_raw text t ∷ map (with_raw text) ts = h in cc)
+no_token text (t ∷ ts) h = absurd (let x = h in cc)
 
 pub blank_row : (text : List ℕ) (comment : Bool) → comment ≡ false → lexical_fault text ≡ None → [] ≡ seen_tokens text → row_of text comment ≡ Ok BlankRow
 blank_row text comment no_comment sound all = rw (no_comment, sound, no_token text (tokens text) all) refl
@@ -61,16 +60,19 @@ built_by Colon false bytes more others h = refl
 built : (text : List ℕ) (ts : List TokenAt) (head : SeenToken) (others : List SeenToken) → head ∷ others ≡ map (with_raw text) ts
     → after_build (begins_at_start ts) (map (λ t. symbol t.kind (raw text t)) ts)
     ≡ (if (head.start == 0) && is_this_word (codes "build") (symbol_of head) then Some (map symbol_of others) else None)
-built text [] head others h = absurd (let x : head ∷ others ≡ [] = h in cc)
+built text [] head others h = absurd (let x = h in cc)
 built text (t ∷ ts) head others h =
-    let first : head ≡ with_raw text t = (let x : head ∷ others ≡ with_raw text t ∷ map (with_raw text) ts = h in cc) in
-    let rest : others ≡ map (with_raw text) ts = (let x : head ∷ others ≡ with_raw text t ∷ map (with_raw text) ts = h in cc) in
-    built_by t.kind (t.start == 0) (raw text t) (map (λ t. symbol t.kind (raw text t)) ts) (map symbol_of others) (ap (map symbol_of) rest ∙ symbols_are text ts)
+    let first : head ≡ with_raw text t = cc in
+    let rest : others ≡ map (with_raw text) ts = cc in
+    built_by t.kind (t.start == 0) (raw text t) (map (λ t. symbol t.kind (raw text t)) ts) (map symbol_of others)
+    (ap (map symbol_of) rest ∙ symbols_are text ts)
     ∙ ap (λ (h : SeenToken). if (h.start == 0) && is_this_word (codes "build") (symbol_of h) then Some (map symbol_of others) else None) (sym first)
 
-module _ (text : List ℕ) (comment : Bool) (no_comment : comment ≡ false) (sound : lexical_fault text ≡ None) (head : SeenToken) (others : List SeenToken) (all : head ∷ others ≡ seen_tokens text) where
+module _ (text : List ℕ) (comment : Bool) (no_comment : comment ≡ false) (sound : lexical_fault text ≡ None) (head : SeenToken) (others : List SeenToken)
+    (all : head ∷ others ≡ seen_tokens text) where
   -- the row of a line that is neither a comment nor blank
-  some_row : row_of text comment ≡ (if begins_with_space text then binding_row (assignment_of text) else unindented_row (after_build (begins_at_start (tokens text)) (symbols text)))
+  some_row : row_of text comment ≡
+      (if begins_with_space text then binding_row (assignment_of text) else unindented_row (after_build (begins_at_start (tokens text)) (symbols text)))
   some_row = rw (no_comment, sound, not_blank text (tokens text) head others all) refl
 
   -- an indented line
@@ -80,22 +82,27 @@ module _ (text : List ℕ) (comment : Bool) (no_comment : comment ≡ false) (so
   -- a line that is not indented
   pub unindented : (builds : Bool) → begins_with_space text ≡ false → builds ≡ (head.start == 0) && is_this_word (codes "build") (symbol_of head)
       → row_of text comment ≡ unindented_row (if builds then Some (map symbol_of others) else None)
-  unindented builds space is = some_row ∙ rw space (ap unindented_row (built text (tokens text) head others all ∙ ap (λ b. if b then Some (map symbol_of others) else None) (sym is)))
+  unindented builds space is = some_row ∙
+      rw space (ap unindented_row (built text (tokens text) head others all ∙ ap (λ b. if b then Some (map symbol_of others) else None) (sym is)))
 
 -- what a build line says, by what is on the left of the colon
 pub left_texts : (symbols s1 s2 : List Symbol) (outputs implicit_outputs : List (List ℕ)) → outputs ≡ front_words symbols → s1 ≡ past_words symbols
-    → implicit_outputs ≡ part_words (past_sign Bar s1) → s2 ≡ past_part (past_sign Bar s1) s1 → edge_texts symbols ≡ right_texts outputs implicit_outputs (past_sign Colon s2)
+    → implicit_outputs ≡ part_words (past_sign Bar s1) → s2 ≡ past_part (past_sign Bar s1) s1 →
+    edge_texts symbols ≡ right_texts outputs implicit_outputs (past_sign Colon s2)
 left_texts symbols s1 s2 outputs implicit_outputs o a i b = rw (o, i, b, a) refl
 
 -- without a rule it says nothing
-pub no_rule : (outputs implicit_outputs : List (List ℕ)) (symbols : List Symbol) → front_words symbols ≡ [] → right_texts outputs implicit_outputs (Some symbols) ≡ None
+pub no_rule : (outputs implicit_outputs : List (List ℕ)) (symbols : List Symbol) → front_words symbols ≡ [] →
+    right_texts outputs implicit_outputs (Some symbols) ≡ None
 no_rule outputs implicit_outputs [] h = refl
 no_rule outputs implicit_outputs (SignSymbol sign ∷ more) h = refl
-no_rule outputs implicit_outputs (WordSymbol word ∷ more) h = absurd (let x : _ ∷ _ ≡ [] = h in cc)
+no_rule outputs implicit_outputs (WordSymbol word ∷ more) h = absurd (let x = h in cc)
 
 -- what it says by what is on the right of the colon
-pub right_are : (outputs implicit_outputs inputs implicit_inputs order_only : List (List ℕ)) (rule name : List ℕ) (s0 s1 s2 s3 : List Symbol) → name ≡ rule → inputs ≡ front_words s0
-    → s1 ≡ past_words s0 → implicit_inputs ≡ part_words (past_sign Bar s1) → s2 ≡ past_part (past_sign Bar s1) s1 → order_only ≡ part_words (past_sign DoubleBar s2)
+pub right_are : (outputs implicit_outputs inputs implicit_inputs order_only : List (List ℕ)) (rule name : List ℕ) (s0 s1 s2 s3 : List Symbol) → name ≡ rule →
+    inputs ≡ front_words s0
+    → s1 ≡ past_words s0 → implicit_inputs ≡ part_words (past_sign Bar s1) → s2 ≡ past_part (past_sign Bar s1) s1 →
+    order_only ≡ part_words (past_sign DoubleBar s2)
     → s3 ≡ past_part (past_sign DoubleBar s2) s2 → (whole : Bool) → whole ≡ not (is_empty outputs) && is_rule_name rule && is_empty s3
     → right_texts outputs implicit_outputs (Some (WordSymbol rule ∷ s0))
     ≡ (if whole then Some (record {
@@ -108,13 +115,38 @@ pub right_are : (outputs implicit_outputs inputs implicit_inputs order_only : Li
     }) else None)
 right_are outputs implicit_outputs inputs implicit_inputs order_only rule name s0 s1 s2 s3 e n a m b l d whole is = rw (is, e, n, m, l, d, b, a) refl
 
+-- what a build line says, by the tokens that are left after each of its parts
+module _ (symbols bar colon behind right needed order over : List Symbol) (rule : List ℕ) (a : bar ≡ past_words symbols)
+    (b : colon ≡ past_part (past_sign Bar bar) bar)
+    (sign : past_sign Colon colon ≡ Some behind) (word : behind ≡ WordSymbol rule ∷ right) (d : needed ≡ past_words right)
+    (e : order ≡ past_part (past_sign Bar needed) needed)
+    (f : over ≡ past_part (past_sign DoubleBar order) order) where
+  pub walked : (whole : Bool) → whole ≡ not (is_empty (front_words symbols)) && is_rule_name rule && is_empty over →
+      edge_texts symbols ≡ (if whole then Some (record {
+        rule = rule;
+        outputs = front_words symbols;
+        implicit_outputs = part_words (past_sign Bar bar);
+        inputs = front_words right;
+        implicit_inputs = part_words (past_sign Bar needed);
+        order_only = part_words (past_sign DoubleBar order);
+      }) else None)
+  walked whole is =
+      left_texts symbols bar colon _ _ refl a refl b ∙
+      ap (right_texts (front_words symbols) (part_words (past_sign Bar bar))) (sign ∙ ap (λ symbols. Some symbols) word)
+      ∙ right_are _ _ _ _ _ rule rule right needed order over refl refl d refl e refl f whole is
+
 -- whether there are outputs, by how many there are
-pub outputs_are : (outputs : List (Vec ℕ Global)) (len : ℕ) (none : Bool) → len ≡ length outputs → (len == 0) ≡ none → is_empty (rows outputs) ≡ none
-outputs_are [] len none count test = (let x : (0 == 0) ≡ none = rw count at test in x)
-outputs_are (o ∷ os) len none count test = let some : (len == 0) ≡ false = grind (arith, nat_tests) in sym some ∙ test
+pub no_outputs : (outputs : List (List ℕ)) (len : ℕ) → len ≡ length outputs → len ≡ 0 → is_empty outputs ≡ true
+no_outputs [] len count none = refl
+no_outputs (o ∷ os) len count none = absurd (omega arith)
+
+pub some_outputs : (outputs : List (List ℕ)) (len : ℕ) → len ≡ length outputs → (len ≡ 0 → ⊥) → is_empty outputs ≡ false
+some_outputs [] len count some = absurd (some count)
+some_outputs (o ∷ os) len count some = refl
 
 -- whether a token is left over, by the next one
-pub left_over : (words after : Words) (token : Option Token) (is : Bool) → YieldsFirstBy seen_token tokens_left words token after → is_some token ≡ is → is_empty (symbols_left words) ≡ not is
+pub left_over : (words after : Words) (token : Option Token) (is : Bool) → YieldsFirstBy seen_token tokens_left words token after → is_some token ≡ is →
+    is_empty (symbols_left words) ≡ not is
 left_over words after None is yields some = rw yields.0 (ap not some)
 left_over words after (Some token) is yields some = rw yields (ap not some)
 

@@ -1,5 +1,6 @@
 -- Lines of an edge listing that are run over one after another, and the listings that begin with them.
 use Rattle.std.proofs.Common.{inl, inr, ◌⊎◌, ◌≡◌, ℕ, Bool, true, false, List, [], ◌∷◌, ◌++◌, refl, sym, ap, ◌∙◌, subst, append_assoc, Option, Some, None}
+use Rattle.build_effect.proofs.Lists.{none_some}
 use Rattle.std.specs.Prelude.{is_some}
 use Rattle.std.proofs.lemmas.List.{append-nil}
 use Rattle.build_effect.specs.EdgeValue.{EdgeValue}
@@ -42,9 +43,10 @@ abbrev RunsTo : Binding → List EdgeValue → List ListingClass → List EdgeVa
 RunsTo binding start classes result = (final : Binding) × (run binding start classes ≡ Some (record { edges = result; binding = final }))
 
 -- what may follow if no edge is open may follow if one is open
-open_runs : (binding : Binding) (classes : List ListingClass) (start result : List EdgeValue) → RunsTo Closed start classes result → RunsTo binding start classes result
+open_runs : (binding : Binding) (classes : List ListingClass) (start result : List EdgeValue) → RunsTo Closed start classes result →
+    RunsTo binding start classes result
 open_runs binding [] start result r =
-    let same : start ≡ result = ap (λ s. s.edges) (value_same r.1) in
+    let same = ap (λ s. s.edges) (value_same r.1) in
     (binding, ap (λ es. Some (record { edges = es; binding = binding })) same)
 open_runs binding (Comment ∷ classes) start result r = open_runs binding classes start result r
 open_runs binding (Blank ∷ classes) start result r = r
@@ -68,7 +70,8 @@ either_none None = refl
 either_none (Some x) = refl
 
 -- the bindings of an open edge set what they name
-bindings_run : {classes more : List ListingClass} {d : Option (List ℕ)} {r : Option Bool} (start result : List EdgeValue) (t : EdgeTexts) (dyndep : Option (List ℕ)) (restat : Option Bool)
+bindings_run : {classes more : List ListingClass} {d : Option (List ℕ)} {r : Option Bool} (start result : List EdgeValue) (t : EdgeTexts)
+    (dyndep : Option (List ℕ)) (restat : Option Bool)
     → HasBindings classes d r more → Apart dyndep d → Apart restat r → RunsTo Closed (start ++ bound t (either dyndep d) (either restat r) ∷ []) more result
     → RunsTo (Open (is_some dyndep) (is_some restat)) (start ++ bound t dyndep restat ∷ []) classes result
 bindings_run start result t dyndep restat (no_more_bindings {more}) a b runs =
@@ -106,7 +109,8 @@ record Added (classes : List ListingClass) (start : List EdgeValue) (end : Listi
   grammar : IsListing classes edges
 
 -- the bindings and the edges that a run adds, if one is open with these bindings
-record Bound (classes : List ListingClass) (start : List EdgeValue) (t : EdgeTexts) (dyndep : Option (List ℕ)) (restat : Option Bool) (end : ListingValue) : Type 0 where
+record Bound (classes : List ListingClass) (start : List EdgeValue) (t : EdgeTexts) (dyndep : Option (List ℕ)) (restat : Option Bool) (end : ListingValue) :
+    Type 0 where
   d : Option (List ℕ)
   r : Option Bool
   more : List ListingClass
@@ -132,7 +136,8 @@ apart_some x None h = refl
 apart_some x (Some y) h = absurd h
 
 -- no binding comes any more
-no_binding : (classes : List ListingClass) (start : List EdgeValue) (t : EdgeTexts) (dyndep : Option (List ℕ)) (restat : Option Bool) (end : ListingValue) (edges : List EdgeValue)
+no_binding : (classes : List ListingClass) (start : List EdgeValue) (t : EdgeTexts) (dyndep : Option (List ℕ)) (restat : Option Bool) (end : ListingValue)
+    (edges : List EdgeValue)
     → IsListing classes edges → end.edges ≡ start ++ bound t dyndep restat ∷ edges → Bound classes start t dyndep restat end
 no_binding classes start t dyndep restat end edges grammar are = record {
   d = None;
@@ -147,11 +152,14 @@ no_binding classes start t dyndep restat end edges grammar are = record {
 }
 
 -- a binding of `dyndep` comes next
-dyndep_next : (path : List ℕ) (classes : List ListingClass) (later : RunAdds classes) (start : List EdgeValue) (t : EdgeTexts) (dyndep : Option (List ℕ)) (restat : Option Bool) (end : ListingValue)
-    → run (Open (is_some dyndep) (is_some restat)) (start ++ bound t dyndep restat ∷ []) (Dyndep path ∷ classes) ≡ Some end → Bound (Dyndep path ∷ classes) start t dyndep restat end
+dyndep_next : (path : List ℕ) (classes : List ListingClass) (later : RunAdds classes) (start : List EdgeValue) (t : EdgeTexts) (dyndep : Option (List ℕ))
+    (restat : Option Bool) (end : ListingValue)
+    → run (Open (is_some dyndep) (is_some restat)) (start ++ bound t dyndep restat ∷ []) (Dyndep path ∷ classes) ≡ Some end →
+    Bound (Dyndep path ∷ classes) start t dyndep restat end
 dyndep_next path classes later start t (Some p) restat end h = never h
 dyndep_next path classes later start t None restat end h =
-    let o = later.one start t (Some path) restat end (sym (ap (λ es. run (Open true (is_some restat)) es classes) (last_dyndep start t path None restat)) ∙ h) in record {
+    let o = later.one start t (Some path) restat end
+    (sym (ap (λ es. run (Open true (is_some restat)) es classes) (last_dyndep start t path None restat)) ∙ h) in record {
       d = Some path;
       r = o.r;
       more = o.more;
@@ -164,11 +172,14 @@ dyndep_next path classes later start t None restat end h =
     }
 
 -- a binding of `restat` comes next
-restat_next : (flag : Bool) (classes : List ListingClass) (later : RunAdds classes) (start : List EdgeValue) (t : EdgeTexts) (dyndep : Option (List ℕ)) (restat : Option Bool) (end : ListingValue)
-    → run (Open (is_some dyndep) (is_some restat)) (start ++ bound t dyndep restat ∷ []) (Restat flag ∷ classes) ≡ Some end → Bound (Restat flag ∷ classes) start t dyndep restat end
+restat_next : (flag : Bool) (classes : List ListingClass) (later : RunAdds classes) (start : List EdgeValue) (t : EdgeTexts) (dyndep : Option (List ℕ))
+    (restat : Option Bool) (end : ListingValue)
+    → run (Open (is_some dyndep) (is_some restat)) (start ++ bound t dyndep restat ∷ []) (Restat flag ∷ classes) ≡ Some end →
+    Bound (Restat flag ∷ classes) start t dyndep restat end
 restat_next flag classes later start t dyndep (Some f) end h = never h
 restat_next flag classes later start t dyndep None end h =
-    let o = later.one start t dyndep (Some flag) end (sym (ap (λ es. run (Open (is_some dyndep) true) es classes) (last_restat start t flag dyndep None)) ∙ h) in record {
+    let o = later.one start t dyndep (Some flag) end
+    (sym (ap (λ es. run (Open (is_some dyndep) true) es classes) (last_restat start t flag dyndep None)) ∙ h) in record {
       d = o.d;
       r = Some flag;
       more = o.more;
@@ -208,11 +219,13 @@ run_adds (Blank ∷ classes) = let later = run_adds classes in record {
       no_binding (Blank ∷ classes) start t dyndep restat end a.edges (listing_blank a.grammar) (a.are ∙ append_assoc start (e ∷ []) a.edges);
 }
 run_adds (Build u ∷ classes) = let later = run_adds classes in record {
-  none = λ start end h. let o = later.one start u None None end h in record { edges = bound u o.d o.r ∷ o.edges; are = o.are; grammar = listing_build o.bindings o.grammar };
+  none = λ start end h. let o = later.one start u None None end h in
+      record { edges = bound u o.d o.r ∷ o.edges; are = o.are; grammar = listing_build o.bindings o.grammar };
   one = λ start t dyndep restat end h.
       let e = bound t dyndep restat in
       let o = later.one (start ++ e ∷ []) u None None end h in
-      no_binding (Build u ∷ classes) start t dyndep restat end (bound u o.d o.r ∷ o.edges) (listing_build o.bindings o.grammar) (o.are ∙ append_assoc start (e ∷ []) (bound u o.d o.r ∷ o.edges));
+      no_binding (Build u ∷ classes) start t dyndep restat end (bound u o.d o.r ∷ o.edges) (listing_build o.bindings o.grammar)
+      (o.are ∙ append_assoc start (e ∷ []) (bound u o.d o.r ∷ o.edges));
 }
 run_adds (Dyndep path ∷ classes) = let later = run_adds classes in record { none = λ start end h. never h; one = dyndep_next path classes later }
 run_adds (Restat flag ∷ classes) = let later = run_adds classes in record { none = λ start end h. never h; one = restat_next flag classes later }
@@ -222,11 +235,12 @@ pub run_is_listing : (classes : List ListingClass) (end : ListingValue) → run 
 run_is_listing classes end h = let a = (run_adds classes).none [] end h in subst (IsListing classes) (sym a.are) a.grammar
 
 -- a run over more lines passes the result of a run over the first of them
-pub run_front : (classes more : List ListingClass) (binding : Binding) (start : List EdgeValue) (end : ListingValue) → run binding start (classes ++ more) ≡ Some end
+pub run_front : (classes more : List ListingClass) (binding : Binding) (start : List EdgeValue) (end : ListingValue) →
+    run binding start (classes ++ more) ≡ Some end
     → (mid : ListingValue) × (run binding start classes ≡ Some mid) × (run mid.binding mid.edges more ≡ Some end)
 run_front [] more binding start end h = (record { edges = start; binding = binding }, refl, h)
 run_front (c ∷ classes) more binding start end h = elim (cases_step (step binding start c)) [
-  | inl e ↦ absurd (let x : ◌≡◌ {A = Option ListingValue} None (Some end) = rw e at h in cc)
+  | inl e ↦ none_some (rw e at h)
   | inr o ↦ let later = run_front classes more o.0.binding o.0.edges end (rw o.1 at h) in (later.0, rw o.1 later.1, later.2)
 ]
 
@@ -235,7 +249,7 @@ pub run_more : (classes more : List ListingClass) (binding : Binding) (start : L
     → run binding start (classes ++ more) ≡ run mid.binding mid.edges more
 run_more [] more binding start mid h = ap (λ s. run s.binding s.edges more) (value_same h)
 run_more (c ∷ classes) more binding start mid h = elim (cases_step (step binding start c)) [
-  | inl e ↦ absurd (let x : ◌≡◌ {A = Option ListingValue} None (Some mid) = rw e at h in cc)
+  | inl e ↦ none_some (rw e at h)
   | inr o ↦ rw o.1 (run_more classes more o.0.binding o.0.edges mid (rw o.1 at h))
 ]
 
@@ -263,15 +277,17 @@ left (Open dyndep true) es (Restat flag) next h = never h
 left (Open dyndep false) es (Restat flag) next h = sym (ap (λ s. s.binding) (value_same h))
 
 -- and the same holds for a run
-pub binding_runs : (classes : List ListingClass) (binding : Binding) (es : List EdgeValue) (end : ListingValue) → run binding es classes ≡ Some end → end.binding ≡ open_from binding classes
+pub binding_runs : (classes : List ListingClass) (binding : Binding) (es : List EdgeValue) (end : ListingValue) → run binding es classes ≡ Some end →
+    end.binding ≡ open_from binding classes
 binding_runs [] binding es end h = sym (ap (λ s. s.binding) (value_same h))
 binding_runs (c ∷ classes) binding es end h = elim (cases_step (step binding es c)) [
-  | inl e ↦ absurd (let x : ◌≡◌ {A = Option ListingValue} None (Some end) = rw e at h in cc)
+  | inl e ↦ none_some (rw e at h)
   | inr o ↦ binding_runs classes o.0.binding o.0.edges end (rw o.1 at h) ∙ ap (λ b. open_from b classes) (left binding es c o.0 o.1)
 ]
 
 -- a listing is run to its edges
-pub listing_is_run : (classes : List ListingClass) (value : ListingValue) → IsListing classes value.edges → value.binding ≡ open_from Closed classes → run Closed [] classes ≡ Some value
+pub listing_is_run : (classes : List ListingClass) (value : ListingValue) → IsListing classes value.edges → value.binding ≡ open_from Closed classes →
+    run Closed [] classes ≡ Some value
 listing_is_run classes value grammar left_so =
     let r = listing_runs [] grammar in
     let end : ListingValue = record { edges = value.edges; binding = r.0 } in

@@ -44,19 +44,20 @@ end_stays bytes more line e [] rest d =
       reason = omega (arith, e.reason, length-append e.rest more);
     })
 end_stays bytes more line e (l ∷ ls) rest d =
-    let after : List ℕ = flat_map (λ x. x) ls ++ rest in
-    let same : e.rest ++ more ≡ l ++ after = d.whole ∙ append_assoc l (flat_map (λ x. x) ls) rest in
+    let after = flat_map (λ x. x) ls ++ rest in
+    let same = d.whole ∙ append_assoc l (flat_map (λ x. x) ls) rest in
     let past : line_limit < length l = omega (arith, e.reason, longer e.rest more l after same e.divided.partial d.each.0) in
     inl (record {
       before = e.lines;
       line = l;
       after = after;
       classes = e.classes;
-      whole = one_more_line e.lines l (bytes ++ more) (e.rest ++ more) after (ap (λ x. x ++ more) e.divided.whole ∙ append_assoc (flat_map (λ x. x) e.lines) e.rest more) same;
+      whole = one_more_line e.lines l (bytes ++ more) (e.rest ++ more) after
+          (ap (λ x. x ++ more) e.divided.whole ∙ append_assoc (flat_map (λ x. x) e.lines) e.rest more) same;
       each = AllByRecursion-append IsLine e.lines (l ∷ []) e.divided.each (d.each.0, tt);
       classed = e.classed;
       begun = e.begun;
-      faulty = λ c of_class begins. absurd (omega (arith, past, of_class.0));
+      faulty = λ c of_class begins. absurd (omega arith);
       number = e.number;
       reason = past;
     })
@@ -65,7 +66,7 @@ end_stays bytes more line e (l ∷ ls) rest d =
 pub fault_stays : (bytes more : List ℕ) (fault : LineFault) → IsListingFaultIn bytes fault → HasListingFault (bytes ++ more) fault
 fault_stays bytes more fault (inl f) = inl (line_stays bytes more fault f)
 fault_stays bytes more fault (inr h) =
-    let too_long : fault ≡ record { line = fault.line; cause = LineTooLong } = ap (λ cause. record { line = fault.line; cause = cause }) h.1 in
+    let too_long = ap (λ cause. record { line = fault.line; cause = cause }) h.1 in
     let e : HasFaultyEnd bytes (record { line = fault.line; cause = LineTooLong }) = subst (HasFaultyEnd bytes) too_long h.0 in
     let d = divides_some (e.rest ++ more) in
     subst (HasListingFault (bytes ++ more)) (sym too_long) (end_stays bytes more fault.line e d.0 d.1 d.2)

@@ -13,6 +13,14 @@ use Rattle.build_effect.specs.Faults.{StandsBefore, made_files}
 use Rattle.build_effect.specs.inner.Makers.{IsMadeTwice, NoneMadeTwice}
 use Rattle.build_effect.specs.Graphs.{made_by, MadeOnce}
 
+-- ---- results that are equal, and those that are not
+
+pub from_some : {X : Type 0} {x y : X} → ◌≡◌ {A = Option X} (Some x) (Some y) → x ≡ y
+from_some h = same_some _ _ h
+
+pub none_some : {X A : Type 0} {x : X} → ◌≡◌ {A = Option X} None (Some x) → A
+none_some h = absurd (cc)
+
 -- ---- two values are equal or they are not
 
 abbrev pub Decides : {X : Type 0} → X → X → Type 0
@@ -47,20 +55,22 @@ for_fault P Q so Memory h = h
 for_fault P Q so (Fault fault) h = so fault h
 
 -- what holds of the fault that a fault was turned into
-pub for_turned : {F G : Type 0} (P : F → Type 0) (Q : G → Type 0) (turned : F → G → Type 0) (failure : Failure F) (new : Failure G) → ((fault : F) (other : G) → turned fault other → P fault → Q other) → Turns turned failure new → ForFault P failure → ForFault Q new
+pub for_turned : {F G : Type 0} (P : F → Type 0) (Q : G → Type 0) (turned : F → G → Type 0) (failure : Failure F) (new : Failure G) →
+    ((fault : F) (other : G) → turned fault other → P fault → Q other) → Turns turned failure new → ForFault P failure → ForFault Q new
 for_turned P Q turned Memory new so is h = rw is tt
 for_turned P Q turned (Fault fault) new so is h = rw is.2 (so fault is.0 is.1 h)
 
 -- ---- elements and parts of lists
 
 -- lists of one length with the same elements are one
-pub same_lists : {X : Type 0} (xs ys : List X) → length xs ≡ length ys → ((k : ℕ) (x y : X) → slice_get xs k ≡ Some x → slice_get ys k ≡ Some y → x ≡ y) → xs ≡ ys
+pub same_lists : {X : Type 0} (xs ys : List X) → length xs ≡ length ys → ((k : ℕ) (x y : X) → slice_get xs k ≡ Some x → slice_get ys k ≡ Some y → x ≡ y) →
+    xs ≡ ys
 same_lists [] [] e f = refl
 same_lists [] (y ∷ ys) e f = absurd (omega arith)
 same_lists (x ∷ xs) [] e f = absurd (omega arith)
 same_lists (x ∷ xs) (y ∷ ys) e f =
-    let heads : x ≡ y = f 0 x y refl refl in
-    let tails : xs ≡ ys = same_lists xs ys (omega arith) (λ k a b. f (suc k) a b) in
+    let heads = f 0 x y refl refl in
+    let tails = same_lists xs ys (omega arith) (λ k a b. f (suc k) a b) in
     cc
 
 -- lists whose elements have the same images under an injective map are one
@@ -71,35 +81,43 @@ same_map f inj (x ∷ xs) [] e = cc
 same_map f inj (x ∷ xs) (y ∷ ys) e =
     let heads : f x ≡ f y = cc in
     let tails : map f xs ≡ map f ys = cc in
-    let head : x ≡ y = inj x y heads in
-    let tail : xs ≡ ys = same_map f inj xs ys tails in
+    let head = inj x y heads in
+    let tail = same_map f inj xs ys tails in
     cc
 
 pub same_ok : {X E : Type 0} (x y : X) → (let a : Result X E = Ok x in let b : Result X E = Ok y in a ≡ b) → x ≡ y
 same_ok x y e = cc
 
 -- if all elements of all parts differ, an element is in one part, at one index
-pub one_part : {A B : Type 0} (f : A → List B) (xs : List A) → AllDiffer (flat_map f xs) → (i j k l : ℕ) (y : B) → InPart f xs i j y → InPart f xs k l y → (i ≡ k) × (j ≡ l)
+pub one_part : {A B : Type 0} (f : A → List B) (xs : List A) → AllDiffer (flat_map f xs) → (i j k l : ℕ) (y : B) → InPart f xs i j y → InPart f xs k l y →
+    (i ≡ k) × (j ≡ l)
 one_part f [] all i j k l y p q = let none = p.1 in cc
 one_part f (x ∷ xs) all zero j zero l y p q =
-    let here = in_first (f x) (flat_map f xs) j y (subst (λ w. slice_get (f w) j ≡ Some y) (sym (same_some _ _ p.1)) p.2) in
-    let there = in_first (f x) (flat_map f xs) l y (subst (λ w. slice_get (f w) l ≡ Some y) (sym (same_some _ _ q.1)) q.2) in
+    let here = in_first (f x) (flat_map f xs) j y (subst (λ w. slice_get (f w) j ≡ Some y) (sym (from_some p.1)) p.2) in
+    let there = in_first (f x) (flat_map f xs) l y (subst (λ w. slice_get (f w) l ≡ Some y) (sym (from_some q.1)) q.2) in
     elim (three_ways j l) [
       | inl less ↦ absurd (all.differ j l y less here there)
       | inr rest ↦ elim rest [ inl same ↦ (refl, same) | inr more ↦ absurd (all.differ l j y more there here) ]
     ]
 one_part f (x ∷ xs) all zero j (suc k) l y p q =
-    let here : slice_get (f x) j ≡ Some y = subst (λ w. slice_get (f w) j ≡ Some y) (sym (same_some _ _ p.1)) p.2 in
+    let here : slice_get (f x) j ≡ Some y = subst (λ w. slice_get (f w) j ≡ Some y) (sym (from_some p.1)) p.2 in
     let m = offset f xs k + l in
     let within : j < length (f x) = slice_get_within _ _ _ here in
-    absurd (all.differ j (length (f x) + m) y (omega arith) (in_first (f x) (flat_map f xs) j y here) (in_second (f x) (flat_map f xs) m y (in_flat_map f xs k l y (q.0, q.1, q.2))))
+    absurd (all.differ j (length (f x) + m) y (omega arith) (in_first (f x) (flat_map f xs) j y here)
+    (in_second (f x) (flat_map f xs) m y (in_flat_map f xs k l y (q.0, q.1, q.2))))
 one_part f (x ∷ xs) all (suc i) j zero l y p q =
-    let there : slice_get (f x) l ≡ Some y = subst (λ w. slice_get (f w) l ≡ Some y) (sym (same_some _ _ q.1)) q.2 in
+    let there : slice_get (f x) l ≡ Some y = subst (λ w. slice_get (f w) l ≡ Some y) (sym (from_some q.1)) q.2 in
     let m = offset f xs i + j in
     let within : l < length (f x) = slice_get_within _ _ _ there in
-    absurd (all.differ l (length (f x) + m) y (omega arith) (in_first (f x) (flat_map f xs) l y there) (in_second (f x) (flat_map f xs) m y (in_flat_map f xs i j y (p.0, p.1, p.2))))
+    absurd (all.differ l (length (f x) + m) y (omega arith) (in_first (f x) (flat_map f xs) l y there)
+    (in_second (f x) (flat_map f xs) m y (in_flat_map f xs i j y (p.0, p.1, p.2))))
 one_part f (x ∷ xs) all (suc i) j (suc k) l y p q =
-    let rest = one_part f xs (record { differ = λ a b z less at_a at_b. all.differ (length (f x) + a) (length (f x) + b) z (omega (arith, less)) (in_second (f x) (flat_map f xs) a z at_a) (in_second (f x) (flat_map f xs) b z at_b) }) i j k l y (p.0, p.1, p.2) (q.0, q.1, q.2) in
+    let rest = one_part f xs
+    (record {
+      differ = λ a b z less at_a at_b.
+          all.differ (length (f x) + a) (length (f x) + b) z (omega (arith, less)) (in_second (f x) (flat_map f xs) a z at_a)
+          (in_second (f x) (flat_map f xs) b z at_b);
+    }) i j k l y (p.0, p.1, p.2) (q.0, q.1, q.2) in
     (ap suc rest.0, rest.1)
 
 -- what holds of all elements holds of the element at each index
@@ -114,4 +132,9 @@ made_once g once i j k l file p q = one_part made_by g (record { differ = λ m n
 
 -- with no files made already, the first that comes again is the first that has an earlier index
 pub first_again : (files : List (List ℕ)) (k : ℕ) (file : List ℕ) → IsFirstAt (IsMadeTwice [] files) files k file → IsFirstAt (StandsBefore files) files k file
-first_again files k file first = record { here = first.here; holds = elim first.holds [ inl h ↦ let none = h.2 in cc | inr h ↦ h ]; before = λ j f less at h. first.before j f less at (inr h) }
+first_again files k file first =
+    record {
+      here = first.here;
+      holds = elim first.holds [ inl h ↦ let none = h.2 in cc | inr h ↦ h ];
+      before = λ j f less at h. first.before j f less at (inr h);
+    }

@@ -1,5 +1,6 @@
 -- Tables of the edges that make files, and the order of edges that they give.
 use Rattle.std.proofs.Common.{◌≡◌, ℕ, zero, suc, ◌+◌, Bool, true, false, List, [], ◌∷◌, ◌++◌, length, map, take, drop, Option, Some, None, refl, ap, ap₂, subst, sym, ◌∙◌, inl, inr, arith, slice_get, bytes_eq, cond, ◌<◌, get_or, Contains, ⊎_elim, append_assoc}
+use Rattle.build_effect.proofs.Lists.{from_some}
 use Rattle.std.specs.List.{AllZip, filter_map, flat_map}
 use Rattle.std.specs.declared.alloc.Global.{Global}
 use Rattle.std.specs.declared.rc.Rc.{Rc}
@@ -10,7 +11,7 @@ use Rattle.build_effect.specs.EdgeValue.{EdgeValue}
 use Rattle.build_effect.specs.Graphs.{made_by, MakesAt, inputs_of, MadeOnce, EdgeNeeds}
 use Rattle.build_effect.specs.inner.Makers.{Made, Table, files_of, tables_of, entries_of, maker_in, IsMadeTwice, AreMade, numbered}
 use Rattle.ninja_text.specs.Firsts.{IsFirstAt}
-use Rattle.ninja_text.proofs.ForCallers.{same_some, in_append, in_first, in_second, from_take, in_take, take_next, from_map, to_map, from_filter_map, in_filter_map, three_ways}
+use Rattle.ninja_text.proofs.ForCallers.{in_append, in_first, in_second, from_take, in_take, take_next, from_map, to_map, from_filter_map, in_filter_map, three_ways}
 use Rattle.std.proofs.lemmas.Option.{slice_get_within, slice_get-get_or, get_or_from_slice_get}
 use Rattle.std.proofs.lemmas.Bool.{cases_lt}
 use Rattle.dep_order.specs.Needs.{NodeNeeds, NeedsAreNodes}
@@ -25,14 +26,16 @@ pub in_list : (made : Made) (file : List ℕ) (edge : ℕ) → maker_in made fil
 in_list [] file edge e = cc
 in_list ((f, n) ∷ made) file edge e = by (bytes_eq file f) refl e (in_list made file edge)
   where
-    by : (b : Bool) → bytes_eq file f ≡ b → cond b (Some n) (maker_in made file) ≡ Some edge → (maker_in made file ≡ Some edge → (k : ℕ) × (slice_get made k ≡ Some (file, edge))) → (k : ℕ) × (slice_get ((f, n) ∷ made) k ≡ Some (file, edge))
-    by true same is rest = (0, ap₂ (λ x y. Some (x, y)) (sym ((bytes_decides file f).0 same)) (same_some _ _ is))
+    by : (b : Bool) → bytes_eq file f ≡ b → cond b (Some n) (maker_in made file) ≡ Some edge →
+        (maker_in made file ≡ Some edge → (k : ℕ) × (slice_get made k ≡ Some (file, edge))) → (k : ℕ) × (slice_get ((f, n) ∷ made) k ≡ Some (file, edge))
+    by true same is rest = (0, ap₂ (λ x y. Some (x, y)) (sym ((bytes_decides file f).0 same)) (from_some is))
     by false other is rest = let r = rest is in (suc r.0, r.1)
 
 -- a file of the list has one
 pub has_maker : (made : Made) (k : ℕ) (file : List ℕ) (edge : ℕ) → slice_get made k ≡ Some (file, edge) → (n : ℕ) × (maker_in made file ≡ Some n)
 has_maker [] k file edge at = cc
-has_maker ((f, n) ∷ made) zero file edge at = (n, ap (λ b. cond b (Some n) (maker_in made file)) ((bytes_decides file f).1 (sym (ap (λ m. m.0) (same_some _ _ at)))))
+has_maker ((f, n) ∷ made) zero file edge at =
+    (n, ap (λ b. cond b (Some n) (maker_in made file)) ((bytes_decides file f).1 (sym (ap (λ m. m.0) (from_some at)))))
 has_maker ((f, n) ∷ made) (suc k) file edge at = by (bytes_eq file f) (has_maker made k file edge at)
   where
     by : (b : Bool) → (m : ℕ) × (maker_in made file ≡ Some m) → (m : ℕ) × (cond b (Some n) (maker_in made file) ≡ Some m)
@@ -40,7 +43,8 @@ has_maker ((f, n) ∷ made) (suc k) file edge at = by (bytes_eq file f) (has_mak
     by false rest = rest
 
 -- the first of two lists is searched first
-first_of : (b : Bool) (edge m : ℕ) (old both : Option ℕ) → cond b (Some m) old ≡ Some edge → (old ≡ Some edge → both ≡ Some edge) → cond b (Some m) both ≡ Some edge
+first_of : (b : Bool) (edge m : ℕ) (old both : Option ℕ) → cond b (Some m) old ≡ Some edge → (old ≡ Some edge → both ≡ Some edge) →
+    cond b (Some m) both ≡ Some edge
 first_of true edge m old both is rest = is
 first_of false edge m old both is rest = rest is
 
@@ -73,7 +77,8 @@ module _ (shared : List (Rc Table Global)) (i : ℕ) (table : Rc Table Global) (
     (before : maker_in (entries_of (tables_of (take i shared))) file ≡ None) where
   one_more : maker_in (entries_of (tables_of (take (i + 1) shared))) file ≡ maker_in table.value.entries file
   one_more =
-      ap (λ ts. maker_in (entries_of (tables_of ts)) file) (take_next shared i table at) ∙ ap (λ ts. maker_in (entries_of ts) file) (map-append (λ t. t.value) (take i shared) (table ∷ []))
+      ap (λ ts. maker_in (entries_of (tables_of ts)) file) (take_next shared i table at) ∙
+      ap (λ ts. maker_in (entries_of ts) file) (map-append (λ t. t.value) (take i shared) (table ∷ []))
       ∙ ap (λ made. maker_in made file) (entries_push (tables_of (take i shared)) table.value)
       ∙ in_other (entries_of (tables_of (take i shared))) table.value.entries file before
 
@@ -83,7 +88,8 @@ module _ (shared : List (Rc Table Global)) (i : ℕ) (table : Rc Table Global) (
   pub found_here : (edge : ℕ) → maker_in table.value.entries file ≡ Some edge → maker_in (entries_of (tables_of shared)) file ≡ Some edge
   found_here edge is =
       let parts : entries_of (tables_of shared) ≡ entries_of (tables_of (take (i + 1) shared)) ++ entries_of (tables_of (drop (i + 1) shared)) =
-      ap (λ ts. entries_of (tables_of ts)) (sym (take-append-drop (i + 1) shared)) ∙ ap entries_of (map-append (λ t. t.value) (take (i + 1) shared) (drop (i + 1) shared))
+      ap (λ ts. entries_of (tables_of ts)) (sym (take-append-drop (i + 1) shared)) ∙
+      ap entries_of (map-append (λ t. t.value) (take (i + 1) shared) (drop (i + 1) shared))
       ∙ flat_map-append (λ t. t.entries) (tables_of (take (i + 1) shared)) (tables_of (drop (i + 1) shared)) in
       ap (λ made. maker_in made file) parts ∙ in_one _ _ file edge (one_more ∙ is)
 
@@ -111,16 +117,16 @@ module _ (made new : Made) (i : ℕ) (file : List ℕ) (edge : ℕ) (at : slice_
       elim (three_ways k i) [
         | inl earlier ↦ before k f earlier at_k twice
         | inr rest ↦ elim rest [
-          | inr later ↦ absurd (omega (arith, later, lt))
+          | inr later ↦ absurd (omega arith)
           | inl same ↦
-              let is : f ≡ file = same_some _ _ (sym at_k ∙ ap (slice_get (files_of new)) same ∙ here) in
+              let is = from_some (sym at_k ∙ ap (slice_get (files_of new)) same ∙ here) in
               elim twice [
-                | inl h ↦ let n = has_maker made h.0 f h.1 h.2 in let both : Some n.0 ≡ None = sym n.1 ∙ ap (maker_in made) is ∙ unmade in cc
+                | inl h ↦ let n = has_maker made h.0 f h.1 h.2 in let both = sym n.1 ∙ ap (maker_in made) is ∙ unmade in cc
                 | inr h ↦
                     let m = from_map (λ m. m.0) new h.0 f h.2 in
-                    let in_new : slice_get (take i new) h.0 ≡ Some (f, m.0.1) = in_take i new h.0 (f, m.0.1) (omega (arith, h.1, same)) (m.1 ∙ ap (λ x. Some (x, m.0.1)) m.2) in
+                    let in_new = in_take i new h.0 (f, m.0.1) (omega (arith, h.1, same)) (m.1 ∙ ap (λ x. Some (x, m.0.1)) m.2) in
                     let n = has_maker (take i new) h.0 f m.0.1 in_new in
-                    let both : Some n.0 ≡ None = sym n.1 ∙ ap (maker_in (take i new)) is ∙ fresh in cc
+                    let both = sym n.1 ∙ ap (maker_in (take i new)) is ∙ fresh in cc
               ]
         ]
       ]
@@ -128,28 +134,33 @@ module _ (made new : Made) (i : ℕ) (file : List ℕ) (edge : ℕ) (at : slice_
 -- ---- files, each with the edge of its index
 
 module _ {X : Type 0} (files : X → List (List ℕ)) where
-  numbered_push : (edge_at : ℕ → ℕ) (xs : List X) (x : X) → numbered files edge_at (xs ++ x ∷ []) ≡ numbered files edge_at xs ++ map (λ file. (file, edge_at (length xs))) (files x)
+  numbered_push : (edge_at : ℕ → ℕ) (xs : List X) (x : X) →
+      numbered files edge_at (xs ++ x ∷ []) ≡ numbered files edge_at xs ++ map (λ file. (file, edge_at (length xs))) (files x)
   numbered_push edge_at [] x = append-nil (map (λ file. (file, edge_at 0)) (files x))
   numbered_push edge_at (y ∷ xs) x =
       ap (λ rest. map (λ file. (file, edge_at 0)) (files y) ++ rest) (numbered_push (λ k. edge_at (suc k)) xs x)
-      ∙ sym (append_assoc (map (λ file. (file, edge_at 0)) (files y)) (numbered files (λ k. edge_at (suc k)) xs) (map (λ file. (file, edge_at (suc (length xs)))) (files x)))
+      ∙ sym (append_assoc (map (λ file. (file, edge_at 0)) (files y)) (numbered files (λ k. edge_at (suc k)) xs)
+      (map (λ file. (file, edge_at (suc (length xs)))) (files x)))
 
-  pub numbered_next : (edge_at : ℕ → ℕ) (xs : List X) (i : ℕ) (x : X) → slice_get xs i ≡ Some x → numbered files edge_at (take (i + 1) xs) ≡ numbered files edge_at (take i xs) ++ map (λ file. (file, edge_at i)) (files x)
+  pub numbered_next : (edge_at : ℕ → ℕ) (xs : List X) (i : ℕ) (x : X) → slice_get xs i ≡ Some x →
+      numbered files edge_at (take (i + 1) xs) ≡ numbered files edge_at (take i xs) ++ map (λ file. (file, edge_at i)) (files x)
   numbered_next edge_at xs i x at =
       let within = slice_get_within xs i x at in
       ap (numbered files edge_at) (take_next xs i x at) ∙ numbered_push edge_at (take i xs) x
-      ∙ ap (λ n. numbered files edge_at (take i xs) ++ map (λ file. (file, edge_at n)) (files x)) (length-take-le i xs (omega (arith, within)))
+      ∙ ap (λ n. numbered files edge_at (take i xs) ++ map (λ file. (file, edge_at n)) (files x)) (length-take-le i xs (omega arith))
 
   pub numbered_files : (edge_at : ℕ → ℕ) (xs : List X) → files_of (numbered files edge_at xs) ≡ flat_map files xs
   numbered_files edge_at [] = refl
   numbered_files edge_at (x ∷ xs) =
-      map-append (λ m. m.0) (map (λ file. (file, edge_at 0)) (files x)) (numbered files (λ k. edge_at (suc k)) xs) ∙ ap₂ (λ a b. a ++ b) (alone (files x)) (numbered_files (λ k. edge_at (suc k)) xs)
+      map-append (λ m. m.0) (map (λ file. (file, edge_at 0)) (files x)) (numbered files (λ k. edge_at (suc k)) xs) ∙
+      ap₂ (λ a b. a ++ b) (alone (files x)) (numbered_files (λ k. edge_at (suc k)) xs)
     where
       alone : (fs : List (List ℕ)) → files_of (map (λ file. (file, edge_at 0)) fs) ≡ fs
       alone [] = refl
       alone (f ∷ fs) = ap (λ rest. f ∷ rest) (alone fs)
 
-  pub from_numbered : (edge_at : ℕ → ℕ) (xs : List X) (k : ℕ) (file : List ℕ) (edge : ℕ) → slice_get (numbered files edge_at xs) k ≡ Some (file, edge) → (i : ℕ) × (x : X) × (j : ℕ) × (slice_get xs i ≡ Some x) × (edge_at i ≡ edge) × (slice_get (files x) j ≡ Some file)
+  pub from_numbered : (edge_at : ℕ → ℕ) (xs : List X) (k : ℕ) (file : List ℕ) (edge : ℕ) → slice_get (numbered files edge_at xs) k ≡ Some (file, edge) →
+      (i : ℕ) × (x : X) × (j : ℕ) × (slice_get xs i ≡ Some x) × (edge_at i ≡ edge) × (slice_get (files x) j ≡ Some file)
   from_numbered edge_at [] k file edge at = cc
   from_numbered edge_at (x ∷ xs) k file edge at =
       elim (in_append (map (λ file. (file, edge_at 0)) (files x)) (numbered files (λ n. edge_at (suc n)) xs) k (file, edge) at) [
@@ -157,14 +168,17 @@ module _ {X : Type 0} (files : X → List (List ℕ)) where
         | inr h ↦ let r = from_numbered (λ n. edge_at (suc n)) xs h.0 file edge h.2 in (suc r.0, r.1, r.2, r.3, r.4, r.5)
       ]
 
-  pub in_numbered : (edge_at : ℕ → ℕ) (xs : List X) (i j : ℕ) (x : X) (file : List ℕ) → slice_get xs i ≡ Some x → slice_get (files x) j ≡ Some file → (k : ℕ) × (slice_get (numbered files edge_at xs) k ≡ Some (file, edge_at i))
+  pub in_numbered : (edge_at : ℕ → ℕ) (xs : List X) (i j : ℕ) (x : X) (file : List ℕ) → slice_get xs i ≡ Some x → slice_get (files x) j ≡ Some file →
+      (k : ℕ) × (slice_get (numbered files edge_at xs) k ≡ Some (file, edge_at i))
   in_numbered edge_at [] i j x file at_i at_j = cc
   in_numbered edge_at (y ∷ xs) zero j x file at_i at_j =
-      let at = to_map (λ file. (file, edge_at 0)) (files y) j file (ap (λ z. slice_get (files z) j) (same_some _ _ at_i) ∙ at_j) in
+      let at = to_map (λ file. (file, edge_at 0)) (files y) j file (ap (λ z. slice_get (files z) j) (from_some at_i) ∙ at_j) in
       (j, in_first _ (numbered files (λ n. edge_at (suc n)) xs) j (file, edge_at 0) at)
   in_numbered edge_at (y ∷ xs) (suc i) j x file at_i at_j =
-      let r = in_numbered (λ n. edge_at (suc n)) xs i j x file at_i at_j in
-      (length (map (λ file. (file, edge_at 0)) (files y)) + r.0, in_second (map (λ file. (file, edge_at 0)) (files y)) (numbered files (λ n. edge_at (suc n)) xs) r.0 _ r.1)
+      let r = in_numbered (λ n. edge_at (suc n)) xs i j x file at_i at_j in (
+        length (map (λ file. (file, edge_at 0)) (files y)) + r.0,
+        in_second (map (λ file. (file, edge_at 0)) (files y)) (numbered files (λ n. edge_at (suc n)) xs) r.0 _ r.1,
+      )
 
 -- the files of all edges
 pub are_made : (g : List EdgeValue) → AreMade g (numbered made_by (λ index. index) g)
@@ -193,7 +207,8 @@ are_makers g made are =
 -- ---- an edge needs another if and only if its row of makers contains it
 
 -- one more row in a loop
-pub mapped_next : {A X Y : Type 0} (g : A → Y) (f : X → Y) (xs : List X) (i : ℕ) (x : X) (now new : List A) (a : A) → slice_get xs i ≡ Some x → map g now ≡ map f (take i xs) → new ≡ now ++ a ∷ [] → g a ≡ f x → map g new ≡ map f (take (i + 1) xs)
+pub mapped_next : {A X Y : Type 0} (g : A → Y) (f : X → Y) (xs : List X) (i : ℕ) (x : X) (now new : List A) (a : A) → slice_get xs i ≡ Some x →
+    map g now ≡ map f (take i xs) → new ≡ now ++ a ∷ [] → g a ≡ f x → map g new ≡ map f (take (i + 1) xs)
 mapped_next g f xs i x now new a at before more same =
     ap (map g) more ∙ map-append g now (a ∷ []) ∙ ap (λ ys. ys ++ g a ∷ []) before
     ∙ ap (λ y. map f (take i xs) ++ y ∷ []) same ∙ sym (ap (map f) (take_next xs i x at) ∙ map-append f (take i xs) (x ∷ []))
@@ -210,10 +225,10 @@ module _ (g : List EdgeValue) (maker : List ℕ → Option ℕ) (once : MadeOnce
 
   pub to_needs : (a b : ℕ) → NodeNeeds graph a b → EdgeNeeds g a b
   to_needs a b need =
-      let within : a < length graph = ⊎_elim (λ lt. lt) (λ past. absurd (omega (arith, need.1, ap length (get_or_past graph a [] past)))) (cases_lt a (length graph)) in
+      let within = ⊎_elim (λ lt. lt) (λ past. absurd (omega (arith, need.1, ap length (get_or_past graph a [] past)))) (cases_lt a (length graph)) in
       let there = slice_get-get_or graph a [] within in
       let e = from_map row g a (get_or graph a []) there in
-      let at_b : slice_get (row e.0) need.0 ≡ Some b = ap (λ xs. slice_get xs need.0) e.2 ∙ slice_get-get_or (get_or graph a []) need.0 b need.1 ∙ ap (λ x. Some x) need.2 in
+      let at_b = ap (λ xs. slice_get xs need.0) e.2 ∙ slice_get-get_or (get_or graph a []) need.0 b need.1 ∙ ap (λ x. Some x) need.2 in
       let file = from_filter_map maker (inputs_of e.0) need.0 b at_b in
       let made = are.found file.0 b file.2 in
       (e.0, file.0, made.0, e.1, file.1, made.1)
@@ -224,18 +239,22 @@ module _ (g : List EdgeValue) (maker : List ℕ → Option ℕ) (once : MadeOnce
       let made = are.found file k.0 k.1 in
       let same : k.0 ≡ b = (once k.0 made.0 b j file made.1 makes).0 in
       let has = in_filter_map maker (inputs_of e) reads.0 file b reads.1 (k.1 ∙ ap (λ x. Some x) same) in
-      subst (λ xs. Contains xs b) (sym (get_or_from_slice_get graph a (row e) [] (to_map row g a e at))) (has.0, slice_get_within (row e) has.0 b has.1, get_or_from_slice_get (row e) has.0 b b has.1)
+      subst (λ xs. Contains xs b) (sym (get_or_from_slice_get graph a (row e) [] (to_map row g a e at)))
+      (has.0, slice_get_within (row e) has.0 b has.1, get_or_from_slice_get (row e) has.0 b b has.1)
 
   pub are_nodes : NeedsAreNodes graph
   are_nodes k d lt k' d' lt' =
       let there = slice_get-get_or graph k d lt in
-      let same : get_or graph k [] ≡ get_or graph k d = get_or_from_slice_get graph k (get_or graph k d) [] there in
+      let same = get_or_from_slice_get graph k (get_or graph k d) [] there in
       let needed = get_or (get_or graph k d) k' d' in
-      let inside = subst (λ xs. Contains xs needed) (sym same) (k', lt', get_or_from_slice_get (get_or graph k d) k' needed needed (slice_get-get_or (get_or graph k d) k' d' lt')) in
+      let inside = subst (λ xs. Contains xs needed) (sym same)
+      (k', lt', get_or_from_slice_get (get_or graph k d) k' needed needed (slice_get-get_or (get_or graph k d) k' d' lt')) in
       let need = to_needs k needed inside in
       omega (arith, slice_get_within g needed need.5.0 need.5.1, as_many)
 
-  pub sorting_of : (rows : List (List ℕ)) (sorting : Sorting) → rows ≡ graph → IsSortingOf (length rows) (NodeNeeds rows) sorting → IsSortingOf (length g) (EdgeNeeds g) sorting
+  pub sorting_of : (rows : List (List ℕ)) (sorting : Sorting) → rows ≡ graph → IsSortingOf (length rows) (NodeNeeds rows) sorting →
+      IsSortingOf (length g) (EdgeNeeds g) sorting
   sorting_of rows sorting same sorted =
       subst (λ n. IsSortingOf n (EdgeNeeds g) sorting) as_many
-      (sorting_same (length graph) (NodeNeeds graph) (EdgeNeeds g) sorting to_needs from_needs (subst (λ xs. IsSortingOf (length xs) (NodeNeeds xs) sorting) same sorted))
+      (sorting_same (length graph) (NodeNeeds graph) (EdgeNeeds g) sorting to_needs from_needs
+      (subst (λ xs. IsSortingOf (length xs) (NodeNeeds xs) sorting) same sorted))

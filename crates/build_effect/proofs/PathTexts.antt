@@ -1,5 +1,6 @@
 -- Strings that are valid paths, and the first one that is not.
 use Rattle.std.proofs.Common.{◌≡◌, ℕ, zero, suc, ◌+◌, ◌<◌, List, [], ◌∷◌, ◌++◌, length, map, take, Some, Result, Ok, Err, refl, ap, sym, subst, ◌∙◌, inl, inr, arith, slice_get, length-append}
+use Rattle.build_effect.proofs.Lists.{from_some}
 use Rattle.std.proofs.lemmas.List.{map-append}
 use Rattle.std.proofs.lemmas.Option.{slice_get_within}
 use Rattle.ninja_text.specs.Paths.{path_of}
@@ -9,11 +10,11 @@ use Rattle.build_effect.specs.Effect.{ArePaths, IsCanonical, AreCanonical}
 use Rattle.build_effect.specs.Faults.{IsNoPath, HasRefused}
 use Rattle.build_effect.specs.inner.BadPaths.{IsBadText, IsBadTextFrom, IsBadTextOf, IsBadStatement}
 use Rattle.build_effect.specs.declared.fault.EffectFault.{EffectFault}
-use Rattle.ninja_text.proofs.ForCallers.{same_some, in_append, in_first, in_second, from_push, in_take, take_next}
+use Rattle.ninja_text.proofs.ForCallers.{in_append, in_first, in_second, from_push, in_take, take_next}
 use Rattle.build_effect.proofs.Effects.{path_at, all_paths}
 
 not_both : (text path : List ℕ) → path_of text ≡ Ok path → IsNoPath text → ⊥
-not_both text path ok refused = let both : Ok path ≡ Err refused.0 = sym ok ∙ refused.1 in cc
+not_both text path ok refused = let both = sym ok ∙ refused.1 in cc
 
 abbrev pub NoneRefused : List (List ℕ) → Type 0
 NoneRefused texts = (j : ℕ) (text : List ℕ) → slice_get texts j ≡ Some text → IsNoPath text → ⊥
@@ -22,17 +23,29 @@ pub none_refused : (texts paths : List (List ℕ)) → ArePaths texts paths → 
 none_refused texts paths are j text at refused = let p = path_at texts paths j text are at in not_both text p.0 p.1 refused
 
 -- one more path in a loop
-pub more_paths : (texts paths : List (List ℕ)) (i : ℕ) (text path : List ℕ) → slice_get texts i ≡ Some text → ArePaths (take i texts) paths → path_of text ≡ Ok path → ArePaths (take (i + 1) texts) (paths ++ path ∷ [])
+pub more_paths : (texts paths : List (List ℕ)) (i : ℕ) (text path : List ℕ) → slice_get texts i ≡ Some text → ArePaths (take i texts) paths →
+    path_of text ≡ Ok path → ArePaths (take (i + 1) texts) (paths ++ path ∷ [])
 more_paths texts paths i text path at are ok =
-    ap (map path_of) (take_next texts i text at) ∙ map-append path_of (take i texts) (text ∷ []) ∙ ap (λ xs. xs ++ path_of text ∷ []) are ∙ ap (λ x. map (λ p. Ok p) paths ++ x ∷ []) ok
+    ap (map path_of) (take_next texts i text at) ∙ map-append path_of (take i texts) (text ∷ []) ∙ ap (λ xs. xs ++ path_of text ∷ []) are ∙
+    ap (λ x. map (λ p. Ok p) paths ++ x ∷ []) ok
     ∙ sym (map-append {B = Result (List ℕ) PathFault} (λ p. Ok p) paths (path ∷ []))
 
 -- the first string that is not a valid path
-pub first_bad : (texts paths : List (List ℕ)) (i statement_index from : ℕ) (text : List ℕ) (fault : EffectFault) → slice_get texts i ≡ Some text → ArePaths (take i texts) paths → IsBadText text statement_index (from + i) fault → IsBadTextFrom texts statement_index from fault
-first_bad texts paths i statement_index from text fault at are bad =
-    (i, text, record { here = at; holds = (bad.0, bad.1); before = λ j y less at_y refused. none_refused (take i texts) paths are j y (in_take i texts j y less at_y) refused }, bad)
+pub first_bad : (texts paths : List (List ℕ)) (i statement_index from : ℕ) (text : List ℕ) (fault : EffectFault) → slice_get texts i ≡ Some text →
+    ArePaths (take i texts) paths → IsBadText text statement_index (from + i) fault → IsBadTextFrom texts statement_index from fault
+first_bad texts paths i statement_index from text fault at are bad = (
+  i,
+  text,
+  record {
+    here = at;
+    holds = (bad.0, bad.1);
+    before = λ j y less at_y refused. none_refused (take i texts) paths are j y (in_take i texts j y less at_y) refused;
+  },
+  bad,
+)
 
-pub bad_before : (xs ys : List (List ℕ)) (statement_index from : ℕ) (fault : EffectFault) → IsBadTextFrom xs statement_index from fault → IsBadTextFrom (xs ++ ys) statement_index from fault
+pub bad_before : (xs ys : List (List ℕ)) (statement_index from : ℕ) (fault : EffectFault) → IsBadTextFrom xs statement_index from fault →
+    IsBadTextFrom (xs ++ ys) statement_index from fault
 bad_before xs ys statement_index from fault (j, text, first, bad) =
     (j, text, record { here = in_first xs ys j text first.here; holds = first.holds; before = before }, bad)
   where
@@ -40,45 +53,56 @@ bad_before xs ys statement_index from fault (j, text, first, bad) =
     before k y less at refused =
         elim (in_append xs ys k y at) [
           | inl h ↦ first.before k y less h refused
-          | inr h ↦ let within = slice_get_within xs j text first.here in absurd (omega (arith, within, h.1, less))
+          | inr h ↦ let within = slice_get_within xs j text first.here in absurd (omega arith)
         ]
 
-pub bad_after : (xs ys : List (List ℕ)) (statement_index from : ℕ) (fault : EffectFault) → from ≡ length xs → NoneRefused xs → IsBadTextFrom ys statement_index from fault → IsBadTextFrom (xs ++ ys) statement_index 0 fault
+pub bad_after : (xs ys : List (List ℕ)) (statement_index from : ℕ) (fault : EffectFault) → from ≡ length xs → NoneRefused xs →
+    IsBadTextFrom ys statement_index from fault → IsBadTextFrom (xs ++ ys) statement_index 0 fault
 bad_after xs ys statement_index from fault same none (j, text, first, bad) =
-    let same_index : from + j ≡ 0 + (length xs + j) = omega (arith, same) in
-    (length xs + j, text, record { here = in_second xs ys j text first.here; holds = first.holds; before = before }, subst (λ n. IsBadText text statement_index n fault) same_index bad)
+    let same_index : from + j ≡ 0 + (length xs + j) = omega arith in (
+      length xs + j,
+      text,
+      record { here = in_second xs ys j text first.here; holds = first.holds; before = before },
+      subst (λ n. IsBadText text statement_index n fault) same_index bad,
+    )
   where
     before : (k : ℕ) (y : List ℕ) → k < length xs + j → slice_get (xs ++ ys) k ≡ Some y → IsNoPath y → ⊥
     before k y less at refused =
         elim (in_append xs ys k y at) [
           | inl h ↦ none k y h refused
-          | inr h ↦ first.before h.0 y (omega (arith, h.1, less)) h.2 refused
+          | inr h ↦ first.before h.0 y (omega arith) h.2 refused
         ]
 
 one_refused : (text path : List ℕ) → path_of text ≡ Ok path → NoneRefused (text ∷ [])
-one_refused text path ok zero y at refused = not_both y path (ap path_of (sym (same_some _ _ at)) ∙ ok) refused
+one_refused text path ok zero y at refused = not_both y path (ap path_of (sym (from_some at)) ∙ ok) refused
 one_refused text path ok (suc j) y at refused = cc
 
 more_refused : (xs ys : List (List ℕ)) → NoneRefused xs → NoneRefused ys → NoneRefused (xs ++ ys)
 more_refused xs ys p q j y at refused = elim (in_append xs ys j y at) [ inl h ↦ p j y h refused | inr h ↦ q h.0 y h.2 refused ]
 
 -- which string of a statement is reported
-pub bad_output : (s : StatementValue) (statement_index : ℕ) (fault : EffectFault) → IsBadText s.output statement_index 0 fault → IsBadTextOf s statement_index fault
+pub bad_output : (s : StatementValue) (statement_index : ℕ) (fault : EffectFault) → IsBadText s.output statement_index 0 fault →
+    IsBadTextOf s statement_index fault
 bad_output s statement_index fault bad =
-    (0, s.output, record { here = refl; holds = (bad.0, bad.1); before = λ j y less at refused. omega (arith, less) }, bad)
+    (0, s.output, record { here = refl; holds = (bad.0, bad.1); before = λ j y less at refused. omega arith }, bad)
 
-pub bad_outputs : (s : StatementValue) (statement_index : ℕ) (fault : EffectFault) (path : List ℕ) → path_of s.output ≡ Ok path → IsBadTextFrom s.implicit_outputs statement_index 1 fault → IsBadTextOf s statement_index fault
+pub bad_outputs : (s : StatementValue) (statement_index : ℕ) (fault : EffectFault) (path : List ℕ) → path_of s.output ≡ Ok path →
+    IsBadTextFrom s.implicit_outputs statement_index 1 fault → IsBadTextOf s statement_index fault
 bad_outputs s statement_index fault path ok bad =
-    bad_before (s.output ∷ s.implicit_outputs) s.implicit_inputs statement_index 0 fault (bad_after (s.output ∷ []) s.implicit_outputs statement_index 1 fault refl (one_refused s.output path ok) bad)
+    bad_before (s.output ∷ s.implicit_outputs) s.implicit_inputs statement_index 0 fault
+    (bad_after (s.output ∷ []) s.implicit_outputs statement_index 1 fault refl (one_refused s.output path ok) bad)
 
-pub bad_inputs : (s : StatementValue) (statement_index from : ℕ) (fault : EffectFault) (path : List ℕ) (paths : List (List ℕ)) → path_of s.output ≡ Ok path → ArePaths s.implicit_outputs paths → from ≡ 1 + length s.implicit_outputs → IsBadTextFrom s.implicit_inputs statement_index from fault → IsBadTextOf s statement_index fault
+pub bad_inputs : (s : StatementValue) (statement_index from : ℕ) (fault : EffectFault) (path : List ℕ) (paths : List (List ℕ)) → path_of s.output ≡ Ok path →
+    ArePaths s.implicit_outputs paths → from ≡ 1 + length s.implicit_outputs → IsBadTextFrom s.implicit_inputs statement_index from fault →
+    IsBadTextOf s statement_index fault
 bad_inputs s statement_index from fault path paths ok are same bad =
-    let start : from ≡ length (s.output ∷ s.implicit_outputs) = omega (arith, same) in
+    let start : from ≡ length (s.output ∷ s.implicit_outputs) = omega arith in
     bad_after (s.output ∷ s.implicit_outputs) s.implicit_inputs statement_index from fault start
     (more_refused (s.output ∷ []) s.implicit_outputs (one_refused s.output path ok) (none_refused s.implicit_outputs paths are)) bad
 
 -- one more statement in a loop
-pub more_statements : (ss additions : List StatementValue) (i : ℕ) (s a : StatementValue) → slice_get ss i ≡ Some s → AreCanonical (take i ss) additions → IsCanonical s a → AreCanonical (take (i + 1) ss) (additions ++ a ∷ [])
+pub more_statements : (ss additions : List StatementValue) (i : ℕ) (s a : StatementValue) → slice_get ss i ≡ Some s → AreCanonical (take i ss) additions →
+    IsCanonical s a → AreCanonical (take (i + 1) ss) (additions ++ a ∷ [])
 more_statements ss additions i s a at are one =
     subst (λ xs. AreCanonical xs (additions ++ a ∷ [])) (sym (take_next ss i s at)) (record { count = count; each = each })
   where
@@ -90,10 +114,10 @@ more_statements ss additions i s a at are one =
         elim (from_push (take i ss) s k x at_x) [
           | inl p ↦ elim (from_push additions a k y at_y) [
             | inl q ↦ are.each k x y p q
-            | inr q ↦ let within = slice_get_within (take i ss) k x p in absurd (omega (arith, within, q.0, are.count))
+            | inr q ↦ let within = slice_get_within (take i ss) k x p in absurd (omega arith)
           ]
           | inr p ↦ elim (from_push additions a k y at_y) [
-            | inl q ↦ let within = slice_get_within additions k y q in absurd (omega (arith, within, p.0, are.count))
+            | inl q ↦ let within = slice_get_within additions k y q in absurd (omega arith)
             | inr q ↦ subst (λ z. IsCanonical x z) q.1 (subst (λ z. IsCanonical z a) p.1 one)
           ]
         ]
@@ -106,7 +130,8 @@ beside (z ∷ xs) (w ∷ ys) zero x e at = (w, refl)
 beside (z ∷ xs) (w ∷ ys) (suc k) x e at = beside xs ys k x (omega arith) at
 
 -- the first statement with a string that is not a valid path
-pub first_bad_statement : (ss additions : List StatementValue) (i : ℕ) (s : StatementValue) (fault : EffectFault) → slice_get ss i ≡ Some s → AreCanonical (take i ss) additions → IsBadTextOf s i fault → IsBadStatement ss fault
+pub first_bad_statement : (ss additions : List StatementValue) (i : ℕ) (s : StatementValue) (fault : EffectFault) → slice_get ss i ≡ Some s →
+    AreCanonical (take i ss) additions → IsBadTextOf s i fault → IsBadStatement ss fault
 first_bad_statement ss additions i s fault at are bad =
     (i, s, record { here = at; holds = (bad.0, bad.1, bad.2.here, bad.2.holds); before = before }, bad)
   where

@@ -35,10 +35,12 @@ module _ {at_word : Bool} (text : List ℕ) (xs : List Symbol) (w : Spelled at_w
   spelled_is_line said = subst (λ t. IsLine (t ++ 10 ∷ [])) w.text_is (is_line (units text) w.sound (ap (λ t. is_comment (t ++ 10 ∷ [])) w.text_is ∙ said))
 
   spelled_text : is_comment (text ++ 10 ∷ []) ≡ false → text_of_line (text ++ 10 ∷ []) ≡ text
-  spelled_text said = ap (λ t. text_of_line (t ++ 10 ∷ [])) (sym w.text_is) ∙ text_is (units text) w.sound (ap (λ t. is_comment (t ++ 10 ∷ [])) w.text_is ∙ said) ∙ w.text_is
+  spelled_text said = ap (λ t. text_of_line (t ++ 10 ∷ [])) (sym w.text_is) ∙
+      text_is (units text) w.sound (ap (λ t. is_comment (t ++ 10 ∷ [])) w.text_is ∙ said) ∙ w.text_is
 
   -- the class of the line is that of its text
-  spelled_classed : is_comment (text ++ 10 ∷ []) ≡ false → (c : ListingClass) → length (text ++ 10 ∷ []) ≤ line_limit → IsListingLine text false c → IsOfClass listing_format (text ++ 10 ∷ []) c
+  spelled_classed : is_comment (text ++ 10 ∷ []) ≡ false → (c : ListingClass) → length (text ++ 10 ∷ []) ≤ line_limit → IsListingLine text false c →
+      IsOfClass listing_format (text ++ 10 ∷ []) c
   spelled_classed said c short is =
       (short, subst (λ b. IsListingLine (text_of_line (text ++ 10 ∷ [])) b c) (sym said) (subst (λ t. IsListingLine t false c) (sym (spelled_text said)) is))
 
@@ -122,7 +124,8 @@ module _ (e : EdgeValue) (fit : IsFit e) where
   -- the line, its end included
   line_is : line_text e ++ 10 ∷ [] ≡ edge_line e
   line_is =
-      ap (λ t. t ++ 10 ∷ []) (joined (codes "build") (flat_map spaced e.outputs) (marked_text (codes " |") e.implicit_outputs) (codes ": ") e.rule (flat_map spaced e.inputs)
+      ap (λ t. t ++ 10 ∷ [])
+      (joined (codes "build") (flat_map spaced e.outputs) (marked_text (codes " |") e.implicit_outputs) (codes ": ") e.rule (flat_map spaced e.inputs)
       (marked_text (codes " |") e.implicit_inputs) (marked_text (codes " ||") e.order_only))
 
   pub edge_is_line : IsLine (edge_line e)
@@ -171,8 +174,10 @@ module _ (path : List ℕ) (is : IsPath path) where
       ap (λ us.
       let sign = after_run is_blank 9 us in
       let value = after_run is_blank (sign.place + 1) (tail_units sign.units) in
-      option_map (with_bytes (dyndep_text path)) (if begins_with_equals sign.units then Some (record { name_start = 2; name_end = 8; value_start = value.place }) else None)) equals_units
-      ∙ ap (λ (n : ℕ). let a : SeenAssignment = record { name_start = 2; name = codes "dyndep"; raw_value = drop n (dyndep_text path) } in Some a) (value_place path (path_writable path is).some)
+      option_map (with_bytes (dyndep_text path))
+      (if begins_with_equals sign.units then Some (record { name_start = 2; name_end = 8; value_start = value.place }) else None)) equals_units
+      ∙ ap (λ (n : ℕ). let a : SeenAssignment = record { name_start = 2; name = codes "dyndep"; raw_value = drop n (dyndep_text path) } in Some a)
+      (value_place path (path_writable path is).some)
 
   -- its symbols, after the spaces
   abbrev path_symbols : List Symbol

@@ -21,7 +21,7 @@ use Rattle.build_effect.specs.ListingGrammar.{no_more_bindings, dyndep_binding, 
 use Rattle.ninja_text.specs.LineFormats.{AreOfClasses}
 use Rattle.build_effect.specs.ListingReading.{listing_format, Lists}
 use Rattle.build_effect.specs.ListingLaws.{IsListable, WrittenListing}
-use Rattle.build_effect.proofs.Lists.{all_at}
+use Rattle.build_effect.proofs.Lists.{all_at, none_some}
 use Rattle.build_effect.proofs.WrittenSymbols.{texts_of}
 use Rattle.build_effect.proofs.WrittenLines.{IsFit, edge_is_line, edge_classed, dyndep_is_line, dyndep_classed, restat_is_line, restat_classed}
 use Rattle.dyndep_file.proofs.ForCallers.{both_parts}
@@ -29,7 +29,8 @@ use Rattle.dyndep_file.proofs.ForCallers.{both_parts}
 -- ---- the text, one part after another
 
 -- one more part of a line is appended
-pub grows : {X : Type 0} (f : List X → List ℕ) (start parts now new : List ℕ) (xs ys : List X) → now ≡ start ++ parts → new ≡ now ++ f xs → xs ≡ ys → new ≡ start ++ (parts ++ f ys)
+pub grows : {X : Type 0} (f : List X → List ℕ) (start parts now new : List ℕ) (xs ys : List X) → now ≡ start ++ parts → new ≡ now ++ f xs → xs ≡ ys →
+    new ≡ start ++ (parts ++ f ys)
 grows f start parts now new xs ys before more same = more ∙ ap (λ ps. now ++ f ps) same ∙ ap (λ t. t ++ f ys) before ∙ append_assoc start parts (f ys)
 
 -- what an append that succeeds leaves
@@ -42,7 +43,8 @@ pub drop_item : (edges : List EdgeValue) (i : ℕ) (e : EdgeValue) → i < lengt
 drop_item edges i e within is = rw add-one (drop-cons edges i e within ∙ ap (λ z. z ∷ drop (suc i) edges) (sym is))
 
 -- the line of the binding `dyndep`, part by part
-pub dyndep_added : (text name value new path : List ℕ) → name ≡ text ++ codes "  dyndep = " → value ≡ name ++ escaped path → new ≡ value ++ line_feed ∷ [] → new ≡ text ++ dyndep_line (Some path)
+pub dyndep_added : (text name value new path : List ℕ) → name ≡ text ++ codes "  dyndep = " → value ≡ name ++ escaped path → new ≡ value ++ line_feed ∷ [] →
+    new ≡ text ++ dyndep_line (Some path)
 dyndep_added text name value new path n v l = rw (l, v, n, append_assoc, append_assoc) refl
 
 -- the text so far, with one more edge's
@@ -53,13 +55,16 @@ text_goes_on edges i e text new within is n so_far =
     let rest = listing_text (drop (i + 1) edges) in
     let d = dyndep_line e.dyndep in
     let r = restat_line e.restat in
-    let is_new : new ≡ text ++ ((edge_line e ++ d) ++ r) = n ∙ ap (λ y. y ++ r) (append_assoc text (edge_line e) d) ∙ append_assoc text (edge_line e ++ d) r in
-    ap (λ x. x ++ rest) is_new ∙ append_assoc text ((edge_line e ++ d) ++ r) rest ∙ ap (λ xs. text ++ listing_text xs) (sym (drop_item edges i e within is)) ∙ so_far
+    let is_new = n ∙ ap (λ y. y ++ r) (append_assoc text (edge_line e) d) ∙ append_assoc text (edge_line e ++ d) r in
+    ap (λ x. x ++ rest) is_new ∙ append_assoc text ((edge_line e ++ d) ++ r) rest ∙ ap (λ xs. text ++ listing_text xs) (sym (drop_item edges i e within is)) ∙
+    so_far
 
 -- the current edge, if no build line before it was too long
-module _ (edges : List EdgeValue) (i : ℕ) (e : EdgeValue) (within : i < length edges) (is : e ≡ get_or edges i e) (none : too_long_from 0 edges ≡ too_long_from i (drop i edges)) where
+module _ (edges : List EdgeValue) (i : ℕ) (e : EdgeValue) (within : i < length edges) (is : e ≡ get_or edges i e)
+    (none : too_long_from 0 edges ≡ too_long_from i (drop i edges)) where
   looked_at : (long : Bool) → is_too_long e ≡ long → too_long_from 0 edges ≡ if long then Some i else too_long_from (i + 1) (drop (i + 1) edges)
-  looked_at long said = none ∙ ap (too_long_from i) (drop_item edges i e within is) ∙ ap (λ b. if b then Some i else too_long_from (i + 1) (drop (i + 1) edges)) said
+  looked_at long said = none ∙ ap (too_long_from i) (drop_item edges i e within is) ∙
+      ap (λ b. if b then Some i else too_long_from (i + 1) (drop (i + 1) edges)) said
 
   -- its build line is too long
   pub too_long_here : line_limit < length (edge_line e) → listing_text_or_fault edges ≡ Err (ListingTooLong i)
@@ -107,7 +112,8 @@ bindings_are_lines None true is = (restat_is_line, tt)
 bindings_are_lines (Some path) false is = (dyndep_is_line path is, tt)
 bindings_are_lines (Some path) true is = (dyndep_is_line path is, (restat_is_line, tt))
 
-bindings_are_classed : (dyndep : Option (List ℕ)) (restat : Bool) → DyndepIsPath dyndep → AreOfClasses listing_format (binding_lines dyndep restat) (binding_classes dyndep restat)
+bindings_are_classed : (dyndep : Option (List ℕ)) (restat : Bool) → DyndepIsPath dyndep →
+    AreOfClasses listing_format (binding_lines dyndep restat) (binding_classes dyndep restat)
 bindings_are_classed None false is = tt
 bindings_are_classed None true is = (restat_classed, tt)
 bindings_are_classed (Some path) false is = (dyndep_classed path is, tt)
@@ -116,7 +122,8 @@ bindings_are_classed (Some path) true is = (dyndep_classed path is, (restat_clas
 are_lines : (es : List EdgeValue) → AllByRecursion IsReadBack es → AllByRecursion IsLine (flat_map lines_of es)
 are_lines [] each = tt
 are_lines (e ∷ es) each =
-    AllByRecursion-append IsLine (lines_of e) (flat_map lines_of es) (edge_is_line e (each.0).fit, bindings_are_lines e.dyndep e.restat (each.0).dyndep) (are_lines es each.1)
+    AllByRecursion-append IsLine (lines_of e) (flat_map lines_of es) (edge_is_line e (each.0).fit, bindings_are_lines e.dyndep e.restat (each.0).dyndep)
+    (are_lines es each.1)
 
 are_classed : (es : List EdgeValue) → AllByRecursion IsReadBack es → AreOfClasses listing_format (flat_map lines_of es) (flat_map classes_of es)
 are_classed [] each = tt
@@ -161,7 +168,8 @@ edge_joined e = ap (λ t. edge_line e ++ t) (bindings_joined e.dyndep e.restat) 
 text_joined : (es : List EdgeValue) → joined (flat_map lines_of es) ≡ listing_text es
 text_joined [] = refl
 text_joined (e ∷ es) =
-    flat_map-append (λ line. line) (lines_of e) (flat_map lines_of es) ∙ ap (λ t. t ++ joined (flat_map lines_of es)) (edge_joined e) ∙ ap (λ t. edge_text e ++ t) (text_joined es)
+    flat_map-append (λ line. line) (lines_of e) (flat_map lines_of es) ∙ ap (λ t. t ++ joined (flat_map lines_of es)) (edge_joined e) ∙
+    ap (λ t. edge_text e ++ t) (text_joined es)
 
 lists : (es : List EdgeValue) → AllByRecursion IsReadBack es → Lists (listing_text es) es
 lists es each = record {
@@ -178,7 +186,7 @@ lists es each = record {
 none_too_long : (index : ℕ) (es : List EdgeValue) → too_long_from index es ≡ None → AllByRecursion (λ e. is_too_long e ≡ false) es
 none_too_long index [] h = tt
 none_too_long index (e ∷ es) h = elim (cases_Bool (is_too_long e)) [
-  | inl t ↦ absurd (let x : ◌≡◌ {A = Option ℕ} (Some index) None = rw t at h in cc)
+  | inl t ↦ none_some (sym (rw t at h))
   | inr f ↦ (f, none_too_long (index + 1) es (rw f at h))
 ]
 
@@ -188,7 +196,8 @@ each_of P [] at = tt
 each_of P (x ∷ xs) at = (at 0 x refl, each_of P xs (λ i y h. at (suc i) y h))
 
 module _ (g : List EdgeValue) (is : IsGraph g) (listable : All IsListable g) (short : first_too_long g ≡ None) where
-  dyndep_path : (e : EdgeValue) → All IsPath (inputs_of e) → (dyndep : Option (List ℕ)) → ((file : List ℕ) → dyndep ≡ Some file → HasInput e file) → DyndepIsPath dyndep
+  dyndep_path : (e : EdgeValue) → All IsPath (inputs_of e) → (dyndep : Option (List ℕ)) → ((file : List ℕ) → dyndep ≡ Some file → HasInput e file) →
+      DyndepIsPath dyndep
   dyndep_path e paths None reads = tt
   dyndep_path e paths (Some file) reads = let r = reads file refl in all_at IsPath (inputs_of e) paths r.0 file r.1
 

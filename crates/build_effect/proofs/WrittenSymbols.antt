@@ -5,7 +5,7 @@ use Rattle.std.specs.List.{flat_map, list_all, AllByRecursion}
 use Rattle.std.proofs.lemmas.List.{append-nil, append_assoc}
 use Rattle.std.proofs.lemmas.List.Elements.{All-from_recursion}
 use Rattle.std.proofs.lemmas.List.Folds.{list_all-append}
-use Rattle.std.proofs.lemmas.Bool.{cases_Bool, eqb-true, and_from, and_parts}
+use Rattle.std.proofs.lemmas.Bool.{cases_Bool, eqb-true, and_from, and_parts, false≢true, true≢false}
 use Rattle.std.proofs.lemmas.Grind.{flat_map-append}
 use Rattle.ninja_text.specs.declared.token.TokenKind.{TokenKind}
 use Rattle.ninja_text.specs.declared.token.TokenKind.TheVariants.{Bar, DoubleBar, Colon}
@@ -26,7 +26,7 @@ use Rattle.build_effect.specs.ListingWriting.{marked_text}
 -- a byte of a name can be written
 name_apart : (b c : ℕ) → is_identifier_byte b ≡ true → is_identifier_byte c ≡ false → (b == c) ≡ false
 name_apart b c h none = elim (cases_Bool (b == c)) [
-  | inl t ↦ absurd (let x : false ≡ true = sym none ∙ subst (λ n. is_identifier_byte n ≡ true) (eqb-true b c t) h in cc)
+  | inl t ↦ absurd (false≢true (sym none ∙ subst (λ n. is_identifier_byte n ≡ true) (eqb-true b c t) h))
   | inr f ↦ f
 ]
 
@@ -53,7 +53,7 @@ rule_plain [] h = refl
 rule_plain (b ∷ rule) h = names_plain (b ∷ rule) h
 
 rule_writable : (rule : List ℕ) → IsTrue (is_rule_name rule) → IsWritable rule
-rule_writable [] h = absurd (let x : false ≡ true = h in cc)
+rule_writable [] h = absurd (false≢true h)
 rule_writable (b ∷ rule) h = record { some = λ e. cc; each = All-from_recursion (λ b. is_unwritable b ≡ false) (b ∷ rule) (names_spelled (b ∷ rule) h) }
 
 -- ---- texts put together
@@ -69,17 +69,20 @@ pub spelled_none : Spelled false [] []
 spelled_none = record { sound = refl; text_is = refl; begins = refl; yields = no_units symbol }
 
 -- the units of two texts, one after the other
-pub units_both : (front text : List ℕ) → list_all is_sound (units front) ≡ true → text_of_units (units front) ≡ front → units (front ++ text) ≡ units front ++ units text
+pub units_both : (front text : List ℕ) → list_all is_sound (units front) ≡ true → text_of_units (units front) ≡ front →
+    units (front ++ text) ≡ units front ++ units text
 units_both front text sound is = ap (λ t. units (t ++ text)) (sym is) ∙ units_read (units front) text sound
 
 -- one more text before it
-spelled_more : {at_word now : Bool} (front text : List ℕ) (xs ys : List Symbol) → list_all is_sound (units front) ≡ true → text_of_units (units front) ≡ front → Spelled at_word text xs
+spelled_more : {at_word now : Bool} (front text : List ℕ) (xs ys : List Symbol) → list_all is_sound (units front) ≡ true → text_of_units (units front) ≡ front →
+    Spelled at_word text xs
     → goes_on (units front ++ units text) ≡ now → Yields symbol (units front ++ units text) ys → Spelled now (front ++ text) ys
 spelled_more front text xs ys sound is later begins yields =
     let both = units_both front text sound is in
     record {
       sound = ap (list_all is_sound) both ∙ list_all-append is_sound (units front) (units text) ∙ and_from _ _ sound later.sound;
-      text_is = ap text_of_units both ∙ flat_map-append unit_text (units front) (units text) ∙ ap (λ t. t ++ text_of_units (units text)) is ∙ ap (λ t. front ++ t) later.text_is;
+      text_is = ap text_of_units both ∙ flat_map-append unit_text (units front) (units text) ∙ ap (λ t. t ++ text_of_units (units text)) is ∙
+          ap (λ t. front ++ t) later.text_is;
       begins = ap goes_on both ∙ begins;
       yields = subst (λ us. Yields symbol us ys) (sym both) yields;
     }
@@ -93,15 +96,18 @@ spelled_colon text xs later = spelled_more (58 ∷ []) text xs (SignSymbol Colon
 -- a `|` and a space
 spelled_bar : {at_word : Bool} (text : List ℕ) (xs : List Symbol) → Spelled at_word text xs → Spelled false (124 ∷ 32 ∷ text) (SignSymbol Bar ∷ xs)
 spelled_bar text xs later =
-    spelled_more (124 ∷ 32 ∷ []) text xs (SignSymbol Bar ∷ xs) refl refl later refl (bar_yields symbol (units text) xs (space_yields symbol (units text) xs later.yields))
+    spelled_more (124 ∷ 32 ∷ []) text xs (SignSymbol Bar ∷ xs) refl refl later refl
+    (bar_yields symbol (units text) xs (space_yields symbol (units text) xs later.yields))
 
 -- a `||`
-spelled_double_bar : {at_word : Bool} (text : List ℕ) (xs : List Symbol) → Spelled at_word text xs → Spelled false (124 ∷ 124 ∷ text) (SignSymbol DoubleBar ∷ xs)
+spelled_double_bar : {at_word : Bool} (text : List ℕ) (xs : List Symbol) → Spelled at_word text xs →
+    Spelled false (124 ∷ 124 ∷ text) (SignSymbol DoubleBar ∷ xs)
 spelled_double_bar text xs later =
     let bars = units (124 ∷ 124 ∷ []) in
     spelled_more (124 ∷ 124 ∷ []) text xs (SignSymbol DoubleBar ∷ xs) refl refl later refl
     (λ front. ap (λ ys. SignSymbol DoubleBar ∷ ys)
-    (ap (λ us. map (viewed symbol (text_of_units us)) (tokens_from (length (text_of_units front) + 2) (units text))) (sym (append_assoc front bars (units text)))
+    (ap (λ us. map (viewed symbol (text_of_units us)) (tokens_from (length (text_of_units front) + 2) (units text)))
+    (sym (append_assoc front bars (units text)))
     ∙ ap (λ n. map (viewed symbol (text_of_units ((front ++ bars) ++ units text))) (tokens_from n (units text)))
     (sym (ap length (flat_map-append unit_text front bars) ∙ length-append (text_of_units front) (text_of_units bars)))
     ∙ later.yields (front ++ bars)))
@@ -111,18 +117,23 @@ pub escaped_units : (path : List ℕ) → IsWritable path → units (escaped pat
 escaped_units path writable = ap units (sym (path_text path)) ∙ units_are (path_units path) (path_sound path (has_spelling path writable))
 
 -- a path
-pub spelled_path : (path text : List ℕ) (xs : List Symbol) → IsWritable path → Spelled false text xs → Spelled true (escaped path ++ text) (WordSymbol (escaped path) ∷ xs)
+pub spelled_path : (path text : List ℕ) (xs : List Symbol) → IsWritable path → Spelled false text xs →
+    Spelled true (escaped path ++ text) (WordSymbol (escaped path) ∷ xs)
 spelled_path [] text xs writable later = absurd (writable.some refl)
 spelled_path (b ∷ path) text xs writable later =
     let are = escaped_units (b ∷ path) writable in
     let can = has_spelling (b ∷ path) writable in
     spelled_more (escaped (b ∷ path)) text xs (WordSymbol (escaped (b ∷ path)) ∷ xs)
     (ap (list_all is_sound) are ∙ path_sound (b ∷ path) can) (ap text_of_units are ∙ path_text (b ∷ path)) later
-    (ap (λ us. goes_on (us ++ units text)) are ∙ goes_on_piece (path_unit b) (path_units path ++ units text) (and_parts (is_piece (path_unit b)) (list_all is_piece (path_units path)) (path_pieces (b ∷ path) can)).0)
-    (subst (λ us. Yields symbol (us ++ units text) (WordSymbol (escaped (b ∷ path)) ∷ xs)) (sym are) (path_yields symbol (b ∷ path) (units text) xs writable later.begins later.yields))
+    (ap (λ us. goes_on (us ++ units text)) are ∙
+    goes_on_piece (path_unit b) (path_units path ++ units text)
+    (and_parts (is_piece (path_unit b)) (list_all is_piece (path_units path)) (path_pieces (b ∷ path) can)).0)
+    (subst (λ us. Yields symbol (us ++ units text) (WordSymbol (escaped (b ∷ path)) ∷ xs)) (sym are)
+    (path_yields symbol (b ∷ path) (units text) xs writable later.begins later.yields))
 
 -- a word of the bytes that a rule's name has
-pub spelled_name : (name text : List ℕ) (xs : List Symbol) → IsTrue (is_rule_name name) → Spelled false text xs → Spelled true (name ++ text) (WordSymbol name ∷ xs)
+pub spelled_name : (name text : List ℕ) (xs : List Symbol) → IsTrue (is_rule_name name) → Spelled false text xs →
+    Spelled true (name ++ text) (WordSymbol name ∷ xs)
 spelled_name name text xs h later =
     subst (λ r. Spelled true (r ++ text) (WordSymbol r ∷ xs)) (rule_plain name h) (spelled_path name text xs (rule_writable name h) later)
 
@@ -148,12 +159,14 @@ module _ (text : List ℕ) (xs : List Symbol) (later : Spelled false text xs) wh
   paths_written (path ∷ paths) writable =
       spelled_space _ (words (path ∷ paths) ++ xs) (first_path_written path paths writable.0 (paths_written paths writable.1))
 
-  bar_written : (paths : List (List ℕ)) → AllByRecursion IsWritable paths → Spelled false (marked_text (codes " |") paths ++ text) (part_symbols Bar paths ++ xs)
+  bar_written : (paths : List (List ℕ)) → AllByRecursion IsWritable paths →
+      Spelled false (marked_text (codes " |") paths ++ text) (part_symbols Bar paths ++ xs)
   bar_written [] writable = later
   bar_written (path ∷ paths) writable =
       spelled_space _ _ (spelled_bar _ (words (path ∷ paths) ++ xs) (first_path_written path paths writable.0 (paths_written paths writable.1)))
 
-  double_bar_written : (paths : List (List ℕ)) → AllByRecursion IsWritable paths → Spelled false (marked_text (codes " ||") paths ++ text) (part_symbols DoubleBar paths ++ xs)
+  double_bar_written : (paths : List (List ℕ)) → AllByRecursion IsWritable paths →
+      Spelled false (marked_text (codes " ||") paths ++ text) (part_symbols DoubleBar paths ++ xs)
   double_bar_written [] writable = later
   double_bar_written (path ∷ paths) writable =
       spelled_space _ _ (spelled_double_bar _ (words (path ∷ paths) ++ xs) (paths_written (path ∷ paths) writable))
@@ -171,8 +184,8 @@ paths_meant [] writable = refl
 paths_meant (path ∷ paths) writable = rw (value_of_escaped path writable.0, paths_meant paths writable.1) refl
 
 some_spelled : (paths : List (List ℕ)) → is_empty paths ≡ false → map escaped paths ≢ []
-some_spelled [] h = absurd (let x : true ≡ false = h in cc)
-some_spelled (path ∷ paths) h = λ e. (let x : escaped path ∷ map escaped paths ≡ [] = e in cc)
+some_spelled [] h = absurd (true≢false h)
+some_spelled (path ∷ paths) h = λ e. (let x = e in cc)
 
 -- ---- the build line of an edge
 
@@ -233,7 +246,8 @@ module _ (e : EdgeValue) (has : HasLine e) where
       subst (λ t. Spelled false t (order_symbols e)) (append-nil (marked_text (codes " ||") e.order_only))
       (double_bar_written [] [] spelled_none e.order_only has.order_only)
 
-  inputs_written : Spelled false (flat_map spaced e.inputs ++ (marked_text (codes " |") e.implicit_inputs ++ marked_text (codes " ||") e.order_only)) (input_symbols e)
+  inputs_written : Spelled false (flat_map spaced e.inputs ++ (marked_text (codes " |") e.implicit_inputs ++ marked_text (codes " ||") e.order_only))
+      (input_symbols e)
   inputs_written =
       paths_written _ (implicit_symbols e) (bar_written _ (order_symbols e) order_written e.implicit_inputs has.implicit_inputs) e.inputs has.inputs
 

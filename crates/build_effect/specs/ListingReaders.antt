@@ -10,7 +10,7 @@ use Rattle.build_effect.specs.EdgeValue.{EdgeValue}
 use Rattle.build_effect.specs.ListingLines.{ListingClass}
 use Rattle.build_effect.specs.ListingGrammar.{IsListing}
 use Rattle.build_effect.specs.ListingSteps.{ListingValue, open_from}
-use Rattle.build_effect.specs.ListingReading.{listing_format, Lists, HasFaultyLine, HasFaultyEnd}
+use Rattle.build_effect.specs.ListingReading.{listing_format, Lists, HasFaultyLine, HasFaultyEnd, HasListingFault}
 use Rattle.build_effect.specs.Faults.{IsGraphFault}
 use Rattle.build_effect.specs.declared.fault.LineCause.TheVariants.{LineTooLong}
 use Rattle.build_effect.specs.declared.fault.LineFault.{LineFault}
@@ -61,3 +61,9 @@ EndsListing bytes (Err (Fault (AtLine fault))) = HasFaultyEnd bytes fault
 EndsListing bytes (Err (Fault (NoGraph fault))) =
     (edges : List EdgeValue) × Lists bytes edges × IsGraphFault edges fault
 EndsListing bytes (Err Memory) = Unit {0}
+
+-- Why a whole text gives no graph: it has this fault, or the edges that it lists are not a graph.
+abbrev pub IsListingFault : Bytes → ListFault → Type 0
+IsListingFault bytes (AtLine fault) = HasListingFault bytes fault
+IsListingFault bytes (NoGraph fault) =
+    (edges : List EdgeValue) × Lists bytes edges × IsGraphFault edges fault

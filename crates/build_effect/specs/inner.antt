@@ -3,6 +3,7 @@ pub mod Inputs
 pub mod Makers
 pub mod BadPaths
 pub mod StatementEdges
+pub mod Strings
 pub mod Added
 pub mod Checked
 pub mod Extended

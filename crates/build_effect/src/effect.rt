@@ -11,7 +11,7 @@ ghost use Rattle.build_effect.specs.declared.fault.EffectFault.{EffectFault};
 use crate::addition::{Addition, added_makers, canonical_statements, extended_edges};
 use crate::fault::EffectFault;
 use crate::graph::{Edge, Graph, first_output};
-use crate::laws::checks;
+use crate::laws;
 use crate::makers::Makers;
 use dyndep_file::Dyndep;
 use ninja_text::{Failure, Path};
@@ -46,7 +46,7 @@ pub fn apply(
     ensures no_effect { IfErr result (ForFault {F = EffectFault}
         (λ _. HasNoEffect graph.now name.now dyndep.now)) }
 {
-    checks();
+    laws::checks();
     let old = graph.edges();
     let makers = graph.makers();
     let canonical = canonical_statements(alloc, &dyndep.statements)?;

@@ -2,15 +2,16 @@
 //! 1.11 manual, "Build statements" and "Dynamic dependencies").
 //!
 //! - A [`Graph`] is a list of [`Edge`]s that Ninja accepts (`specs/Graphs.antt`, `IsGraph`).
-//! - [`ListingReader`] reads the text of a graph in pieces, and [`Graph::to_text`] and
+//! - [`Graph::of`] reads the text of a graph, [`ListingReader`] reads it in pieces, and [`Graph::to_text`] and
 //!   [`listing_write`] write it (`specs/ListingLines.antt`, `ListingGrammar.antt`,
-//!   `ListingFaults.antt`, `ListingWriting.antt`). By the laws [`one_listing`], [`listing_or_fault`]
-//!   and [`one_listing_fault`] a text either lists one list of edges or has one fault, and by
-//!   [`written_listing`] the text of a graph reads back.
+//!   `ListingFaults.antt`, `ListingWriting.antt`). By the laws [`laws::one_listing`],
+//!   [`laws::listing_or_fault`] and [`laws::one_listing_fault`] a text either lists one list of edges
+//!   or has one fault, and by [`laws::written_listing`] the text of a graph reads back.
 //! - [`apply`] returns the graph after the effect of a dyndep file, a relation between two graphs
-//!   (`specs/Effect.antt`), or an error if no graph has the effect. The laws [`one_effect`],
-//!   [`checks`], [`any_order`], [`level_orders`] and [`files_order`] say when there is an effect, that
-//!   files may be applied in any order, and when the graph can be ordered after them.
+//!   (`specs/Effect.antt`), or an error if no graph has the effect. The laws [`laws::one_effect`],
+//!   [`laws::checks`], [`laws::any_order`], [`laws::level_orders`] and [`laws::files_order`] say when
+//!   there is an effect, that files may be applied in any order, and when the graph can be ordered
+//!   after them.
 //! - [`edge_order`] returns an order of the edges or the least cycle (`specs/Graphs.antt`, `EdgeNeeds`).
 //!
 //! The view of a graph is the list of its edges, and the view of a path is its canonical string.
@@ -26,9 +27,9 @@
 //! - `ordering.rt`: [`edge_order`] gives `dep_order` the edges that produce each edge's inputs.
 //! - `effect.rt`: [`apply`] makes its checks in the order of their errors: `canonical_statements`
 //!   (E8), `edges_of_statements` (E5), `statements_of_edges` (E4), `check_mentioned` (E6),
-//!   `added_makers` (E7). `extended_edges` then makes the new edges. The law [`checks`], which
+//!   `added_makers` (E7). `extended_edges` then makes the new edges. The law [`laws::checks`], which
 //!   [`apply`] calls, says that they are the effect.
-//! - The law [`files_order`] combines two numberings by `layered` of `dep_order`: the levels of the
+//! - The law [`laws::files_order`] combines two numberings by `layered` of `dep_order`: the levels of the
 //!   graph with the added outputs alone, and within one level the order of what is added.
 #![tactic(auto)]
 
@@ -36,7 +37,7 @@ mod addition;
 mod effect;
 mod fault;
 mod graph;
-mod laws;
+pub mod laws;
 mod listing;
 mod makers;
 mod ordering;
@@ -44,9 +45,5 @@ mod ordering;
 pub use effect::apply;
 pub use fault::{EffectFault, GraphFault, LineCause, LineFault, ListFault, ListingWriteFault};
 pub use graph::{Edge, Graph};
-pub use laws::{
-    any_order, checks, files_order, level_orders, listing_fault_stays, listing_lines,
-    listing_or_fault, one_effect, one_listing, one_listing_fault, written_listing,
-};
 pub use listing::{ListingReader, listing_write};
 pub use ordering::edge_order;

@@ -1,10 +1,11 @@
-//! Edge listings: the reader, the rows that its lines have (`rows.rt`), what each row does to the
-//! edges so far (`state.rt`), and the writer (`writing.rt`).
+//! Edge listings: the reader, the rows that its lines have (`rows.rt`) with their strings
+//! (`strings.rt`), what each row does to the edges so far (`state.rt`), and the writer (`writing.rt`).
 ghost use Rattle.std.specs.Prelude.{◌≡◌, ◌++◌, [], Some, Err};
 ghost use Rattle.build_effect.specs.ListingReaders.{line_failure};
 
 mod rows;
 mod state;
+mod strings;
 mod writing;
 
 use crate::fault::{LineCause, LineFault, ListFault};
@@ -98,6 +99,30 @@ impl ListingReader {
             Ok(graph) => Ok(graph),
             Err(failure) => Err(failure.map(ListFault::NoGraph)),
         }
+    }
+}
+
+impl Graph {
+    ghost use Rattle.std.specs.Prelude.{IfErr, IfOk};
+    ghost use Rattle.ninja_text.specs.Failure.{ForFault};
+    ghost use Rattle.build_effect.specs.ListingReading.{Lists};
+    ghost use Rattle.build_effect.specs.ListingReaders.{IsListingFault};
+
+    /// Returns the graph of the edges that a text lists. A [`ListingReader`] that is fed the text
+    /// returns the same.
+    ///
+    /// # Errors
+    ///
+    /// - E3: the first faulty line, or else the last line has no end.
+    /// - E1 or E2: otherwise, the edges listed are not a graph, as [`Graph::new`] reports it.
+    /// - `Memory`: an allocation fails.
+    pub fn of(alloc: Global, text: &[u8]) -> Result<Graph, Failure<ListFault>>
+        ensures graph { IfOk result (Lists text.now) }
+        ensures fault { IfErr result (ForFault (IsListingFault text.now)) }
+    {
+        let mut reader = ListingReader::new(alloc);
+        reader.feed(text)?;
+        reader.finish()
     }
 }
 

@@ -3,7 +3,7 @@
 ghost use Rattle.collate_core.specs.BuildLaws.{TargetHasNoRace, ProjectHasNoRace, ProjectMakesAll, LeastOrderRuns, TargetHasNoFalseWait, ProjectHasNoFalseWait, TargetHasNoFalseRebuild, ProjectHasNoFalseRebuild, TargetHasNoFalseCycle, ProjectHasNoFalseCycle};
 ghost use Rattle.collate_core.specs.Laws.{HeadlineHolds, CollatedIsNotRefused, OneRefusal, ProjectIsNotRefused, OneProjectRefusal, ProjectOrders, ProjectNumbered, ProjectEndOrderable, ProjectNeeds, ProjectMaps};
 
-use build_effect::{any_order, files_order, one_effect};
+use build_effect::laws::{any_order, files_order, one_effect};
 use module_table::{added_files, one_fault};
 use scan_docs::laws::{one_answer, value_of_bytes};
 

@@ -9,7 +9,8 @@ ghost use Rattle.collate_core.specs.Rehearsal.{HasEffect, IsReadFaultOf, IsRehea
 
 use crate::collated::Collated;
 use crate::fault::RehearseFault;
-use build_effect::{EffectFault, Graph, apply, edge_order, level_orders, one_effect};
+use build_effect::laws::{level_orders, one_effect};
+use build_effect::{EffectFault, Graph, apply, edge_order};
 use dep_order::Sorting;
 use dyndep_file::{Dyndep, DyndepReader, ReadFault, laws};
 use ninja_text::{Failure, Path};

@@ -1,5 +1,5 @@
 //! One line of an edge listing: its kind, and the strings in it.
-ghost use Rattle.std.specs.Prelude.{◌≡◌, ◌==◌, ◌&&◌, IfOk, OnOk, codes};
+ghost use Rattle.std.specs.Prelude.{◌≡◌, ◌==◌, ◌&&◌, ◌++◌, length, IfOk, OnOk, codes};
 ghost use Rattle.std.specs.Option.{option_map};
 ghost use Rattle.ninja_text.specs.Failure.{Gives};
 ghost use Rattle.ninja_text.specs.LineViews.{seen_line};
@@ -10,10 +10,10 @@ ghost use Rattle.dyndep_file.specs.Faults.{same_bytes};
 ghost use Rattle.dyndep_file.specs.BuildTokens.{symbol_of, symbols_left, is_this_word};
 ghost use Rattle.build_effect.specs.ListingLines.{is_rule_name};
 ghost use Rattle.build_effect.specs.inner.ListingWalk.{binding_row, edge_texts, front_words, past_words};
-ghost use Rattle.dep_order.specs.Rows.{rows};
 ghost use Rattle.build_effect.specs.inner.ListingRows.{row_value, line_row, words_of_part, symbols_past_part, SignPassed, WordPassed};
 
 use crate::fault::LineCause;
+use crate::listing::strings::Strings;
 use ninja_text::{Assignment, Failure, Line, Token, TokenKind, Words, assignment, words};
 use std::alloc::{AllocError, Global};
 use std::marker::Model;
@@ -22,31 +22,30 @@ use std::marker::Model;
 #[derive(Drop)]
 pub(crate) struct EdgeTexts {
     pub(crate) rule: Vec<u8>,
-    pub(crate) outputs: Vec<Vec<u8>>,
-    pub(crate) implicit_outputs: Vec<Vec<u8>>,
-    pub(crate) inputs: Vec<Vec<u8>>,
-    pub(crate) implicit_inputs: Vec<Vec<u8>>,
-    pub(crate) order_only: Vec<Vec<u8>>,
+    /// The strings of all five lists, from left to right.
+    pub(crate) strings: Strings,
+    pub(crate) ends: ListEnds,
+}
+
+/// How many strings a build line has up to the end of each list. The last list, that of the
+/// order-only inputs, has the rest.
+#[derive(Clone, Copy)]
+pub(crate) struct ListEnds {
+    pub(crate) outputs: usize,
+    pub(crate) implicit_outputs: usize,
+    pub(crate) inputs: usize,
+    pub(crate) implicit_inputs: usize,
 }
 
 impl Model for EdgeTexts {
     ghost use Rattle.build_effect.specs.ListingLines.{EdgeTexts};
+    ghost use Rattle.build_effect.specs.inner.Strings.{AreEnds, edge_texts_of};
 
     ghost Value = { EdgeTexts };
 
-    ghost use Rattle.std.specs.Prelude.{◌≢◌, []};
-    ghost use Rattle.dep_order.specs.Rows.{rows};
+    ghost view = { λ t. edge_texts_of t.rule.items t.strings t.ends };
 
-    ghost view = { λ t. record {
-      rule = t.rule.items;
-      outputs = rows t.outputs.items;
-      implicit_outputs = rows t.implicit_outputs.items;
-      inputs = rows t.inputs.items;
-      implicit_inputs = rows t.implicit_inputs.items;
-      order_only = rows t.order_only.items;
-    } };
-
-    ghost invariant = { λ t. rows t.outputs.items ≢ [] };
+    ghost invariant = { λ t. AreEnds t.strings t.ends };
 }
 
 /// The kind of a line and the strings in it, before paths are made of them.
@@ -82,7 +81,7 @@ pub(crate) fn row_of(alloc: Global, line: Line<'_>) -> Result<Row, Failure<LineC
     if !begins_build_line(first) {
         return Err(Failure::Fault(LineCause::Form));
     }
-    match edge_texts(alloc, tokens)? {
+    match edge_texts(alloc, line.text().len(), tokens)? {
         Some(texts) => Ok(Row::Build(texts)),
         None => Err(Failure::Fault(LineCause::Form)),
     }
@@ -109,61 +108,68 @@ fn binding_row(alloc: Global, assignment: Option<Assignment<'_>>) -> Result<Row,
 }
 
 /// Returns what a build line says, by its tokens after `build`, or `None` if it is not a build line.
-fn edge_texts(alloc: Global, words: Words<'_>) -> Result<Option<EdgeTexts>, AllocError>
+/// Its strings have no more than so many bytes.
+fn edge_texts(
+    alloc: Global,
+    bytes: usize,
+    words: Words<'_>,
+) -> Result<Option<EdgeTexts>, AllocError>
     ensures { IfOk result (λ texts. texts ≡ edge_texts (symbols_left words.entry)) }
 {
     let mut tokens = words;
-    let outputs = front_words(alloc, &mut tokens)?;
-    let implicit_outputs = part(alloc, &mut tokens, TokenKind::Bar)?;
+    let mut strings = Strings::with_capacity(alloc, bytes)?;
+    let outputs = front_words(&mut tokens, &mut strings)?;
+    let implicit_outputs = part(&mut tokens, TokenKind::Bar, &mut strings)?;
     if !pass_sign(&mut tokens, TokenKind::Colon) {
         return Ok(None);
     }
     let Some(rule) = next_word(&mut tokens) else {
         return Ok(None);
     };
-    let inputs = front_words(alloc, &mut tokens)?;
-    let implicit_inputs = part(alloc, &mut tokens, TokenKind::Bar)?;
-    let order_only = part(alloc, &mut tokens, TokenKind::DoubleBar)?;
-    if outputs.is_empty() || !is_rule_name(rule.raw()) || tokens.next().is_some() {
+    let inputs = front_words(&mut tokens, &mut strings)?;
+    let implicit_inputs = part(&mut tokens, TokenKind::Bar, &mut strings)?;
+    part(&mut tokens, TokenKind::DoubleBar, &mut strings)?;
+    if outputs == 0 || !is_rule_name(rule.raw()) || tokens.next().is_some() {
         return Ok(None);
     }
     Ok(Some(EdgeTexts {
         rule: Vec::from_slice(alloc, rule.raw())?,
-        outputs,
-        implicit_outputs,
-        inputs,
-        implicit_inputs,
-        order_only,
+        strings,
+        ends: ListEnds {
+            outputs,
+            implicit_outputs,
+            inputs,
+            implicit_inputs,
+        },
     }))
 }
 
-/// Takes the words at the front, and returns their values.
-fn front_words(alloc: Global, tokens: &mut Words<'_>) -> Result<Vec<Vec<u8>>, AllocError>
-    ensures words { IfOk result (λ words.
-        rows words.items ≡ front_words (symbols_left tokens.old)) }
+/// Takes the words at the front, and appends their values. Returns how many strings there are then.
+fn front_words(tokens: &mut Words<'_>, strings: &mut Strings) -> Result<usize, AllocError>
+    ensures words { OnOk result
+        (strings.new ≡ strings.old ++ front_words (symbols_left tokens.old)) }
     ensures rest { OnOk result (symbols_left tokens.new ≡ past_words (symbols_left tokens.old)) }
+    ensures count { IfOk result (λ count. count ≡ length strings.new) }
 {
-    let mut values = Vec::new(alloc);
     while let Some(token) = next_word(tokens) {
-        let mut value = Vec::with_capacity(alloc, token.raw().len())?;
-        token.value_into(&mut value)?;
-        values.push(value)?;
+        strings.push(token)?;
     }
-    Ok(values)
+    Ok(strings.len())
 }
 
-/// Takes the part that begins with this sign, and returns its words. If the sign is not at the
-/// front, takes nothing and returns no words.
-fn part(alloc: Global, tokens: &mut Words<'_>, sign: TokenKind) -> Result<Vec<Vec<u8>>, AllocError>
-    ensures words { IfOk result (λ words.
-        rows words.items ≡ words_of_part sign (symbols_left tokens.old)) }
+/// Takes the part that begins with this sign, and appends its words. If the sign is not at the
+/// front, takes nothing. Returns how many strings there are then.
+fn part(tokens: &mut Words<'_>, sign: TokenKind, strings: &mut Strings) -> Result<usize, AllocError>
+    ensures words { OnOk result
+        (strings.new ≡ strings.old ++ words_of_part sign (symbols_left tokens.old)) }
     ensures rest { OnOk result
         (symbols_left tokens.new ≡ symbols_past_part sign (symbols_left tokens.old)) }
+    ensures count { IfOk result (λ count. count ≡ length strings.new) }
 {
     if pass_sign(tokens, sign) {
-        front_words(alloc, tokens)
+        front_words(tokens, strings)
     } else {
-        Ok(Vec::new(alloc))
+        Ok(strings.len())
     }
 }
 

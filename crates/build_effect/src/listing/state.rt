@@ -2,14 +2,15 @@
 ghost use Rattle.std.specs.Prelude.{◌≡◌, ◌≢◌, [], IfOk, All};
 ghost use Rattle.ninja_text.specs.Failure.{Gives};
 ghost use Rattle.ninja_text.specs.LineViews.{seen_line};
+ghost use Rattle.ninja_text.specs.Paths.{path_of};
 ghost use Rattle.build_effect.specs.ListingSteps.{ListingValue};
-ghost use Rattle.build_effect.specs.inner.ListingWalk.{with_last_restat, edge_paths, paths_of};
+ghost use Rattle.build_effect.specs.inner.ListingWalk.{with_last_dyndep, with_last_restat, edge_paths};
 ghost use Rattle.build_effect.specs.inner.ListingRows.{TakesRow, ReadsText, row_value, GivesEdge};
-ghost use Rattle.dep_order.specs.Rows.{rows};
 
 use crate::fault::LineCause;
 use crate::graph::Edge;
 use crate::listing::rows::{EdgeTexts, Row, row_of};
+use crate::listing::strings::path_of;
 use ninja_text::{Failure, Line, Path, PathFault};
 use std::alloc::Global;
 use std::marker::Model;
@@ -19,8 +20,8 @@ use std::marker::Model;
 pub(crate) enum Binding {
     /// No binding: no edge is open.
     Closed,
-    /// Each binding that has not come yet: whether `dyndep` has come, and whether `restat` has.
-    Open(bool, bool),
+    /// Each binding that the last edge does not have yet.
+    Open { has_dyndep: bool, has_restat: bool },
 }
 
 /// The edges so far, each with an output, and the bindings that may still come.
@@ -55,7 +56,10 @@ pub(crate) fn take_line(
         Row::Build(texts) => match edge_of(alloc, texts) {
             Ok(edge) => {
                 state.edges.push(edge)?;
-                state.binding = Binding::Open(false, false);
+                state.binding = Binding::Open {
+                    has_dyndep: false,
+                    has_restat: false,
+                };
                 Ok(())
             }
             Err(failure) => Err(failure.map(LineCause::BadPath)),
@@ -63,12 +67,18 @@ pub(crate) fn take_line(
         Row::Dyndep(text) => dyndep_row(alloc, state, text),
         // An edge has at most one binding of `restat`.
         Row::Restat(flag) => match state.binding {
-            Binding::Closed | Binding::Open(_, true) => Err(Failure::Fault(LineCause::Form)),
-            Binding::Open(dyndep, false) => {
+            Binding::Open {
+                has_dyndep,
+                has_restat: false,
+            } => {
                 set_last_restat(&mut state.edges, flag);
-                state.binding = Binding::Open(dyndep, true);
+                state.binding = Binding::Open {
+                    has_dyndep,
+                    has_restat: true,
+                };
                 Ok(())
             }
+            _ => Err(Failure::Fault(LineCause::Form)),
         },
     }
 }
@@ -81,19 +91,47 @@ fn dyndep_row(
 ) -> Result<(), Failure<LineCause>>
     ensures { TakesRow state.old (row_value (Row.Dyndep text)) result state.new }
 {
-    let restat = match state.binding {
-        Binding::Closed | Binding::Open(true, _) => return Err(Failure::Fault(LineCause::Form)),
-        Binding::Open(false, restat) => restat,
+    let Binding::Open {
+        has_dyndep: false,
+        has_restat,
+    } = state.binding
+    else {
+        return Err(Failure::Fault(LineCause::Form));
     };
-    match Path::of(alloc, &text) {
+    match dyndep_path(alloc, &state.edges, text) {
         Ok(path) => {
-            if let Some(edge) = state.edges.last_mut() {
-                edge.dyndep = Some(path);
-            }
-            state.binding = Binding::Open(true, restat);
+            set_last_dyndep(&mut state.edges, path);
+            state.binding = Binding::Open {
+                has_dyndep: true,
+                has_restat,
+            };
             Ok(())
         }
         Err(failure) => Err(failure.map(LineCause::BadPath)),
+    }
+}
+
+/// Returns the path of a string. Most edges of a target name one dyndep file, so the path shares that
+/// of the edge before the last one if it is the same.
+fn dyndep_path(alloc: Global, edges: &[Edge], text: Vec<u8>) -> Result<Path, Failure<PathFault>>
+    ensures { Gives (λ path. path) result (path_of text.items) }
+{
+    if edges.len() > 1 {
+        let before = &edges[edges.len() - 2];
+        if let Some(path) = &before.dyndep {
+            if path.bytes() == text.as_slice() {
+                return Ok(path.copy(alloc)?);
+            }
+        }
+    }
+    path_of(alloc, text)
+}
+
+fn set_last_dyndep(edges: &mut Vec<Edge>, path: Path)
+    ensures { edges.new.items ≡ with_last_dyndep path edges.old.items }
+{
+    if let Some(edge) = edges.last_mut() {
+        edge.dyndep = Some(path);
     }
 }
 
@@ -111,25 +149,20 @@ fn edge_of(alloc: Global, texts: EdgeTexts) -> Result<Edge, Failure<PathFault>>
     ensures edge { GivesEdge result (edge_paths texts) }
     ensures outputs { IfOk result (λ edge. edge.outputs ≢ []) }
 {
+    let EdgeTexts {
+        rule,
+        strings,
+        ends,
+    } = texts;
+    let strings = strings.share()?;
     Ok(Edge {
-        outputs: paths_of(alloc, &texts.outputs)?,
-        implicit_outputs: paths_of(alloc, &texts.implicit_outputs)?,
-        inputs: paths_of(alloc, &texts.inputs)?,
-        implicit_inputs: paths_of(alloc, &texts.implicit_inputs)?,
-        order_only: paths_of(alloc, &texts.order_only)?,
-        rule: texts.rule,
+        outputs: strings.paths(alloc, 0, ends.outputs)?,
+        implicit_outputs: strings.paths(alloc, ends.outputs, ends.implicit_outputs)?,
+        inputs: strings.paths(alloc, ends.implicit_outputs, ends.inputs)?,
+        implicit_inputs: strings.paths(alloc, ends.inputs, ends.implicit_inputs)?,
+        order_only: strings.paths(alloc, ends.implicit_inputs, strings.len())?,
+        rule,
         dyndep: None,
         restat: false,
     })
-}
-
-/// Returns the paths of these strings, or the error of the first one that is not a valid path.
-fn paths_of(alloc: Global, texts: &[Vec<u8>]) -> Result<Vec<Path>, Failure<PathFault>>
-    ensures { Gives (λ paths. paths.items) result (paths_of (rows texts.now)) }
-{
-    let mut paths = Vec::with_capacity(alloc, texts.len())?;
-    for text in texts {
-        paths.push(Path::of(alloc, text)?)?;
-    }
-    Ok(paths)
 }

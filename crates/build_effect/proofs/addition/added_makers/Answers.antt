@@ -17,14 +17,15 @@ pub loop-index-preserved : goal.loop-index-preserved
 loop-index-preserved c =
     let additions = c.args.additions.now in
     let i = c.loop-index.index in
-    let a : StatementValue = c.index-additions-index.result in
+    let a = c.index-additions-index.result in
     let outputs = c.deref.ensures.value ∙ ap (λ (a : StatementValue). a.implicit_outputs) c.addition.view_is in
     c.in_ok-push.ensures ∙ ap₂ (λ made more. made ++ map (λ file. (file, get_or c.args.edge_of.now i 0)) more) c.loop-index.invariant outputs
-    ∙ sym (numbered_next (λ a. a.implicit_outputs) (λ k. get_or c.args.edge_of.now k 0) additions i a (slice_get_read additions _ i a refl c.loop-index-test.true c.index-additions-index.is))
+    ∙ sym (numbered_next (λ a. a.implicit_outputs) (λ k. get_or c.args.edge_of.now k 0) additions i a
+    (slice_get_read additions _ i a refl c.loop-index-test.true c.index-additions-index.is))
 
 pub returns-in-Ok : goal.returns-in-Ok
 returns-in-Ok c =
-    let is : c.loop-index.files ≡ added_files c.args.edge_of.now c.args.additions.now = c.loop-index.invariant ∙ ap (added_files c.args.edge_of.now) (take_all c.loop-index.index c.args.additions.now c.loop-index-test.false) in
+    let is = c.loop-index.invariant ∙ ap (added_files c.args.edge_of.now) (take_all c.loop-index.index c.args.additions.now c.loop-index-test.false) in
     record {
       makers = c.in-Ok.ensures.makers ∙ ap (λ more. c.args.makers.now ++ more) is;
       once = subst (NoneMadeTwice c.args.makers.now) (ap files_of is ∙ files c.args.edge_of.now c.args.additions.now) c.in-Ok.ensures.once;
@@ -35,8 +36,8 @@ pub returns-in-Err-clause-fault : goal.returns-in-Err-clause-fault
 returns-in-Err-clause-fault c =
     let made = c.args.makers.now in
     let additions = c.args.additions.now in
-    let is : files_of c.loop-index.files ≡ added_outputs additions =
-    ap files_of (c.loop-index.invariant ∙ ap (added_files c.args.edge_of.now) (take_all c.loop-index.index additions c.loop-index-test.false)) ∙ files c.args.edge_of.now additions in
+    let is = ap files_of (c.loop-index.invariant ∙ ap (added_files c.args.edge_of.now) (take_all c.loop-index.index additions c.loop-index-test.false)) ∙
+    files c.args.edge_of.now additions in
     for_turned (IsFirstTwice made (files_of c.loop-index.files)) (IsFirstAddedTwice made additions) _ c.in-Err.failure c.map.result
     (λ path fault turned first.
     let here : IsFirstTwice made (added_outputs additions) path = subst (λ fs. IsFirstTwice made fs path) is first in

@@ -1,4 +1,5 @@
 use Rattle.std.proofs.Common.{Option, rules, ◌≡◌, ◌∙◌, ◌+◌, ◌++◌, ◌||◌, Bool, ℕ, List, take, ap, refl, sym, subst}
+use Rattle.build_effect.proofs.Lists.{from_some}
 use Rattle.std.specs.List.{each_same}
 use Rattle.std.proofs.lemmas.Option.{slice_get_read, slice_get_within}
 use Rattle.dyndep_file.specs.StatementValue.{StatementValue}
@@ -6,7 +7,6 @@ use Rattle.build_effect.specs.EdgeValue.{EdgeValue}
 use Rattle.build_effect.specs.Effect.{extended}
 use Rattle.build_effect.specs.inner.Extended.{IsEdgeAfter, AreExtended}
 use Rattle.build_effect.specs.inner.StatementEdges.{statement_on}
-use Rattle.ninja_text.proofs.ForCallers.{same_some}
 use Rattle.build_effect.proofs.Extensions.{unchanged, more_extended}
 use Rattle.build_effect.proofs.addition.extended_edges.Goals as goal
 use Rattle.build_effect.proofs.addition.extended_edges.Goals.{in-Some+in_ok-extend_from_slice+in_ok-extend_from_slice-2, in_default}
@@ -24,7 +24,8 @@ edge_of rule outputs implicit_outputs inputs implicit_inputs order_only dyndep r
 }
 
 -- edges whose members are the same
-same_edge : {r s : List ℕ} {o p i j l m n q t u : List (List ℕ)} {d e : Option (List ℕ)} {f g : Bool} → s ≡ r → p ≡ o → j ≡ i → m ≡ l → q ≡ n → u ≡ t → e ≡ d → g ≡ f → edge_of s p j m q u e g ≡ edge_of r o i l n t d f
+same_edge : {r s : List ℕ} {o p i j l m n q t u : List (List ℕ)} {d e : Option (List ℕ)} {f g : Bool} → s ≡ r → p ≡ o → j ≡ i → m ≡ l → q ≡ n → u ≡ t → e ≡ d →
+    g ≡ f → edge_of s p j m q u e g ≡ edge_of r o i l n t d f
 same_edge a b c d e f g h = rw (a, b, c, d, e, f, g, h) refl
 
 abbrev changed : EdgeValue → List (List ℕ) → List (List ℕ) → Bool → EdgeValue
@@ -37,35 +38,39 @@ bounds-additions-statement_index c = c.requires.within c.loop-edge_index.edge_in
 pub loop-edge_index-preserved : goal.loop-edge_index-preserved
 loop-edge_index-preserved c =
     let g = c.args.edges.now in
-    let i : ℕ = c.loop-edge_index.edge_index in
-    let e : EdgeValue = c.index-edges-edge_index.result in
-    let additions : List StatementValue = c.args.additions.now in
-    let after : EdgeValue = c.match-statement_of-edge_index.after in
+    let i = c.loop-edge_index.edge_index in
+    let e = c.index-edges-edge_index.result in
+    let additions = c.args.additions.now in
+    let after = c.match-statement_of-edge_index.after in
     let clone = c.in_ok-after.ensures.cases in
     let lists = clone.4 in
     let dyndep : clone.1.dyndep ≡ clone.0.dyndep = search rules in
-    let copied : c.in_ok-after.after ≡ e =
-    sym clone.3
-    ∙ same_edge (each_same _ _ lists.0.0) (each_same _ _ lists.1.0.0) (each_same _ _ lists.1.1.0.0) (each_same _ _ lists.1.1.1.0.0) (each_same _ _ lists.1.1.1.1.0.0) (each_same _ _ lists.1.1.1.1.1.0.0)
+    let copied = sym clone.3
+    ∙ same_edge (each_same _ _ lists.0.0) (each_same _ _ lists.1.0.0) (each_same _ _ lists.1.1.0.0) (each_same _ _ lists.1.1.1.0.0)
+    (each_same _ _ lists.1.1.1.1.0.0) (each_same _ _ lists.1.1.1.1.1.0.0)
     dyndep lists.1.1.1.1.1.1.1
     ∙ clone.2 in
     let is : IsEdgeAfter e additions (statement_on c.args.statement_of.now i) after =
     elim c.match-statement_of-edge_index.branch [
       | in-Some+in_ok-extend_from_slice+in_ok-extend_from_slice-2 w ↦ subst (λ o. IsEdgeAfter e additions o after) (sym w.in-Some.is) (λ a at.
           let k = w.in-Some.statement_index in
-          let addition : StatementValue = w.index-additions-statement_index.result in
+          let addition = w.index-additions-statement_index.result in
           let read = slice_get_read additions _ k addition refl (slice_get_within additions k a at) w.index-additions-statement_index.is in
-          let same : addition ≡ a = same_some _ _ (sym read ∙ at) in
+          let same : addition ≡ a = cc in
           let v = c.after.view_is ∙ copied in
           let added_outputs = w.in_ok-extend_from_slice.ensures.items in
           let added_inputs = w.in_ok-extend_from_slice-2.ensures.items in
-          let outputs : w.extend_from_slice.new.self.items ≡ e.implicit_outputs ++ addition.implicit_outputs =
-          added_outputs.1 ∙ ap (λ ys. c.after.inside.implicit_outputs.items ++ ys) (each_same _ _ added_outputs.2 ∙ w.deref.ensures.value ∙ ap (λ (x : StatementValue). x.implicit_outputs) w.addition.view_is) ∙ ap (λ (x : EdgeValue). x.implicit_outputs ++ addition.implicit_outputs) v in
-          let inputs : w.extend_from_slice-in-Some.new.self.items ≡ e.implicit_inputs ++ addition.implicit_inputs =
-          added_inputs.1 ∙ ap (λ ys. c.after.inside.implicit_inputs.items ++ ys) (each_same _ _ added_inputs.2 ∙ w.deref-in-Some.ensures.value ∙ ap (λ (x : StatementValue). x.implicit_inputs) w.addition.view_is) ∙ ap (λ (x : EdgeValue). x.implicit_inputs ++ addition.implicit_inputs) v in
-          let restat : (c.after.inside.restat || w.addition.inside.restat) ≡ (e.restat || addition.restat) =
-          ap (λ (x : EdgeValue). x.restat || w.addition.inside.restat) v ∙ ap (λ (x : StatementValue). e.restat || x.restat) w.addition.view_is in
-          w.after-is ∙ ap (λ x. changed x w.extend_from_slice.new.self.items w.extend_from_slice-in-Some.new.self.items (c.after.inside.restat || w.addition.inside.restat)) v
+          let outputs = added_outputs.1 ∙
+          ap (λ ys. c.after.inside.implicit_outputs.items ++ ys)
+          (each_same _ _ added_outputs.2 ∙ w.deref.ensures.value ∙ ap (λ (x : StatementValue). x.implicit_outputs) w.addition.view_is) ∙
+          ap (λ (x : EdgeValue). x.implicit_outputs ++ addition.implicit_outputs) v in
+          let inputs = added_inputs.1 ∙
+          ap (λ ys. c.after.inside.implicit_inputs.items ++ ys)
+          (each_same _ _ added_inputs.2 ∙ w.deref-in-Some.ensures.value ∙ ap (λ (x : StatementValue). x.implicit_inputs) w.addition.view_is) ∙
+          ap (λ (x : EdgeValue). x.implicit_inputs ++ addition.implicit_inputs) v in
+          let restat = ap (λ (x : EdgeValue). x.restat || w.addition.inside.restat) v ∙ ap (λ (x : StatementValue). e.restat || x.restat) w.addition.view_is in
+          w.after-is ∙ ap (λ x.
+          changed x w.extend_from_slice.new.self.items w.extend_from_slice-in-Some.new.self.items (c.after.inside.restat || w.addition.inside.restat)) v
           ∙ ap (λ ps. changed e ps w.extend_from_slice-in-Some.new.self.items (c.after.inside.restat || w.addition.inside.restat)) outputs
           ∙ ap (λ ps. changed e (e.implicit_outputs ++ addition.implicit_outputs) ps (c.after.inside.restat || w.addition.inside.restat)) inputs
           ∙ ap (changed e (e.implicit_outputs ++ addition.implicit_outputs) (e.implicit_inputs ++ addition.implicit_inputs)) restat
@@ -73,4 +78,5 @@ loop-edge_index-preserved c =
       | in_default w ↦ unchanged e after additions _ w.in_default.not-Some (w.after-is ∙ copied)
     ] in
     subst (AreExtended (take (i + 1) g) additions c.args.statement_of.now) (sym c.in_ok-push.ensures.items)
-    (more_extended g additions c.args.statement_of.now c.loop-edge_index.new.items i e after (slice_get_read g _ i e refl c.loop-edge_index-test.true c.index-edges-edge_index.is) c.loop-edge_index.invariant is)
+    (more_extended g additions c.args.statement_of.now c.loop-edge_index.new.items i e after
+    (slice_get_read g _ i e refl c.loop-edge_index-test.true c.index-edges-edge_index.is) c.loop-edge_index.invariant is)

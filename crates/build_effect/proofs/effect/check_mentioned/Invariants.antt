@@ -5,4 +5,5 @@ use Rattle.build_effect.specs.inner.StatementEdges.{statement_on}
 use Rattle.build_effect.proofs.effect.check_mentioned.Given as goal
 
 abbrev pub invariant-loop-edge_index : goal.invariant-loop-edge_index
-invariant-loop-edge_index l = (i : ℕ) (e : EdgeValue) → i < l.edge_index → slice_get l.edges i ≡ Some e → Names l.name e → (k : ℕ) × (statement_on l.statement_of i ≡ Some k)
+invariant-loop-edge_index l = (i : ℕ) (e : EdgeValue) → i < l.edge_index → slice_get l.edges i ≡ Some e → Names l.name e →
+    (k : ℕ) × (statement_on l.statement_of i ≡ Some k)

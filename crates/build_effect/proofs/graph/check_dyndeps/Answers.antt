@@ -15,7 +15,9 @@ Found g r = MatchOption r (AllWithin NamesInput g 0 (length g)) (λ i. (i < leng
 pub returns-in_default-clause-ok : goal.returns-in_default-clause-ok
 returns-in_default-clause-ok c = λ i e file at names.
     let g : List EdgeValue = c.args.edges.now in
-    let found : Found g c.position.result = IsFirst-from_position _ _ c.position.result NamesUnread NamesInput c.position.ensures.ran (YieldsList-from_slice g c.iter.ensures.rest) (λ x q k. search (rules, tests)) (λ x q k. search (rules, tests)) in
+    let found : Found g c.position.result =
+    IsFirst-from_position _ _ c.position.result NamesUnread NamesInput c.position.ensures.ran (YieldsList-from_slice g c.iter.ensures.rest)
+    (λ x q k. search (rules, tests)) (λ x q k. search (rules, tests)) in
     let all : AllWithin NamesInput g 0 (length g) = subst (Found g) c.in_default.is found in
     subst NamesInput (get_or_from_slice_get g i e e at) (all i e (omega arith) (slice_get_within g i e at)) file names
 
@@ -23,7 +25,9 @@ pub returns-clause-fault : goal.returns-clause-fault
 returns-clause-fault c =
     let g : List EdgeValue = c.args.edges.now in
     let i : ℕ = c.in-Some.edge in
-    let found : Found g c.position.result = IsFirst-from_position _ _ c.position.result NamesUnread NamesInput c.position.ensures.ran (YieldsList-from_slice g c.iter.ensures.rest) (λ x q k. search (rules, tests)) (λ x q k. search (rules, tests)) in
+    let found : Found g c.position.result =
+    IsFirst-from_position _ _ c.position.result NamesUnread NamesInput c.position.ensures.ran (YieldsList-from_slice g c.iter.ensures.rest)
+    (λ x q k. search (rules, tests)) (λ x q k. search (rules, tests)) in
     let first : (i < length g) × HoldsAt NamesUnread g i × AllWithin NamesInput g 0 i = subst (Found g) c.in-Some.is found in
     let e : EdgeValue = c.index-edges-edge.result in
     let at = slice_get_read g _ i e refl first.0 c.index-edges-edge.is in (

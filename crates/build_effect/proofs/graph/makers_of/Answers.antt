@@ -28,7 +28,8 @@ loop-index-preserved c =
 pub returns-in-Ok : goal.returns-in-Ok
 returns-in-Ok c =
     let g = c.args.edges.now in
-    let is : c.loop-index.files ≡ numbered made_by (λ index. index) g = c.loop-index.invariant ∙ ap (numbered made_by (λ index. index)) (take_all c.loop-index.index g c.loop-index-test.false) in
+    let is : c.loop-index.files ≡ numbered made_by (λ index. index) g = c.loop-index.invariant ∙
+    ap (numbered made_by (λ index. index)) (take_all c.loop-index.index g c.loop-index-test.false) in
     let files : files_of c.loop-index.files ≡ made_files g = ap files_of is ∙ numbered_files made_by (λ index. index) g in
     record {
       makers = subst (AreMade g) (sym (c.in-Ok.ensures.makers ∙ ap₂ (λ a b. a ++ b) c.new.ensures is)) (are_made g);
@@ -40,9 +41,11 @@ pub returns-clause-fault : goal.returns-clause-fault
 returns-clause-fault c =
     let g = c.args.edges.now in
     let files : files_of c.loop-index.files ≡ made_files g =
-    ap files_of (c.loop-index.invariant ∙ ap (numbered made_by (λ index. index)) (take_all c.loop-index.index g c.loop-index-test.false)) ∙ numbered_files made_by (λ index. index) g in
+    ap files_of (c.loop-index.invariant ∙ ap (numbered made_by (λ index. index)) (take_all c.loop-index.index g c.loop-index-test.false)) ∙
+    numbered_files made_by (λ index. index) g in
     for_turned (IsFirstTwice c.new.result (files_of c.loop-index.files)) (IsGraphFault g) _ c.in-Err.failure c.map.result
     (λ path fault turned first.
-    let here : IsFirstTwice [] (made_files g) path = subst (λ fs. IsFirstTwice [] fs path) files (subst (λ made. IsFirstTwice made (files_of c.loop-index.files) path) c.new.ensures first) in
+    let here : IsFirstTwice [] (made_files g) path =
+    subst (λ fs. IsFirstTwice [] fs path) files (subst (λ made. IsFirstTwice made (files_of c.loop-index.files) path) c.new.ensures first) in
     let is : fault ≡ ProducedTwice path = search rules in
     subst (IsGraphFault g) (sym is) (here.0, first_again (made_files g) here.0 path here.1)) c.map.ensures c.in-Err.ensures.twice

@@ -19,8 +19,8 @@ pub loop-edge-preserved : goal.loop-edge-preserved
 loop-edge-preserved c =
     let edges = c.edges-edges.result.now in
     let i = c.loop-edge.edge-index in
-    let edge : EdgeValue = c.edge-item.result in
-    let maker : List ℕ → Option ℕ = maker_in c.makers-makers.result.now in
+    let edge = c.edge-item.result in
+    let maker = maker_in c.makers-makers.result.now in
     let at = slice_get_read edges _ i edge refl c.loop-edge-test.true c.edge-item.is in
     let inputs = c.iter.ensures.rest ∙ c.deref.ensures.value ∙ ap (λ (x : EdgeValue). x.inputs) c.edge.view_is in
     let implicit_inputs = c.iter-in-loop-edge.ensures.rest ∙ c.deref-in-loop-edge.ensures.value ∙ ap (λ (x : EdgeValue). x.implicit_inputs) c.edge.view_is in
@@ -32,25 +32,29 @@ loop-edge-preserved c =
     (YieldsList-at c.chain-inputs.ensures.first (YieldsList-from_chain
     (YieldsList-at c.chain.ensures.first (YieldsList-from_slice edge.inputs inputs))
     (YieldsList-at c.chain.ensures.second (YieldsList-from_slice edge.implicit_inputs implicit_inputs)) c.chain.ensures.first_done c.chain.ensures.second_done))
-    (YieldsList-at c.chain-inputs.ensures.second (YieldsList-from_slice edge.order_only order_only)) c.chain-inputs.ensures.first_done c.chain-inputs.ensures.second_done))
+    (YieldsList-at c.chain-inputs.ensures.second (YieldsList-from_slice edge.order_only order_only)) c.chain-inputs.ensures.first_done
+    c.chain-inputs.ensures.second_done))
     c.filter_map-row.ensures.closure (λ x r q k. search (rules, tests)))) in
     let row : c.in_ok-collect.field-0.items ≡ makers_row maker edge = subst (λ r. IfOk r (λ row. row.items ≡ makers_row maker edge)) c.in_ok-collect.was made in
-    mapped_next (λ (row : Vec ℕ Global). row.items) (makers_row maker) edges i edge c.loop-edge.needs.items c.push.new.self.items c.in_ok-collect.field-0 at c.loop-edge.invariant c.in_ok-push.ensures.items row
+    mapped_next (λ (row : Vec ℕ Global). row.items) (makers_row maker) edges i edge c.loop-edge.needs.items c.push.new.self.items c.in_ok-collect.field-0 at
+    c.loop-edge.invariant c.in_ok-push.ensures.items row
 
 pub new-digraph-requires : goal.new-digraph-requires
 new-digraph-requires c =
-    let g : List EdgeValue = c.args.graph.now in
+    let g = c.args.graph.now in
     let maker = maker_in c.makers-makers.result.now in
     let are = are_makers g c.makers-makers.result.now c.makers-makers.ensures in
-    let needs : rows c.loop-edge.needs.items ≡ map (makers_row maker) g = c.loop-edge.invariant ∙ ap (map (makers_row maker)) (take_all c.loop-edge.edge-index c.edges-edges.result.now c.loop-edge-test.false ∙ c.edges-edges.ensures.edges) in
+    let needs = c.loop-edge.invariant ∙
+    ap (map (makers_row maker)) (take_all c.loop-edge.edge-index c.edges-edges.result.now c.loop-edge-test.false ∙ c.edges-edges.ensures.edges) in
     subst NeedsAreNodes (sym needs) (are_nodes g maker c.edges-edges.ensures.graph.made_once are)
 
 pub returns : goal.returns
 returns c =
-    let g : List EdgeValue = c.args.graph.now in
+    let g = c.args.graph.now in
     let maker = maker_in c.makers-makers.result.now in
     let are = are_makers g c.makers-makers.result.now c.makers-makers.ensures in
-    let needs : rows c.loop-edge.needs.items ≡ map (makers_row maker) g = c.loop-edge.invariant ∙ ap (map (makers_row maker)) (take_all c.loop-edge.edge-index c.edges-edges.result.now c.loop-edge-test.false ∙ c.edges-edges.ensures.edges) in
-    let digraph : List (List ℕ) = c.new-digraph.result in
+    let needs = c.loop-edge.invariant ∙
+    ap (map (makers_row maker)) (take_all c.loop-edge.edge-index c.edges-edges.result.now c.loop-edge-test.false ∙ c.edges-edges.ensures.edges) in
+    let digraph = c.new-digraph.result in
     IfOk-weaker c.order.result (IsSortingOf (length digraph) (NodeNeeds digraph)) (IsSortingOf (length g) (EdgeNeeds g))
     (λ sorting sorted. sorting_of g maker c.edges-edges.ensures.graph.made_once are digraph sorting (c.new-digraph.ensures ∙ needs) sorted) c.order.ensures

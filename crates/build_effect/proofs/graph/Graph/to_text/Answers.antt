@@ -15,7 +15,8 @@ returns-then-len-start-gt-LINE_LIMIT c =
     let edges : List EdgeValue = c.edges-edge-items.result.now in
     let e : EdgeValue = c.edge-item.result in
     let i : ℕ = c.loop-edge_index.edge_index in
-    let lengths : length c.push_line.new.text.items ≡ length c.loop-edge_index.text.items + length (edge_line e) = ap length c.in_ok-push_line.ensures ∙ length-append c.loop-edge_index.text.items (edge_line e) in
+    let lengths : length c.push_line.new.text.items ≡ length c.loop-edge_index.text.items + length (edge_line e) = ap length c.in_ok-push_line.ensures ∙
+    length-append c.loop-edge_index.text.items (edge_line e) in
     let long : line_limit < length (edge_line e) = omega (arith, lengths, c.len.ensures, c.len-start.ensures, c.if-len-start-gt-LINE_LIMIT.true) in
     subst (λ (es : List EdgeValue). listing_text_or_fault es ≡ Err (ListingTooLong i)) c.edges-edge-items.ensures.edges
     (too_long_here edges i e c.loop-edge_index-test.true c.edge-item.is c.loop-edge_index.invariant.none long)
@@ -26,13 +27,16 @@ loop-edge_index-preserved c =
     let e : EdgeValue = c.edge-item.result in
     let i : ℕ = c.loop-edge_index.edge_index in
     let before : List ℕ = c.loop-edge_index.text.items in
-    let lengths : length c.push_line.new.text.items ≡ length before + length (edge_line e) = ap length c.in_ok-push_line.ensures ∙ length-append before (edge_line e) in
+    let lengths : length c.push_line.new.text.items ≡ length before + length (edge_line e) = ap length c.in_ok-push_line.ensures ∙
+    length-append before (edge_line e) in
     let short : length (edge_line e) ≤ line_limit = omega (arith, lengths, c.len.ensures, c.len-start.ensures, c.if-len-start-gt-LINE_LIMIT.false) in
     let line = c.push_line.new.text.items in
     let dyndep : c.match-edge.text.items ≡ line ++ dyndep_line c.edge.inside.dyndep =
     elim c.match-edge.branch [
       | in-Some+in_ok-extend_from_slice+in_ok-escape_into+in_ok-extend_from_slice-2 w ↦
-          rw (w.text-is, w.in-Some.is) (dyndep_added line _ _ _ w.in-Some.path w.in_ok-extend_from_slice.ensures.items (w.in_ok-escape_into.ensures.ok ∙ ap (λ p. w.extend_from_slice.new.self.items ++ escaped p) w.bytes.ensures.text)
+          rw (w.text-is, w.in-Some.is)
+          (dyndep_added line _ _ _ w.in-Some.path w.in_ok-extend_from_slice.ensures.items
+          (w.in_ok-escape_into.ensures.ok ∙ ap (λ p. w.extend_from_slice.new.self.items ++ escaped p) w.bytes.ensures.text)
           w.in_ok-extend_from_slice-2.ensures.items)
       | in_default w ↦ rw (w.text-is, w.in_default.is) (sym (append-nil line))
     ] in
@@ -42,7 +46,8 @@ loop-edge_index-preserved c =
       | else-edge w ↦ rw (w.text-is, w.if-edge.false) (sym (append-nil c.match-edge.text.items))
     ] in
     let added : c.if-edge.text.items ≡ ((before ++ edge_line e) ++ dyndep_line e.dyndep) ++ restat_line e.restat =
-    restat ∙ ap (λ t. t ++ restat_line c.edge.inside.restat) (dyndep ∙ ap (λ t. t ++ dyndep_line c.edge.inside.dyndep) c.in_ok-push_line.ensures) ∙ ap (λ (v : EdgeValue). ((before ++ edge_line e) ++ dyndep_line v.dyndep) ++ restat_line v.restat) c.edge.view_is in
+    restat ∙ ap (λ t. t ++ restat_line c.edge.inside.restat) (dyndep ∙ ap (λ t. t ++ dyndep_line c.edge.inside.dyndep) c.in_ok-push_line.ensures) ∙
+    ap (λ (v : EdgeValue). ((before ++ edge_line e) ++ dyndep_line v.dyndep) ++ restat_line v.restat) c.edge.view_is in
     record {
       text = text_goes_on edges i e before c.if-edge.text.items c.loop-edge_index-test.true c.edge-item.is added c.loop-edge_index.invariant.text;
       none = none_so_far edges i e c.loop-edge_index-test.true c.edge-item.is c.loop-edge_index.invariant.none short;

@@ -12,9 +12,11 @@ returns-clause-all c = λ bytes before.
     let has : HasReadListing bytes c.self.inside.lines = subst (HasReadListing bytes) (sym c.self.view_is) before in
     let read = fed bytes all c.self.inside.lines c.feed.result c.feed.new.self has (c.feed.ensures.all bytes) in
     elim c.match-feed.branch [
-      | in-Ok w ↦ subst (λ r. FeedsListing all r c.feed.new.self) (sym w.result-is) (subst (λ r. Reads HasReadListing IsListingFaultIn all r c.feed.new.self) w.in-Ok.is read)
+      | in-Ok w ↦ subst (λ r. FeedsListing all r c.feed.new.self) (sym w.result-is)
+          (subst (λ r. Reads HasReadListing IsListingFaultIn all r c.feed.new.self) w.in-Ok.is read)
       | in-Err w ↦
           let failure = w.in-Err.failure in
           let same : w.map.result ≡ line_failure failure = turned_to AtLine line_failure refl (λ fault. refl) failure _ w.map.ensures in
-          subst (λ r. FeedsListing all r c.feed.new.self) (sym (w.result-is ∙ ap (λ f. Err f) same)) (fails all failure c.feed.new.self (subst (λ r. Reads HasReadListing IsListingFaultIn all r c.feed.new.self) w.in-Err.is read))
+          subst (λ r. FeedsListing all r c.feed.new.self) (sym (w.result-is ∙ ap (λ f. Err f) same))
+          (fails all failure c.feed.new.self (subst (λ r. Reads HasReadListing IsListingFaultIn all r c.feed.new.self) w.in-Err.is read))
     ]

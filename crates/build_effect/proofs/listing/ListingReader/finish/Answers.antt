@@ -17,7 +17,8 @@ returns-in-Err-new-clause-all c = λ bytes before.
     let lists : Lists bytes c.in-Ok.end.0.edges = listed bytes c.self.inside.lines c.in-Ok.end has (c.in-Ok.ensures.all bytes) in
     let failure = c.in-Err-new.failure in
     let same : c.map-in-Err-new.result ≡ graph_failure failure = turned_to NoGraph graph_failure refl (λ fault. refl) failure _ c.map-in-Err-new.ensures in
-    subst (λ f. EndsListing bytes (Err f)) (sym same) (no_graph bytes _ failure (subst (Lists bytes) (sym (ap (λ v. v.0.edges) c.end.view_is)) lists) c.in-Err-new.ensures.fault)
+    subst (λ f. EndsListing bytes (Err f)) (sym same)
+    (no_graph bytes _ failure (subst (Lists bytes) (sym (ap (λ v. v.0.edges) c.end.view_is)) lists) c.in-Err-new.ensures.fault)
 
 pub returns-in-Err-clause-all : goal.returns-in-Err-clause-all
 returns-in-Err-clause-all c = λ bytes before.

@@ -1,13 +1,12 @@
 use Rattle.std.proofs.Common.{◌≡◌, ◌++◌, length}
-use Rattle.dep_order.specs.Rows.{rows}
 use Rattle.dyndep_file.specs.BuildTokens.{symbols_left}
 use Rattle.build_effect.specs.inner.ListingWalk.{front_words, past_words}
 use Rattle.build_effect.proofs.listing.rows.front_words.Given as goal
 
--- the words so far and those to come are all words, and the same tokens follow them
+-- the strings so far and the words to come are all of them, and the same tokens follow them
 abbrev pub invariant-loop-token : goal.invariant-loop-token
 invariant-loop-token l = record {
-  words : rows l.values.items ++ front_words (symbols_left l.tokens) ≡ front_words (symbols_left l.initial.tokens);
+  words : l.strings ++ front_words (symbols_left l.tokens) ≡ l.initial.strings ++ front_words (symbols_left l.initial.tokens);
   rest : past_words (symbols_left l.tokens) ≡ past_words (symbols_left l.initial.tokens);
 }
 

@@ -14,4 +14,5 @@ named (b ∷ bytes) all some is = is
 pub returns-in-len1-up : goal.returns-in-len1-up
 returns-in-len1-up c =
     named c.args.name.now c.all.result c.in-len1-up.len_at_least
-    (all_from_yields_List is_identifier_byte _ _ c.all.result c.all.ensures.ran (YieldsList-from_slice c.args.name.now c.iter.ensures.rest) (λ x b q k. search (rules, tests)))
+    (all_from_yields_List is_identifier_byte _ _ c.all.result c.all.ensures.ran (YieldsList-from_slice c.args.name.now c.iter.ensures.rest)
+    (λ x b q k. search (rules, tests)))
