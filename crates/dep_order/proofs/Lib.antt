@@ -1,3 +1,4 @@
+pub mod Words
 pub mod Stuck
 pub mod Orders
 pub mod Spans
