@@ -31,18 +31,19 @@ within graph nodes thing needed need = grind (arith, common_steps)
 pub uses : (needs users : Graph) → AreUsers needs users → (node user : ℕ) → NodeNeeds users node user → NodeNeeds needs user node
 uses needs users u node user h = has_from_count node (needs_of needs user) (omega (arith, count_from_has user (needs_of users node) h, u.counts node user))
 
-pub used : (needs users : Graph) → AreUsers needs users → (node user : ℕ) → NodeNeeds needs user node → NodeNeeds users node user
-used needs users u node user h = has_from_count user (needs_of users node) (omega (arith, count_from_has node (needs_of needs user) h, u.counts node user))
+pub used : {needs users : Graph} → AreUsers needs users → (node user : ℕ) → NodeNeeds needs user node → NodeNeeds users node user
+used {needs} {users} u node user h = has_from_count user (needs_of users node) (omega (arith, count_from_has node (needs_of needs user) h, u.counts node user))
 
-pub users_are_nodes : (needs users : Graph) → AreUsers needs users → NeedsAreNodes needs → NeedsAreNodes users
-users_are_nodes needs users u nodes k d lt i e lt' =
+pub users_are_nodes : {needs users : Graph} → AreUsers needs users → NeedsAreNodes needs → NeedsAreNodes users
+users_are_nodes {needs} {users} u nodes k d lt i e lt' =
     let row : get_or users k d ≡ needs_of users k = get_or_default users k d [] lt in
     let has : NodeNeeds users k (get_or (get_or users k d) i e) = rw (← row) (Contains-get_or (get_or users k d) i e lt') in
     omega (arith, (within needs nodes (get_or (get_or users k d) i e) k (uses needs users u k (get_or (get_or users k d) i e) has)).0)
 
 -- all are ordered
-pub all_ordered : (needs : Graph) (ordered : Numbers) → NeedsAreNodes needs → length ordered ≡ length needs → AreOrdered needs ordered → IsOrderable (length needs) (NodeNeeds needs) × IsLeastOrder (length needs) (NodeNeeds needs) ordered
-all_ordered needs ordered nodes e h =
+pub all_ordered : {needs : Graph} {ordered : Numbers} → NeedsAreNodes needs → length ordered ≡ length needs → AreOrdered needs ordered →
+    IsOrderable (length needs) (NodeNeeds needs) × IsLeastOrder (length needs) (NodeNeeds needs) ordered
+all_ordered {needs} {ordered} nodes e h =
     let least : IsLeastOrder (length needs) (NodeNeeds needs) ordered = record { as_many = e; all = all; each = h.each } in
     (orderable (length needs) (NodeNeeds needs) ordered (within needs nodes) least, least)
   where
@@ -54,8 +55,10 @@ all_ordered needs ordered nodes e h =
           arith,
           length_push ordered thing,
           length-le_from_distinct_below (ordered ++ thing ∷ []) (length needs)
-              (IsDistinct-push nat_eq_equiv ordered thing (differ (length needs) (NodeNeeds needs) ordered h.each) (false_from_ne_true _ (λ a. lacks (has_from_any ordered thing a))))
-              (λ q a. ⊎_elim (λ m. ordered_below (length needs) (NodeNeeds needs) ordered h.each q m) (λ last. rw (← last) lt) (Contains-push_cases ordered thing q (has_from_any (ordered ++ thing ∷ []) q a))),
+              (IsDistinct-push nat_eq_equiv ordered thing (differ (length needs) (NodeNeeds needs) ordered h.each)
+              (false_from_ne_true _ (λ a. lacks (has_from_any ordered thing a))))
+              (λ q a. ⊎_elim (λ m. ordered_below (length needs) (NodeNeeds needs) ordered h.each q m) (λ last. rw (← last) lt)
+              (Contains-push_cases ordered thing q (has_from_any (ordered ++ thing ∷ []) q a))),
         )))
         (has_or_not ordered thing)
 
@@ -69,7 +72,8 @@ stuck needs ordered nodes h thing left =
     (next.0, next.1, ((within needs nodes thing next.0 next.1).1, next.2))
 
 -- some node below is left, or all are ordered
-pub some_left : (needs : Graph) (ordered : Numbers) (k : ℕ) → k ≤ length needs → ((node : ℕ) × IsLeft needs ordered node) ⊎ ((node : ℕ) → node < k → Contains ordered node)
+pub some_left : (needs : Graph) (ordered : Numbers) (k : ℕ) → k ≤ length needs →
+    ((node : ℕ) × IsLeft needs ordered node) ⊎ ((node : ℕ) → node < k → Contains ordered node)
 some_left needs ordered zero le = inr (λ node lt. absurd (omega arith))
 some_left needs ordered (suc k) le =
     ⊎_elim
@@ -81,42 +85,51 @@ some_left needs ordered (suc k) le =
     (some_left needs ordered k (omega arith))
 
 -- if not all are ordered, some node is left
-pub one_left : (needs : Graph) (ordered : Numbers) → length ordered ≢ length needs → AreOrdered needs ordered → (node : ℕ) × IsLeft needs ordered node
-one_left needs ordered ne h =
+pub one_left : {needs : Graph} {ordered : Numbers} → length ordered ≢ length needs → AreOrdered needs ordered → (node : ℕ) × IsLeft needs ordered node
+one_left {needs} {ordered} ne h =
     ⊎_elim
     (λ left. left)
-    (λ all. absurd (ne (let e : length ordered ≡ length needs = omega (arith, not_more (length needs) (NodeNeeds needs) ordered h.each, le-length_from_below ordered (length needs) (λ q lt. any_from_has ordered q (all q lt))) in e)))
+    (λ all. absurd (ne (let e : length ordered ≡ length needs =
+    omega (
+      arith,
+      not_more (length needs) (NodeNeeds needs) ordered h.each,
+      le-length_from_below ordered (length needs) (λ q lt. any_from_has ordered q (all q lt)),
+    ) in e)))
     (some_left needs ordered (length needs) (omega arith))
 
 -- if not all are ordered, there is no numbering, and there is a cycle
-pub not_all_ordered : (needs : Graph) (ordered : Numbers) → NeedsAreNodes needs → length ordered ≢ length needs → AreOrdered needs ordered → (¬ IsOrderable (length needs) (NodeNeeds needs)) × HasCycle (NodeNeeds needs)
-not_all_ordered needs ordered nodes ne h =
-    let left = one_left needs ordered ne h in (
+pub not_all_ordered : {needs : Graph} {ordered : Numbers} → NeedsAreNodes needs → length ordered ≢ length needs → AreOrdered needs ordered →
+    (¬ IsOrderable (length needs) (NodeNeeds needs)) × HasCycle (NodeNeeds needs)
+not_all_ordered {needs} {ordered} nodes ne h =
+    let left = one_left ne h in (
       not_orderable (length needs) (IsLeft needs ordered) (NodeNeeds needs) left.0 (stuck needs ordered nodes h) left.1,
       has_cycle (length needs) (IsLeft needs ordered) (NodeNeeds needs) left.0 (λ x l. l.0) (stuck needs ordered nodes h) left.1,
     )
 
 -- steps along users are steps back along needs
-pub steps_back : (needs users : Graph) (count first : ℕ) (steps : Marks) → AreUsers needs users → AreSteps count (NodeNeeds users) first steps → AreSteps count (LeadsBack (NodeNeeds needs)) first steps
-steps_back needs users count first steps u s = record {
+pub steps_back : {needs users : Graph} {count first : ℕ} {steps : Marks} → AreUsers needs users → AreSteps count (NodeNeeds users) first steps →
+    AreSteps count (LeadsBack (NodeNeeds needs)) first steps
+steps_back {needs} {users} u s = record {
   as_many = s.as_many;
   start = s.start;
   only_start = s.only_start;
   behind = λ node fewer e. let b = s.behind node fewer e in (b.0, b.1, uses needs users u b.0 node b.2);
-  nearest = λ before node k e leads. s.nearest before node k e (used needs users u before node leads);
+  nearest = λ before node k e leads. s.nearest before node k e (used u before node leads);
 }
 
 -- no cycle begins with a thing that steps never lead back to
-pub no_way_back : (count : ℕ) (graph : Graph) (first : ℕ) (steps : Marks) → AreSteps count (LeadsBack (NodeNeeds graph)) first steps → IsFewest (needs_of graph first) steps None → NoneFrom (NodeNeeds graph) first
-no_way_back count graph first steps s f [] h e = h
-no_way_back count graph first steps s f (x ∷ []) h e = none_is_no_some (mark_of steps first) 0 (f first (rw (← e) h)) s.start
-no_way_back count graph first steps s f (x ∷ next ∷ others) h e =
-    let c = chain_steps count (NodeNeeds graph) first steps s next others (rw (← e) h.1) in
+pub no_way_back : {count : ℕ} (graph : Graph) {first : ℕ} {steps : Marks} → AreSteps count (LeadsBack (NodeNeeds graph)) first steps →
+    IsFewest (needs_of graph first) steps None → NoneFrom (NodeNeeds graph) first
+no_way_back graph s f [] h e = h
+no_way_back graph {first} {steps} s f (x ∷ []) h e = none_is_no_some (mark_of steps first) 0 (f first (rw (← e) h)) s.start
+no_way_back {count} graph {first} {steps} s f (x ∷ next ∷ others) h e =
+    let c = chain_steps (NodeNeeds graph) s next others (rw (← e) h.1) in
     none_is_no_some (mark_of steps next) c.0 (f next (rw (← e) h.0)) c.1
 
 -- the least cycle from the least thing on any is the least
-pub least_of_all : (Needs : Relation) (first : ℕ) (cycle : Numbers) → ((other : Numbers) → IsCycle Needs other → first ≤ first_of other) → IsLeastFrom Needs first cycle → IsLeastCycle Needs cycle
-least_of_all Needs first cycle below h = record {
+pub least_of_all : {Needs : Relation} {first : ℕ} {cycle : Numbers} → ((other : Numbers) → IsCycle Needs other → first ≤ first_of other) →
+    IsLeastFrom Needs first cycle → IsLeastCycle Needs cycle
+least_of_all {Needs} {cycle} below h = record {
   is_cycle = h.is_cycle;
   least_first = λ other c k d lt.
       let turned = rotated Needs other (get_or other k d) c (Contains-get_or other k d lt) in
@@ -137,7 +150,8 @@ first_in_range graph [] nodes h = absurd h
 first_in_range graph (first ∷ others) nodes h = let next = next_on_cycle (NodeNeeds graph) first others h in (within graph nodes first next.0 next.1).0
 
 -- no cycle begins with the node
-pub none_from : (Needs : Relation) (first : ℕ) → NoneFrom Needs first → ((cycle : Numbers) → IsCycle Needs cycle → first ≤ first_of cycle) → (cycle : Numbers) → IsCycle Needs cycle → first + 1 ≤ first_of cycle
+pub none_from : (Needs : Relation) (first : ℕ) → NoneFrom Needs first → ((cycle : Numbers) → IsCycle Needs cycle → first ≤ first_of cycle) → (cycle : Numbers) →
+    IsCycle Needs cycle → first + 1 ≤ first_of cycle
 none_from Needs first none below cycle h =
     ⊎_elim (λ same. absurd (none cycle h same)) (λ ne. omega (arith, below cycle h)) (cases_eq (first_of cycle) first)
 
@@ -154,8 +168,8 @@ last_of_chain Needs x [] end h = (x, h)
 last_of_chain Needs x (next ∷ xs) end h = last_of_chain Needs next xs end h.1
 
 -- no cycle begins with what nothing needs
-pub none_without_users : (needs users : Graph) (node : ℕ) → AreUsers needs users → needs_of users node ≡ [] → NoneFrom (NodeNeeds needs) node
-none_without_users needs users node u e [] h begins = h
-none_without_users needs users node u e (first ∷ others) h begins =
+pub none_without_users : {needs users : Graph} (node : ℕ) → AreUsers needs users → needs_of users node ≡ [] → NoneFrom (NodeNeeds needs) node
+none_without_users node u e [] h begins = h
+none_without_users {needs} {users} node u e (first ∷ others) h begins =
     let last = last_of_chain (NodeNeeds needs) first others first h in
-    has_none last.0 (subst (λ xs. Contains xs last.0) (ap (needs_of users) begins ∙ e) (used needs users u first last.0 last.1))
+    has_none last.0 (subst (λ xs. Contains xs last.0) (ap (needs_of users) begins ∙ e) (used u first last.0 last.1))

@@ -54,7 +54,8 @@ module _ (h : ℕ → Option ℕ) where
   Made : Numbers → ℕ → Type 0
   Made xs k = (x : ℕ) × Contains xs x × (h x ≡ Some k)
 
-  from_cons : (x : ℕ) (xs : Numbers) (o : Option ℕ) (k : ℕ) → h x ≡ o → Contains (cons_option o (filter_map h xs)) k → (Contains (filter_map h xs) k → Made xs k) → Made (x ∷ xs) k
+  from_cons : (x : ℕ) (xs : Numbers) (o : Option ℕ) (k : ℕ) → h x ≡ o → Contains (cons_option o (filter_map h xs)) k →
+      (Contains (filter_map h xs) k → Made xs k) → Made (x ∷ xs) k
   unfolding Made
   from_cons x xs None k is has rest = let r = rest has in (r.0, has_tail x r.0 xs r.1, r.2)
   from_cons x xs (Some m) k is has rest =
@@ -83,7 +84,8 @@ passes : (p : ℕ → Bool) (xs : Numbers) (x : ℕ) → Contains xs x → p x �
 passes p [] x has is = absurd (has_none x has)
 passes p (y ∷ ys) x has is =
     ⊎_elim
-    (λ first. subst (λ b. Contains (cond b (y ∷ filter p ys) (filter p ys)) x) (sym (ap p first ∙ is)) (subst (Contains (y ∷ filter p ys)) first (has_head y (filter p ys))))
+    (λ first. subst (λ b. Contains (cond b (y ∷ filter p ys) (filter p ys)) x) (sym (ap p first ∙ is))
+    (subst (Contains (y ∷ filter p ys)) first (has_head y (filter p ys))))
     (λ later. more (p y) (passes p ys x later is))
     (has_cons_cases y x ys has)
   where
@@ -140,8 +142,10 @@ module _ (row : Numbers) (steps : Marks) (count : ℕ) where
       let r = least_of a nodes in
       let there : Contains (filter (is_at steps count) row) m = rw are r.listed in
       record {
-        in_row = of_each (Contains row) (filter (is_at steps count) row) m (All-filter (is_at steps count) (Contains row) row (λ i d lt. Contains-get_or row i d lt)) there;
-        steps_away = some_equal (mark_of steps m) count (of_each (λ node. is_at steps count node ≡ true) (filter (is_at steps count) row) m (filter_passes (is_at steps count) row) there);
+        in_row = of_each (Contains row) (filter (is_at steps count) row) m
+            (All-filter (is_at steps count) (Contains row) row (λ i d lt. Contains-get_or row i d lt)) there;
+        steps_away = some_equal (mark_of steps m) count
+            (of_each (λ node. is_at steps count node ≡ true) (filter (is_at steps count) row) m (filter_passes (is_at steps count) row) there);
         least = λ node has is. r.least node (subst (λ xs. Contains xs node) are (is_listed node has is));
       }
 
@@ -162,19 +166,20 @@ pub record IsBefore (xs ys : Numbers) : Type 0 where
   pub below : less < more
 
 -- more after the first list
-pub before_longer : (xs ys zs : Numbers) → IsBefore xs ys → IsBefore (xs ++ zs) ys
-before_longer xs ys zs h = grind (arith, common_steps)
+pub before_longer : {xs ys : Numbers} (zs : Numbers) → IsBefore xs ys → IsBefore (xs ++ zs) ys
+before_longer zs h = grind (arith, common_steps)
 
 cmp_less : (same : Numbers) (a b : ℕ) (xs ys : Numbers) → a < b → slice_cmp nat_cmp (same ++ a ∷ xs) (same ++ b ∷ ys) ≡ Less
 cmp_less [] a b xs ys lt = ap (λ o. ordering_then o (slice_cmp nat_cmp xs ys)) (is_less a b lt)
   where
     is_less : (a b : ℕ) → a < b → nat_cmp a b ≡ Less
     is_less a b lt = grind (arith, nat_tests)
-cmp_less (z ∷ same) a b xs ys lt = ap (λ o. ordering_then o (slice_cmp nat_cmp (same ++ a ∷ xs) (same ++ b ∷ ys))) (tied_itself nat_cmp_total z) ∙ cmp_less same a b xs ys lt
+cmp_less (z ∷ same) a b xs ys lt = ap (λ o. ordering_then o (slice_cmp nat_cmp (same ++ a ∷ xs) (same ++ b ∷ ys))) (tied_itself nat_cmp_total z) ∙
+    cmp_less same a b xs ys lt
 
 -- what is before is not greater
-pub not_greater : (xs ys : Numbers) → IsBefore xs ys → slice_cmp nat_cmp xs ys ≢ Greater
-not_greater xs ys h e =
+pub not_greater : {xs ys : Numbers} → IsBefore xs ys → slice_cmp nat_cmp xs ys ≢ Greater
+not_greater {xs} {ys} h e =
     let less : slice_cmp nat_cmp xs ys ≡ Less = rw h.first_is (rw h.second_is (cmp_less h.alike h.less h.more h.behind_less h.behind_more h.below)) in
     let both : Less ≡ Greater = sym less ∙ e in cc
 
@@ -195,20 +200,23 @@ chain_cycle Needs [] first e lt h = absurd (omega arith)
 chain_cycle Needs (x ∷ others) first e lt h = rw e h
 
 -- a chain to the start is at least as long as the fewest steps
-pub chain_steps : (count : ℕ) (Needs : Relation) (first : ℕ) (steps : Marks) → AreSteps count (LeadsBack Needs) first steps → (x : ℕ) (xs : Numbers) → IsChain Needs (x ∷ xs) first → (k : ℕ) × (mark_of steps x ≡ Some k) × (k ≤ length (x ∷ xs))
-chain_steps count Needs first steps s x [] h = let n = s.nearest first x 0 s.start h in (n.0, n.1, omega arith)
-chain_steps count Needs first steps s x (next ∷ xs) h =
-    let rest = chain_steps count Needs first steps s next xs h.1 in
+pub chain_steps : {count : ℕ} (Needs : Relation) {first : ℕ} {steps : Marks} → AreSteps count (LeadsBack Needs) first steps → (x : ℕ) (xs : Numbers) →
+    IsChain Needs (x ∷ xs) first → (k : ℕ) × (mark_of steps x ≡ Some k) × (k ≤ length (x ∷ xs))
+chain_steps Needs {first} s x [] h = let n = s.nearest first x 0 s.start h in (n.0, n.1, omega arith)
+chain_steps {count} Needs {first} {steps} s x (next ∷ xs) h =
+    let rest = chain_steps Needs s next xs h.1 in
     let n = s.nearest next x rest.0 rest.1 h.0 in
     (n.0, n.1, omega arith)
 
 -- no cycle that begins with the first thing is shorter
-pub none_shorter : (count fewest : ℕ) (graph : Graph) (first : ℕ) (steps : Marks) → AreSteps count (LeadsBack (NodeNeeds graph)) first steps → IsFewest (needs_of graph first) steps (Some fewest) → (other : Numbers) → IsCycle (NodeNeeds graph) other → first_of other ≡ first → fewest + 1 ≤ length other
-none_shorter count fewest graph first steps s f [] h e = absurd h
-none_shorter count fewest graph first steps s f (x ∷ []) h e =
+pub none_shorter : {count : ℕ} (fewest : ℕ) (graph : Graph) {first : ℕ} {steps : Marks} → AreSteps count (LeadsBack (NodeNeeds graph)) first steps →
+    IsFewest (needs_of graph first) steps (Some fewest) → (other : Numbers) → IsCycle (NodeNeeds graph) other → first_of other ≡ first →
+    fewest + 1 ≤ length other
+none_shorter fewest graph s f [] h e = absurd h
+none_shorter fewest graph {first} s f (x ∷ []) h e =
     omega (arith, f.1 first 0 (rw (← e) h) s.start)
-none_shorter count fewest graph first steps s f (x ∷ next ∷ others) h e =
-    let c = chain_steps count (NodeNeeds graph) first steps s next others (rw (← e) h.1) in
+none_shorter {count} fewest graph {first} {steps} s f (x ∷ next ∷ others) h e =
+    let c = chain_steps (NodeNeeds graph) s next others (rw (← e) h.1) in
     omega (arith, f.1 next c.0 (rw (← e) h.0) c.1)
 
 -- this many things of the cycle are chosen
@@ -220,10 +228,12 @@ pub record IsChosen (graph : Graph) (first fewest : ℕ) (steps : Marks) (cycle 
   pub begins_with : first_of cycle ≡ first
   pub node_in : node < length graph
   pub ahead : IsFewest (needs_of graph node) steps (Some (fewest - chosen))
-  pub least : (other : Numbers) → IsCycle (NodeNeeds graph) other → first_of other ≡ first → length other ≡ fewest + 1 → ((rest : Numbers) × (other ≡ cycle ++ rest)) ⊎ IsBefore cycle other
+  pub least : (other : Numbers) → IsCycle (NodeNeeds graph) other → first_of other ≡ first → length other ≡ fewest + 1 →
+      ((rest : Numbers) × (other ≡ cycle ++ rest)) ⊎ IsBefore cycle other
 
 -- the first thing is chosen
-pub first_chosen : (graph : Graph) (first fewest : ℕ) (steps : Marks) (cycle : Numbers) → cycle ≡ first ∷ [] → first < length graph → IsFewest (needs_of graph first) steps (Some fewest) → IsChosen graph first fewest steps cycle first 0
+pub first_chosen : (graph : Graph) (first fewest : ℕ) (steps : Marks) (cycle : Numbers) → cycle ≡ first ∷ [] → first < length graph →
+    IsFewest (needs_of graph first) steps (Some fewest) → IsChosen graph first fewest steps cycle first 0
 first_chosen graph first fewest steps cycle e lt f = record {
   as_many = omega (arith, ap length e);
   front = [];
@@ -240,8 +250,11 @@ first_chosen graph first fewest steps cycle e lt f = record {
     rest_of (x ∷ others) h begins = (others, ap (λ z. z ∷ others) begins ∙ ap (λ ws. ws ++ others) (sym e))
 
 -- the next thing is chosen
-pub next_chosen : (graph : Graph) (first fewest : ℕ) (steps : Marks) (cycle : Numbers) (node chosen next : ℕ) → AreSteps (length graph) (LeadsBack (NodeNeeds graph)) first steps → next < length graph → chosen < fewest → IsLeastAt (needs_of graph node) steps (fewest - chosen) next → IsChosen graph first fewest steps cycle node chosen → IsChosen graph first fewest steps (cycle ++ next ∷ []) next (chosen + 1)
-next_chosen graph first fewest steps cycle node chosen next s in' lt at h = record {
+pub next_chosen : {graph : Graph} {first fewest : ℕ} {steps : Marks} {cycle : Numbers} {node chosen next : ℕ} →
+    AreSteps (length graph) (LeadsBack (NodeNeeds graph)) first steps → next < length graph → chosen < fewest →
+    IsLeastAt (needs_of graph node) steps (fewest - chosen) next → IsChosen graph first fewest steps cycle node chosen →
+    IsChosen graph first fewest steps (cycle ++ next ∷ []) next (chosen + 1)
+next_chosen {graph} {first} {fewest} {steps} {cycle} {node} {chosen} {next} s in' lt at h = record {
   as_many = omega (arith, length_push cycle next);
   front = cycle;
   ends = refl;
@@ -249,7 +262,8 @@ next_chosen graph first fewest steps cycle node chosen next s in' lt at h = reco
   begins_with = begins cycle h.as_many ∙ h.begins_with;
   node_in = in';
   ahead = ahead;
-  least = λ other c begins long. ⊎_elim (λ same. later other c begins long same.0 same.1) (λ b. inr (before_longer cycle other (next ∷ []) b)) (h.least other c begins long);
+  least = λ other c begins long. ⊎_elim (λ same. later other c begins long same.0 same.1) (λ b. inr (before_longer (next ∷ []) b))
+      (h.least other c begins long);
 }
   where
     begins : (xs : Numbers) → length xs ≡ chosen + 1 → first_of (xs ++ next ∷ []) ≡ first_of xs
@@ -268,35 +282,39 @@ next_chosen graph first fewest steps cycle node chosen next s in' lt at h = reco
               omega (arith, one_value (mark_of steps next) n.0 ((fewest - (chosen + 1)) + 1) n.1 here),
         )
 
-    compared : (other : Numbers) (z : ℕ) (rest : Numbers) → other ≡ cycle ++ z ∷ rest → (next ≡ z) ⊎ (next ≢ z) → next ≤ z → ((rest : Numbers) × (other ≡ (cycle ++ next ∷ []) ++ rest)) ⊎ IsBefore (cycle ++ next ∷ []) other
+    compared : (other : Numbers) (z : ℕ) (rest : Numbers) → other ≡ cycle ++ z ∷ rest → (next ≡ z) ⊎ (next ≢ z) → next ≤ z →
+        ((rest : Numbers) × (other ≡ (cycle ++ next ∷ []) ++ rest)) ⊎ IsBefore (cycle ++ next ∷ []) other
     compared other z rest e c le =
         ⊎_elim
         (λ same. inl (rest, e ∙ ap (λ x. cycle ++ x ∷ rest) (sym same) ∙ sym (append_assoc cycle (next ∷ []) rest)))
         (λ ne. inr (record { alike = cycle; less = next; more = z; behind_less = []; behind_more = rest; first_is = refl; second_is = e; below = omega arith }))
         c
 
-    later : (other : Numbers) → IsCycle (NodeNeeds graph) other → first_of other ≡ first → length other ≡ fewest + 1 → (rest : Numbers) → other ≡ cycle ++ rest → ((rest : Numbers) × (other ≡ (cycle ++ next ∷ []) ++ rest)) ⊎ IsBefore (cycle ++ next ∷ []) other
+    later : (other : Numbers) → IsCycle (NodeNeeds graph) other → first_of other ≡ first → length other ≡ fewest + 1 → (rest : Numbers) →
+        other ≡ cycle ++ rest → ((rest : Numbers) × (other ≡ (cycle ++ next ∷ []) ++ rest)) ⊎ IsBefore (cycle ++ next ∷ []) other
     later other c begins long [] e = absurd (omega (arith, ap length e, length-append cycle []))
     later other c begins long (z ∷ rest) e =
         let around : IsChain (NodeNeeds graph) (cycle ++ z ∷ rest) first = rw (← e) (rw (← begins) (cycle_chain (NodeNeeds graph) other c)) in
         let cut = chain_split (NodeNeeds graph) cycle z rest first around in
         let need : NodeNeeds graph node z = (chain_split (NodeNeeds graph) h.front node [] z (rw (← h.ends) cut.0)).1 in
-        let away = chain_steps (length graph) (NodeNeeds graph) first steps s z rest cut.1 in
+        let away = chain_steps (NodeNeeds graph) s z rest cut.1 in
         let exact : away.0 ≡ fewest - chosen = omega (arith, h.ahead.1 z away.0 need away.1, ap length e, length-append cycle (z ∷ rest)) in
         compared other z rest e (cases_eq next z) (at.least z need (rw (← exact) away.1))
 
 -- all things are chosen
-pub all_chosen : (graph : Graph) (first fewest : ℕ) (steps : Marks) (cycle : Numbers) (node : ℕ) → AreSteps (length graph) (LeadsBack (NodeNeeds graph)) first steps → IsFewest (needs_of graph first) steps (Some fewest) → IsChosen graph first fewest steps cycle node fewest → IsLeastFrom (NodeNeeds graph) first cycle
-all_chosen graph first fewest steps cycle node s f h = record {
+pub all_chosen : {graph : Graph} {first fewest : ℕ} {steps : Marks} {cycle : Numbers} {node : ℕ} →
+    AreSteps (length graph) (LeadsBack (NodeNeeds graph)) first steps → IsFewest (needs_of graph first) steps (Some fewest) →
+    IsChosen graph first fewest steps cycle node fewest → IsLeastFrom (NodeNeeds graph) first cycle
+all_chosen {graph} {first} {fewest} {steps} {cycle} {node} s f h = record {
   is_cycle = chain_cycle (NodeNeeds graph) cycle first h.begins_with (omega arith) around;
   begins_with = h.begins_with;
-  shortest = λ other c begins. omega (arith, none_shorter (length graph) fewest graph first steps s f other c begins);
+  shortest = λ other c begins. omega (arith, none_shorter fewest graph s f other c begins);
   least_list = λ other c begins long.
       ⊎_elim
       (λ same.
       let none : same.0 ≡ [] = nil_from_length same.0 (omega (arith, ap length same.1, length-append cycle same.0)) in
       same_not_greater cycle other (same.1 ∙ ap (λ xs. cycle ++ xs) none ∙ append-nil cycle))
-      (λ b. not_greater cycle other b)
+      (λ b. not_greater b)
       (h.least other c begins (omega arith));
 }
   where

@@ -35,7 +35,9 @@ lower_first : (n m : ℕ) (ts us : Numbers) → slice_cmp nat_cmp (n ∷ ts) (m 
 lower_first n m ts us greater = grind (arith, common_steps)
 
 -- the same of lists of one length, by their order
-lists_all : (k : ℕ) (P : Numbers → Type 0) → ((xs : Numbers) → length xs ≡ k → ((ys : Numbers) → length ys ≡ k → slice_cmp nat_cmp xs ys ≡ Greater → P ys) → P xs) → (xs : Numbers) → length xs ≡ k → P xs
+lists_all : (k : ℕ) (P : Numbers → Type 0) →
+    ((xs : Numbers) → length xs ≡ k → ((ys : Numbers) → length ys ≡ k → slice_cmp nat_cmp xs ys ≡ Greater → P ys) → P xs) → (xs : Numbers) → length xs ≡ k →
+    P xs
 lists_all zero P step [] e = step [] refl none
   where
     none : (ys : Numbers) → length ys ≡ 0 → slice_cmp nat_cmp [] ys ≡ Greater → P ys
@@ -48,7 +50,9 @@ lists_all (suc k) P step (x ∷ xs) e =
     (λ n lower. lists_all k (λ ts. P (n ∷ ts)) (λ ts long lesser. step (n ∷ ts) (ap suc long) (next n ts lower lesser)))
     x xs (omega arith)
   where
-    next : (n : ℕ) (ts : Numbers) → ((m : ℕ) → m < n → (us : Numbers) → length us ≡ k → P (m ∷ us)) → ((us : Numbers) → length us ≡ k → slice_cmp nat_cmp ts us ≡ Greater → P (n ∷ us)) → (ys : Numbers) → length ys ≡ suc k → slice_cmp nat_cmp (n ∷ ts) ys ≡ Greater → P ys
+    next : (n : ℕ) (ts : Numbers) → ((m : ℕ) → m < n → (us : Numbers) → length us ≡ k → P (m ∷ us)) →
+        ((us : Numbers) → length us ≡ k → slice_cmp nat_cmp ts us ≡ Greater → P (n ∷ us)) → (ys : Numbers) → length ys ≡ suc k →
+        slice_cmp nat_cmp (n ∷ ts) ys ≡ Greater → P ys
     next n ts lower lesser [] long greater = absurd (omega arith)
     next n ts lower lesser (m ∷ us) long greater =
         let rest : length us ≡ k = omega arith in
@@ -86,21 +90,28 @@ distinct_or_twice (x ∷ xs) =
 
 module _ (Needs : Relation) where
   -- the cycle without what is between
-  cut : (front : Numbers) (x : ℕ) (between behind : Numbers) → IsCycle Needs (front ++ x ∷ (between ++ x ∷ behind)) → IsCycle Needs (front ++ x ∷ behind) × (first_of (front ++ x ∷ behind) ≡ first_of (front ++ x ∷ (between ++ x ∷ behind)))
+  cut : (front : Numbers) (x : ℕ) (between behind : Numbers) → IsCycle Needs (front ++ x ∷ (between ++ x ∷ behind)) →
+      IsCycle Needs (front ++ x ∷ behind) × (first_of (front ++ x ∷ behind) ≡ first_of (front ++ x ∷ (between ++ x ∷ behind)))
   cut [] x between behind h = ((chain_split Needs (x ∷ between) x behind x h).1, refl)
   cut (first ∷ front) x between behind h =
       let parts = chain_split Needs (first ∷ front) x (between ++ x ∷ behind) first h in
       let rest = chain_split Needs (x ∷ between) x behind first parts.1 in
       (chain_append Needs (first ∷ front) x behind first parts.0 rest.1, refl)
 
-  shorter_twice : (cycle : Numbers) → IsLeastCycle Needs cycle → IsTwice cycle → ⊥
-  shorter_twice cycle least t =
+  shorter_twice : {cycle : Numbers} → IsLeastCycle Needs cycle → IsTwice cycle → ⊥
+  shorter_twice {cycle} least t =
       let whole = t.front ++ t.thing ∷ (t.between ++ t.thing ∷ t.behind) in
       let less = t.front ++ t.thing ∷ t.behind in
       let c = cut t.front t.thing t.between t.behind (subst (IsCycle Needs) t.is least.is_cycle) in
       let first : first_of less ≡ first_of cycle = c.1 ∙ ap first_of (sym t.is) in
       let long = least.shortest less c.0 (subst (Contains less) first (has_first Needs less c.0)) in
-      absurd (omega (arith, ap length t.is, length-append t.front (t.thing ∷ (t.between ++ t.thing ∷ t.behind)), length-append t.between (t.thing ∷ t.behind), length-append t.front (t.thing ∷ t.behind)))
+      absurd (omega (
+        arith,
+        ap length t.is,
+        length-append t.front (t.thing ∷ (t.between ++ t.thing ∷ t.behind)),
+        length-append t.between (t.thing ∷ t.behind),
+        length-append t.front (t.thing ∷ t.behind),
+      ))
 
   module _ (count : ℕ) (within : AreWithin count Needs) where
     on_cycle : (cycle : Numbers) → IsCycle Needs cycle → (x : ℕ) → Contains cycle x → x < count
@@ -114,7 +125,7 @@ module _ (Needs : Relation) where
     least_is_short cycle least =
         ⊎_elim
         (λ distinct. length-le_from_distinct_below cycle count distinct (λ q e. on_cycle cycle least.is_cycle q (has_from_any cycle q e)))
-        (λ twice. absurd (shorter_twice cycle least twice))
+        (λ twice. absurd (shorter_twice least twice))
         (distinct_or_twice cycle)
 
   -- ---- if there is no least cycle, there is no cycle
@@ -126,9 +137,11 @@ module _ (Needs : Relation) where
     abbrev NoneAsLong : Relation
     NoneAsLong first n = (cycle : Numbers) → length cycle ≡ n → IsCycle Needs cycle → first_of cycle ≡ first → ⊥
 
-    least : (first n : ℕ) → ((m : ℕ) → m < first → NoneFrom m) → ((m : ℕ) → m < n → NoneAsLong first m) → (cycle : Numbers) → length cycle ≡ n → ((other : Numbers) → length other ≡ n → slice_cmp nat_cmp cycle other ≡ Greater → IsCycle Needs other → first_of other ≡ first → ⊥) → IsCycle Needs cycle → first_of cycle ≡ first → IsLeastCycle Needs cycle
+    least : (first n : ℕ) → ((m : ℕ) → m < first → NoneFrom m) → ((m : ℕ) → m < n → NoneAsLong first m) → (cycle : Numbers) → length cycle ≡ n →
+        ((other : Numbers) → length other ≡ n → slice_cmp nat_cmp cycle other ≡ Greater → IsCycle Needs other → first_of other ≡ first → ⊥) →
+        IsCycle Needs cycle → first_of cycle ≡ first → IsLeastCycle Needs cycle
     least first n lower shorter cycle long lesser is begins =
-        least_of_all Needs first cycle
+        least_of_all
         (λ other c. ⊎_elim (λ lt. absurd (lower (first_of other) lt other c refl)) (λ ge. ge) (cases_lt (first_of other) first))
         (record {
           is_cycle = is;
@@ -141,7 +154,8 @@ module _ (Needs : Relation) where
     none_from = below_all NoneFrom
         (λ first lower cycle.
         below_all (NoneAsLong first)
-        (λ n shorter. lists_all n (λ c. IsCycle Needs c → first_of c ≡ first → ⊥) (λ c long lesser is begins. none c (least first n lower shorter c long lesser is begins)))
+        (λ n shorter. lists_all n (λ c. IsCycle Needs c → first_of c ≡ first → ⊥)
+        (λ c long lesser is begins. none c (least first n lower shorter c long lesser is begins)))
         (length cycle) cycle refl)
 
     pub no_cycle_without_least : (cycle : Numbers) → IsCycle Needs cycle → ⊥
@@ -153,13 +167,15 @@ module _ (Needs : Relation) where
 abbrev NoneReady : Graph → Numbers → ℕ → Type 0
 NoneReady graph ordered k = (other : ℕ) → other < k → ¬ Contains ordered other → ¬ IsReady (NodeNeeds graph) ordered other
 
-first_ready : (graph : Graph) (ordered : Numbers) (k : ℕ) → k ≤ length graph → ((node : ℕ) × IsSmallestReady (length graph) (NodeNeeds graph) ordered node) ⊎ NoneReady graph ordered k
+first_ready : (graph : Graph) (ordered : Numbers) (k : ℕ) → k ≤ length graph →
+    ((node : ℕ) × IsSmallestReady (length graph) (NodeNeeds graph) ordered node) ⊎ NoneReady graph ordered k
 first_ready graph ordered zero le = inr (λ other lt. absurd (omega arith))
 first_ready graph ordered (suc k) le =
     ⊎_elim
     (λ found. inl found)
     (λ none. ⊎_elim
-    (λ has. inr (λ other lt fresh ready. ⊎_elim (λ below. none other below fresh ready) (λ ge. let e : k ≡ other = omega arith in fresh (subst (Contains ordered) e has)) (cases_lt other k)))
+    (λ has. inr (λ other lt fresh ready. ⊎_elim (λ below. none other below fresh ready)
+    (λ ge. let e : k ≡ other = omega arith in fresh (subst (Contains ordered) e has)) (cases_lt other k)))
     (λ lacks. ⊎_elim
     (λ all. inl (
       k,
@@ -196,14 +212,14 @@ run graph zero = inl (record { ordered = []; each = λ index lt. absurd (omega a
 run graph (suc steps) =
     ⊎_elim
     (λ p. ⊎_elim
-    (λ next. inl (record { ordered = p.ordered ++ next.0 ∷ []; each = each_push (length graph) (NodeNeeds graph) p.ordered next.0 p.each next.1; as_many = omega (arith, length_push p.ordered next.0) }))
+    (λ next. inl (record { ordered = p.ordered ++ next.0 ∷ []; each = each_push p.each next.1; as_many = omega (arith, length_push p.ordered next.0) }))
     (λ none. inr (record { ordered = p.ordered; each = p.each; none_ready = none }))
     (first_ready graph p.ordered (length graph) (omega arith)))
     (λ e. inr e)
     (run graph steps)
 
-ended : (graph : Graph) → NeedsAreNodes graph → Ended graph → IsOrderable (length graph) (NodeNeeds graph) ⊎ HasCycle (NodeNeeds graph)
-ended graph nodes e =
+ended : {graph : Graph} → NeedsAreNodes graph → Ended graph → IsOrderable (length graph) (NodeNeeds graph) ⊎ HasCycle (NodeNeeds graph)
+ended {graph} nodes e =
     ⊎_elim
     (λ left. inr (has_cycle (length graph) (IsLeft graph e.ordered) (NodeNeeds graph) left.0 (λ x l. l.0)
     (λ thing l. ⊎_elim
@@ -212,7 +228,12 @@ ended graph nodes e =
     (all_or_missing (needs_of graph thing) e.ordered))
     left.1))
     (λ all. inl (orderable (length graph) (NodeNeeds graph) e.ordered (within graph nodes) (record {
-      as_many = let n : length e.ordered ≡ length graph = omega (arith, not_more (length graph) (NodeNeeds graph) e.ordered e.each, le-length_from_below e.ordered (length graph) (λ q lt. any_from_has e.ordered q (all q lt))) in n;
+      as_many = let n : length e.ordered ≡ length graph =
+          omega (
+            arith,
+            not_more (length graph) (NodeNeeds graph) e.ordered e.each,
+            le-length_from_below e.ordered (length graph) (λ q lt. any_from_has e.ordered q (all q lt)),
+          ) in n;
       all = all;
       each = e.each;
     })))
@@ -223,5 +244,5 @@ pub orderable_or_cycle : (graph : Graph) → NeedsAreNodes graph → IsOrderable
 orderable_or_cycle graph nodes =
     ⊎_elim
     (λ p. absurd (omega (arith, not_more (length graph) (NodeNeeds graph) p.ordered p.each)))
-    (λ e. ended graph nodes e)
+    (λ e. ended nodes e)
     (run graph (suc (length graph)))

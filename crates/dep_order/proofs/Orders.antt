@@ -27,43 +27,55 @@ use Rattle.dep_order.proofs.Words.{Numbers, Relation}
 -- ---- chains of needs joined and cut, cycles begun at another of their things, and what a numbering rules out
 
 -- two chains joined
-pub chain_append : (Needs : Relation) (xs : Numbers) (y : ℕ) (ys : Numbers) (end : ℕ) → IsChain Needs xs y → IsChain Needs (y ∷ ys) end → IsChain Needs (xs ++ y ∷ ys) end
+pub chain_append : (Needs : Relation) (xs : Numbers) (y : ℕ) (ys : Numbers) (end : ℕ) → IsChain Needs xs y → IsChain Needs (y ∷ ys) end →
+    IsChain Needs (xs ++ y ∷ ys) end
 chain_append Needs [] y ys end p h = h
 chain_append Needs (x ∷ []) y ys end p h = (p, h)
 chain_append Needs (x ∷ next ∷ xs) y ys end p h = (p.0, chain_append Needs (next ∷ xs) y ys end p.1 h)
 
 -- a chain cut before one of its things
-pub chain_split : (Needs : Relation) (xs : Numbers) (y : ℕ) (ys : Numbers) (end : ℕ) → IsChain Needs (xs ++ y ∷ ys) end → IsChain Needs xs y × IsChain Needs (y ∷ ys) end
+pub chain_split : (Needs : Relation) (xs : Numbers) (y : ℕ) (ys : Numbers) (end : ℕ) → IsChain Needs (xs ++ y ∷ ys) end →
+    IsChain Needs xs y × IsChain Needs (y ∷ ys) end
 chain_split Needs [] y ys end h = (tt, h)
 chain_split Needs (x ∷ []) y ys end h = (h.0, h.1)
 chain_split Needs (x ∷ next ∷ xs) y ys end h = let rest = chain_split Needs (next ∷ xs) y ys end h.1 in ((h.0, rest.0), rest.1)
 
 -- a list that has a thing is what is before it, the thing, and what is after it
 pub split_at : (xs : Numbers) (x : ℕ) → Contains xs x → (before : Numbers) × (behind : Numbers) × (xs ≡ before ++ x ∷ behind)
-split_at xs x h =
-    (take h.0 xs, drop (h.0 + 1) xs, sym (take-append-drop h.0 xs) ∙ ap (λ ys. take h.0 xs ++ ys) (drop_more xs h.0 x h.1 ∙ ap (λ z. z ∷ drop (h.0 + 1) xs) h.2))
+split_at xs x h = (
+  take h.0 xs,
+  drop (h.0 + 1) xs,
+  sym (take-append-drop h.0 xs) ∙
+      ap (λ ys. take h.0 xs ++ ys) (drop_more xs h.0 x h.1 ∙ ap (λ z. z ∷ drop (h.0 + 1) xs) h.2),
+)
 
 -- a cycle begun at another of its things
-pub rotated : (Needs : Relation) (cycle : Numbers) (x : ℕ) → IsCycle Needs cycle → Contains cycle x → (others : Numbers) × IsCycle Needs (x ∷ others) × (length (x ∷ others) ≡ length cycle)
+pub rotated : (Needs : Relation) (cycle : Numbers) (x : ℕ) → IsCycle Needs cycle → Contains cycle x →
+    (others : Numbers) × IsCycle Needs (x ∷ others) × (length (x ∷ others) ≡ length cycle)
 rotated Needs cycle x h has =
     let parts = split_at cycle x has in
     from_parts Needs parts.0 x parts.1 (subst (IsCycle Needs) parts.2 h) (ap length parts.2)
   where
-    from_parts : (Needs : Relation) (before : Numbers) (x : ℕ) (behind : Numbers) → IsCycle Needs (before ++ x ∷ behind) → length cycle ≡ length (before ++ x ∷ behind) → (others : Numbers) × IsCycle Needs (x ∷ others) × (length (x ∷ others) ≡ length cycle)
+    from_parts : (Needs : Relation) (before : Numbers) (x : ℕ) (behind : Numbers) → IsCycle Needs (before ++ x ∷ behind) →
+        length cycle ≡ length (before ++ x ∷ behind) → (others : Numbers) × IsCycle Needs (x ∷ others) × (length (x ∷ others) ≡ length cycle)
     from_parts Needs [] x behind c e = (behind, c, sym e)
     from_parts Needs (first ∷ before) x behind c e =
-        let cut = chain_split Needs (first ∷ before) x behind first c in
-        (behind ++ first ∷ before, chain_append Needs (x ∷ behind) first before x cut.1 cut.0, omega (arith, length-append before (x ∷ behind), length-append behind (first ∷ before)))
+        let cut = chain_split Needs (first ∷ before) x behind first c in (
+          behind ++ first ∷ before,
+          chain_append Needs (x ∷ behind) first before x cut.1 cut.0,
+          omega (arith, length-append before (x ∷ behind), length-append behind (first ∷ before)),
+        )
 
 -- along a chain the numbers fall
-pub numbers_fall : (count : ℕ) (Needs : Relation) (numbers : Numbers) (x : ℕ) (xs : Numbers) (end : ℕ) → IsNumbering count Needs numbers → IsChain Needs (x ∷ xs) end → slice_index numbers end < slice_index numbers x
-numbers_fall count Needs numbers x [] end n h = n.below x end h
-numbers_fall count Needs numbers x (next ∷ xs) end n h = omega (arith, n.below x next h.0, numbers_fall count Needs numbers next xs end n h.1)
+pub numbers_fall : {count : ℕ} {Needs : Relation} {numbers : Numbers} (x : ℕ) (xs : Numbers) (end : ℕ) → IsNumbering count Needs numbers →
+    IsChain Needs (x ∷ xs) end → slice_index numbers end < slice_index numbers x
+numbers_fall x [] end n h = n.below x end h
+numbers_fall {count} {Needs} {numbers} x (next ∷ xs) end n h = omega (arith, n.below x next h.0, numbers_fall next xs end n h.1)
 
 -- what can be numbered has no cycle
 pub no_cycle : (count : ℕ) (Needs : Relation) (cycle : Numbers) → IsOrderable count Needs → IsCycle Needs cycle → ⊥
 no_cycle count Needs [] o h = h
-no_cycle count Needs (first ∷ others) o h = absurd (omega (arith, numbers_fall count Needs o.0 first others first o.1 h))
+no_cycle count Needs (first ∷ others) o h = absurd (omega (arith, numbers_fall first others first o.1 h))
 
 -- ---- whether a list has a number: what can be decided, and how a number's count changes
 
@@ -166,14 +178,16 @@ first_index-le order thing index at in' =
     (cases_lt index (first_index order thing))
 
 -- what an order has is at its first index
-pub at_first_index : (order : Numbers) (thing : ℕ) → Contains order thing → (first_index order thing < length order) × (get_or order (first_index order thing) 0 ≡ thing)
+pub at_first_index : (order : Numbers) (thing : ℕ) → Contains order thing →
+    (first_index order thing < length order) × (get_or order (first_index order thing) 0 ≡ thing)
 at_first_index order thing has =
     let le : first_index order thing ≤ has.0 = first_index-le order thing has.0 has.2 has.1 in
     let lt : first_index order thing < length order = omega arith in
     (lt, sym (same thing (get_or order (first_index order thing) 0) (passes_at_first (eqb thing) order 0 lt)))
 
 -- each need of what is in the order is before it
-pub needed_before : (count : ℕ) (Needs : Relation) (order : Numbers) (thing needed : ℕ) → EachSmallest count Needs order → Contains order thing → Needs thing needed → Contains order needed × (first_index order needed < first_index order thing)
+pub needed_before : (count : ℕ) (Needs : Relation) (order : Numbers) (thing needed : ℕ) → EachSmallest count Needs order → Contains order thing →
+    Needs thing needed → Contains order needed × (first_index order needed < first_index order thing)
 needed_before count Needs order thing needed each has need =
     let at = at_first_index order thing has in
     let here = each (first_index order thing) at.0 in
@@ -192,8 +206,10 @@ orderable count Needs order within least = (
     one_each = length-map-range_with_len (first_index order) 0 count;
     below = λ thing needed need.
         let w = within thing needed need in
-        let here : get_or (map (first_index order) (range_with_len 0 count)) thing 0 ≡ first_index order thing = get_or-map-range_with_len (first_index order) 0 count thing thing 0 w.0 (omega arith) in
-        let there : get_or (map (first_index order) (range_with_len 0 count)) needed 0 ≡ first_index order needed = get_or-map-range_with_len (first_index order) 0 count needed needed 0 w.1 (omega arith) in
+        let here : get_or (map (first_index order) (range_with_len 0 count)) thing 0 ≡ first_index order thing =
+        get_or-map-range_with_len (first_index order) 0 count thing thing 0 w.0 (omega arith) in
+        let there : get_or (map (first_index order) (range_with_len 0 count)) needed 0 ≡ first_index order needed =
+        get_or-map-range_with_len (first_index order) 0 count needed needed 0 w.1 (omega arith) in
         let lt = needed_before count Needs order thing needed least.each (least.all thing w.0) need in
         omega arith;
   },
@@ -206,16 +222,17 @@ next_on_cycle Needs x (next ∷ others) h = (next, h.0, (1, omega arith, refl))
 
 -- ---- at most one list is the order by smallest numbers, and at most one is the least cycle
 
-smallest_one : (count : ℕ) (Needs : Relation) (before : Numbers) (a b : ℕ) → IsSmallestReady count Needs before a → IsSmallestReady count Needs before b → a ≡ b
-smallest_one count Needs before a b p q = omega (arith, p.smallest b q.in_range q.fresh q.ready, q.smallest a p.in_range p.fresh p.ready)
+smallest_one : {count : ℕ} {Needs : Relation} {before : Numbers} {a b : ℕ} → IsSmallestReady count Needs before a → IsSmallestReady count Needs before b → a ≡ b
+smallest_one {a} {b} p q = omega (arith, p.smallest b q.in_range q.fresh q.ready, q.smallest a p.in_range p.fresh p.ready)
 
-same_so_far : (count : ℕ) (Needs : Relation) (a b : Numbers) → EachSmallest count Needs a → EachSmallest count Needs b → length a ≡ length b → (k : ℕ) → k ≤ length a → take k a ≡ take k b
+same_so_far : (count : ℕ) (Needs : Relation) (a b : Numbers) → EachSmallest count Needs a → EachSmallest count Needs b → length a ≡ length b → (k : ℕ) →
+    k ≤ length a → take k a ≡ take k b
 same_so_far count Needs a b p q e zero le = refl
 same_so_far count Needs a b p q e (suc k) le =
     let la : k < length a = omega arith in
     let lb : k < length b = omega arith in
     let front : take k a ≡ take k b = same_so_far count Needs a b p q e k (omega arith) in
-    let here : get_or a k 0 ≡ get_or b k 0 = smallest_one count Needs (take k b) (get_or a k 0) (get_or b k 0) (rw (← front) (p k la)) (q k lb) in
+    let here : get_or a k 0 ≡ get_or b k 0 = smallest_one (rw (← front) (p k la)) (q k lb) in
     let ma : take (suc k) a ≡ take k a ++ get_or a k 0 ∷ [] = simp unary_clauses at (take_more a k 0 la) in
     let mb : take (suc k) b ≡ take k b ++ get_or b k 0 ∷ [] = simp unary_clauses at (take_more b k 0 lb) in
     ma ∙ ap (λ xs. xs ++ get_or a k 0 ∷ []) front ∙ ap (λ x. take k b ++ x ∷ []) here ∙ sym mb
@@ -242,16 +259,16 @@ least_lists a b p q = exact_bytes a b (level (slice_cmp nat_cmp a b) (slice_cmp 
 -- at most one list is the least cycle
 pub one_cycle : (Needs : Relation) (a b : Numbers) → IsLeastCycle Needs a → IsLeastCycle Needs b → a ≡ b
 one_cycle Needs a b p q =
-    let le : first_of a ≤ first_of b = least_first_le a b p q in
-    let ge : first_of b ≤ first_of a = least_first_le b a q p in
+    let le : first_of a ≤ first_of b = least_first_le p q in
+    let ge : first_of b ≤ first_of a = least_first_le q p in
     let e : first_of a ≡ first_of b = omega arith in
     let short : length a ≤ length b = p.shortest b q.is_cycle (rw e (has_first Needs b q.is_cycle)) in
     let long : length b ≤ length a = q.shortest a p.is_cycle (subst (Contains a) e (has_first Needs a p.is_cycle)) in
     let l : length a ≡ length b = omega arith in
     least_lists a b (p.least_list b q.is_cycle (sym e) (sym l)) (q.least_list a p.is_cycle e l)
   where
-    least_first_le : (a b : Numbers) → IsLeastCycle Needs a → IsLeastCycle Needs b → first_of a ≤ first_of b
-    least_first_le a b p q = let h = has_first Needs b q.is_cycle in rw (← h.2) (p.least_first b q.is_cycle h.0 (first_of b) h.1)
+    least_first_le : {a b : Numbers} → IsLeastCycle Needs a → IsLeastCycle Needs b → first_of a ≤ first_of b
+    least_first_le {b} p q = let h = has_first Needs b q.is_cycle in rw (← h.2) (p.least_first b q.is_cycle h.0 (first_of b) h.1)
 
 -- ---- the same under needs that hold of the same things, and numberings one over another
 
@@ -276,10 +293,12 @@ reaches_same Needs Other to from end h = ⊎_elim (λ e. inl e) (λ c. inr (c.0,
 
 -- orderable by needs that hold of no more things
 pub orderable_same : (count : ℕ) (Needs Other : Relation) → Implies Other Needs → IsOrderable count Needs → IsOrderable count Other
-orderable_same count Needs Other from o = (o.0, record { one_each = o.1.one_each; below = λ thing needed need. o.1.below thing needed (from thing needed need) })
+orderable_same count Needs Other from o =
+    (o.0, record { one_each = o.1.one_each; below = λ thing needed need. o.1.below thing needed (from thing needed need) })
 
 -- the same order
-pub order_same : (count : ℕ) (Needs Other : Relation) (order : Numbers) → Implies Needs Other → Implies Other Needs → IsLeastOrder count Needs order → IsLeastOrder count Other order
+pub order_same : (count : ℕ) (Needs Other : Relation) (order : Numbers) → Implies Needs Other → Implies Other Needs → IsLeastOrder count Needs order →
+    IsLeastOrder count Other order
 order_same count Needs Other order to from h = record {
   as_many = h.as_many;
   all = h.all;
@@ -292,7 +311,8 @@ order_same count Needs Other order to from h = record {
 }
 
 -- the same least cycle
-pub least_cycle_same : (Needs Other : Relation) (cycle : Numbers) → Implies Needs Other → Implies Other Needs → IsLeastCycle Needs cycle → IsLeastCycle Other cycle
+pub least_cycle_same : (Needs Other : Relation) (cycle : Numbers) → Implies Needs Other → Implies Other Needs → IsLeastCycle Needs cycle →
+    IsLeastCycle Other cycle
 least_cycle_same Needs Other cycle to from h = record {
   is_cycle = cycle_same Needs Other to cycle h.is_cycle;
   least_first = λ other c. h.least_first other (cycle_same Other Needs from other c);
@@ -301,12 +321,17 @@ least_cycle_same Needs Other cycle to from h = record {
 }
 
 -- a sorting of needs is one of any needs that hold of the same things
-pub sorting_same : (count : ℕ) (Needs Other : Relation) (sorting : Sorting) → Implies Needs Other → Implies Other Needs → IsSortingOf count Needs sorting → IsSortingOf count Other sorting
+pub sorting_same : (count : ℕ) (Needs Other : Relation) (sorting : Sorting) → Implies Needs Other → Implies Other Needs → IsSortingOf count Needs sorting →
+    IsSortingOf count Other sorting
 sorting_same count Needs Other (Order order) to from h = (orderable_same count Needs Other from h.0, order_same count Needs Other order.items to from h.1)
-sorting_same count Needs Other (Cycle cycle) to from h = ((λ o. h.0 (orderable_same count Other Needs to o)), least_cycle_same Needs Other cycle.items to from h.1)
+sorting_same count Needs Other (Cycle cycle) to from h =
+    ((λ o. h.0 (orderable_same count Other Needs to o)), least_cycle_same Needs Other cycle.items to from h.1)
 
 -- Numbers that put each needed thing lower or level, and inner numbers that put those that are level strictly below, make a numbering.
-pub layered : (count : ℕ) (Needs : Relation) (outer inner : Numbers) → AreWithin count Needs → length inner ≡ count → ((thing needed : ℕ) → Needs thing needed → (slice_index outer needed < slice_index outer thing) ⊎ ((slice_index outer needed ≡ slice_index outer thing) × (slice_index inner needed < slice_index inner thing))) → IsOrderable count Needs
+pub layered : (count : ℕ) (Needs : Relation) (outer inner : Numbers) → AreWithin count Needs → length inner ≡ count →
+    ((thing needed : ℕ) → Needs thing needed →
+    (slice_index outer needed < slice_index outer thing) ⊎
+    ((slice_index outer needed ≡ slice_index outer thing) × (slice_index inner needed < slice_index inner thing))) → IsOrderable count Needs
 layered count Needs outer inner within long h =
     let both : ℕ → ℕ = λ thing. slice_index outer thing * suc (sum inner) + slice_index inner thing in (
       map both (range_with_len 0 count),
@@ -314,8 +339,10 @@ layered count Needs outer inner within long h =
         one_each = length-map-range_with_len both 0 count;
         below = λ thing needed need.
             let w = within thing needed need in
-            let here : get_or (map both (range_with_len 0 count)) thing 0 ≡ both thing = get_or-map-range_with_len both 0 count thing thing 0 w.0 (omega arith) in
-            let there : get_or (map both (range_with_len 0 count)) needed 0 ≡ both needed = get_or-map-range_with_len both 0 count needed needed 0 w.1 (omega arith) in
+            let here : get_or (map both (range_with_len 0 count)) thing 0 ≡ both thing =
+            get_or-map-range_with_len both 0 count thing thing 0 w.0 (omega arith) in
+            let there : get_or (map both (range_with_len 0 count)) needed 0 ≡ both needed =
+            get_or-map-range_with_len both 0 count needed needed 0 w.1 (omega arith) in
             let small : slice_index inner needed ≤ sum inner = get_or-le-sum_by (λ x. x) inner needed 0 (omega arith) in
             ⊎_elim
             (λ lt.

@@ -39,11 +39,13 @@ pub one_value : (o : Option ℕ) (j k : ℕ) → o ≡ Some j → o ≡ Some k �
 one_value o j k e f = let g : Some j ≡ Some k = sym e ∙ f in cc
 
 -- what a read and its test say
-pub read_none : (steps : Marks) (i : ℕ) (o : Option ℕ) (b : Bool) → i < length steps → o ≡ get_or steps i o → is_some o ≡ not b → b ≡ true → mark_of steps i ≡ None
+pub read_none : (steps : Marks) (i : ℕ) (o : Option ℕ) (b : Bool) → i < length steps → o ≡ get_or steps i o → is_some o ≡ not b → b ≡ true →
+    mark_of steps i ≡ None
 read_none steps i o b lt is e t = grind (arith, common_steps)
 
 -- the same if there is a value
-pub read_some : (steps : Marks) (i : ℕ) (o : Option ℕ) (b : Bool) → i < length steps → o ≡ get_or steps i o → is_some o ≡ not b → b ≡ false → (k : ℕ) × (mark_of steps i ≡ Some k)
+pub read_some : (steps : Marks) (i : ℕ) (o : Option ℕ) (b : Bool) → i < length steps → o ≡ get_or steps i o → is_some o ≡ not b → b ≡ false →
+    (k : ℕ) × (mark_of steps i ≡ Some k)
 read_some steps i o b lt is e t = let s = something o (e ∙ ap not t) in (s.0, sym (get_or_read steps i o lt is None) ∙ s.1)
   where
     something : (o : Option ℕ) → is_some o ≡ true → (k : ℕ) × (o ≡ Some k)
@@ -51,8 +53,9 @@ read_some steps i o b lt is e t = let s = something o (e ∙ ap not t) in (s.0, 
     something (Some k) e = (k, refl)
 
 -- a node of the row that steps lead to already
-pub visited_old : (row : Numbers) (i count : ℕ) (first steps : Marks) (next now : Numbers) → i < length row → (k : ℕ) → mark_of steps (get_or row i 0) ≡ Some k → AreMarked (take i row) count first steps next now → AreMarked (take (i + 1) row) count first steps next now
-visited_old row i count first steps next now lt k is h = record {
+pub visited_old : (row : Numbers) (i : ℕ) {count : ℕ} {first steps : Marks} {next now : Numbers} → i < length row → (k : ℕ) →
+    mark_of steps (get_or row i 0) ≡ Some k → AreMarked (take i row) count first steps next now → AreMarked (take (i + 1) row) count first steps next now
+visited_old row i lt k is h = record {
   as_many = h.as_many;
   kept = h.kept;
   came = λ node j e. ⊎_elim (λ o. inl o) (λ c. inr (c.0, has_more_front row i node lt c.1, c.2)) (h.came node j e);
@@ -63,8 +66,10 @@ visited_old row i count first steps next now lt k is h = record {
 }
 
 -- a node of the row that no steps led to
-pub visited_new : (row : Numbers) (i count : ℕ) (first steps : Marks) (next now : Numbers) → i < length row → get_or row i 0 < length steps → mark_of steps (get_or row i 0) ≡ None → AreMarked (take i row) count first steps next now → AreMarked (take (i + 1) row) count first (set steps (get_or row i 0) (Some count)) next (now ++ get_or row i 0 ∷ [])
-visited_new row i count first steps next now lt in' is h = record {
+pub visited_new : (row : Numbers) (i : ℕ) {count : ℕ} {first steps : Marks} {next now : Numbers} → i < length row → get_or row i 0 < length steps →
+    mark_of steps (get_or row i 0) ≡ None → AreMarked (take i row) count first steps next now →
+    AreMarked (take (i + 1) row) count first (set steps (get_or row i 0) (Some count)) next (now ++ get_or row i 0 ∷ [])
+visited_new row i {count} {first} {steps} {now} lt in' is h = record {
   as_many = omega (arith, length-set steps (get_or row i 0) (Some count));
   kept = λ node k e. kept node k (h.kept node k e);
   came = λ node k e. came node k e (cases_eq node (get_or row i 0));
@@ -93,20 +98,25 @@ visited_new row i count first steps next now lt in' is h = record {
     kept : (node k : ℕ) → mark_of steps node ≡ Some k → mark_of (set steps (get_or row i 0) (Some count)) node ≡ Some k
     kept node k e = there node (λ same. none_is_no_some (mark_of steps node) k (rw same is) e) ∙ e
 
-    came : (node k : ℕ) → mark_of (set steps (get_or row i 0) (Some count)) node ≡ Some k → (node ≡ get_or row i 0) ⊎ (node ≢ get_or row i 0) → (mark_of first node ≡ Some k) ⊎ ((k ≡ count) × Contains (take (i + 1) row) node × Contains (now ++ get_or row i 0 ∷ []) node)
+    came : (node k : ℕ) → mark_of (set steps (get_or row i 0) (Some count)) node ≡ Some k → (node ≡ get_or row i 0) ⊎ (node ≢ get_or row i 0) →
+        (mark_of first node ≡ Some k) ⊎ ((k ≡ count) × Contains (take (i + 1) row) node × Contains (now ++ get_or row i 0 ∷ []) node)
     came node k e c =
         ⊎_elim
         (λ same. inr (
-          one_value (mark_of (set steps (get_or row i 0) (Some count)) (get_or row i 0)) k count (subst (λ x. mark_of (set steps (get_or row i 0) (Some count)) x ≡ Some k) same e) here,
+          one_value (mark_of (set steps (get_or row i 0) (Some count)) (get_or row i 0)) k count
+              (subst (λ x. mark_of (set steps (get_or row i 0) (Some count)) x ≡ Some k) same e) here,
           rw same (has_more_last row i lt),
           rw same (Contains-push now (get_or row i 0)),
         ))
-        (λ ne. ⊎_elim (λ o. inl o) (λ w. inr (w.0, has_more_front row i node lt w.1, Contains-append_left now (get_or row i 0 ∷ []) node w.2)) (h.came node k (sym (there node ne) ∙ e)))
+        (λ ne. ⊎_elim (λ o. inl o) (λ w. inr (w.0, has_more_front row i node lt w.1, Contains-append_left now (get_or row i 0 ∷ []) node w.2))
+        (h.came node k (sym (there node ne) ∙ e)))
         c
 
 -- one more node of the frontier
-pub advanced_more : (rows : Graph) (frontier : Numbers) (i count : ℕ) (first steps new_steps : Marks) (next new_next : Numbers) → i < length frontier → AreAdvanced rows (take i frontier) count first steps next → AreMarked (needs_of rows (get_or frontier i 0)) count steps new_steps next new_next → AreAdvanced rows (take (i + 1) frontier) count first new_steps new_next
-advanced_more rows frontier i count first steps new_steps next new_next lt h v = record {
+pub advanced_more : {rows : Graph} (frontier : Numbers) (i : ℕ) {count : ℕ} {first steps new_steps : Marks} {next new_next : Numbers} → i < length frontier →
+    AreAdvanced rows (take i frontier) count first steps next → AreMarked (needs_of rows (get_or frontier i 0)) count steps new_steps next new_next →
+    AreAdvanced rows (take (i + 1) frontier) count first new_steps new_next
+advanced_more frontier i {count} lt h v = record {
   as_many = omega arith;
   kept = λ node k e. v.kept node k (h.kept node k e);
   came = λ node k e.
@@ -132,11 +142,13 @@ pub record IsSearching (rows : Graph) (from : ℕ) (steps : Marks) (frontier : N
   pub level : (node k : ℕ) → mark_of steps node ≡ Some k → k ≤ count
   pub at_level : (node : ℕ) → Contains frontier node → mark_of steps node ≡ Some count
   pub of_level : (node : ℕ) → mark_of steps node ≡ Some count → Contains frontier node
-  pub closed : (before node k : ℕ) → mark_of steps before ≡ Some k → k < count → NodeNeeds rows before node → (fewer : ℕ) × (mark_of steps node ≡ Some fewer) × (fewer ≤ k + 1)
+  pub closed : (before node k : ℕ) → mark_of steps before ≡ Some k → k < count → NodeNeeds rows before node →
+      (fewer : ℕ) × (mark_of steps node ≡ Some fewer) × (fewer ≤ k + 1)
   pub few : count + unmarked steps + length frontier ≤ length rows
 
 -- before the first level only the start has steps
-pub search_begun : (rows : Graph) (from : ℕ) (steps : Marks) → from < length rows → steps ≡ replicate (length rows) None → IsSearching rows from (set steps from (Some 0)) (from ∷ []) 0
+pub search_begun : (rows : Graph) (from : ℕ) (steps : Marks) → from < length rows → steps ≡ replicate (length rows) None →
+    IsSearching rows from (set steps from (Some 0)) (from ∷ []) 0
 search_begun rows from steps lt e = record {
   as_many = length-set steps from (Some 0) ∙ many;
   start = here;
@@ -175,8 +187,9 @@ search_begun rows from steps lt e = record {
         (cases_eq node from)
 
 -- one more level
-pub next_level : (rows : Graph) (from : ℕ) (steps new_steps : Marks) (frontier next : Numbers) (count : ℕ) → 0 < length frontier → IsSearching rows from steps frontier count → AreAdvanced rows frontier (count + 1) steps new_steps next → IsSearching rows from new_steps next (count + 1)
-next_level rows from steps new_steps frontier next count some h a = record {
+pub next_level : {rows : Graph} {from : ℕ} {steps new_steps : Marks} {frontier next : Numbers} {count : ℕ} → 0 < length frontier →
+    IsSearching rows from steps frontier count → AreAdvanced rows frontier (count + 1) steps new_steps next → IsSearching rows from new_steps next (count + 1)
+next_level {from} {new_steps} {count} some h a = record {
   as_many = omega arith;
   start = a.kept from 0 h.start;
   only_start = λ node e. ⊎_elim (λ o. h.only_start node o) (λ w. absurd (omega arith)) (a.came node 0 e);
@@ -208,8 +221,9 @@ next_level rows from steps new_steps frontier next count some h a = record {
     level node k e = ⊎_elim (λ o. omega (arith, h.level node k o)) (λ w. omega arith) (a.came node k e)
 
 -- the last level is empty
-pub all_levels : (rows : Graph) (from : ℕ) (steps : Marks) (frontier : Numbers) (count : ℕ) → frontier ≡ [] → IsSearching rows from steps frontier count → AreSteps (length rows) (NodeNeeds rows) from steps
-all_levels rows from steps frontier count e h = record {
+pub all_levels : {rows : Graph} {from : ℕ} {steps : Marks} {frontier : Numbers} {count : ℕ} → frontier ≡ [] → IsSearching rows from steps frontier count →
+    AreSteps (length rows) (NodeNeeds rows) from steps
+all_levels {steps} {count} e h = record {
   as_many = h.as_many;
   start = h.start;
   only_start = h.only_start;
@@ -237,11 +251,13 @@ emptied v e = let z : vec_len v ≡ 0 = same (vec_len v) 0 (sym e) in nil_from_l
 
 -- what steps lead to is a node
 pub node_in_range : (steps : Marks) (node k : ℕ) → mark_of steps node ≡ Some k → node < length steps
-node_in_range steps node k e = ⊎_elim (λ lt. lt) (λ ge. absurd (none_is_no_some (mark_of steps node) k (get_or_past steps node None ge) e)) (cases_lt node (length steps))
+node_in_range steps node k e = ⊎_elim (λ lt. lt) (λ ge. absurd (none_is_no_some (mark_of steps node) k (get_or_past steps node None ge) e))
+    (cases_lt node (length steps))
 
 -- the frontier are nodes
-pub frontier_in_range : (rows : Graph) (from : ℕ) (steps : Marks) (frontier : Numbers) (count n : ℕ) → length rows ≡ n → IsSearching rows from steps frontier count → All (λ node. node < n) frontier
-frontier_in_range rows from steps frontier count n e h k d lt =
+pub frontier_in_range : {rows : Graph} {from : ℕ} {steps : Marks} {frontier : Numbers} {count : ℕ} (n : ℕ) → length rows ≡ n →
+    IsSearching rows from steps frontier count → All (λ node. node < n) frontier
+frontier_in_range {steps} {frontier} {count} n e h k d lt =
     omega (arith, node_in_range steps (get_or frontier k d) count (h.at_level (get_or frontier k d) (Contains-get_or frontier k d lt)))
 
 -- ---- a search for what a node reaches, from row to row
@@ -307,34 +323,36 @@ module _ (indexes found : Numbers) (f : AreFound indexes found) where
 
 -- ---- a row
 
-module _ (row indexes found now_indexes now_found : Numbers) (i : ℕ) (lt : i < length row) (h : IsRowFound (take i row) indexes found now_indexes now_found) where
-  -- the next node of the row is found already
-  pub row_old : Contains now_found (slice_index row i) → IsRowFound (take (i + 1) row) indexes found now_indexes now_found
-  row_old known = record {
-    as_many = h.as_many;
-    are_found = h.are_found;
-    behind = h.behind;
-    all = h.all;
-    of_row = λ node has. has_more_front row i node lt (h.of_row node has);
-    whole = λ node has. ⊎_elim (λ old. h.whole node old) (λ same. subst (Contains now_found) same known) (has_more row i node lt has);
-  }
+module _ (row indexes found now_indexes now_found : Numbers) (i : ℕ) (lt : i < length row) (h : IsRowFound (take i row) indexes found now_indexes now_found)
+  where
+    -- the next node of the row is found already
+    pub row_old : Contains now_found (slice_index row i) → IsRowFound (take (i + 1) row) indexes found now_indexes now_found
+    row_old known = record {
+      as_many = h.as_many;
+      are_found = h.are_found;
+      behind = h.behind;
+      all = h.all;
+      of_row = λ node has. has_more_front row i node lt (h.of_row node has);
+      whole = λ node has. ⊎_elim (λ old. h.whole node old) (λ same. subst (Contains now_found) same known) (has_more row i node lt has);
+    }
 
-  -- or it is found now
-  pub row_new : slice_index row i < length now_indexes → (Contains now_found (slice_index row i) → ⊥) → IsRowFound (take (i + 1) row) indexes found (set now_indexes (slice_index row i) (length now_found)) (now_found ++ slice_index row i ∷ [])
-  row_new below fresh = record {
-    as_many = length-set now_indexes (slice_index row i) (length now_found) ∙ h.as_many;
-    are_found = found_more now_indexes now_found h.are_found (slice_index row i) below fresh;
-    behind = h.behind ++ slice_index row i ∷ [];
-    all = ap (λ xs. xs ++ slice_index row i ∷ []) h.all ∙ append_assoc found h.behind (slice_index row i ∷ []);
-    of_row = λ node has. ⊎_elim
-        (λ old. has_more_front row i node lt (h.of_row node old))
-        (λ same. rw (← same) (has_more_last row i lt))
-        (Contains-push_cases h.behind (slice_index row i) node has);
-    whole = λ node has. ⊎_elim
-        (λ old. Contains-append_left now_found (slice_index row i ∷ []) node (h.whole node old))
-        (λ same. rw (← same) (Contains-push now_found (slice_index row i)))
-        (has_more row i node lt has);
-  }
+    -- or it is found now
+    pub row_new : slice_index row i < length now_indexes → (Contains now_found (slice_index row i) → ⊥) →
+        IsRowFound (take (i + 1) row) indexes found (set now_indexes (slice_index row i) (length now_found)) (now_found ++ slice_index row i ∷ [])
+    row_new below fresh = record {
+      as_many = length-set now_indexes (slice_index row i) (length now_found) ∙ h.as_many;
+      are_found = found_more now_indexes now_found h.are_found (slice_index row i) below fresh;
+      behind = h.behind ++ slice_index row i ∷ [];
+      all = ap (λ xs. xs ++ slice_index row i ∷ []) h.all ∙ append_assoc found h.behind (slice_index row i ∷ []);
+      of_row = λ node has. ⊎_elim
+          (λ old. has_more_front row i node lt (h.of_row node old))
+          (λ same. rw (← same) (has_more_last row i lt))
+          (Contains-push_cases h.behind (slice_index row i) node has);
+      whole = λ node has. ⊎_elim
+          (λ old. Contains-append_left now_found (slice_index row i ∷ []) node (h.whole node old))
+          (λ same. rw (← same) (Contains-push now_found (slice_index row i)))
+          (has_more row i node lt has);
+    }
 
 -- ---- all rows
 
@@ -352,7 +370,8 @@ reaches_more : (Needs : Relation) (from x y : ℕ) → Reaches Needs from x → 
 reaches_more Needs from x y (inl same) need = inr ([], rw same need)
 reaches_more Needs from x y (inr c) need = inr (c.0 ++ x ∷ [], chain_append Needs (from ∷ c.0) x [] y c.1 need)
 
-module _ (needs : Graph) (from next : ℕ) (indexes found new_indexes new_found : Numbers) (lt : next < length found) (h : AreReachedSoFar needs from next indexes found)
+module _ (needs : Graph) (from next : ℕ) (indexes found new_indexes new_found : Numbers) (lt : next < length found)
+    (h : AreReachedSoFar needs from next indexes found)
     (r : IsRowFound (needs_of needs (slice_index found next)) indexes found new_indexes new_found) where
   still : (k : ℕ) → k < length found → slice_index new_found k ≡ slice_index found k
   still k in_k = ap (λ xs. slice_index xs k) r.all ∙ get_or_append_left found r.behind 0 k in_k
@@ -368,7 +387,8 @@ module _ (needs : Graph) (from next : ℕ) (indexes found new_indexes new_found 
     start = kept from h.start;
     reached = λ node has. ⊎_elim
         (λ old. h.reached node old)
-        (λ new. reaches_more (NodeNeeds needs) from (slice_index found next) node (h.reached (slice_index found next) (Contains-get_or found next 0 lt)) (r.of_row node new))
+        (λ new. reaches_more (NodeNeeds needs) from (slice_index found next) node (h.reached (slice_index found next) (Contains-get_or found next 0 lt))
+        (r.of_row node new))
         (Contains-append_cases found r.behind node (rw (← r.all) has));
     all = λ k needed in_k need.
         let here : k < length found = omega arith in
@@ -404,9 +424,11 @@ module _ (needs : Graph) (from next : ℕ) (indexes found : Numbers) (h : AreRea
     }
 
 -- nodes that are reached, put in order
-pub is_reach : (Needs : Relation) (from : ℕ) (found sorted : Numbers) → AreReached Needs from found → IsPermutation found sorted → IsSorted nat_cmp sorted → IsReach Needs from sorted
-is_reach Needs from found sorted h permuted in_order = record {
-  rising = IsStrictlyIncreasing-from_distinct sorted (IsNonDecreasingBy-from_sort (λ x. x) sorted in_order) (IsDistinct-IsPermutation eqb flips found sorted permuted (distinct found h.once));
+pub is_reach : {Needs : Relation} {from : ℕ} {found : Numbers} (sorted : Numbers) → AreReached Needs from found → IsPermutation found sorted →
+    IsSorted nat_cmp sorted → IsReach Needs from sorted
+is_reach {found} sorted h permuted in_order = record {
+  rising = IsStrictlyIncreasing-from_distinct sorted (IsNonDecreasingBy-from_sort (λ x. x) sorted in_order)
+      (IsDistinct-IsPermutation eqb flips found sorted permuted (distinct found h.once));
   exactly = λ node. (
     (λ has. (h.exactly node).0 (Contains-permutation sorted found node (IsPermutation-sym found sorted permuted) has)),
     (λ r. Contains-permutation found sorted node permuted ((h.exactly node).1 r)),

@@ -17,16 +17,17 @@ use Rattle.dep_order.proofs.Words.{Numbers, Relation}
 abbrev pub IsStuck : (ℕ → Type 0) → Relation → Type 0
 IsStuck IsLeft Needs = (thing : ℕ) → IsLeft thing → (needed : ℕ) × Needs thing needed × IsLeft needed
 
-no_number : (count : ℕ) (IsLeft : ℕ → Type 0) (Needs : Relation) (numbers : Numbers) → IsNumbering count Needs numbers → IsStuck IsLeft Needs → (k thing : ℕ) → IsLeft thing → slice_index numbers thing < k → ⊥
-no_number count IsLeft Needs numbers n stuck zero thing left lt = absurd (omega arith)
-no_number count IsLeft Needs numbers n stuck (suc k) thing left lt =
+no_number : {count : ℕ} (IsLeft : ℕ → Type 0) {Needs : Relation} {numbers : Numbers} → IsNumbering count Needs numbers → IsStuck IsLeft Needs → (k thing : ℕ) →
+    IsLeft thing → slice_index numbers thing < k → ⊥
+no_number IsLeft n stuck zero thing left lt = absurd (omega arith)
+no_number {count} IsLeft {Needs} {numbers} n stuck (suc k) thing left lt =
     let next = stuck thing left in
-    no_number count IsLeft Needs numbers n stuck k next.0 next.2 (omega (arith, n.below thing next.0 next.1))
+    no_number IsLeft n stuck k next.0 next.2 (omega (arith, n.below thing next.0 next.1))
 
 -- if something is left, there is no numbering
 pub not_orderable : (count : ℕ) (IsLeft : ℕ → Type 0) (Needs : Relation) (thing : ℕ) → IsStuck IsLeft Needs → IsLeft thing → ¬ IsOrderable count Needs
 not_orderable count IsLeft Needs thing stuck left o =
-    no_number count IsLeft Needs o.0 o.1 stuck (suc (slice_index o.0 thing)) thing left (omega arith)
+    no_number IsLeft o.1 stuck (suc (slice_index o.0 thing)) thing left (omega arith)
 
 -- a chain of different things that are left
 record Walk (IsLeft : ℕ → Type 0) (Needs : Relation) (steps : ℕ) : Type 0 where
@@ -38,7 +39,8 @@ record Walk (IsLeft : ℕ → Type 0) (Needs : Relation) (steps : ℕ) : Type 0 
   left : All IsLeft things
   end_left : IsLeft end
 
-one_more : (IsLeft : ℕ → Type 0) (Needs : Relation) (steps : ℕ) → IsStuck IsLeft Needs → Walk IsLeft Needs steps → HasCycle Needs ⊎ Walk IsLeft Needs (suc steps)
+one_more : (IsLeft : ℕ → Type 0) (Needs : Relation) (steps : ℕ) → IsStuck IsLeft Needs → Walk IsLeft Needs steps →
+    HasCycle Needs ⊎ Walk IsLeft Needs (suc steps)
 one_more IsLeft Needs steps stuck w =
     ⊎_elim
     (λ has.
@@ -59,14 +61,19 @@ one_more IsLeft Needs steps stuck w =
 
 walk : (IsLeft : ℕ → Type 0) (Needs : Relation) (thing : ℕ) → IsStuck IsLeft Needs → IsLeft thing → (steps : ℕ) → HasCycle Needs ⊎ Walk IsLeft Needs steps
 unfolding IsDistinct
-walk IsLeft Needs thing stuck left zero = inr (record { things = []; end = thing; as_many = refl; chain = tt; differ = tt; left = All-nil IsLeft; end_left = left })
+walk IsLeft Needs thing stuck left zero =
+    inr (record { things = []; end = thing; as_many = refl; chain = tt; differ = tt; left = All-nil IsLeft; end_left = left })
 walk IsLeft Needs thing stuck left (suc steps) =
     ⊎_elim (λ cycle. inl cycle) (λ w. one_more IsLeft Needs steps stuck w) (walk IsLeft Needs thing stuck left steps)
 
 -- the things that are left are finitely many, so a long walk comes back
-pub has_cycle : (count : ℕ) (IsLeft : ℕ → Type 0) (Needs : Relation) (thing : ℕ) → ((x : ℕ) → IsLeft x → x < count) → IsStuck IsLeft Needs → IsLeft thing → HasCycle Needs
+pub has_cycle : (count : ℕ) (IsLeft : ℕ → Type 0) (Needs : Relation) (thing : ℕ) → ((x : ℕ) → IsLeft x → x < count) → IsStuck IsLeft Needs → IsLeft thing →
+    HasCycle Needs
 has_cycle count IsLeft Needs thing within stuck left =
     ⊎_elim
     (λ cycle. cycle)
-    (λ w. absurd (omega (arith, length-le_from_distinct_below w.things count w.differ (λ q e. within q (All-contains IsLeft w.things q w.left (has_from_any w.things q e))))))
+    (λ w. absurd (omega (
+      arith,
+      length-le_from_distinct_below w.things count w.differ (λ q e. within q (All-contains IsLeft w.things q w.left (has_from_any w.things q e))),
+    )))
     (walk IsLeft Needs thing stuck left (suc count))

@@ -8,7 +8,8 @@ use Rattle.dep_order.proofs.components.shares_component.Goals as goal
 pub loop-other-preserved : goal.loop-other-preserved
 loop-other-preserved c =
     none_shared_more c.args.row.now c.args.components.now c.args.node c.loop-other.other-index c.loop-other-test.true
-    (other_marks (mark_of c.args.components.now (slice_index c.args.row.now c.loop-other.other-index)) (mark_of c.args.components.now c.args.node) (sym c.eq.ensures ∙ c.if-eq.false)) c.loop-other.invariant
+    (other_marks (mark_of c.args.components.now (slice_index c.args.row.now c.loop-other.other-index)) (mark_of c.args.components.now c.args.node)
+    (sym c.eq.ensures ∙ c.if-eq.false)) c.loop-other.invariant
 
 pub returns : goal.returns
 returns c = (

@@ -15,7 +15,11 @@ least c =
     let steps : Marks = c.args.steps.now in
     let is : c.min-least.result ≡ reduce min (filter (is_at steps c.args.count) row) =
     sym (option_map_id c.min-least.result)
-    ∙ min_from_yields_List _ c.min-least.result c.min-least.ensures.ran (YieldsList-from_filter _ (is_at steps c.args.count) (YieldsList-at c.filter.ensures.source (YieldsList-from_copied (YieldsList-at c.copied-nodes.ensures.source (YieldsList-from_slice row c.iter.ensures.rest)))) c.filter.ensures.closure (λ x b q k. search (rules, tests))) in
+    ∙ min_from_yields_List _ c.min-least.result c.min-least.ensures.ran
+    (YieldsList-from_filter _ (is_at steps c.args.count)
+    (YieldsList-at c.filter.ensures.source
+    (YieldsList-from_copied (YieldsList-at c.copied-nodes.ensures.source (YieldsList-from_slice row c.iter.ensures.rest)))) c.filter.ensures.closure
+    (λ x b q k. search (rules, tests))) in
     rw is (is_least row steps c.args.count)
 
 pub returns : goal.returns
@@ -23,6 +27,7 @@ returns c = subst (IsLeastIfAny c.args.row.now c.args.steps.now c.args.count) c.
 
 pub unreachable-requires : goal.unreachable-requires
 unreachable-requires c =
-    let none : IsLeastIfAny c.args.row.now c.args.steps.now c.args.count None = subst (IsLeastIfAny c.args.row.now c.args.steps.now c.args.count) c.in-None.is (least (goal.at.unreachable-requires c).After-min-least) in
+    let none : IsLeastIfAny c.args.row.now c.args.steps.now c.args.count None =
+    subst (IsLeastIfAny c.args.row.now c.args.steps.now c.args.count) c.in-None.is (least (goal.at.unreachable-requires c).After-min-least) in
     let some = c.requires.some in
     none some.0 some.1 some.2

@@ -9,19 +9,21 @@ use Rattle.dep_order.proofs.Connected.{shared_from, cycle_from_shared}
 use Rattle.dep_order.proofs.cycles.least_cycle.Goals as goal
 
 pub returns-in-Some : goal.returns-in-Some
-returns-in-Some c = least_of_all (NodeNeeds (lists c.args.needs.now)) c.first_suspect-suspect.result c.in-Some.cycle.items c.first_suspect-suspect.ensures.none_lower (subst (IsLeastFromIfAny (NodeNeeds (lists c.args.needs.now)) c.first_suspect-suspect.result) c.in-Some.is c.in_ok-cycle.ensures)
+returns-in-Some c = least_of_all c.first_suspect-suspect.ensures.none_lower
+    (subst (IsLeastFromIfAny (NodeNeeds (lists c.args.needs.now)) c.first_suspect-suspect.result) c.in-Some.is c.in_ok-cycle.ensures)
 
 pub unreachable-requires : goal.unreachable-requires
 unreachable-requires c =
     let own : SharesComponent (needs_of (lists c.args.needs.now) c.loop-first.first) c.in_ok-components.components.items c.loop-first.first =
     rw (← c.row_of.ensures) (rw (← c.as_slice.ensures.value) (c.shares_component.ensures.0 c.if-shares_component.true)) in
-    let cycle = cycle_from_shared (lists c.args.needs.now) c.in_ok-components.components.items c.loop-first.first c.requires.nodes c.in_ok-components.ensures own in
-    let none : IsLeastFromIfAny (NodeNeeds (lists c.args.needs.now)) c.loop-first.first None = subst (IsLeastFromIfAny (NodeNeeds (lists c.args.needs.now)) c.loop-first.first) c.in-None.is c.in_ok-cycle-2.ensures in
+    let cycle = cycle_from_shared c.loop-first.first c.requires.nodes c.in_ok-components.ensures own in
+    let none : IsLeastFromIfAny (NodeNeeds (lists c.args.needs.now)) c.loop-first.first None =
+    subst (IsLeastFromIfAny (NodeNeeds (lists c.args.needs.now)) c.loop-first.first) c.in-None.is c.in_ok-cycle-2.ensures in
     absurd (none (c.loop-first.first ∷ cycle.0) cycle.1 refl)
 
 pub returns-then-shares_component : goal.returns-then-shares_component
 returns-then-shares_component c =
-    least_of_all (NodeNeeds (lists c.args.needs.now)) c.loop-first.first c.in-Some-2.cycle.items c.loop-first.invariant
+    least_of_all c.loop-first.invariant
     (subst (IsLeastFromIfAny (NodeNeeds (lists c.args.needs.now)) c.loop-first.first) c.in-Some-2.is c.in_ok-cycle-2.ensures)
 
 pub loop-first-preserved : goal.loop-first-preserved
