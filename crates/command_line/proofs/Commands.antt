@@ -1,9 +1,10 @@
 -- What a parse of the program's arguments finds.
-use Rattle.std.proofs.Common.{◌≡◌, ◌∙◌, ◌==◌, ℕ, Bool, true, false, List, [], ◌∷◌, Option, Some, None, String, Global, refl, ap, sym, subst, inl, inr, cond, drop, map, string_bytes, slice_index_or, arith}
+use Rattle.std.proofs.Common.{◌≡◌, ◌∙◌, ◌==◌, ℕ, Bool, true, false, List, [], ◌∷◌, Option, Some, None, String, Global, refl, ap, sym, subst, inl, inr, ⊎_elim, drop, map, string_bytes, slice_index_or, arith}
 use Rattle.std.specs.Prelude.{option_and_then, option_map, codes, find}
 use Rattle.std.specs.List.{All}
 use Rattle.std.specs.Option.{option_map_or}
 use Rattle.std.specs.Str.{bytes_eq, IsUtf8}
+use Rattle.std.proofs.lemmas.Bool.{cases_Bool}
 use Rattle.std.proofs.lemmas.List.Elements.{All-tail, All-drop, All-map}
 use Rattle.std.proofs.lemmas.Slice.Eq.{bytes_eq-Decides}
 use Rattle.std.proofs.lemmas.Str.{IsUtf8-string_bytes}
@@ -35,12 +36,10 @@ single_found : (c : List Rule) (i : ℕ) → AreSingle c → (a : Rule) → arg_
     IsSingle a
 single_found [] i all a e = cc
 single_found (x ∷ xs) i all a e =
-    go (option_map_or (λ k. k == i) x.index false) e (single_found xs i all.1 a)
-  where
-    go : (b : Bool) → cond b (Some x) (arg_by_index xs i) ≡ Some a →
-        (arg_by_index xs i ≡ Some a → IsSingle a) → IsSingle a
-    go true e later = let same : x ≡ a = cc in subst IsSingle same all.0
-    go false e later = later e
+    ⊎_elim
+    (λ t. let here = rw t at e in let same : x ≡ a = cc in subst IsSingle same all.0)
+    (λ t. single_found xs i all.1 a (rw t at e))
+    (cases_Bool (option_map_or (λ k. k == i) x.index false))
 
 abbrev task_read : Text → Option (List Row) → Option TaskValue
 task_read name rows = task_found (option_map (λ rows. (name, rows)) rows)
@@ -131,13 +130,13 @@ named leaf command rest text =
     go None = refl
     go (Some given) = command.reads given
 
-abbrev IsNot : Text → Text → Type 0
-IsNot word name = (bytes_eq word name ≡ false) × (bytes_eq name word ≡ false)
-
 module _ (word : Text) (rest : List Text) (text : All IsUtf8 (word ∷ rest)) where
+  abbrev IsNot : Text → Type 0
+  IsNot name = (bytes_eq word name ≡ false) × (bytes_eq name word ≡ false)
+
   -- another word
-  other : IsNot word (codes "one") → IsNot word (codes "collate") → IsNot word (codes "show") →
-      IsNot word (codes "effect") → IsNot word (codes "order") → IsNot word (codes "project") → Parsed word rest
+  other : IsNot (codes "one") → IsNot (codes "collate") → IsNot (codes "show") →
+      IsNot (codes "effect") → IsNot (codes "order") → IsNot (codes "project") → Parsed word rest
   other one collate show effect order project =
       let unmet : subcommand_met (names_of (built program)) idle word ≡ None =
       rw (one.1, collate.1, show.1, effect.1, order.1, project.1) refl in
@@ -148,16 +147,15 @@ module _ (word : Text) (rest : List Text) (text : All IsUtf8 (word ∷ rest)) wh
       go (Some given) = rw (one.0, collate.0, show.0, effect.0, order.0, project.0) refl
 
   -- the word is the name of the command, or it is not
-  either : {s : Shape} → IsCommand s → (IsNot word s.name → Parsed word rest) → Parsed word rest
-  either {s} command differs = go (bytes_eq word s.name) refl (bytes_eq s.name word) refl
+  either : {s : Shape} → IsCommand s → (IsNot s.name → Parsed word rest) → Parsed word rest
+  either {s} command differs =
+      ⊎_elim
+      (λ e. is ((bytes_eq-Decides word s.name).0 e))
+      (λ e. ⊎_elim (λ f. is (sym ((bytes_eq-Decides s.name word).0 f))) (λ f. differs (e, f)) (cases_Bool (bytes_eq s.name word)))
+      (cases_Bool (bytes_eq word s.name))
     where
       is : word ≡ s.name → Parsed word rest
-      is same = subst (λ w. Parsed w rest) (sym same) (named s command rest (All-tail IsUtf8 word rest text))
-
-      go : (b : Bool) → bytes_eq word s.name ≡ b → (c : Bool) → bytes_eq s.name word ≡ c → Parsed word rest
-      go true e c f = is ((bytes_eq-Decides word s.name).0 e)
-      go false e true f = is (sym ((bytes_eq-Decides s.name word).0 f))
-      go false e false f = differs (e, f)
+      is same = rw same (named s command rest (All-tail IsUtf8 word rest text))
 
   one_word : Parsed word rest
   unfolding clap_on_literals

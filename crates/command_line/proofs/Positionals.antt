@@ -91,19 +91,18 @@ some_char b bs is = go (chars (b ∷ bs)) refl
         cc
     go (x ∷ xs) e = (x, ap (λ ys. slice_get ys 0) e)
 
--- an argument is taken for a flag, and is not one
-abbrev pub IsUnknown : List Rule → Bool → List Row → Pending → Text → Type 0
-IsUnknown c again rows pending word =
-    flag_word_fault c again (long_of word) word (held rows pending) ≡ kind.UnknownArgument ∷ []
-
 module _ (c : List Rule) (singles : HasSingles c) (again : Bool) (rows : List Row) (pending : Pending) where
+  -- an argument is taken for a flag, and is not one
+  abbrev IsUnknown : Text → Type 0
+  IsUnknown word = flag_word_fault c again (long_of word) word (held rows pending) ≡ kind.UnknownArgument ∷ []
+
   dashed : (b : ℕ) (rest : List ℕ) → IsUtf8 (45 ∷ b ∷ rest) →
-      bytes_eq (45 ∷ b ∷ rest) (codes "--") ≡ false → IsUnknown c again rows pending (45 ∷ b ∷ rest)
+      bytes_eq (45 ∷ b ∷ rest) (codes "--") ≡ false → IsUnknown (45 ∷ b ∷ rest)
   unfolding flags_fault
   dashed b rest text not_dashes = go (b == 45) refl rest text not_dashes
     where
       go : (t : Bool) → (b == 45) ≡ t → (rest : List ℕ) → IsUtf8 (45 ∷ b ∷ rest) →
-          bytes_eq (45 ∷ b ∷ rest) (codes "--") ≡ false → IsUnknown c again rows pending (45 ∷ b ∷ rest)
+          bytes_eq (45 ∷ b ∷ rest) (codes "--") ≡ false → IsUnknown (45 ∷ b ∷ rest)
       go true e [] text not_dashes = let bad : true ≡ false = rw e at not_dashes in cc
       go true e (r ∷ rs) text not_dashes = rw (e, singles.long) refl
       go false e rest text not_dashes =
@@ -111,7 +110,7 @@ module _ (c : List Rule) (singles : HasSingles c) (again : Bool) (rows : List Ro
 
   -- a word that looks like a flag is unknown
   pub flag_unknown : (word : Text) → IsUtf8 word → bytes_eq word (codes "--") ≡ false →
-      is_flag word ≡ true → IsUnknown c again rows pending word
+      is_flag word ≡ true → IsUnknown word
   flag_unknown [] text not_dashes is = cc
   flag_unknown (a ∷ []) text not_dashes is = cc
   flag_unknown (a ∷ b ∷ rest) text not_dashes is =
@@ -177,21 +176,17 @@ module _ (s : Shape) (singles : HasSingles s.rules) where
     stray none behind rest is =
         valued behind rest is ∙ rw none (⊎_elim (λ e. rw e refl) (λ e. rw e refl) (cases_Bool s.is_leaf))
 
-    -- it is the pending value, and the walk continues at the next positional
-    put : (a : Rule) (behind : Bool) → arg_by_index s.rules position ≡ Some a →
-        to_positional s.rules (arg_by_index s.rules position) word (here behind) (held rows pending)
-        ≡ behind_it a behind
-    put a true found =
-        let facts = singles.single position a found in rw found (rw (facts.0, facts.1, and-false) refl)
-    put a false found =
-        let facts = singles.single position a found in rw found (rw (facts.0, facts.1, and-false, facts.2) refl)
-
-    -- a word that is an operand, before or after `--`
+    -- a word that is an operand, before or after `--`: it is the pending value now, and the walk
+    -- continues at the next positional
     one_word : (a : Rule) (behind : Bool) (rest : List Text) →
         arg_by_index s.rules position ≡ Some a → IsPlain behind →
         read s (here behind) (word ∷ rest) ≡ go_on put_fault (read s (behind_it a behind) rest)
-    one_word a behind rest found is =
-        valued behind rest is ∙ ap (λ w. go_on put_fault (read s w rest)) (put a behind found)
+    one_word a true rest found is =
+        let facts = singles.single position a found in
+        valued true rest is ∙ rw found (rw (facts.0, facts.1, and-false) refl)
+    one_word a false rest found is =
+        let facts = singles.single position a found in
+        valued false rest is ∙ rw found (rw (facts.0, facts.1, and-false, facts.2) refl)
 
     -- what looks like a flag
     flagged : (rest : List Text) → IsUtf8 word → bytes_eq word (codes "--") ≡ false →
