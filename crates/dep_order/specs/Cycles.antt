@@ -19,8 +19,8 @@ first_of cycle = slice_index cycle 0
 abbrev pub IsAtMost : Numbers → Numbers → Type 0
 IsAtMost list other = slice_cmp nat_cmp list other ≢ Greater
 
--- The first thing is the least that is on any cycle. No cycle through it is shorter. Of the cycles
--- of this length that begin with it, this list is the least.
+-- The first thing is the least that is on any cycle, and no cycle through it is shorter. This list
+-- is the least of the cycles of its length that begin with this thing.
 pub record IsLeastCycle (Needs : ℕ → ℕ → Type 0) (cycle : Numbers) : Type 0 where
   pub is_cycle : IsCycle Needs cycle
   pub least_first : (other : Numbers) → IsCycle Needs other →
