@@ -58,16 +58,13 @@ module _ (subs : List Shape) where
       ≡ option_map (λ rows. (leaf.name, rows)) (read leaf (at [] None 1 false) rest)
   unfolding walk_fault walked defaults_fault
   hit leaf rest is no_help found =
-      let word = leaf.name in
       let names = names_of (app subs) in
       let start = walk_from nothing_held in
-      let first : walked [] names start word ≡ record start { stopped = Some (word, []) } = rw is refl in
-      let end : walk [] names nothing_held (word ∷ rest) ≡ record start { stopped = Some (word, rest) } =
-      ap (λ w. fold (walked [] names) w rest) first ∙ sym (walk_stopped [] names start word [] rest) in
-      let turn : turn_fault above names start word ≡ [] = rw is (rw no_help refl) in
-      let none : walk_fault above names start (word ∷ rest) ≡ [] =
-      ap₂ or_else turn
-      (ap (λ w. walk_fault above names w rest) first ∙ stopped_fault above names start (word, []) rest) in
+      let first : walked [] names start leaf.name ≡ record start { stopped = Some (leaf.name, []) } = rw is refl in
+      let end = ap (λ w. fold (walked [] names) w rest) first ∙ sym (walk_stopped [] names start leaf.name [] rest) in
+      let turn : turn_fault above names start leaf.name ≡ [] = rw is (rw no_help refl) in
+      let none = ap₂ or_else turn
+      (ap (λ w. walk_fault above names w rest) first ∙ stopped_fault above names start (leaf.name, []) rest) in
       ap₂ whole none end ∙ rw found (leaf_alone leaf rest)
 
   -- any other word
