@@ -19,8 +19,8 @@ use Rattle.clap.specs.declared.parser.matches.ArgMatches.{ArgMatches}
 use Rattle.clap.proofs.OnLiterals.{clap_on_literals}
 use Rattle.command_line.specs.Tasks.{TaskValue, operands, task_from, task_in}
 use Rattle.command_line.specs.inner.Parses.{command_app, program, task_found}
-use Rattle.command_line.proofs.Positionals.{HasSingles, IsSingle, as_operands, at, read}
-use Rattle.command_line.proofs.Subcommands.{above, answered, hit, miss, pick}
+use Rattle.command_line.proofs.Positionals.{HasSingles, IsSingle, as_operands, at, read, unless}
+use Rattle.command_line.proofs.Subcommands.{above, answered, hit, miss}
 
 -- ---- one command of the program
 
@@ -187,7 +187,7 @@ task_parsed a words m made text none found =
     let no_fault : fault_of program words ≡ [] =
     sym (ap (λ x. fault_of x words) made) ∙ none (ap is_simple_and_free made) in
     ap task_found ((found (ap is_simple made)).1 ∙ ap (λ x. subcommand_of x words) made)
-    ∙ ap (λ faults. task_found (pick faults (subcommand_of program words))) (sym no_fault)
+    ∙ ap (λ faults. task_found (unless faults (subcommand_of program words))) (sym no_fault)
     ∙ parsed (drop 1 words) (All-drop IsUtf8 1 words text)
 
 -- what a parse that fails with a fault has rejected
@@ -201,10 +201,10 @@ no_task a words e made text by other = elim (by (ap is_simple_and_free made)) [
 ]
   where
     go : (faults : Kinds) → fault_of program words ≡ faults → IsAmong (kind_of e) faults →
-        None ≡ task_found (pick (fault_of program words) (subcommand_of program words))
+        None ≡ task_found (unless (fault_of program words) (subcommand_of program words))
     go [] is among = absurd among
     go (k ∷ ks) is among =
-        ap (λ faults. task_found (pick faults (subcommand_of program words))) (sym is)
+        ap (λ faults. task_found (unless faults (subcommand_of program words))) (sym is)
 
 -- the arguments are text
 pub all_text : (arguments : List (String Global)) → All IsUtf8 (map string_bytes arguments)

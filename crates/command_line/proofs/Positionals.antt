@@ -44,13 +44,10 @@ at rows pending position behind = record {
   stopped = None;
 }
 
-abbrev pub rows_unless : Kinds → List Row → Option (List Row)
-rows_unless [] rows = Some rows
-rows_unless (k ∷ ks) rows = None
-
-abbrev go_on : Kinds → Option (List Row) → Option (List Row)
-go_on [] rows = rows
-go_on (k ∷ ks) rows = None
+-- what was found, unless something is at fault
+abbrev pub unless : {X : Type 0} → Kinds → Option X → Option X
+unless [] found = found
+unless (k ∷ ks) found = None
 
 abbrev end_fault : Shape → Held → Kinds
 end_fault s h = or_else (settle_fault s.rules s.args_override_self h)
@@ -62,18 +59,18 @@ after s w words = (fold (walked s.rules []) w words).held
 
 -- the rows of a walk over the words that are left, if nothing is at fault
 abbrev pub read : Shape → Walk → List Text → Option (List Row)
-read s w words = rows_unless (or_else (walk_fault s [] w words) (end_fault s (after s w words)))
-    (finished s.rules (after s w words))
+read s w words = unless (or_else (walk_fault s [] w words) (end_fault s (after s w words)))
+    (Some (finished s.rules (after s w words)))
 
 next_word : (s : Shape) (w : Walk) (word : Text) (rest : List Text) → read s w (word ∷ rest)
-    ≡ go_on (turn_fault s [] w word) (read s (walked s.rules [] w word) rest)
+    ≡ unless (turn_fault s [] w word) (read s (walked s.rules [] w word) rest)
 unfolding walk_fault
 next_word s w word rest = go (turn_fault s [] w word) (walked s.rules [] w word)
   where
     go : (t : Kinds) (then : Walk) →
-        rows_unless (or_else (or_else t (walk_fault s [] then rest)) (end_fault s (after s then rest)))
-        (finished s.rules (after s then rest))
-        ≡ go_on t (read s then rest)
+        unless (or_else (or_else t (walk_fault s [] then rest)) (end_fault s (after s then rest)))
+        (Some (finished s.rules (after s then rest)))
+        ≡ unless t (read s then rest)
     go [] then = refl
     go (k ∷ ks) then = refl
 
@@ -129,7 +126,7 @@ onward : {X Y Z : Type 0} (f : Y → Option Z) (g : X → Y) (o : Option X) (t :
 onward f g None t h none each = sym none
 onward f g (Some x) t h none each = each x
 
-stops : (t : Kinds) → go_on t None ≡ None
+stops : (t : Kinds) → unless {X = List Row} t None ≡ None
 stops [] = refl
 stops (k ∷ ks) = refl
 
@@ -165,7 +162,7 @@ module _ (s : Shape) (singles : HasSingles s.rules) where
       met : word_met s.rules [] behind idle position word (held rows pending) ≡ (held rows pending, value)
 
     valued : (behind : Bool) (rest : List Text) → IsPlain behind →
-        read s (here behind) (word ∷ rest) ≡ go_on put_fault
+        read s (here behind) (word ∷ rest) ≡ unless put_fault
         (read s (to_positional s.rules (arg_by_index s.rules position) word (here behind) (held rows pending)) rest)
     unfolding walked
     valued behind rest is = next_word s (here behind) word rest ∙ rw (is.passes, is.met) refl
@@ -180,7 +177,7 @@ module _ (s : Shape) (singles : HasSingles s.rules) where
     -- continues at the next positional
     one_word : (a : Rule) (behind : Bool) (rest : List Text) →
         arg_by_index s.rules position ≡ Some a → IsPlain behind →
-        read s (here behind) (word ∷ rest) ≡ go_on put_fault (read s (behind_it a behind) rest)
+        read s (here behind) (word ∷ rest) ≡ unless put_fault (read s (behind_it a behind) rest)
     one_word a true rest found is =
         let facts = singles.single position a found in
         valued true rest is ∙ rw found (rw (facts.0, facts.1, and-false) refl)
@@ -212,8 +209,8 @@ module _ (s : Shape) (singles : HasSingles s.rules) where
         ∙ sym (onward _ (with_word word) (operands rest) (λ _. None) (λ _. None) refl (λ others. stray none true others plain_behind))
     found rest (Some a) one later is =
         one_word a false rest one is
-        ∙ ap (go_on put_fault) (later (settled_rows s.rules pending rows) (Some (a.id, word ∷ [])) (next_position a position))
-        ∙ sym (onward _ (with_word word) (operands rest) (go_on put_fault) _ (stops put_fault) (λ others. one_word a true others one plain_behind))
+        ∙ ap (unless put_fault) (later (settled_rows s.rules pending rows) (Some (a.id, word ∷ [])) (next_position a position))
+        ∙ sym (onward _ (with_word word) (operands rest) (unless put_fault) _ (stops put_fault) (λ others. one_word a true others one plain_behind))
 
     any_word : (rest : List Text) → ReadsOperands s rest → IsUtf8 word → (b : Bool) → bytes_eq word (codes "--") ≡ b →
         (f : Bool) → is_flag word ≡ f → ReadsAs s rows pending position (word ∷ rest) (operands (word ∷ rest))
