@@ -130,21 +130,15 @@ named leaf command rest text =
     go None = refl
     go (Some given) = command.reads given
 
+-- no operands make a task of a word that is no command
+not_given : (word : Text) → ((given : List Text) → None ≡ task_from word given) →
+    (given : Option (List Text)) → None ≡ option_and_then (task_from word) given
+not_given word none None = refl
+not_given word none (Some given) = none given
+
 module _ (word : Text) (rest : List Text) (text : All IsUtf8 (word ∷ rest)) where
   abbrev IsNot : Text → Type 0
   IsNot name = (bytes_eq word name ≡ false) × (bytes_eq name word ≡ false)
-
-  -- another word
-  other : IsNot (codes "one") → IsNot (codes "collate") → IsNot (codes "show") →
-      IsNot (codes "effect") → IsNot (codes "order") → IsNot (codes "project") → Parsed word rest
-  other one collate show effect order project =
-      let unmet : subcommand_met (names_of (built program)) idle word ≡ None =
-      rw (one.1, collate.1, show.1, effect.1, order.1, project.1) refl in
-      ap task_found (miss (built program).subs word rest (text 0 word (omega arith)) unmet) ∙ go (operands rest)
-    where
-      go : (given : Option (List Text)) → None ≡ option_and_then (task_from word) given
-      go None = refl
-      go (Some given) = rw (one.0, collate.0, show.0, effect.0, order.0, project.0) refl
 
   -- the word is the name of the command, or it is not
   either : {s : Shape} → IsCommand s → (IsNot s.name → Parsed word rest) → Parsed word rest
@@ -168,7 +162,9 @@ module _ (word : Text) (rest : List Text) (text : All IsUtf8 (word ∷ rest)) wh
       (refl, refl, refl)) (λ effect.
       either (takes_one (codes "order") (codes "edges") refl (λ x. refl) (λ x y r. refl) (refl, refl, refl)) (λ order.
       either (takes_one (codes "project") (codes "document") refl (λ x. refl) (λ x y r. refl) (refl, refl, refl)) (λ project.
-      other one collate show effect order project))))))
+      ap task_found (miss (built program).subs word rest (text 0 word (omega arith))
+      (rw (one.1, collate.1, show.1, effect.1, order.1, project.1) refl))
+      ∙ not_given word (λ given. rw (one.0, collate.0, show.0, effect.0, order.0, project.0) refl) (operands rest)))))))
 
 -- the arguments after the program's name
 pub parsed : (words : List Text) → All IsUtf8 words →
