@@ -212,17 +212,20 @@ module _ (s : Shape) (singles : HasSingles s.rules) where
         ∙ ap (unless put_fault) (later (settled_rows s.rules pending rows) (Some (a.id, word ∷ [])) (next_position a position))
         ∙ sym (onward _ (with_word word) (operands rest) (unless put_fault) _ (stops put_fault) (λ others. one_word a true others one plain_behind))
 
-    any_word : (rest : List Text) → ReadsOperands s rest → IsUtf8 word → (b : Bool) → bytes_eq word (codes "--") ≡ b →
-        (f : Bool) → is_flag word ≡ f → ReadsAs s rows pending position (word ∷ rest) (operands (word ∷ rest))
+    any_word : (rest : List Text) → ReadsOperands s rest → IsUtf8 word →
+        ReadsAs s rows pending position (word ∷ rest) (operands (word ∷ rest))
     unfolding walked
-    any_word rest later text true e f is = next_word s (here false) word rest ∙ rw e refl
-    any_word rest later text false e true is = flagged rest text e is ∙ rw (e, is) refl
-    any_word rest later text false e false is =
-        found rest (arg_by_index s.rules position) refl later (plain e is) ∙ rw (e, is) refl
+    any_word rest later text =
+        ⊎_elim
+        (λ e. next_word s (here false) word rest ∙ rw e refl)
+        (λ e. ⊎_elim
+        (λ is. flagged rest text e is ∙ rw (e, is) refl)
+        (λ is. found rest (arg_by_index s.rules position) refl later (plain e is) ∙ rw (e, is) refl)
+        (cases_Bool (is_flag word)))
+        (cases_Bool (bytes_eq word (codes "--")))
 
   pub as_operands : (words : List Text) → All IsUtf8 words → ReadsOperands s words
   unfolding walk_fault
   as_operands [] text rows pending position = refl
   as_operands (word ∷ rest) text rows pending position =
       any_word rows pending position word rest (as_operands rest (All-tail IsUtf8 word rest text)) (text 0 word (omega arith))
-      (bytes_eq word (codes "--")) refl (is_flag word) refl
