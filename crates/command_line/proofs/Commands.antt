@@ -1,9 +1,10 @@
 -- What a parse of the program's arguments finds.
-use Rattle.std.proofs.Common.{◌≡◌, ◌∙◌, ◌==◌, ℕ, Bool, true, false, List, [], ◌∷◌, Option, Some, None, String, Global, refl, ap, sym, subst, inl, inr, cond, drop, map, string_bytes, slice_index_or, arith}
+use Rattle.std.proofs.Common.{◌≡◌, ◌∙◌, ◌==◌, ℕ, Bool, true, false, List, [], ◌∷◌, Option, Some, None, String, Global, refl, ap, sym, subst, inl, inr, ⊎_elim, drop, map, string_bytes, slice_index_or, arith}
 use Rattle.std.specs.Prelude.{option_and_then, option_map, codes, find}
 use Rattle.std.specs.List.{All}
 use Rattle.std.specs.Option.{option_map_or}
 use Rattle.std.specs.Str.{bytes_eq, IsUtf8}
+use Rattle.std.proofs.lemmas.Bool.{cases_Bool}
 use Rattle.std.proofs.lemmas.List.Elements.{All-tail, All-drop, All-map}
 use Rattle.std.proofs.lemmas.Slice.Eq.{bytes_eq-Decides}
 use Rattle.std.proofs.lemmas.Str.{IsUtf8-string_bytes}
@@ -18,18 +19,14 @@ use Rattle.clap.specs.declared.parser.matches.ArgMatches.{ArgMatches}
 use Rattle.clap.proofs.OnLiterals.{clap_on_literals}
 use Rattle.command_line.specs.Tasks.{TaskValue, operands, task_from, task_in}
 use Rattle.command_line.specs.inner.Parses.{command_app, program, task_found}
-use Rattle.command_line.proofs.Positionals.{HasSingles, IsSingle, as_operands, at, read}
-use Rattle.command_line.proofs.Subcommands.{above, answered, hit, miss, pick}
+use Rattle.command_line.proofs.Positionals.{HasSingles, IsSingle, as_operands, at, read, unless}
+use Rattle.command_line.proofs.Subcommands.{above, answered, hit, miss}
 
 -- ---- one command of the program
 
--- with one operand or with three, once it is built
-abbrev one_leaf : Text → Text → Shape
-one_leaf name operand = built_leaf (inherited above (command_app name (operand ∷ [])).top)
-
-abbrev three_leaf : Text → Text → Text → Text → Shape
-three_leaf name first second third =
-    built_leaf (inherited above (command_app name (first ∷ second ∷ third ∷ [])).top)
+-- a command with these operands, once it is built
+abbrev leaf : Text → List Text → Shape
+leaf name operands = built_leaf (inherited above (command_app name operands).top)
 
 abbrev AreSingle : List Rule → Type 0
 AreSingle [] = Unit {0}
@@ -39,115 +36,80 @@ single_found : (c : List Rule) (i : ℕ) → AreSingle c → (a : Rule) → arg_
     IsSingle a
 single_found [] i all a e = cc
 single_found (x ∷ xs) i all a e =
-    go (option_map_or (λ k. k == i) x.index false) e (single_found xs i all.1 a)
-  where
-    go : (b : Bool) → cond b (Some x) (arg_by_index xs i) ≡ Some a →
-        (arg_by_index xs i ≡ Some a → IsSingle a) → IsSingle a
-    go true e later = let same : x ≡ a = cc in subst IsSingle same all.0
-    go false e later = later e
-
-one_singles : (name operand : Text) → HasSingles (one_leaf name operand).rules
-one_singles name operand = record {
-  long = λ text. refl;
-  short = λ x. refl;
-  single = λ i. single_found (one_leaf name operand).rules i ((refl, refl, refl), tt);
-}
-
-three_singles : (name first second third : Text) →
-    HasSingles (three_leaf name first second third).rules
-three_singles name first second third = record {
-  long = λ text. refl;
-  short = λ x. refl;
-  single = λ i. single_found (three_leaf name first second third).rules i
-      ((refl, refl, refl), ((refl, refl, refl), ((refl, refl, refl), tt)));
-}
+    ⊎_elim
+    (λ t. let here = rw t at e in let same : x ≡ a = cc in subst IsSingle same all.0)
+    (λ t. single_found xs i all.1 a (rw t at e))
+    (cases_Bool (option_map_or (λ k. k == i) x.index false))
 
 abbrev task_read : Text → Option (List Row) → Option TaskValue
 task_read name rows = task_found (option_map (λ rows. (name, rows)) rows)
 
 -- the command's operands give its task
 abbrev ReadsTask : Shape → List Text → Type 0
-ReadsTask leaf given =
-    task_read leaf.name (read leaf (at [] None 1 true) given) ≡ task_from leaf.name given
-
-by_one : (leaf : Shape) → ReadsTask leaf [] → ((x : Text) → ReadsTask leaf (x ∷ [])) →
-    ((x y : Text) (r : List Text) → ReadsTask leaf (x ∷ y ∷ r)) →
-    (given : List Text) → ReadsTask leaf given
-by_one leaf none one more [] = none
-by_one leaf none one more (x ∷ []) = one x
-by_one leaf none one more (x ∷ y ∷ r) = more x y r
-
-by_three : (leaf : Shape) → ReadsTask leaf [] → ((x : Text) → ReadsTask leaf (x ∷ [])) →
-    ((x y : Text) → ReadsTask leaf (x ∷ y ∷ [])) →
-    ((x y z : Text) → ReadsTask leaf (x ∷ y ∷ z ∷ [])) →
-    ((w x y z : Text) (r : List Text) → ReadsTask leaf (w ∷ x ∷ y ∷ z ∷ r)) →
-    (given : List Text) → ReadsTask leaf given
-by_three leaf none one two three more [] = none
-by_three leaf none one two three more (x ∷ []) = one x
-by_three leaf none one two three more (x ∷ y ∷ []) = two x y
-by_three leaf none one two three more (x ∷ y ∷ z ∷ []) = three x y z
-by_three leaf none one two three more (w ∷ x ∷ y ∷ z ∷ r) = more w x y z r
+ReadsTask s given = task_read s.name (read s (at [] None 1 true) given) ≡ task_from s.name given
 
 -- one that is met has its name, which is not that of the help, and is found by it
 abbrev IsMet : Shape → Type 0
-IsMet leaf =
-    (subcommand_met (names_of (built program)) idle leaf.name ≡ Some leaf.name)
-    × (bytes_eq leaf.name (codes "help") ≡ false)
-    × (find (λ s. answers_to leaf.name (label_of s)) (built program).subs ≡ Some leaf)
+IsMet s =
+    (subcommand_met (names_of (built program)) idle s.name ≡ Some s.name)
+    × (bytes_eq s.name (codes "help") ≡ false)
+    × (find (λ other. answers_to s.name (label_of other)) (built program).subs ≡ Some s)
 
 -- it is one of the program's
-record IsCommand (leaf : Shape) : Type 0 where
-  singles : HasSingles leaf.rules
-  reads : (given : List Text) → ReadsTask leaf given
-  met : IsMet leaf
+record IsCommand (s : Shape) : Type 0 where
+  singles : HasSingles s.rules
+  reads : (given : List Text) → ReadsTask s given
+  met : IsMet s
 
-one_is : IsCommand (three_leaf (codes "one") (codes "scan") (codes "dir") (codes "ext"))
-unfolding clap_on_literals
-one_is = record {
-  singles = three_singles (codes "one") (codes "scan") (codes "dir") (codes "ext");
-  reads = by_three (three_leaf (codes "one") (codes "scan") (codes "dir") (codes "ext")) refl (λ x. refl) (λ x y. refl) (λ x y z. refl) (λ w x y z r. refl);
-  met = (refl, refl, refl);
-}
+module _ (name operand : Text) where
+  abbrev with_one : Shape
+  with_one = leaf name (operand ∷ [])
 
-effect_is : IsCommand (three_leaf (codes "effect") (codes "name") (codes "edges") (codes "dyndep"))
-unfolding clap_on_literals
-effect_is = record {
-  singles = three_singles (codes "effect") (codes "name") (codes "edges") (codes "dyndep");
-  reads = by_three (three_leaf (codes "effect") (codes "name") (codes "edges") (codes "dyndep")) refl (λ x. refl) (λ x y. refl) (λ x y z. refl) (λ w x y z r. refl);
-  met = (refl, refl, refl);
-}
+  -- a command with one operand, by what it reads of no, one and more operands
+  takes_one : ReadsTask with_one [] → ((x : Text) → ReadsTask with_one (x ∷ [])) →
+      ((x y : Text) (r : List Text) → ReadsTask with_one (x ∷ y ∷ r)) → IsMet with_one → IsCommand with_one
+  takes_one none one more met = record {
+    singles = record {
+      long = λ text. refl;
+      short = λ x. refl;
+      single = λ i. single_found with_one.rules i ((refl, refl, refl), tt);
+    };
+    reads = reads;
+    met = met;
+  }
+    where
+      reads : (given : List Text) → ReadsTask with_one given
+      reads [] = none
+      reads (x ∷ []) = one x
+      reads (x ∷ y ∷ r) = more x y r
 
-collate_is : IsCommand (one_leaf (codes "collate") (codes "target"))
-unfolding clap_on_literals
-collate_is = record {
-  singles = one_singles (codes "collate") (codes "target");
-  reads = by_one (one_leaf (codes "collate") (codes "target")) refl (λ x. refl) (λ x y r. refl);
-  met = (refl, refl, refl);
-}
+module _ (name first second third : Text) where
+  abbrev with_three : Shape
+  with_three = leaf name (first ∷ second ∷ third ∷ [])
 
-show_is : IsCommand (one_leaf (codes "show") (codes "dyndep"))
-unfolding clap_on_literals
-show_is = record {
-  singles = one_singles (codes "show") (codes "dyndep");
-  reads = by_one (one_leaf (codes "show") (codes "dyndep")) refl (λ x. refl) (λ x y r. refl);
-  met = (refl, refl, refl);
-}
-
-order_is : IsCommand (one_leaf (codes "order") (codes "edges"))
-unfolding clap_on_literals
-order_is = record {
-  singles = one_singles (codes "order") (codes "edges");
-  reads = by_one (one_leaf (codes "order") (codes "edges")) refl (λ x. refl) (λ x y r. refl);
-  met = (refl, refl, refl);
-}
-
-project_is : IsCommand (one_leaf (codes "project") (codes "document"))
-unfolding clap_on_literals
-project_is = record {
-  singles = one_singles (codes "project") (codes "document");
-  reads = by_one (one_leaf (codes "project") (codes "document")) refl (λ x. refl) (λ x y r. refl);
-  met = (refl, refl, refl);
-}
+  -- a command with three operands
+  takes_three : ReadsTask with_three [] → ((x : Text) → ReadsTask with_three (x ∷ [])) →
+      ((x y : Text) → ReadsTask with_three (x ∷ y ∷ [])) →
+      ((x y z : Text) → ReadsTask with_three (x ∷ y ∷ z ∷ [])) →
+      ((w x y z : Text) (r : List Text) → ReadsTask with_three (w ∷ x ∷ y ∷ z ∷ r)) →
+      IsMet with_three → IsCommand with_three
+  takes_three none one two three more met = record {
+    singles = record {
+      long = λ text. refl;
+      short = λ x. refl;
+      single = λ i. single_found with_three.rules i
+          ((refl, refl, refl), ((refl, refl, refl), ((refl, refl, refl), tt)));
+    };
+    reads = reads;
+    met = met;
+  }
+    where
+      reads : (given : List Text) → ReadsTask with_three given
+      reads [] = none
+      reads (x ∷ []) = one x
+      reads (x ∷ y ∷ []) = two x y
+      reads (x ∷ y ∷ z ∷ []) = three x y z
+      reads (w ∷ x ∷ y ∷ z ∷ r) = more w x y z r
 
 -- ---- the first argument after the program's name, and those after it
 
@@ -168,47 +130,48 @@ named leaf command rest text =
     go None = refl
     go (Some given) = command.reads given
 
-abbrev IsNot : Text → Text → Type 0
-IsNot word name = (bytes_eq word name ≡ false) × (bytes_eq name word ≡ false)
+-- no operands make a task of a word that is no command
+not_given : (word : Text) → ((given : List Text) → None ≡ task_from word given) →
+    (given : Option (List Text)) → None ≡ option_and_then (task_from word) given
+not_given word none None = refl
+not_given word none (Some given) = none given
 
--- another word
-other : (word : Text) (rest : List Text) → IsUtf8 word → IsNot word (codes "one") →
-    IsNot word (codes "collate") → IsNot word (codes "show") → IsNot word (codes "effect") →
-    IsNot word (codes "order") → IsNot word (codes "project") → Parsed word rest
-other word rest text one collate show effect order project =
-    let unmet : subcommand_met (names_of (built program)) idle word ≡ None =
-    rw (one.1, collate.1, show.1, effect.1, order.1, project.1) refl in
-    ap task_found (miss (built program).subs word rest text unmet) ∙ go (operands rest)
-  where
-    go : (given : Option (List Text)) → None ≡ option_and_then (task_from word) given
-    go None = refl
-    go (Some given) = rw (one.0, collate.0, show.0, effect.0, order.0, project.0) refl
+module _ (word : Text) (rest : List Text) (text : All IsUtf8 (word ∷ rest)) where
+  abbrev IsNot : Text → Type 0
+  IsNot name = (bytes_eq word name ≡ false) × (bytes_eq name word ≡ false)
 
-either : {P : Type 0} (word name : Text) → (word ≡ name → P) → (IsNot word name → P) → P
-either {P = P} word name same differs = go (bytes_eq word name) refl (bytes_eq name word) refl
-  where
-    go : (b : Bool) → bytes_eq word name ≡ b → (c : Bool) → bytes_eq name word ≡ c → P
-    go true e c f = same ((bytes_eq-Decides word name).0 e)
-    go false e true f = same (sym ((bytes_eq-Decides name word).0 f))
-    go false e false f = differs (e, f)
+  -- the word is the name of the command, or it is not
+  either : {s : Shape} → IsCommand s → (IsNot s.name → Parsed word rest) → Parsed word rest
+  either {s} command differs =
+      ⊎_elim
+      (λ e. is ((bytes_eq-Decides word s.name).0 e))
+      (λ e. ⊎_elim (λ f. is (sym ((bytes_eq-Decides s.name word).0 f))) (λ f. differs (e, f)) (cases_Bool (bytes_eq s.name word)))
+      (cases_Bool (bytes_eq word s.name))
+    where
+      is : word ≡ s.name → Parsed word rest
+      is same = rw same (named s command rest (All-tail IsUtf8 word rest text))
+
+  one_word : Parsed word rest
+  unfolding clap_on_literals
+  one_word =
+      either (takes_three (codes "one") (codes "scan") (codes "dir") (codes "ext") refl (λ x. refl) (λ x y. refl) (λ x y z. refl) (λ w x y z r. refl)
+      (refl, refl, refl)) (λ one.
+      either (takes_one (codes "collate") (codes "target") refl (λ x. refl) (λ x y r. refl) (refl, refl, refl)) (λ collate.
+      either (takes_one (codes "show") (codes "dyndep") refl (λ x. refl) (λ x y r. refl) (refl, refl, refl)) (λ show.
+      either (takes_three (codes "effect") (codes "name") (codes "edges") (codes "dyndep") refl (λ x. refl) (λ x y. refl) (λ x y z. refl) (λ w x y z r. refl)
+      (refl, refl, refl)) (λ effect.
+      either (takes_one (codes "order") (codes "edges") refl (λ x. refl) (λ x y r. refl) (refl, refl, refl)) (λ order.
+      either (takes_one (codes "project") (codes "document") refl (λ x. refl) (λ x y r. refl) (refl, refl, refl)) (λ project.
+      ap task_found (miss (built program).subs word rest (text 0 word (omega arith))
+      (rw (one.1, collate.1, show.1, effect.1, order.1, project.1) refl))
+      ∙ not_given word (λ given. rw (one.0, collate.0, show.0, effect.0, order.0, project.0) refl) (operands rest)))))))
 
 -- the arguments after the program's name
 pub parsed : (words : List Text) → All IsUtf8 words →
     task_found (answered (built program) words) ≡ task_in words
 unfolding clap_on_literals
 parsed [] text = refl
-parsed (word ∷ rest) text =
-    either word (codes "one") (is _ one_is) (λ one.
-    either word (codes "collate") (is _ collate_is) (λ collate.
-    either word (codes "show") (is _ show_is) (λ show.
-    either word (codes "effect") (is _ effect_is) (λ effect.
-    either word (codes "order") (is _ order_is) (λ order.
-    either word (codes "project") (is _ project_is) (λ project.
-    other word rest (text 0 word (omega arith)) one collate show effect order project))))))
-  where
-    is : (leaf : Shape) → IsCommand leaf → word ≡ leaf.name → Parsed word rest
-    is leaf command same = subst (λ w. Parsed w rest) (sym same)
-        (named leaf command rest (All-tail IsUtf8 word rest text))
+parsed (word ∷ rest) text = one_word word rest text
 
 -- ---- a parse of all arguments
 
@@ -220,7 +183,7 @@ task_parsed a words m made text none found =
     let no_fault : fault_of program words ≡ [] =
     sym (ap (λ x. fault_of x words) made) ∙ none (ap is_simple_and_free made) in
     ap task_found ((found (ap is_simple made)).1 ∙ ap (λ x. subcommand_of x words) made)
-    ∙ ap (λ faults. task_found (pick faults (subcommand_of program words))) (sym no_fault)
+    ∙ ap (λ faults. task_found (unless faults (subcommand_of program words))) (sym no_fault)
     ∙ parsed (drop 1 words) (All-drop IsUtf8 1 words text)
 
 -- what a parse that fails with a fault has rejected
@@ -234,10 +197,10 @@ no_task a words e made text by other = elim (by (ap is_simple_and_free made)) [
 ]
   where
     go : (faults : Kinds) → fault_of program words ≡ faults → IsAmong (kind_of e) faults →
-        None ≡ task_found (pick (fault_of program words) (subcommand_of program words))
+        None ≡ task_found (unless (fault_of program words) (subcommand_of program words))
     go [] is among = absurd among
     go (k ∷ ks) is among =
-        ap (λ faults. task_found (pick faults (subcommand_of program words))) (sym is)
+        ap (λ faults. task_found (unless faults (subcommand_of program words))) (sym is)
 
 -- the arguments are text
 pub all_text : (arguments : List (String Global)) → All IsUtf8 (map string_bytes arguments)

@@ -10,7 +10,7 @@ use Rattle.clap.proofs.WalkLemmas.{walk_stopped}
 use Rattle.clap.proofs.FaultLemmas.{stopped_fault}
 use Rattle.command_line.specs.Tasks.{is_flag}
 use Rattle.command_line.specs.inner.Parses.{top}
-use Rattle.command_line.proofs.Positionals.{HasSingles, at, flag_unknown, no_flag, read, rows_unless}
+use Rattle.command_line.proofs.Positionals.{HasSingles, at, flag_unknown, no_flag, read, unless}
 
 -- the command above the others, once it is built
 abbrev pub above : Shape
@@ -19,31 +19,27 @@ above = record top { is_leaf = false; is_built = true }
 abbrev pub app : List Shape → App
 app subs = record { top = above; subs = subs }
 
-abbrev pub pick : Kinds → Option (Text × List Row) → Option (Text × List Row)
-pick [] found = found
-pick (k ∷ ks) found = None
-
 -- the subcommand with its rows, if nothing is at fault
 abbrev pub answered : App → List Text → Option (Text × List Row)
-answered a words = pick (built_fault a nothing_held words) (entered a (stop_after a.top.rules (names_of a) words))
+answered a words = unless (built_fault a nothing_held words) (entered a (stop_after a.top.rules (names_of a) words))
 
 no_rules : HasSingles []
 no_rules = record { long = λ name. refl; short = λ x. refl; single = λ i a e. cc }
 
 leaf_alone : (leaf : Shape) (rest : List Text) →
-    pick (or_else (level_fault leaf [] nothing_held rest false []) []) (Some (rows_at leaf rest))
+    unless (or_else (level_fault leaf [] nothing_held rest false []) []) (Some (rows_at leaf rest))
     ≡ option_map (λ rows. (leaf.name, rows)) (read leaf (at [] None 1 false) rest)
 leaf_alone leaf rest = go (level_fault leaf [] nothing_held rest false [])
   where
-    go : (faults : Kinds) → pick (or_else faults []) (Some (rows_at leaf rest))
-        ≡ option_map (λ rows. (leaf.name, rows)) (rows_unless faults (rows_after leaf.rules [] rest))
+    go : (faults : Kinds) → unless (or_else faults []) (Some (rows_at leaf rest))
+        ≡ option_map (λ rows. (leaf.name, rows)) (unless faults (Some (rows_after leaf.rules [] rest)))
     go [] = refl
     go (k ∷ ks) = refl
 
 module _ (subs : List Shape) where
   -- by the faults on the way and the end of the walk
   abbrev whole : Kinds → Walk → Option (Text × List Row)
-  whole faults w = pick (or_else faults (or_else (entered_fault (app subs) w.stopped)
+  whole faults w = unless (or_else faults (or_else (entered_fault (app subs) w.stopped)
       (or_else (settle_fault [] false w.held)
       (or_else (defaults_fault (settled [] w.held).rows [])
       (check_fault above (finished [] w.held) (is_some (entered (app subs) w.stopped)))))))
@@ -58,16 +54,13 @@ module _ (subs : List Shape) where
       ≡ option_map (λ rows. (leaf.name, rows)) (read leaf (at [] None 1 false) rest)
   unfolding walk_fault walked defaults_fault
   hit leaf rest is no_help found =
-      let word = leaf.name in
       let names = names_of (app subs) in
       let start = walk_from nothing_held in
-      let first : walked [] names start word ≡ record start { stopped = Some (word, []) } = rw is refl in
-      let end : walk [] names nothing_held (word ∷ rest) ≡ record start { stopped = Some (word, rest) } =
-      ap (λ w. fold (walked [] names) w rest) first ∙ sym (walk_stopped [] names start word [] rest) in
-      let turn : turn_fault above names start word ≡ [] = rw is (rw no_help refl) in
-      let none : walk_fault above names start (word ∷ rest) ≡ [] =
-      ap₂ or_else turn
-      (ap (λ w. walk_fault above names w rest) first ∙ stopped_fault above names start (word, []) rest) in
+      let first : walked [] names start leaf.name ≡ record start { stopped = Some (leaf.name, []) } = rw is refl in
+      let end = ap (λ w. fold (walked [] names) w rest) first ∙ sym (walk_stopped [] names start leaf.name [] rest) in
+      let turn : turn_fault above names start leaf.name ≡ [] = rw is (rw no_help refl) in
+      let none = ap₂ or_else turn
+      (ap (λ w. walk_fault above names w rest) first ∙ stopped_fault above names start (leaf.name, []) rest) in
       ap₂ whole none end ∙ rw found (leaf_alone leaf rest)
 
   -- any other word

@@ -1,7 +1,7 @@
--- The word for what a caller hands to the program.
+-- The arguments of the program.
 use Rattle.std.specs.Prelude.{ℕ, List}
 
--- an argument, by its bytes
+-- an argument is its bytes
 abbrev pub Argument : Type 0
 Argument = List ℕ
 

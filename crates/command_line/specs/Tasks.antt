@@ -1,4 +1,4 @@
--- Which task the program's arguments call for.
+-- Which task the program's arguments ask for.
 use Rattle.std.specs.Prelude.{◌≡◌, ◌==◌, Bool, false, List, [], ◌∷◌, drop}
 use Rattle.std.specs.Prelude.{Option, Some, None, option_map, option_and_then, if◌then◌else◌, codes}
 use Rattle.std.specs.Str.{bytes_eq}
@@ -6,7 +6,7 @@ use Rattle.command_line.specs.Arguments.{Argument, dash}
 use Rattle.command_line.specs.declared.arguments.Task.{Task}
 use Rattle.command_line.specs.declared.arguments.Task.TheVariants as task
 
--- a task, by the texts of its operands
+-- a task with its operands
 pub data TaskValue : Type 0 where
   one : Argument → Argument → Argument → TaskValue
   collate : Argument → TaskValue
@@ -23,7 +23,7 @@ task_value (task.Effect name edges dyndep) = effect name.now edges.now dyndep.no
 task_value (task.Order edges) = order edges.now
 task_value (task.Project document) = project document.now
 
--- two bytes or more that begin with a dash
+-- two or more bytes, of which the first is a dash
 abbrev pub is_flag : Argument → Bool
 is_flag (first ∷ _ ∷ _) = first == dash
 is_flag _ = false
@@ -37,32 +37,32 @@ operands (argument ∷ arguments) =
     else (if is_flag argument then None
     else option_map (λ others. argument ∷ others) (operands arguments))
 
--- as many operands as `one` takes
+-- the task of `one`, if it has as many operands as it takes
 abbrev pub one_task : List Argument → Option TaskValue
 one_task (scan ∷ dir ∷ ext ∷ []) = Some (one scan dir ext)
 one_task _ = None
 
--- as many operands as `collate` takes
+-- the task of `collate`, if it has as many operands as it takes
 abbrev pub collate_task : List Argument → Option TaskValue
 collate_task (target ∷ []) = Some (collate target)
 collate_task _ = None
 
--- as many operands as `show` takes
+-- the task of `show`, if it has as many operands as it takes
 abbrev pub show_task : List Argument → Option TaskValue
 show_task (dyndep ∷ []) = Some (show dyndep)
 show_task _ = None
 
--- as many operands as `effect` takes
+-- the task of `effect`, if it has as many operands as it takes
 abbrev pub effect_task : List Argument → Option TaskValue
 effect_task (name ∷ edges ∷ dyndep ∷ []) = Some (effect name edges dyndep)
 effect_task _ = None
 
--- as many operands as `order` takes
+-- the task of `order`, if it has as many operands as it takes
 abbrev pub order_task : List Argument → Option TaskValue
 order_task (edges ∷ []) = Some (order edges)
 order_task _ = None
 
--- as many operands as `project` takes
+-- the task of `project`, if it has as many operands as it takes
 abbrev pub project_task : List Argument → Option TaskValue
 project_task (document ∷ []) = Some (project document)
 project_task _ = None
@@ -82,6 +82,6 @@ abbrev pub task_in : List Argument → Option TaskValue
 task_in [] = None
 task_in (command ∷ arguments) = option_and_then (task_from command) (operands arguments)
 
--- the arguments, the program's own name the first of them, call for this task
+-- these arguments ask for this task; the first of them is the program's own name
 abbrev pub AreCallOf : List Argument → Option Task → Type 0
 AreCallOf arguments task = option_map task_value task ≡ task_in (drop 1 arguments)

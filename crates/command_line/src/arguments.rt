@@ -86,7 +86,8 @@ fn with_command<'a>(
     operands: &[&'a str],
 ) -> Result<Command<'a>, AllocError>
     ensures { IfOk result (λ c. IsOkAnd program.entry (λ above. app_of c
-        ≡ with_subcommand (app_of above) (command_app name.now (map (λ o. o.now) operands.now)).top)) }
+        ≡ with_subcommand (app_of above)
+        (command_app name.now (map (λ o. o.now) operands.now)).top)) }
 {
     let program = program?;
     let mut command = Command::new(alloc, name);

@@ -1,6 +1,6 @@
 -- What the public functions return, from what their steps leave.
 use Rattle.std.proofs.lemmas.Grind.{common_steps}
-use Rattle.std.proofs.Common.{◌≡◌, ◌≢◌, ℕ, ◌+◌, ◌<◌, ◌≤◌, List, [], ◌∷◌, ◌++◌, length, get_or, Option, None, sym, ◌∙◌, ap, subst, inl, inr, ◌⊎◌, ⊎_elim, arith, zero, suc}
+use Rattle.std.proofs.Common.{◌≡◌, ◌≢◌, ℕ, ◌+◌, ◌<◌, ◌≤◌, [], ◌∷◌, ◌++◌, length, get_or, None, ◌∙◌, ap, subst, inl, inr, ◌⊎◌, ⊎_elim, arith, zero, suc}
 use Rattle.std.specs.List.{Contains, All}
 use Rattle.std.proofs.lemmas.Bool.{cases_eq, cases_lt, false_from_ne_true}
 use Rattle.std.proofs.lemmas.Cmp.{nat_eq_equiv}
@@ -21,27 +21,29 @@ use Rattle.dep_order.proofs.Orderings.{differ, not_more, ordered_below}
 use Rattle.dep_order.proofs.Stuck.{IsStuck, not_orderable, has_cycle}
 use Rattle.dep_order.proofs.Searches.{none_is_no_some}
 use Rattle.dep_order.proofs.Greedy.{chain_steps}
+use Rattle.dep_order.proofs.Words.{Graph, Marks, Numbers, Relation}
 
 -- needs are among the nodes
-pub within : (graph : List (List ℕ)) → NeedsAreNodes graph → AreWithin (length graph) (NodeNeeds graph)
+pub within : (graph : Graph) → NeedsAreNodes graph → AreWithin (length graph) (NodeNeeds graph)
 within graph nodes thing needed need = grind (arith, common_steps)
 
 -- users and needs are the same read backwards
-pub uses : (needs users : List (List ℕ)) → AreUsers needs users → (node user : ℕ) → NodeNeeds users node user → NodeNeeds needs user node
+pub uses : (needs users : Graph) → AreUsers needs users → (node user : ℕ) → NodeNeeds users node user → NodeNeeds needs user node
 uses needs users u node user h = has_from_count node (needs_of needs user) (omega (arith, count_from_has user (needs_of users node) h, u.counts node user))
 
-pub used : (needs users : List (List ℕ)) → AreUsers needs users → (node user : ℕ) → NodeNeeds needs user node → NodeNeeds users node user
-used needs users u node user h = has_from_count user (needs_of users node) (omega (arith, count_from_has node (needs_of needs user) h, u.counts node user))
+pub used : {needs users : Graph} → AreUsers needs users → (node user : ℕ) → NodeNeeds needs user node → NodeNeeds users node user
+used {needs} {users} u node user h = has_from_count user (needs_of users node) (omega (arith, count_from_has node (needs_of needs user) h, u.counts node user))
 
-pub users_are_nodes : (needs users : List (List ℕ)) → AreUsers needs users → NeedsAreNodes needs → NeedsAreNodes users
-users_are_nodes needs users u nodes k d lt i e lt' =
+pub users_are_nodes : {needs users : Graph} → AreUsers needs users → NeedsAreNodes needs → NeedsAreNodes users
+users_are_nodes {needs} {users} u nodes k d lt i e lt' =
     let row : get_or users k d ≡ needs_of users k = get_or_default users k d [] lt in
-    let has : NodeNeeds users k (get_or (get_or users k d) i e) = subst (λ xs. Contains xs (get_or (get_or users k d) i e)) row (Contains-get_or (get_or users k d) i e lt') in
-    omega (arith, u.each, (within needs nodes (get_or (get_or users k d) i e) k (uses needs users u k (get_or (get_or users k d) i e) has)).0)
+    let has : NodeNeeds users k (get_or (get_or users k d) i e) = rw (← row) (Contains-get_or (get_or users k d) i e lt') in
+    omega (arith, (within needs nodes (get_or (get_or users k d) i e) k (uses needs users u k (get_or (get_or users k d) i e) has)).0)
 
 -- all are ordered
-pub all_ordered : (needs : List (List ℕ)) (ordered : List ℕ) → NeedsAreNodes needs → length ordered ≡ length needs → AreOrdered needs ordered → IsOrderable (length needs) (NodeNeeds needs) × IsLeastOrder (length needs) (NodeNeeds needs) ordered
-all_ordered needs ordered nodes e h =
+pub all_ordered : {needs : Graph} {ordered : Numbers} → NeedsAreNodes needs → length ordered ≡ length needs → AreOrdered needs ordered →
+    IsOrderable (length needs) (NodeNeeds needs) × IsLeastOrder (length needs) (NodeNeeds needs) ordered
+all_ordered {needs} {ordered} nodes e h =
     let least : IsLeastOrder (length needs) (NodeNeeds needs) ordered = record { as_many = e; all = all; each = h.each } in
     (orderable (length needs) (NodeNeeds needs) ordered (within needs nodes) least, least)
   where
@@ -51,111 +53,123 @@ all_ordered needs ordered nodes e h =
         (λ has. has)
         (λ lacks. absurd (omega (
           arith,
-          e,
           length_push ordered thing,
           length-le_from_distinct_below (ordered ++ thing ∷ []) (length needs)
-              (IsDistinct-push nat_eq_equiv ordered thing (differ (length needs) (NodeNeeds needs) ordered h.each) (false_from_ne_true _ (λ a. lacks (has_from_any ordered thing a))))
-              (λ q a. ⊎_elim (λ m. ordered_below (length needs) (NodeNeeds needs) ordered h.each q m) (λ last. subst (λ x. x < length needs) last lt) (Contains-push_cases ordered thing q (has_from_any (ordered ++ thing ∷ []) q a))),
+              (IsDistinct-push nat_eq_equiv ordered thing (differ (length needs) (NodeNeeds needs) ordered h.each)
+              (false_from_ne_true _ (λ a. lacks (has_from_any ordered thing a))))
+              (λ q a. ⊎_elim (λ m. ordered_below (length needs) (NodeNeeds needs) ordered h.each q m) (λ last. rw (← last) lt)
+              (Contains-push_cases ordered thing q (has_from_any (ordered ++ thing ∷ []) q a))),
         )))
         (has_or_not ordered thing)
 
 -- the nodes that are left
-abbrev pub IsLeft : List (List ℕ) → List ℕ → ℕ → Type 0
+abbrev pub IsLeft : Graph → Numbers → ℕ → Type 0
 IsLeft needs ordered node = (node < length needs) × (¬ Contains ordered node)
 
-stuck : (needs : List (List ℕ)) (ordered : List ℕ) → NeedsAreNodes needs → AreOrdered needs ordered → IsStuck (IsLeft needs ordered) (NodeNeeds needs)
+stuck : (needs : Graph) (ordered : Numbers) → NeedsAreNodes needs → AreOrdered needs ordered → IsStuck (IsLeft needs ordered) (NodeNeeds needs)
 stuck needs ordered nodes h thing left =
     let next = h.no_more_ready thing left.0 left.1 in
     (next.0, next.1, ((within needs nodes thing next.0 next.1).1, next.2))
 
 -- some node below is left, or all are ordered
-pub some_left : (needs : List (List ℕ)) (ordered : List ℕ) (k : ℕ) → k ≤ length needs → ((node : ℕ) × IsLeft needs ordered node) ⊎ ((node : ℕ) → node < k → Contains ordered node)
-some_left needs ordered zero le = inr (λ node lt. absurd (omega (arith, lt)))
+pub some_left : (needs : Graph) (ordered : Numbers) (k : ℕ) → k ≤ length needs →
+    ((node : ℕ) × IsLeft needs ordered node) ⊎ ((node : ℕ) → node < k → Contains ordered node)
+some_left needs ordered zero le = inr (λ node lt. absurd (omega arith))
 some_left needs ordered (suc k) le =
     ⊎_elim
     (λ left. inl left)
     (λ all. ⊎_elim
-    (λ has. inr (λ node lt. ⊎_elim (λ below. all node below) (λ ge. let e : k ≡ node = omega (arith, lt, ge) in subst (Contains ordered) e has) (cases_lt node k)))
-    (λ lacks. inl (k, (omega (arith, le), lacks)))
+    (λ has. inr (λ node lt. ⊎_elim (λ below. all node below) (λ ge. let e : k ≡ node = omega arith in subst (Contains ordered) e has) (cases_lt node k)))
+    (λ lacks. inl (k, (omega arith, lacks)))
     (has_or_not ordered k))
-    (some_left needs ordered k (omega (arith, le)))
+    (some_left needs ordered k (omega arith))
 
 -- if not all are ordered, some node is left
-pub one_left : (needs : List (List ℕ)) (ordered : List ℕ) → length ordered ≢ length needs → AreOrdered needs ordered → (node : ℕ) × IsLeft needs ordered node
-one_left needs ordered ne h =
+pub one_left : {needs : Graph} {ordered : Numbers} → length ordered ≢ length needs → AreOrdered needs ordered → (node : ℕ) × IsLeft needs ordered node
+one_left {needs} {ordered} ne h =
     ⊎_elim
     (λ left. left)
-    (λ all. absurd (ne (let e : length ordered ≡ length needs = omega (arith, not_more (length needs) (NodeNeeds needs) ordered h.each, le-length_from_below ordered (length needs) (λ q lt. any_from_has ordered q (all q lt))) in e)))
+    (λ all. absurd (ne (let e : length ordered ≡ length needs =
+    omega (
+      arith,
+      not_more (length needs) (NodeNeeds needs) ordered h.each,
+      le-length_from_below ordered (length needs) (λ q lt. any_from_has ordered q (all q lt)),
+    ) in e)))
     (some_left needs ordered (length needs) (omega arith))
 
 -- if not all are ordered, there is no numbering, and there is a cycle
-pub not_all_ordered : (needs : List (List ℕ)) (ordered : List ℕ) → NeedsAreNodes needs → length ordered ≢ length needs → AreOrdered needs ordered → (¬ IsOrderable (length needs) (NodeNeeds needs)) × HasCycle (NodeNeeds needs)
-not_all_ordered needs ordered nodes ne h =
-    let left = one_left needs ordered ne h in (
+pub not_all_ordered : {needs : Graph} {ordered : Numbers} → NeedsAreNodes needs → length ordered ≢ length needs → AreOrdered needs ordered →
+    (¬ IsOrderable (length needs) (NodeNeeds needs)) × HasCycle (NodeNeeds needs)
+not_all_ordered {needs} {ordered} nodes ne h =
+    let left = one_left ne h in (
       not_orderable (length needs) (IsLeft needs ordered) (NodeNeeds needs) left.0 (stuck needs ordered nodes h) left.1,
       has_cycle (length needs) (IsLeft needs ordered) (NodeNeeds needs) left.0 (λ x l. l.0) (stuck needs ordered nodes h) left.1,
     )
 
 -- steps along users are steps back along needs
-pub steps_back : (needs users : List (List ℕ)) (count first : ℕ) (steps : List (Option ℕ)) → AreUsers needs users → AreSteps count (NodeNeeds users) first steps → AreSteps count (LeadsBack (NodeNeeds needs)) first steps
-steps_back needs users count first steps u s = record {
+pub steps_back : {needs users : Graph} {count first : ℕ} {steps : Marks} → AreUsers needs users → AreSteps count (NodeNeeds users) first steps →
+    AreSteps count (LeadsBack (NodeNeeds needs)) first steps
+steps_back {needs} {users} u s = record {
   as_many = s.as_many;
   start = s.start;
   only_start = s.only_start;
   behind = λ node fewer e. let b = s.behind node fewer e in (b.0, b.1, uses needs users u b.0 node b.2);
-  nearest = λ before node k e leads. s.nearest before node k e (used needs users u before node leads);
+  nearest = λ before node k e leads. s.nearest before node k e (used u before node leads);
 }
 
 -- no cycle begins with a thing that steps never lead back to
-pub no_way_back : (count : ℕ) (graph : List (List ℕ)) (first : ℕ) (steps : List (Option ℕ)) → AreSteps count (LeadsBack (NodeNeeds graph)) first steps → IsFewest (needs_of graph first) steps None → NoneFrom (NodeNeeds graph) first
-no_way_back count graph first steps s f [] h e = h
-no_way_back count graph first steps s f (x ∷ []) h e = none_is_no_some (mark_of steps first) 0 (f first (subst (λ z. NodeNeeds graph z z) e h)) s.start
-no_way_back count graph first steps s f (x ∷ next ∷ others) h e =
-    let c = chain_steps count (NodeNeeds graph) first steps s next others (subst (IsChain (NodeNeeds graph) (next ∷ others)) e h.1) in
-    none_is_no_some (mark_of steps next) c.0 (f next (subst (λ z. NodeNeeds graph z next) e h.0)) c.1
+pub no_way_back : {count : ℕ} (graph : Graph) {first : ℕ} {steps : Marks} → AreSteps count (LeadsBack (NodeNeeds graph)) first steps →
+    IsFewest (needs_of graph first) steps None → NoneFrom (NodeNeeds graph) first
+no_way_back graph s f [] h e = h
+no_way_back graph {first} {steps} s f (x ∷ []) h e = none_is_no_some (mark_of steps first) 0 (f first (rw (← e) h)) s.start
+no_way_back {count} graph {first} {steps} s f (x ∷ next ∷ others) h e =
+    let c = chain_steps (NodeNeeds graph) s next others (rw (← e) h.1) in
+    none_is_no_some (mark_of steps next) c.0 (f next (rw (← e) h.0)) c.1
 
 -- the least cycle from the least thing on any is the least
-pub least_of_all : (Needs : ℕ → ℕ → Type 0) (first : ℕ) (cycle : List ℕ) → ((other : List ℕ) → IsCycle Needs other → first ≤ first_of other) → IsLeastFrom Needs first cycle → IsLeastCycle Needs cycle
-least_of_all Needs first cycle below h = record {
+pub least_of_all : {Needs : Relation} {first : ℕ} {cycle : Numbers} → ((other : Numbers) → IsCycle Needs other → first ≤ first_of other) →
+    IsLeastFrom Needs first cycle → IsLeastCycle Needs cycle
+least_of_all {Needs} {cycle} below h = record {
   is_cycle = h.is_cycle;
   least_first = λ other c k d lt.
       let turned = rotated Needs other (get_or other k d) c (Contains-get_or other k d lt) in
-      omega (arith, h.begins_with, below (get_or other k d ∷ turned.0) turned.1);
+      omega (arith, below (get_or other k d ∷ turned.0) turned.1);
   shortest = λ other c has.
       let turned = rotated Needs other (first_of cycle) c has in
-      omega (arith, turned.2, h.shortest (first_of cycle ∷ turned.0) turned.1 h.begins_with);
+      omega (arith, h.shortest (first_of cycle ∷ turned.0) turned.1 h.begins_with);
   least_list = λ other c begins long. h.least_list other c (begins ∙ h.begins_with) long;
 }
 
 -- what a node needs is below the number of nodes
-pub row_nodes : (graph : List (List ℕ)) (node n : ℕ) → n ≡ length graph → node < length graph → NeedsAreNodes graph → All (λ needed. needed < n) (needs_of graph node)
-row_nodes graph node n e lt nodes = subst (λ m. All (λ needed. needed < m) (needs_of graph node)) (sym e) (All-get_or (λ row. All (λ needed. needed < length graph) row) graph node [] lt nodes)
+pub row_nodes : (graph : Graph) (node n : ℕ) → n ≡ length graph → node < length graph → NeedsAreNodes graph → All (λ needed. needed < n) (needs_of graph node)
+row_nodes graph node n e lt nodes = rw e (All-get_or (λ row. All (λ needed. needed < length graph) row) graph node [] lt nodes)
 
 -- the first thing of a cycle is a node
-pub first_in_range : (graph : List (List ℕ)) (cycle : List ℕ) → NeedsAreNodes graph → IsCycle (NodeNeeds graph) cycle → first_of cycle < length graph
+pub first_in_range : (graph : Graph) (cycle : Numbers) → NeedsAreNodes graph → IsCycle (NodeNeeds graph) cycle → first_of cycle < length graph
 first_in_range graph [] nodes h = absurd h
 first_in_range graph (first ∷ others) nodes h = let next = next_on_cycle (NodeNeeds graph) first others h in (within graph nodes first next.0 next.1).0
 
 -- no cycle begins with the node
-pub none_from : (Needs : ℕ → ℕ → Type 0) (first : ℕ) → NoneFrom Needs first → ((cycle : List ℕ) → IsCycle Needs cycle → first ≤ first_of cycle) → (cycle : List ℕ) → IsCycle Needs cycle → first + 1 ≤ first_of cycle
+pub none_from : (Needs : Relation) (first : ℕ) → NoneFrom Needs first → ((cycle : Numbers) → IsCycle Needs cycle → first ≤ first_of cycle) → (cycle : Numbers) →
+    IsCycle Needs cycle → first + 1 ≤ first_of cycle
 none_from Needs first none below cycle h =
-    ⊎_elim (λ same. absurd (none cycle h same)) (λ ne. omega (arith, ne, below cycle h)) (cases_eq (first_of cycle) first)
+    ⊎_elim (λ same. absurd (none cycle h same)) (λ ne. omega (arith, below cycle h)) (cases_eq (first_of cycle) first)
 
 -- no cycle begins with what needs nothing
-pub none_without_needs : (graph : List (List ℕ)) (node : ℕ) → needs_of graph node ≡ [] → NoneFrom (NodeNeeds graph) node
+pub none_without_needs : (graph : Graph) (node : ℕ) → needs_of graph node ≡ [] → NoneFrom (NodeNeeds graph) node
 none_without_needs graph node e [] h begins = h
 none_without_needs graph node e (first ∷ others) h begins =
     let next = next_on_cycle (NodeNeeds graph) first others h in
     has_none next.0 (subst (λ xs. Contains xs next.0) (ap (needs_of graph) begins ∙ e) next.1)
 
 -- the last thing of a chain needs its end
-last_of_chain : (Needs : ℕ → ℕ → Type 0) (x : ℕ) (xs : List ℕ) (end : ℕ) → IsChain Needs (x ∷ xs) end → (last : ℕ) × Needs last end
+last_of_chain : (Needs : Relation) (x : ℕ) (xs : Numbers) (end : ℕ) → IsChain Needs (x ∷ xs) end → (last : ℕ) × Needs last end
 last_of_chain Needs x [] end h = (x, h)
 last_of_chain Needs x (next ∷ xs) end h = last_of_chain Needs next xs end h.1
 
 -- no cycle begins with what nothing needs
-pub none_without_users : (needs users : List (List ℕ)) (node : ℕ) → AreUsers needs users → needs_of users node ≡ [] → NoneFrom (NodeNeeds needs) node
-none_without_users needs users node u e [] h begins = h
-none_without_users needs users node u e (first ∷ others) h begins =
+pub none_without_users : {needs users : Graph} (node : ℕ) → AreUsers needs users → needs_of users node ≡ [] → NoneFrom (NodeNeeds needs) node
+none_without_users node u e [] h begins = h
+none_without_users {needs} {users} node u e (first ∷ others) h begins =
     let last = last_of_chain (NodeNeeds needs) first others first h in
-    has_none last.0 (subst (λ xs. Contains xs last.0) (ap (needs_of users) begins ∙ e) (used needs users u first last.0 last.1))
+    has_none last.0 (subst (λ xs. Contains xs last.0) (ap (needs_of users) begins ∙ e) (used u first last.0 last.1))

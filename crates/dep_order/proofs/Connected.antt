@@ -1,6 +1,6 @@
 -- The numbers of components, from mark to mark, and what they say of chains and cycles.
 use Rattle.std.proofs.lemmas.Grind.{common_steps}
-use Rattle.std.proofs.Common.{◌≡◌, ℕ, ◌+◌, ◌<◌, ◌≤◌, true, false, List, [], ◌∷◌, ◌++◌, length, take, get_or, slice_index, Option, Some, None, eqb, refl, sym, ◌∙◌, ap, subst, inl, inr, ◌⊎◌, ⊎_elim, arith, length-append, append_assoc, replicate}
+use Rattle.std.proofs.Common.{◌≡◌, ℕ, ◌+◌, ◌<◌, ◌≤◌, true, false, [], ◌∷◌, ◌++◌, length, take, get_or, slice_index, Option, Some, None, eqb, refl, sym, ◌∙◌, ap, subst, inl, inr, ◌⊎◌, ⊎_elim, arith, length-append, append_assoc, replicate}
 use Rattle.std.specs.Option.{option_eq}
 use Rattle.std.specs.List.{Contains}
 use Rattle.std.proofs.Math.Seq.{get_or-append_seam}
@@ -19,6 +19,7 @@ use Rattle.dep_order.proofs.Releases.{has_more}
 use Rattle.dep_order.proofs.Searches.{some_or_none, none_is_no_some, one_value, node_in_range}
 use Rattle.dep_order.proofs.Postorders.{reaches_on, led_back}
 use Rattle.dep_order.proofs.Answered.{uses, used, within}
+use Rattle.dep_order.proofs.Words.{Graph, Marks, Numbers}
 
 same_mark : (a b : Option ℕ) (j k : ℕ) → a ≡ Some j → b ≡ Some k → j ≡ k → a ≡ b
 same_mark a b j k e f g = e ∙ ap (λ z. Some z) g ∙ sym f
@@ -30,28 +31,32 @@ mark_itself (Some x) = same_itself x
 
 -- what differs by the test differs
 pub other_marks : (a b : Option ℕ) → option_eq eqb a b ≡ false → a ≡ b → ⊥
-other_marks a b e f = false≢true (sym e ∙ subst (λ c. option_eq eqb a c ≡ true) f (mark_itself a))
+other_marks a b e f = false≢true (sym e ∙ rw (← f) (mark_itself a))
 
 -- one more of the row is in another component
-pub none_shared_more : (row : List ℕ) (numbers : List (Option ℕ)) (node i : ℕ) → i < length row → (mark_of numbers (get_or row i 0) ≡ mark_of numbers node → ⊥) → (SharesComponent (take i row) numbers node → ⊥) → SharesComponent (take (i + 1) row) numbers node → ⊥
+pub none_shared_more : (row : Numbers) (numbers : Marks) (node i : ℕ) → i < length row → (mark_of numbers (get_or row i 0) ≡ mark_of numbers node → ⊥) →
+    (SharesComponent (take i row) numbers node → ⊥) → SharesComponent (take (i + 1) row) numbers node → ⊥
 none_shared_more row numbers node i lt isnt none h =
     ⊎_elim
     (λ front. none (h.0, front, h.2))
-    (λ last. isnt (subst (λ x. mark_of numbers x ≡ mark_of numbers node) (sym last) h.2))
+    (λ last. isnt (rw last h.2))
     (has_more row i h.0 lt h.1)
 
 -- the numbers so far, while the users of those that wait may have none yet
-pub record AreNumbersSoFar (users : List (List ℕ)) (lowest : ℕ) (numbers : List (Option ℕ)) (waiting : List ℕ) : Type 0 where
+pub record AreNumbersSoFar (users : Graph) (lowest : ℕ) (numbers : Marks) (waiting : Numbers) : Type 0 where
   pub as_many : length numbers ≡ length users
   pub none_lower : (node number : ℕ) → mark_of numbers node ≡ Some number → lowest ≤ number
-  pub never_falls : (node user number : ℕ) → mark_of numbers node ≡ Some number → NodeNeeds users node user → Contains waiting node ⊎ ((higher : ℕ) × (mark_of numbers user ≡ Some higher) × (number ≤ higher))
+  pub never_falls : (node user number : ℕ) → mark_of numbers node ≡ Some number → NodeNeeds users node user →
+      Contains waiting node ⊎ ((higher : ℕ) × (mark_of numbers user ≡ Some higher) × (number ≤ higher))
   pub waiting_on : (node : ℕ) → Contains waiting node → mark_of numbers node ≡ Some lowest
 
 -- the root is marked
-pub numbers_begun : (users : List (List ℕ)) (root number : ℕ) (numbers new_numbers : List (Option ℕ)) (nothing waiting : List ℕ) → nothing ≡ [] → AreNumbersFrom users (number + 1) numbers → AreMarked (root ∷ []) number numbers new_numbers nothing waiting → AreNumbersSoFar users number new_numbers waiting
-numbers_begun users root number numbers new_numbers nothing waiting e h m = record {
-  as_many = omega (arith, h.as_many, m.as_many);
-  none_lower = λ node k is. ⊎_elim (λ o. omega (arith, h.none_lower node k o)) (λ w. omega (arith, w.0)) (m.came node k is);
+pub numbers_begun : {users : Graph} (root : ℕ) {number : ℕ} {numbers new_numbers : Marks} {nothing waiting : Numbers} → nothing ≡ [] →
+    AreNumbersFrom users (number + 1) numbers → AreMarked (root ∷ []) number numbers new_numbers nothing waiting →
+    AreNumbersSoFar users number new_numbers waiting
+numbers_begun root e h m = record {
+  as_many = omega arith;
+  none_lower = λ node k is. ⊎_elim (λ o. omega (arith, h.none_lower node k o)) (λ w. omega arith) (m.came node k is);
   never_falls = λ node user k is leads.
       ⊎_elim
       (λ o. let u = h.never_falls node user k o leads in inr (u.0, m.kept user u.0 u.1, u.2))
@@ -61,50 +66,58 @@ numbers_begun users root number numbers new_numbers nothing waiting e h m = reco
 }
 
 -- the users of one that waited are marked
-pub numbers_more : (users : List (List ℕ)) (number node : ℕ) (numbers new_numbers : List (Option ℕ)) (waiting rest next : List ℕ) → waiting ≡ rest ++ node ∷ [] → AreNumbersSoFar users number numbers waiting → AreMarked (needs_of users node) number numbers new_numbers rest next → AreNumbersSoFar users number new_numbers next
-numbers_more users number node numbers new_numbers waiting rest next e h m = record {
-  as_many = omega (arith, h.as_many, m.as_many);
+pub numbers_more : {users : Graph} {number : ℕ} (node : ℕ) {numbers new_numbers : Marks} {waiting rest next : Numbers} → waiting ≡ rest ++ node ∷ [] →
+    AreNumbersSoFar users number numbers waiting → AreMarked (needs_of users node) number numbers new_numbers rest next →
+    AreNumbersSoFar users number new_numbers next
+numbers_more {users} {number} node {numbers} {new_numbers} {waiting} {rest} {next} e h m = record {
+  as_many = omega arith;
   none_lower = lower;
   never_falls = λ other user k is leads. ⊎_elim (λ o. old other user k o leads) (λ w. inl w.2) (m.came other k is);
   waiting_on = λ other has. ⊎_elim (λ r. m.kept other number (h.waiting_on other (waited other (inl r)))) (λ is. is) (m.next_came other has);
 }
   where
     waited : (other : ℕ) → Contains rest other ⊎ (node ≡ other) → Contains waiting other
-    waited other c = subst (λ xs. Contains xs other) (sym e) (⊎_elim (λ r. Contains-append_left rest (node ∷ []) other r) (λ same. subst (Contains (rest ++ node ∷ [])) same (Contains-push rest node)) c)
+    waited other c = rw e (⊎_elim (λ r. Contains-append_left rest (node ∷ []) other r) (λ same. rw (← same) (Contains-push rest node)) c)
 
     lower : (other k : ℕ) → mark_of new_numbers other ≡ Some k → number ≤ k
-    lower other k is = ⊎_elim (λ o. h.none_lower other k o) (λ w. omega (arith, w.0)) (m.came other k is)
+    lower other k is = ⊎_elim (λ o. h.none_lower other k o) (λ w. omega arith) (m.came other k is)
 
-    old : (other user k : ℕ) → mark_of numbers other ≡ Some k → NodeNeeds users other user → Contains next other ⊎ ((higher : ℕ) × (mark_of new_numbers user ≡ Some higher) × (k ≤ higher))
+    old : (other user k : ℕ) → mark_of numbers other ≡ Some k → NodeNeeds users other user →
+        Contains next other ⊎ ((higher : ℕ) × (mark_of new_numbers user ≡ Some higher) × (k ≤ higher))
     old other user k is leads =
         ⊎_elim
         (λ has. ⊎_elim
         (λ r. inl (m.next_kept other r))
         (λ same.
-        let marked = m.reached user (subst (λ x. NodeNeeds users x user) (sym same) leads) in
+        let marked = m.reached user (rw same leads) in
         let level : k ≡ number = one_value (mark_of numbers other) k number is (h.waiting_on other has) in
-        inr (marked.0, marked.1, omega (arith, level, lower user marked.0 marked.1)))
-        (Contains-push_cases rest node other (subst (λ xs. Contains xs other) e has)))
+        inr (marked.0, marked.1, omega (arith, lower user marked.0 marked.1)))
+        (Contains-push_cases rest node other (rw (← e) has)))
         (λ u. inr (u.0, m.kept user u.0 u.1, u.2))
         (h.never_falls other user k is leads)
 
 -- none waits
-pub numbers_ended : (users : List (List ℕ)) (number : ℕ) (numbers : List (Option ℕ)) (waiting : List ℕ) → waiting ≡ [] → AreNumbersSoFar users number numbers waiting → AreNumbersFrom users number numbers
-numbers_ended users number numbers waiting e h = record {
+pub numbers_ended : {users : Graph} {number : ℕ} {numbers : Marks} {waiting : Numbers} → waiting ≡ [] → AreNumbersSoFar users number numbers waiting →
+    AreNumbersFrom users number numbers
+numbers_ended e h = record {
   as_many = h.as_many;
   none_lower = h.none_lower;
-  never_falls = λ node user k is leads. ⊎_elim (λ has. absurd (has_none node (subst (λ xs. Contains xs node) e has))) (λ u. u) (h.never_falls node user k is leads);
+  never_falls = λ node user k is leads. ⊎_elim (λ has. absurd (has_none node (subst (λ xs. Contains xs node) e has))) (λ u. u)
+      (h.never_falls node user k is leads);
 }
 
 le_or_lt : (a b : ℕ) → (a ≤ b) ⊎ (b < a)
 le_or_lt a b = ⊎_elim (λ lt. inr lt) (λ le. inl le) (cases_lt b a)
 
 -- the root has the number, if it had none
-pub added_begun : (users : List (List ℕ)) (root number : ℕ) (numbers new_numbers : List (Option ℕ)) (nothing waiting : List ℕ) → AreMarked (root ∷ []) number numbers new_numbers nothing waiting → IsNumberAdded users root number numbers new_numbers
-added_begun users root number numbers new_numbers nothing waiting m = grind (arith, common_steps)
+pub added_begun : (users : Graph) (root : ℕ) {number : ℕ} {numbers new_numbers : Marks} {nothing waiting : Numbers} →
+    AreMarked (root ∷ []) number numbers new_numbers nothing waiting → IsNumberAdded users root number numbers new_numbers
+added_begun users root m = grind (arith, common_steps)
 
 -- the users of one that waited have the number, if they had none
-pub added_more : (users : List (List ℕ)) (root number node : ℕ) (first numbers new_numbers : List (Option ℕ)) (waiting rest next : List ℕ) → AreNumbersFrom users (number + 1) first → mark_of numbers node ≡ Some number → AreMarked (needs_of users node) number numbers new_numbers rest next → IsNumberAdded users root number first numbers → IsNumberAdded users root number first new_numbers
+pub added_more : (users : Graph) (root number node : ℕ) (first numbers new_numbers : Marks) (waiting rest next : Numbers) →
+    AreNumbersFrom users (number + 1) first → mark_of numbers node ≡ Some number → AreMarked (needs_of users node) number numbers new_numbers rest next →
+    IsNumberAdded users root number first numbers → IsNumberAdded users root number first new_numbers
 added_more users root number node first numbers new_numbers waiting rest next none_lower at m h = record {
   kept = λ other k is. m.kept other k (h.kept other k is);
   came = λ other k is. ⊎_elim (λ o. h.came other k o) (λ w. new other k is w.0 w.1) (m.came other k is);
@@ -118,12 +131,13 @@ added_more users root number node first numbers new_numbers waiting rest next no
     longer other none uses = (
       none,
       inr (⊎_elim
-          (λ same. ([], subst (λ x. NodeNeeds users x other) same uses, All-nil (λ thing. mark_of first thing ≡ None)))
+          (λ same. ([], rw (← same) uses, All-nil (λ thing. mark_of first thing ≡ None)))
           (λ chain. (node ∷ chain.0, (uses, chain.1), All-cons (λ thing. mark_of first thing ≡ None) node chain.0 free.0 chain.2))
           free.1),
     )
 
-    new : (other k : ℕ) → mark_of new_numbers other ≡ Some k → k ≡ number → NodeNeeds users node other → (mark_of first other ≡ Some k) ⊎ ((k ≡ number) × LeadsFree users first other root)
+    new : (other k : ℕ) → mark_of new_numbers other ≡ Some k → k ≡ number → NodeNeeds users node other →
+        (mark_of first other ≡ Some k) ⊎ ((k ≡ number) × LeadsFree users first other root)
     new other k is e uses =
         ⊎_elim
         (λ at. inl (at.1 ∙ ap (λ j. Some j) (one_value (mark_of new_numbers other) at.0 k (m.kept other at.0 (h.kept other at.0 at.1)) is)))
@@ -131,33 +145,37 @@ added_more users root number node first numbers new_numbers waiting rest next no
         (some_or_none (mark_of first other))
 
 -- the nodes with one number lead to each other
-abbrev pub AreConnected : List (List ℕ) → List (Option ℕ) → Type 0
+abbrev pub AreConnected : Graph → Marks → Type 0
 AreConnected needs numbers = (a b k : ℕ) → mark_of numbers a ≡ Some k → mark_of numbers b ≡ Some k → Reaches (NodeNeeds needs) a b
 
 -- Components so far: the first of the postorder are left, and those after them have numbers.
-pub record AreComponentsSoFar (needs users : List (List ℕ)) (postorder left : List ℕ) (numbers : List (Option ℕ)) : Type 0 where
+pub record AreComponentsSoFar (needs users : Graph) (postorder left : Numbers) (numbers : Marks) : Type 0 where
   pub in_order : AreNumbersFrom users (length left) numbers
   pub connected : AreConnected needs numbers
-  pub behind : List ℕ
+  pub behind : Numbers
   pub front : postorder ≡ left ++ behind
   pub numbered : (index : ℕ) → length left ≤ index → index < length postorder → (k : ℕ) × (mark_of numbers (slice_index postorder index) ≡ Some k)
 
 -- before the first component
-pub none_so_far : (needs users : List (List ℕ)) (postorder : List ℕ) (numbers : List (Option ℕ)) → numbers ≡ replicate (length users) None → AreComponentsSoFar needs users postorder postorder numbers
+pub none_so_far : (needs users : Graph) (postorder : Numbers) (numbers : Marks) → numbers ≡ replicate (length users) None →
+    AreComponentsSoFar needs users postorder postorder numbers
 none_so_far needs users postorder numbers e = grind (arith, common_steps)
 
 -- one more component
-pub more_so_far : (needs users : List (List ℕ)) (postorder left rest : List ℕ) (root : ℕ) (numbers new_numbers : List (Option ℕ)) → AreUsers needs users → IsPostorder needs postorder → left ≡ rest ++ root ∷ [] → AreComponentsSoFar needs users postorder left numbers → AreNumbersFrom users (length rest) new_numbers → IsNumberAdded users root (length rest) numbers new_numbers → AreComponentsSoFar needs users postorder rest new_numbers
-more_so_far needs users postorder left rest root numbers new_numbers u p e h in_order added = record {
+pub more_so_far : {needs users : Graph} {postorder left : Numbers} (rest : Numbers) {root : ℕ} {numbers new_numbers : Marks} → AreUsers needs users →
+    IsPostorder needs postorder → left ≡ rest ++ root ∷ [] → AreComponentsSoFar needs users postorder left numbers →
+    AreNumbersFrom users (length rest) new_numbers → IsNumberAdded users root (length rest) numbers new_numbers →
+    AreComponentsSoFar needs users postorder rest new_numbers
+more_so_far {needs} {users} {postorder} {left} rest {root} {numbers} {new_numbers} u p e h in_order added = record {
   in_order = in_order;
   connected = λ a b k at bt.
       ⊎_elim
       (λ old_a. ⊎_elim
       (λ old_b. h.connected a b k old_a old_b)
-      (λ new_b. absurd (omega (arith, new_b.0, h.in_order.none_lower a k old_a, longer)))
+      (λ new_b. absurd (omega (arith, h.in_order.none_lower a k old_a, longer)))
       (added.came b k bt))
       (λ new_a. ⊎_elim
-      (λ old_b. absurd (omega (arith, new_a.0, h.in_order.none_lower b k old_b, longer)))
+      (λ old_b. absurd (omega (arith, h.in_order.none_lower b k old_b, longer)))
       (λ new_b. reaches_on (NodeNeeds needs) a root b (to_root a new_a.1) (from_root b k bt new_b.1))
       (added.came b k bt))
       (added.came a k at);
@@ -167,8 +185,8 @@ more_so_far needs users postorder left rest root numbers new_numbers u p e h in_
       ⊎_elim
       (λ old. let was = h.numbered index old lt in (was.0, added.kept (slice_index postorder index) was.0 was.1))
       (λ here.
-      let same : length rest ≡ index = omega (arith, ge, here, longer) in
-      (added.root_has.0, subst (λ x. mark_of new_numbers x ≡ Some added.root_has.0) (sym (ap (slice_index postorder) (sym same) ∙ root_at)) added.root_has.1))
+      let same : length rest ≡ index = omega (arith, longer) in
+      (added.root_has.0, rw (ap (slice_index postorder) (sym same) ∙ root_at) added.root_has.1))
       (le_or_lt (length left) index);
 }
   where
@@ -192,14 +210,14 @@ more_so_far needs users postorder left rest root numbers new_numbers u p e h in_
     bound index lt none =
         ⊎_elim
         (λ old. let was = h.numbered index old lt in absurd (none_is_no_some (mark_of numbers (slice_index postorder index)) was.0 none was.1))
-        (λ here. omega (arith, here, longer))
+        (λ here. omega (arith, longer))
         (le_or_lt (length left) index)
 
     to_root : (a : ℕ) → LeadsFree users numbers a root → Reaches (NodeNeeds needs) a root
     to_root a f = ⊎_elim (λ same. inl same) (λ c. inr (c.0, chain_same (LeadsBack (NodeNeeds users)) (NodeNeeds needs) to_need (a ∷ c.0) root c.1)) f.1
 
     in_postorder : (b k : ℕ) → mark_of new_numbers b ≡ Some k → Contains postorder b
-    in_postorder b k is = has_from_count b postorder (omega (arith, p.once b (omega (arith, node_in_range new_numbers b k is, in_order.as_many, u.each))))
+    in_postorder b k is = has_from_count b postorder (omega (arith, p.once b (omega (arith, node_in_range new_numbers b k is, in_order.as_many))))
 
     from_root : (b k : ℕ) → mark_of new_numbers b ≡ Some k → LeadsFree users numbers b root → Reaches (NodeNeeds needs) root b
     from_root b k is f =
@@ -208,29 +226,35 @@ more_so_far needs users postorder left rest root numbers new_numbers u p e h in_
         (λ c.
         let has = in_postorder b k is in
         let at : slice_index postorder has.0 ≡ b = get_or_default postorder has.0 0 b has.1 ∙ has.2 in
-        let chain : IsChain (NodeNeeds needs) (b ∷ c.0) (slice_index postorder (length rest)) = subst (IsChain (NodeNeeds needs) (b ∷ c.0)) (sym root_at) (chain_same (LeadsBack (NodeNeeds users)) (NodeNeeds needs) to_need (b ∷ c.0) root c.1) in
-        let back = led_back needs postorder (λ x. mark_of numbers x ≡ None) (length rest) p root_in bound b c.0 has.0 chain f.0 c.2 has.1 at has.0 (omega arith) (bound has.0 has.1 (subst (λ x. mark_of numbers x ≡ None) (sym at) f.0)) in
+        let chain : IsChain (NodeNeeds needs) (b ∷ c.0) (slice_index postorder (length rest)) =
+        rw root_at (chain_same (LeadsBack (NodeNeeds users)) (NodeNeeds needs) to_need (b ∷ c.0) root c.1) in
+        let back = led_back (λ x. mark_of numbers x ≡ None) (length rest) p root_in bound b c.0 has.0 chain f.0 c.2 has.1 at has.0 (omega arith)
+        (bound has.0 has.1 (rw (← (sym at)) f.0)) in
         subst (λ x. Reaches (NodeNeeds needs) x b) root_at (subst (Reaches (NodeNeeds needs) (slice_index postorder (length rest))) at back))
         f.1
 
 -- along chains of needs the numbers never rise
-never_rises : (needs users : List (List ℕ)) (numbers : List (Option ℕ)) (lowest x : ℕ) (xs : List ℕ) (end number : ℕ) → AreUsers needs users → AreNumbersFrom users lowest numbers → IsChain (NodeNeeds needs) (x ∷ xs) end → mark_of numbers end ≡ Some number → (higher : ℕ) × (mark_of numbers x ≡ Some higher) × (number ≤ higher)
-never_rises needs users numbers lowest x [] end number u l h is = l.never_falls end x number is (used needs users u end x h)
-never_rises needs users numbers lowest x (next ∷ xs) end number u l h is =
-    let rest = never_rises needs users numbers lowest next xs end number u l h.1 is in
-    let here = l.never_falls next x rest.0 rest.1 (used needs users u next x h.0) in
-    (here.0, here.1, omega (arith, here.2, rest.2))
+never_rises : {needs users : Graph} {numbers : Marks} {lowest : ℕ} (x : ℕ) (xs : Numbers) (end number : ℕ) → AreUsers needs users →
+    AreNumbersFrom users lowest numbers → IsChain (NodeNeeds needs) (x ∷ xs) end → mark_of numbers end ≡ Some number →
+    (higher : ℕ) × (mark_of numbers x ≡ Some higher) × (number ≤ higher)
+never_rises {needs} {users} x [] end number u l h is = l.never_falls end x number is (used u end x h)
+never_rises {needs} {users} {numbers} {lowest} x (next ∷ xs) end number u l h is =
+    let rest = never_rises next xs end number u l h.1 is in
+    let here = l.never_falls next x rest.0 rest.1 (used u next x h.0) in
+    (here.0, here.1, omega arith)
 
-reaches_higher : (needs users : List (List ℕ)) (numbers : List (Option ℕ)) (lowest a b number : ℕ) → AreUsers needs users → AreNumbersFrom users lowest numbers → Reaches (NodeNeeds needs) a b → mark_of numbers b ≡ Some number → (higher : ℕ) × (mark_of numbers a ≡ Some higher) × (number ≤ higher)
-reaches_higher needs users numbers lowest a b number u l r is =
+reaches_higher : {needs users : Graph} {numbers : Marks} {lowest : ℕ} (a b number : ℕ) → AreUsers needs users → AreNumbersFrom users lowest numbers →
+    Reaches (NodeNeeds needs) a b → mark_of numbers b ≡ Some number → (higher : ℕ) × (mark_of numbers a ≡ Some higher) × (number ≤ higher)
+reaches_higher {needs} {users} {numbers} {lowest} a b number u l r is =
     ⊎_elim
     (λ same. (number, ap (mark_of numbers) same ∙ is, omega arith))
-    (λ c. never_rises needs users numbers lowest a c.0 b number u l c.1 is)
+    (λ c. never_rises a c.0 b number u l c.1 is)
     r
 
 -- all have numbers
-pub all_so_far : (needs users : List (List ℕ)) (postorder left : List ℕ) (numbers : List (Option ℕ)) → AreUsers needs users → IsPostorder needs postorder → left ≡ [] → AreComponentsSoFar needs users postorder left numbers → AreComponents needs numbers
-all_so_far needs users postorder left numbers u p e h = record {
+pub all_so_far : {needs users : Graph} {postorder left : Numbers} {numbers : Marks} → AreUsers needs users → IsPostorder needs postorder → left ≡ [] →
+    AreComponentsSoFar needs users postorder left numbers → AreComponents needs numbers
+all_so_far {needs} {users} {postorder} {left} {numbers} u p e h = record {
   each = h.in_order.as_many ∙ u.each;
   same = λ a b a_lt b_lt. (together a b a_lt, equal a b a_lt b_lt);
 }
@@ -247,25 +271,28 @@ all_so_far needs users postorder left numbers u p e h = record {
         let bt = sym is ∙ at.1 in
         (h.connected a b at.0 at.1 bt, h.connected b a at.0 bt at.1)
 
-    equal : (a b : ℕ) → a < length needs → b < length needs → Reaches (NodeNeeds needs) a b × Reaches (NodeNeeds needs) b a → mark_of numbers a ≡ mark_of numbers b
+    equal : (a b : ℕ) → a < length needs → b < length needs → Reaches (NodeNeeds needs) a b × Reaches (NodeNeeds needs) b a →
+        mark_of numbers a ≡ mark_of numbers b
     equal a b a_lt b_lt r =
         let at = number_of a a_lt in
         let bt = number_of b b_lt in
-        let up = reaches_higher needs users numbers (length left) a b bt.0 u h.in_order r.0 bt.1 in
-        let down = reaches_higher needs users numbers (length left) b a at.0 u h.in_order r.1 at.1 in
-        let one : at.0 ≡ bt.0 = omega (arith, up.2, down.2, one_value (mark_of numbers a) up.0 at.0 up.1 at.1, one_value (mark_of numbers b) down.0 bt.0 down.1 bt.1) in
+        let up = reaches_higher a b bt.0 u h.in_order r.0 bt.1 in
+        let down = reaches_higher b a at.0 u h.in_order r.1 at.1 in
+        let one : at.0 ≡ bt.0 = omega (arith, one_value (mark_of numbers a) up.0 at.0 up.1 at.1, one_value (mark_of numbers b) down.0 bt.0 down.1 bt.1) in
         same_mark (mark_of numbers a) (mark_of numbers b) at.0 bt.0 at.1 bt.1 one
 
 -- what lies on a cycle needs something of its own component
-pub shared_on_cycle : (needs : List (List ℕ)) (components : List (Option ℕ)) (x : ℕ) (others : List ℕ) → NeedsAreNodes needs → AreComponents needs components → IsCycle (NodeNeeds needs) (x ∷ others) → SharesComponent (needs_of needs x) components x
-shared_on_cycle needs components x [] nodes k h = (x, h, refl)
-shared_on_cycle needs components x (next ∷ others) nodes k h =
+pub shared_on_cycle : {needs : Graph} {components : Marks} (x : ℕ) (others : Numbers) → NeedsAreNodes needs → AreComponents needs components →
+    IsCycle (NodeNeeds needs) (x ∷ others) → SharesComponent (needs_of needs x) components x
+shared_on_cycle x [] nodes k h = (x, h, refl)
+shared_on_cycle {needs} x (next ∷ others) nodes k h =
     let lt = within needs nodes x next h.0 in
     (next, h.0, (k.same next x lt.1 lt.0).1 (inr (others, h.1), inr ([], h.0)))
 
 -- and what needs something of its own component lies on a cycle
-pub cycle_from_shared : (needs : List (List ℕ)) (components : List (Option ℕ)) (x : ℕ) → NeedsAreNodes needs → AreComponents needs components → SharesComponent (needs_of needs x) components x → (others : List ℕ) × IsCycle (NodeNeeds needs) (x ∷ others)
-cycle_from_shared needs components x nodes k own =
+pub cycle_from_shared : {needs : Graph} {components : Marks} (x : ℕ) → NeedsAreNodes needs → AreComponents needs components →
+    SharesComponent (needs_of needs x) components x → (others : Numbers) × IsCycle (NodeNeeds needs) (x ∷ others)
+cycle_from_shared {needs} x nodes k own =
     let lt = within needs nodes x own.0 own.1 in
     ⊎_elim
     (λ same. ([], subst (NodeNeeds needs x) same own.1))
@@ -273,6 +300,7 @@ cycle_from_shared needs components x nodes k own =
     ((k.same own.0 x lt.1 lt.0).0 own.2).0
 
 -- what a cycle begins with needs something of its own component
-pub shared_from : (needs : List (List ℕ)) (components : List (Option ℕ)) (first : ℕ) (cycle : List ℕ) → NeedsAreNodes needs → AreComponents needs components → IsCycle (NodeNeeds needs) cycle → first_of cycle ≡ first → SharesComponent (needs_of needs first) components first
+pub shared_from : (needs : Graph) (components : Marks) (first : ℕ) (cycle : Numbers) → NeedsAreNodes needs → AreComponents needs components →
+    IsCycle (NodeNeeds needs) cycle → first_of cycle ≡ first → SharesComponent (needs_of needs first) components first
 shared_from needs components first [] nodes k h begins = absurd h
-shared_from needs components first (x ∷ others) nodes k h begins = subst (λ z. SharesComponent (needs_of needs z) components z) begins (shared_on_cycle needs components x others nodes k h)
+shared_from needs components first (x ∷ others) nodes k h begins = rw (← begins) (shared_on_cycle x others nodes k h)

@@ -1,6 +1,6 @@
 -- The least cycle from its first node on: the fewest steps, and the least node at each step.
 use Rattle.std.proofs.lemmas.Grind.{common_steps}
-use Rattle.std.proofs.Common.{◌≡◌, ℕ, ◌≤◌, ◌⊎◌, Bool, true, false, cond, List, [], ◌∷◌, Option, Some, None, refl, sym, ◌∙◌, ap, subst, inl, inr, ⊎_elim, arith, min, eqb, ◌≢◌, ◌+◌, ◌-◌, ◌<◌, ◌++◌, length, length-append, append_assoc}
+use Rattle.std.proofs.Common.{◌≡◌, ℕ, ◌≤◌, ◌⊎◌, Bool, true, false, cond, [], ◌∷◌, Option, Some, None, refl, sym, ◌∙◌, ap, subst, inl, inr, ⊎_elim, arith, min, eqb, ◌≢◌, ◌+◌, ◌-◌, ◌<◌, ◌++◌, length, length-append, append_assoc}
 use Rattle.std.specs.Option.{MatchOption, option_eq}
 use Rattle.std.specs.List.{All, Contains, filter, filter_map, cons_option, fold, reduce}
 use Rattle.std.proofs.lemmas.Bool.{cases_lt, false≢true, cases_eq}
@@ -18,42 +18,44 @@ use Rattle.dep_order.specs.Needs.{needs_of, NodeNeeds, IsChain}
 use Rattle.dep_order.specs.Cycles.{IsCycle, first_of}
 use Rattle.dep_order.specs.inner.CyclesFrom.{IsLeastFrom}
 use Rattle.dep_order.proofs.Searches.{one_value}
+use Rattle.dep_order.proofs.Words.{Graph, Marks, Numbers, Relation}
 
 -- ---- the smallest distance of the nodes of a row, and the least node at a distance
 
 -- ---- the least number of a list
 
 -- the number is in the list, and none is less
-record IsLeastOf (xs : List ℕ) (m : ℕ) : Type 0 where
+record IsLeastOf (xs : Numbers) (m : ℕ) : Type 0 where
   listed : Contains xs m
   least : (k : ℕ) → Contains xs k → m ≤ k
 
-least_of : (a : ℕ) (xs : List ℕ) → IsLeastOf (a ∷ xs) (fold min a xs)
-least_of a [] = record { listed = has_head a []; least = λ k has. ⊎_elim (λ first. omega (arith, first)) (λ none. absurd (has_none k none)) (has_cons_cases a k [] has) }
+least_of : (a : ℕ) (xs : Numbers) → IsLeastOf (a ∷ xs) (fold min a xs)
+least_of a [] = record { listed = has_head a []; least = λ k has. ⊎_elim (λ first. omega arith) (λ none. absurd (has_none k none)) (has_cons_cases a k [] has) }
 least_of a (x ∷ xs) =
     let m = fold min (min a x) xs in
     let r = least_of (min a x) xs in
     let low : m ≤ min a x = r.least (min a x) (has_head (min a x) xs) in
     let either : (a ≡ m) ⊎ Contains (x ∷ xs) m =
     ⊎_elim
-    (λ is. ⊎_elim (λ lt. inl (omega (arith, is, lt))) (λ ge. let first : x ≡ m = omega (arith, is, ge) in inr (subst (Contains (x ∷ xs)) first (has_head x xs))) (cases_lt a x))
+    (λ is. ⊎_elim (λ lt. inl (omega arith)) (λ ge. let first : x ≡ m = omega arith in inr (rw (← first) (has_head x xs))) (cases_lt a x))
     (λ later. inr (has_tail x m xs later))
     (has_cons_cases (min a x) m xs r.listed) in
     record {
-      listed = ⊎_elim (λ is. subst (Contains (a ∷ (x ∷ xs))) is (has_head a (x ∷ xs))) (λ later. has_tail a m (x ∷ xs) later) either;
+      listed = ⊎_elim (λ is. rw (← is) (has_head a (x ∷ xs))) (λ later. has_tail a m (x ∷ xs) later) either;
       least = λ k has. ⊎_elim
-          (λ is. omega (arith, is, low))
-          (λ rest. ⊎_elim (λ is. omega (arith, is, low)) (λ later. r.least k (has_tail (min a x) k xs later)) (has_cons_cases x k xs rest))
+          (λ is. omega arith)
+          (λ rest. ⊎_elim (λ is. omega arith) (λ later. r.least k (has_tail (min a x) k xs later)) (has_cons_cases x k xs rest))
           (has_cons_cases a k (x ∷ xs) has);
     }
 
 -- ---- what a function makes of numbers, and the numbers that pass a test
 
 module _ (h : ℕ → Option ℕ) where
-  Made : List ℕ → ℕ → Type 0
+  Made : Numbers → ℕ → Type 0
   Made xs k = (x : ℕ) × Contains xs x × (h x ≡ Some k)
 
-  from_cons : (x : ℕ) (xs : List ℕ) (o : Option ℕ) (k : ℕ) → h x ≡ o → Contains (cons_option o (filter_map h xs)) k → (Contains (filter_map h xs) k → Made xs k) → Made (x ∷ xs) k
+  from_cons : (x : ℕ) (xs : Numbers) (o : Option ℕ) (k : ℕ) → h x ≡ o → Contains (cons_option o (filter_map h xs)) k →
+      (Contains (filter_map h xs) k → Made xs k) → Made (x ∷ xs) k
   unfolding Made
   from_cons x xs None k is has rest = let r = rest has in (r.0, has_tail x r.0 xs r.1, r.2)
   from_cons x xs (Some m) k is has rest =
@@ -62,15 +64,15 @@ module _ (h : ℕ → Option ℕ) where
       (λ later. let r = rest later in (r.0, has_tail x r.0 xs r.1, r.2))
       (has_cons_cases m k (filter_map h xs) has)
 
-  made : (xs : List ℕ) (k : ℕ) → Contains (filter_map h xs) k → Made xs k
+  made : (xs : Numbers) (k : ℕ) → Contains (filter_map h xs) k → Made xs k
   made [] k has = absurd (has_none k has)
   made (x ∷ xs) k has = from_cons x xs (h x) k refl has (λ later. made xs k later)
 
-  put_in : (o : Option ℕ) (xs : List ℕ) (k : ℕ) → Contains xs k → Contains (cons_option o xs) k
+  put_in : (o : Option ℕ) (xs : Numbers) (k : ℕ) → Contains xs k → Contains (cons_option o xs) k
   put_in None xs k has = has
   put_in (Some m) xs k has = has_tail m k xs has
 
-  listed : (xs : List ℕ) (x k : ℕ) → Contains xs x → h x ≡ Some k → Contains (filter_map h xs) k
+  listed : (xs : Numbers) (x k : ℕ) → Contains xs x → h x ≡ Some k → Contains (filter_map h xs) k
   listed [] x k has is = absurd (has_none x has)
   listed (y ∷ ys) x k has is =
       ⊎_elim
@@ -78,11 +80,12 @@ module _ (h : ℕ → Option ℕ) where
       (λ later. put_in (h y) (filter_map h ys) k (listed ys x k later is))
       (has_cons_cases y x ys has)
 
-passes : (p : ℕ → Bool) (xs : List ℕ) (x : ℕ) → Contains xs x → p x ≡ true → Contains (filter p xs) x
+passes : (p : ℕ → Bool) (xs : Numbers) (x : ℕ) → Contains xs x → p x ≡ true → Contains (filter p xs) x
 passes p [] x has is = absurd (has_none x has)
 passes p (y ∷ ys) x has is =
     ⊎_elim
-    (λ first. subst (λ b. Contains (cond b (y ∷ filter p ys) (filter p ys)) x) (sym (ap p first ∙ is)) (subst (Contains (y ∷ filter p ys)) first (has_head y (filter p ys))))
+    (λ first. subst (λ b. Contains (cond b (y ∷ filter p ys) (filter p ys)) x) (sym (ap p first ∙ is))
+    (subst (Contains (y ∷ filter p ys)) first (has_head y (filter p ys))))
     (λ later. more (p y) (passes p ys x later is))
     (has_cons_cases y x ys has)
   where
@@ -91,7 +94,7 @@ passes p (y ∷ ys) x has is =
     more false h = h
 
 -- what holds of all numbers of a list holds of each
-of_each : (P : ℕ → Type 0) (xs : List ℕ) (x : ℕ) → All P xs → Contains xs x → P x
+of_each : (P : ℕ → Type 0) (xs : Numbers) (x : ℕ) → All P xs → Contains xs x → P x
 of_each P xs x all has = subst P has.2 (all has.0 x has.1)
 
 -- ---- the smallest distance
@@ -100,13 +103,13 @@ no_value : (o : Option ℕ) → ((k : ℕ) → o ≡ Some k → ⊥) → o ≡ N
 no_value None none = refl
 no_value (Some k) none = absurd (none k refl)
 
-module _ (row : List ℕ) (steps : List (Option ℕ)) where
-  by_counts : (ks : List ℕ) → filter_map (mark_of steps) row ≡ ks → IsFewest row steps (reduce min ks)
+module _ (row : Numbers) (steps : Marks) where
+  by_counts : (ks : Numbers) → filter_map (mark_of steps) row ≡ ks → IsFewest row steps (reduce min ks)
   unfolding Made
   by_counts [] are = λ node has. no_value (mark_of steps node) (λ k is. has_none k (subst (λ xs. Contains xs k) are (listed (mark_of steps) row node k has is)))
   by_counts (a ∷ ks) are =
       let r = least_of a ks in (
-        made (mark_of steps) row (fold min a ks) (subst (λ xs. Contains xs (fold min a ks)) (sym are) r.listed),
+        made (mark_of steps) row (fold min a ks) (rw are r.listed),
         λ node k has is. r.least k (subst (λ xs. Contains xs k) are (listed (mark_of steps) row node k has is)),
       )
 
@@ -120,27 +123,29 @@ some_equal : (o : Option ℕ) (k : ℕ) → option_eq eqb o (Some k) ≡ true �
 some_equal None k e = absurd (false≢true e)
 some_equal (Some x) k e = ap (λ y. Some y) (same x k e)
 
-abbrev pub is_at : List (Option ℕ) → ℕ → ℕ → Bool
+abbrev pub is_at : Marks → ℕ → ℕ → Bool
 is_at steps count node = option_eq eqb (mark_of steps node) (Some count)
 
 -- the least node of the row at this distance, if there is one
-abbrev pub IsLeastIfAny : List ℕ → List (Option ℕ) → ℕ → Option ℕ → Type 0
+abbrev pub IsLeastIfAny : Numbers → Marks → ℕ → Option ℕ → Type 0
 IsLeastIfAny row steps count least =
     MatchOption least ((node : ℕ) → Contains row node → mark_of steps node ≡ Some count → ⊥) (λ node. IsLeastAt row steps count node)
 
-module _ (row : List ℕ) (steps : List (Option ℕ)) (count : ℕ) where
+module _ (row : Numbers) (steps : Marks) (count : ℕ) where
   is_listed : (node : ℕ) → Contains row node → mark_of steps node ≡ Some count → Contains (filter (is_at steps count) row) node
   is_listed node has is = passes (is_at steps count) row node has (ap (λ (o : Option ℕ). option_eq eqb o (Some count)) is ∙ same_itself count)
 
-  by_nodes : (nodes : List ℕ) → filter (is_at steps count) row ≡ nodes → IsLeastIfAny row steps count (reduce min nodes)
+  by_nodes : (nodes : Numbers) → filter (is_at steps count) row ≡ nodes → IsLeastIfAny row steps count (reduce min nodes)
   by_nodes [] are = λ node has is. has_none node (subst (λ xs. Contains xs node) are (is_listed node has is))
   by_nodes (a ∷ nodes) are =
       let m = fold min a nodes in
       let r = least_of a nodes in
-      let there : Contains (filter (is_at steps count) row) m = subst (λ xs. Contains xs m) (sym are) r.listed in
+      let there : Contains (filter (is_at steps count) row) m = rw are r.listed in
       record {
-        in_row = of_each (Contains row) (filter (is_at steps count) row) m (All-filter (is_at steps count) (Contains row) row (λ i d lt. Contains-get_or row i d lt)) there;
-        steps_away = some_equal (mark_of steps m) count (of_each (λ node. is_at steps count node ≡ true) (filter (is_at steps count) row) m (filter_passes (is_at steps count) row) there);
+        in_row = of_each (Contains row) (filter (is_at steps count) row) m
+            (All-filter (is_at steps count) (Contains row) row (λ i d lt. Contains-get_or row i d lt)) there;
+        steps_away = some_equal (mark_of steps m) count
+            (of_each (λ node. is_at steps count node ≡ true) (filter (is_at steps count) row) m (filter_passes (is_at steps count) row) there);
         least = λ node has is. r.least node (subst (λ xs. Contains xs node) are (is_listed node has is));
       }
 
@@ -150,79 +155,85 @@ module _ (row : List ℕ) (steps : List (Option ℕ)) (count : ℕ) where
 -- ---- the least cycle from its first thing on, chosen step by step
 
 -- Both lists begin alike, and at the first difference the first is less.
-pub record IsBefore (xs ys : List ℕ) : Type 0 where
-  pub alike : List ℕ
+pub record IsBefore (xs ys : Numbers) : Type 0 where
+  pub alike : Numbers
   pub less : ℕ
   pub more : ℕ
-  pub behind_less : List ℕ
-  pub behind_more : List ℕ
+  pub behind_less : Numbers
+  pub behind_more : Numbers
   pub first_is : xs ≡ alike ++ less ∷ behind_less
   pub second_is : ys ≡ alike ++ more ∷ behind_more
   pub below : less < more
 
 -- more after the first list
-pub before_longer : (xs ys zs : List ℕ) → IsBefore xs ys → IsBefore (xs ++ zs) ys
-before_longer xs ys zs h = grind (arith, common_steps)
+pub before_longer : {xs ys : Numbers} (zs : Numbers) → IsBefore xs ys → IsBefore (xs ++ zs) ys
+before_longer zs h = grind (arith, common_steps)
 
-cmp_less : (same : List ℕ) (a b : ℕ) (xs ys : List ℕ) → a < b → slice_cmp nat_cmp (same ++ a ∷ xs) (same ++ b ∷ ys) ≡ Less
+cmp_less : (same : Numbers) (a b : ℕ) (xs ys : Numbers) → a < b → slice_cmp nat_cmp (same ++ a ∷ xs) (same ++ b ∷ ys) ≡ Less
 cmp_less [] a b xs ys lt = ap (λ o. ordering_then o (slice_cmp nat_cmp xs ys)) (is_less a b lt)
   where
     is_less : (a b : ℕ) → a < b → nat_cmp a b ≡ Less
     is_less a b lt = grind (arith, nat_tests)
-cmp_less (z ∷ same) a b xs ys lt = ap (λ o. ordering_then o (slice_cmp nat_cmp (same ++ a ∷ xs) (same ++ b ∷ ys))) (tied_itself nat_cmp_total z) ∙ cmp_less same a b xs ys lt
+cmp_less (z ∷ same) a b xs ys lt = ap (λ o. ordering_then o (slice_cmp nat_cmp (same ++ a ∷ xs) (same ++ b ∷ ys))) (tied_itself nat_cmp_total z) ∙
+    cmp_less same a b xs ys lt
 
 -- what is before is not greater
-pub not_greater : (xs ys : List ℕ) → IsBefore xs ys → slice_cmp nat_cmp xs ys ≢ Greater
-not_greater xs ys h e =
-    let less : slice_cmp nat_cmp xs ys ≡ Less = subst (λ ws. slice_cmp nat_cmp ws ys ≡ Less) (sym h.first_is) (subst (λ ws. slice_cmp nat_cmp (h.alike ++ h.less ∷ h.behind_less) ws ≡ Less) (sym h.second_is) (cmp_less h.alike h.less h.more h.behind_less h.behind_more h.below)) in
+pub not_greater : {xs ys : Numbers} → IsBefore xs ys → slice_cmp nat_cmp xs ys ≢ Greater
+not_greater {xs} {ys} h e =
+    let less : slice_cmp nat_cmp xs ys ≡ Less = rw h.first_is (rw h.second_is (cmp_less h.alike h.less h.more h.behind_less h.behind_more h.below)) in
     let both : Less ≡ Greater = sym less ∙ e in cc
 
 -- the same is not greater
-pub same_not_greater : (xs ys : List ℕ) → ys ≡ xs → slice_cmp nat_cmp xs ys ≢ Greater
+pub same_not_greater : (xs ys : Numbers) → ys ≡ xs → slice_cmp nat_cmp xs ys ≢ Greater
 same_not_greater xs ys e f =
     let tied : slice_cmp nat_cmp xs ys ≡ Equal = ap (slice_cmp nat_cmp xs) e ∙ tied_itself nat_list_cmp_total xs in
     let both : Equal ≡ Greater = sym tied ∙ f in cc
 
 -- a cycle is a chain from its first thing to itself
-pub cycle_chain : (Needs : ℕ → ℕ → Type 0) (cycle : List ℕ) → IsCycle Needs cycle → IsChain Needs cycle (first_of cycle)
+pub cycle_chain : (Needs : Relation) (cycle : Numbers) → IsCycle Needs cycle → IsChain Needs cycle (first_of cycle)
 cycle_chain Needs [] h = absurd h
 cycle_chain Needs (first ∷ others) h = h
 
 -- a chain from a thing to itself is a cycle
-pub chain_cycle : (Needs : ℕ → ℕ → Type 0) (cycle : List ℕ) (first : ℕ) → first_of cycle ≡ first → 0 < length cycle → IsChain Needs cycle first → IsCycle Needs cycle
-chain_cycle Needs [] first e lt h = absurd (omega (arith, lt))
-chain_cycle Needs (x ∷ others) first e lt h = subst (IsChain Needs (x ∷ others)) (sym e) h
+pub chain_cycle : (Needs : Relation) (cycle : Numbers) (first : ℕ) → first_of cycle ≡ first → 0 < length cycle → IsChain Needs cycle first → IsCycle Needs cycle
+chain_cycle Needs [] first e lt h = absurd (omega arith)
+chain_cycle Needs (x ∷ others) first e lt h = rw e h
 
 -- a chain to the start is at least as long as the fewest steps
-pub chain_steps : (count : ℕ) (Needs : ℕ → ℕ → Type 0) (first : ℕ) (steps : List (Option ℕ)) → AreSteps count (LeadsBack Needs) first steps → (x : ℕ) (xs : List ℕ) → IsChain Needs (x ∷ xs) first → (k : ℕ) × (mark_of steps x ≡ Some k) × (k ≤ length (x ∷ xs))
-chain_steps count Needs first steps s x [] h = let n = s.nearest first x 0 s.start h in (n.0, n.1, omega (arith, n.2))
-chain_steps count Needs first steps s x (next ∷ xs) h =
-    let rest = chain_steps count Needs first steps s next xs h.1 in
+pub chain_steps : {count : ℕ} (Needs : Relation) {first : ℕ} {steps : Marks} → AreSteps count (LeadsBack Needs) first steps → (x : ℕ) (xs : Numbers) →
+    IsChain Needs (x ∷ xs) first → (k : ℕ) × (mark_of steps x ≡ Some k) × (k ≤ length (x ∷ xs))
+chain_steps Needs {first} s x [] h = let n = s.nearest first x 0 s.start h in (n.0, n.1, omega arith)
+chain_steps {count} Needs {first} {steps} s x (next ∷ xs) h =
+    let rest = chain_steps Needs s next xs h.1 in
     let n = s.nearest next x rest.0 rest.1 h.0 in
-    (n.0, n.1, omega (arith, n.2, rest.2))
+    (n.0, n.1, omega arith)
 
 -- no cycle that begins with the first thing is shorter
-pub none_shorter : (count fewest : ℕ) (graph : List (List ℕ)) (first : ℕ) (steps : List (Option ℕ)) → AreSteps count (LeadsBack (NodeNeeds graph)) first steps → IsFewest (needs_of graph first) steps (Some fewest) → (other : List ℕ) → IsCycle (NodeNeeds graph) other → first_of other ≡ first → fewest + 1 ≤ length other
-none_shorter count fewest graph first steps s f [] h e = absurd h
-none_shorter count fewest graph first steps s f (x ∷ []) h e =
-    omega (arith, f.1 first 0 (subst (λ z. NodeNeeds graph z z) e h) s.start)
-none_shorter count fewest graph first steps s f (x ∷ next ∷ others) h e =
-    let c = chain_steps count (NodeNeeds graph) first steps s next others (subst (IsChain (NodeNeeds graph) (next ∷ others)) e h.1) in
-    omega (arith, f.1 next c.0 (subst (λ z. NodeNeeds graph z next) e h.0) c.1, c.2)
+pub none_shorter : {count : ℕ} (fewest : ℕ) (graph : Graph) {first : ℕ} {steps : Marks} → AreSteps count (LeadsBack (NodeNeeds graph)) first steps →
+    IsFewest (needs_of graph first) steps (Some fewest) → (other : Numbers) → IsCycle (NodeNeeds graph) other → first_of other ≡ first →
+    fewest + 1 ≤ length other
+none_shorter fewest graph s f [] h e = absurd h
+none_shorter fewest graph {first} s f (x ∷ []) h e =
+    omega (arith, f.1 first 0 (rw (← e) h) s.start)
+none_shorter {count} fewest graph {first} {steps} s f (x ∷ next ∷ others) h e =
+    let c = chain_steps (NodeNeeds graph) s next others (rw (← e) h.1) in
+    omega (arith, f.1 next c.0 (rw (← e) h.0) c.1)
 
 -- this many things of the cycle are chosen
-pub record IsChosen (graph : List (List ℕ)) (first fewest : ℕ) (steps : List (Option ℕ)) (cycle : List ℕ) (node chosen : ℕ) : Type 0 where
+pub record IsChosen (graph : Graph) (first fewest : ℕ) (steps : Marks) (cycle : Numbers) (node chosen : ℕ) : Type 0 where
   pub as_many : length cycle ≡ chosen + 1
-  pub front : List ℕ
+  pub front : Numbers
   pub ends : cycle ≡ front ++ node ∷ []
   pub chain : IsChain (NodeNeeds graph) front node
   pub begins_with : first_of cycle ≡ first
   pub node_in : node < length graph
   pub ahead : IsFewest (needs_of graph node) steps (Some (fewest - chosen))
-  pub least : (other : List ℕ) → IsCycle (NodeNeeds graph) other → first_of other ≡ first → length other ≡ fewest + 1 → ((rest : List ℕ) × (other ≡ cycle ++ rest)) ⊎ IsBefore cycle other
+  pub least : (other : Numbers) → IsCycle (NodeNeeds graph) other → first_of other ≡ first → length other ≡ fewest + 1 →
+      ((rest : Numbers) × (other ≡ cycle ++ rest)) ⊎ IsBefore cycle other
 
 -- the first thing is chosen
-pub first_chosen : (graph : List (List ℕ)) (first fewest : ℕ) (steps : List (Option ℕ)) (cycle : List ℕ) → cycle ≡ first ∷ [] → first < length graph → IsFewest (needs_of graph first) steps (Some fewest) → IsChosen graph first fewest steps cycle first 0
+pub first_chosen : (graph : Graph) (first fewest : ℕ) (steps : Marks) (cycle : Numbers) → cycle ≡ first ∷ [] → first < length graph →
+    IsFewest (needs_of graph first) steps (Some fewest) → IsChosen graph first fewest steps cycle first 0
 first_chosen graph first fewest steps cycle e lt f = record {
   as_many = omega (arith, ap length e);
   front = [];
@@ -230,33 +241,37 @@ first_chosen graph first fewest steps cycle e lt f = record {
   chain = tt;
   begins_with = ap first_of e;
   node_in = lt;
-  ahead = subst (λ n. IsFewest (needs_of graph first) steps (Some n)) (let z : fewest ≡ fewest - 0 = omega arith in z) f;
+  ahead = rw (← (let z : fewest ≡ fewest - 0 = omega arith in z)) f;
   least = λ other h begins long. inl (rest_of other h begins);
 }
   where
-    rest_of : (other : List ℕ) → IsCycle (NodeNeeds graph) other → first_of other ≡ first → (rest : List ℕ) × (other ≡ cycle ++ rest)
+    rest_of : (other : Numbers) → IsCycle (NodeNeeds graph) other → first_of other ≡ first → (rest : Numbers) × (other ≡ cycle ++ rest)
     rest_of [] h begins = absurd h
     rest_of (x ∷ others) h begins = (others, ap (λ z. z ∷ others) begins ∙ ap (λ ws. ws ++ others) (sym e))
 
 -- the next thing is chosen
-pub next_chosen : (graph : List (List ℕ)) (first fewest : ℕ) (steps : List (Option ℕ)) (cycle : List ℕ) (node chosen next : ℕ) → AreSteps (length graph) (LeadsBack (NodeNeeds graph)) first steps → next < length graph → chosen < fewest → IsLeastAt (needs_of graph node) steps (fewest - chosen) next → IsChosen graph first fewest steps cycle node chosen → IsChosen graph first fewest steps (cycle ++ next ∷ []) next (chosen + 1)
-next_chosen graph first fewest steps cycle node chosen next s in' lt at h = record {
-  as_many = omega (arith, h.as_many, length_push cycle next);
+pub next_chosen : {graph : Graph} {first fewest : ℕ} {steps : Marks} {cycle : Numbers} {node chosen next : ℕ} →
+    AreSteps (length graph) (LeadsBack (NodeNeeds graph)) first steps → next < length graph → chosen < fewest →
+    IsLeastAt (needs_of graph node) steps (fewest - chosen) next → IsChosen graph first fewest steps cycle node chosen →
+    IsChosen graph first fewest steps (cycle ++ next ∷ []) next (chosen + 1)
+next_chosen {graph} {first} {fewest} {steps} {cycle} {node} {chosen} {next} s in' lt at h = record {
+  as_many = omega (arith, length_push cycle next);
   front = cycle;
   ends = refl;
-  chain = subst (λ xs. IsChain (NodeNeeds graph) xs next) (sym h.ends) (chain_append (NodeNeeds graph) h.front node [] next h.chain at.in_row);
+  chain = rw h.ends (chain_append (NodeNeeds graph) h.front node [] next h.chain at.in_row);
   begins_with = begins cycle h.as_many ∙ h.begins_with;
   node_in = in';
   ahead = ahead;
-  least = λ other c begins long. ⊎_elim (λ same. later other c begins long same.0 same.1) (λ b. inr (before_longer cycle other (next ∷ []) b)) (h.least other c begins long);
+  least = λ other c begins long. ⊎_elim (λ same. later other c begins long same.0 same.1) (λ b. inr (before_longer (next ∷ []) b))
+      (h.least other c begins long);
 }
   where
-    begins : (xs : List ℕ) → length xs ≡ chosen + 1 → first_of (xs ++ next ∷ []) ≡ first_of xs
-    begins [] e = absurd (omega (arith, e))
+    begins : (xs : Numbers) → length xs ≡ chosen + 1 → first_of (xs ++ next ∷ []) ≡ first_of xs
+    begins [] e = absurd (omega arith)
     begins (x ∷ xs) e = refl
 
     here : mark_of steps next ≡ Some ((fewest - (chosen + 1)) + 1)
-    here = at.steps_away ∙ ap (λ k. Some k) (let e : fewest - chosen ≡ (fewest - (chosen + 1)) + 1 = omega (arith, lt) in e)
+    here = at.steps_away ∙ ap (λ k. Some k) (let e : fewest - chosen ≡ (fewest - (chosen + 1)) + 1 = omega arith in e)
 
     ahead : IsFewest (needs_of graph next) steps (Some (fewest - (chosen + 1)))
     ahead =
@@ -264,43 +279,47 @@ next_chosen graph first fewest steps cycle node chosen next s in' lt at h = reco
           (b.0, b.2, b.1),
           λ other k has e.
               let n = s.nearest other next k e has in
-              omega (arith, n.2, one_value (mark_of steps next) n.0 ((fewest - (chosen + 1)) + 1) n.1 here),
+              omega (arith, one_value (mark_of steps next) n.0 ((fewest - (chosen + 1)) + 1) n.1 here),
         )
 
-    compared : (other : List ℕ) (z : ℕ) (rest : List ℕ) → other ≡ cycle ++ z ∷ rest → (next ≡ z) ⊎ (next ≢ z) → next ≤ z → ((rest : List ℕ) × (other ≡ (cycle ++ next ∷ []) ++ rest)) ⊎ IsBefore (cycle ++ next ∷ []) other
+    compared : (other : Numbers) (z : ℕ) (rest : Numbers) → other ≡ cycle ++ z ∷ rest → (next ≡ z) ⊎ (next ≢ z) → next ≤ z →
+        ((rest : Numbers) × (other ≡ (cycle ++ next ∷ []) ++ rest)) ⊎ IsBefore (cycle ++ next ∷ []) other
     compared other z rest e c le =
         ⊎_elim
         (λ same. inl (rest, e ∙ ap (λ x. cycle ++ x ∷ rest) (sym same) ∙ sym (append_assoc cycle (next ∷ []) rest)))
-        (λ ne. inr (record { alike = cycle; less = next; more = z; behind_less = []; behind_more = rest; first_is = refl; second_is = e; below = omega (arith, ne, le) }))
+        (λ ne. inr (record { alike = cycle; less = next; more = z; behind_less = []; behind_more = rest; first_is = refl; second_is = e; below = omega arith }))
         c
 
-    later : (other : List ℕ) → IsCycle (NodeNeeds graph) other → first_of other ≡ first → length other ≡ fewest + 1 → (rest : List ℕ) → other ≡ cycle ++ rest → ((rest : List ℕ) × (other ≡ (cycle ++ next ∷ []) ++ rest)) ⊎ IsBefore (cycle ++ next ∷ []) other
-    later other c begins long [] e = absurd (omega (arith, ap length e, length-append cycle [], h.as_many, long, lt))
+    later : (other : Numbers) → IsCycle (NodeNeeds graph) other → first_of other ≡ first → length other ≡ fewest + 1 → (rest : Numbers) →
+        other ≡ cycle ++ rest → ((rest : Numbers) × (other ≡ (cycle ++ next ∷ []) ++ rest)) ⊎ IsBefore (cycle ++ next ∷ []) other
+    later other c begins long [] e = absurd (omega (arith, ap length e, length-append cycle []))
     later other c begins long (z ∷ rest) e =
-        let around : IsChain (NodeNeeds graph) (cycle ++ z ∷ rest) first = subst (λ xs. IsChain (NodeNeeds graph) xs first) e (subst (IsChain (NodeNeeds graph) other) begins (cycle_chain (NodeNeeds graph) other c)) in
+        let around : IsChain (NodeNeeds graph) (cycle ++ z ∷ rest) first = rw (← e) (rw (← begins) (cycle_chain (NodeNeeds graph) other c)) in
         let cut = chain_split (NodeNeeds graph) cycle z rest first around in
-        let need : NodeNeeds graph node z = (chain_split (NodeNeeds graph) h.front node [] z (subst (λ xs. IsChain (NodeNeeds graph) xs z) h.ends cut.0)).1 in
-        let away = chain_steps (length graph) (NodeNeeds graph) first steps s z rest cut.1 in
-        let exact : away.0 ≡ fewest - chosen = omega (arith, h.ahead.1 z away.0 need away.1, away.2, ap length e, length-append cycle (z ∷ rest), h.as_many, long) in
-        compared other z rest e (cases_eq next z) (at.least z need (subst (λ k. mark_of steps z ≡ Some k) exact away.1))
+        let need : NodeNeeds graph node z = (chain_split (NodeNeeds graph) h.front node [] z (rw (← h.ends) cut.0)).1 in
+        let away = chain_steps (NodeNeeds graph) s z rest cut.1 in
+        let exact : away.0 ≡ fewest - chosen = omega (arith, h.ahead.1 z away.0 need away.1, ap length e, length-append cycle (z ∷ rest)) in
+        compared other z rest e (cases_eq next z) (at.least z need (rw (← exact) away.1))
 
 -- all things are chosen
-pub all_chosen : (graph : List (List ℕ)) (first fewest : ℕ) (steps : List (Option ℕ)) (cycle : List ℕ) (node : ℕ) → AreSteps (length graph) (LeadsBack (NodeNeeds graph)) first steps → IsFewest (needs_of graph first) steps (Some fewest) → IsChosen graph first fewest steps cycle node fewest → IsLeastFrom (NodeNeeds graph) first cycle
-all_chosen graph first fewest steps cycle node s f h = record {
-  is_cycle = chain_cycle (NodeNeeds graph) cycle first h.begins_with (omega (arith, h.as_many)) around;
+pub all_chosen : {graph : Graph} {first fewest : ℕ} {steps : Marks} {cycle : Numbers} {node : ℕ} →
+    AreSteps (length graph) (LeadsBack (NodeNeeds graph)) first steps → IsFewest (needs_of graph first) steps (Some fewest) →
+    IsChosen graph first fewest steps cycle node fewest → IsLeastFrom (NodeNeeds graph) first cycle
+all_chosen {graph} {first} {fewest} {steps} {cycle} {node} s f h = record {
+  is_cycle = chain_cycle (NodeNeeds graph) cycle first h.begins_with (omega arith) around;
   begins_with = h.begins_with;
-  shortest = λ other c begins. omega (arith, none_shorter (length graph) fewest graph first steps s f other c begins, h.as_many);
+  shortest = λ other c begins. omega (arith, none_shorter fewest graph s f other c begins);
   least_list = λ other c begins long.
       ⊎_elim
       (λ same.
-      let none : same.0 ≡ [] = nil_from_length same.0 (omega (arith, ap length same.1, length-append cycle same.0, long)) in
+      let none : same.0 ≡ [] = nil_from_length same.0 (omega (arith, ap length same.1, length-append cycle same.0)) in
       same_not_greater cycle other (same.1 ∙ ap (λ xs. cycle ++ xs) none ∙ append-nil cycle))
-      (λ b. not_greater cycle other b)
-      (h.least other c begins (omega (arith, long, h.as_many)));
+      (λ b. not_greater b)
+      (h.least other c begins (omega arith));
 }
   where
     around : IsChain (NodeNeeds graph) cycle first
     around =
         let zero_away : mark_of steps h.ahead.0.0 ≡ Some 0 = h.ahead.0.2 ∙ ap (λ k. Some k) (let e : fewest - fewest ≡ 0 = omega arith in e) in
-        let back : NodeNeeds graph node first = subst (NodeNeeds graph node) (s.only_start h.ahead.0.0 zero_away) h.ahead.0.1 in
-        subst (λ xs. IsChain (NodeNeeds graph) xs first) (sym h.ends) (chain_append (NodeNeeds graph) h.front node [] first h.chain back)
+        let back : NodeNeeds graph node first = rw (← (s.only_start h.ahead.0.0 zero_away)) h.ahead.0.1 in
+        rw h.ends (chain_append (NodeNeeds graph) h.front node [] first h.chain back)

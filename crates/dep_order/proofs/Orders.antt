@@ -1,5 +1,5 @@
 -- Chains, orders and cycles of any needs, that there is at most one, and the same under equal needs.
-use Rattle.std.proofs.Common.{◌≡◌, ℕ, ◌+◌, ◌<◌, List, [], ◌∷◌, ◌++◌, length, take, drop, slice_index, sym, ◌∙◌, ap, subst, arith, length-append, ◌≢◌, true, false, eqb, refl, inl, inr, ◌⊎◌, ⊎_elim, suc, ◌≤◌, get_or, map, zero, Ordering, ◌*◌, sum}
+use Rattle.std.proofs.Common.{◌≡◌, ℕ, ◌+◌, ◌<◌, [], ◌∷◌, ◌++◌, length, take, drop, slice_index, sym, ◌∙◌, ap, subst, arith, length-append, ◌≢◌, true, false, eqb, refl, inl, inr, ◌⊎◌, ⊎_elim, suc, ◌≤◌, get_or, map, zero, Ordering, ◌*◌, sum}
 use Rattle.std.specs.List.{Contains, list_any, position_or_len, range_with_len}
 use Rattle.std.proofs.lemmas.List.{take-append-drop, drop_more, get_or-take, length-take-le, take_more, take_all}
 use Rattle.dep_order.specs.Needs.{IsChain, IsNumbering, IsOrderable, Reaches}
@@ -22,47 +22,60 @@ use Rattle.std.proofs.Math.Nat.{mul-le-mul_right}
 use Rattle.dep_order.specs.Sortings.{IsSortingOf}
 use Rattle.dep_order.specs.declared.Sorting.{Sorting}
 use Rattle.dep_order.specs.declared.Sorting.TheVariants.{Order, Cycle}
+use Rattle.dep_order.proofs.Words.{Numbers, Relation}
 
 -- ---- chains of needs joined and cut, cycles begun at another of their things, and what a numbering rules out
 
 -- two chains joined
-pub chain_append : (Needs : ℕ → ℕ → Type 0) (xs : List ℕ) (y : ℕ) (ys : List ℕ) (end : ℕ) → IsChain Needs xs y → IsChain Needs (y ∷ ys) end → IsChain Needs (xs ++ y ∷ ys) end
+pub chain_append : (Needs : Relation) (xs : Numbers) (y : ℕ) (ys : Numbers) (end : ℕ) → IsChain Needs xs y → IsChain Needs (y ∷ ys) end →
+    IsChain Needs (xs ++ y ∷ ys) end
 chain_append Needs [] y ys end p h = h
 chain_append Needs (x ∷ []) y ys end p h = (p, h)
 chain_append Needs (x ∷ next ∷ xs) y ys end p h = (p.0, chain_append Needs (next ∷ xs) y ys end p.1 h)
 
 -- a chain cut before one of its things
-pub chain_split : (Needs : ℕ → ℕ → Type 0) (xs : List ℕ) (y : ℕ) (ys : List ℕ) (end : ℕ) → IsChain Needs (xs ++ y ∷ ys) end → IsChain Needs xs y × IsChain Needs (y ∷ ys) end
+pub chain_split : (Needs : Relation) (xs : Numbers) (y : ℕ) (ys : Numbers) (end : ℕ) → IsChain Needs (xs ++ y ∷ ys) end →
+    IsChain Needs xs y × IsChain Needs (y ∷ ys) end
 chain_split Needs [] y ys end h = (tt, h)
 chain_split Needs (x ∷ []) y ys end h = (h.0, h.1)
 chain_split Needs (x ∷ next ∷ xs) y ys end h = let rest = chain_split Needs (next ∷ xs) y ys end h.1 in ((h.0, rest.0), rest.1)
 
 -- a list that has a thing is what is before it, the thing, and what is after it
-pub split_at : (xs : List ℕ) (x : ℕ) → Contains xs x → (before : List ℕ) × (behind : List ℕ) × (xs ≡ before ++ x ∷ behind)
-split_at xs x h =
-    (take h.0 xs, drop (h.0 + 1) xs, sym (take-append-drop h.0 xs) ∙ ap (λ ys. take h.0 xs ++ ys) (drop_more xs h.0 x h.1 ∙ ap (λ z. z ∷ drop (h.0 + 1) xs) h.2))
+pub split_at : (xs : Numbers) (x : ℕ) → Contains xs x → (before : Numbers) × (behind : Numbers) × (xs ≡ before ++ x ∷ behind)
+split_at xs x h = (
+  take h.0 xs,
+  drop (h.0 + 1) xs,
+  sym (take-append-drop h.0 xs) ∙
+      ap (λ ys. take h.0 xs ++ ys) (drop_more xs h.0 x h.1 ∙ ap (λ z. z ∷ drop (h.0 + 1) xs) h.2),
+)
 
 -- a cycle begun at another of its things
-pub rotated : (Needs : ℕ → ℕ → Type 0) (cycle : List ℕ) (x : ℕ) → IsCycle Needs cycle → Contains cycle x → (others : List ℕ) × IsCycle Needs (x ∷ others) × (length (x ∷ others) ≡ length cycle)
+pub rotated : (Needs : Relation) (cycle : Numbers) (x : ℕ) → IsCycle Needs cycle → Contains cycle x →
+    (others : Numbers) × IsCycle Needs (x ∷ others) × (length (x ∷ others) ≡ length cycle)
 rotated Needs cycle x h has =
     let parts = split_at cycle x has in
     from_parts Needs parts.0 x parts.1 (subst (IsCycle Needs) parts.2 h) (ap length parts.2)
   where
-    from_parts : (Needs : ℕ → ℕ → Type 0) (before : List ℕ) (x : ℕ) (behind : List ℕ) → IsCycle Needs (before ++ x ∷ behind) → length cycle ≡ length (before ++ x ∷ behind) → (others : List ℕ) × IsCycle Needs (x ∷ others) × (length (x ∷ others) ≡ length cycle)
+    from_parts : (Needs : Relation) (before : Numbers) (x : ℕ) (behind : Numbers) → IsCycle Needs (before ++ x ∷ behind) →
+        length cycle ≡ length (before ++ x ∷ behind) → (others : Numbers) × IsCycle Needs (x ∷ others) × (length (x ∷ others) ≡ length cycle)
     from_parts Needs [] x behind c e = (behind, c, sym e)
     from_parts Needs (first ∷ before) x behind c e =
-        let cut = chain_split Needs (first ∷ before) x behind first c in
-        (behind ++ first ∷ before, chain_append Needs (x ∷ behind) first before x cut.1 cut.0, omega (arith, e, length-append before (x ∷ behind), length-append behind (first ∷ before)))
+        let cut = chain_split Needs (first ∷ before) x behind first c in (
+          behind ++ first ∷ before,
+          chain_append Needs (x ∷ behind) first before x cut.1 cut.0,
+          omega (arith, length-append before (x ∷ behind), length-append behind (first ∷ before)),
+        )
 
 -- along a chain the numbers fall
-pub numbers_fall : (count : ℕ) (Needs : ℕ → ℕ → Type 0) (numbers : List ℕ) (x : ℕ) (xs : List ℕ) (end : ℕ) → IsNumbering count Needs numbers → IsChain Needs (x ∷ xs) end → slice_index numbers end < slice_index numbers x
-numbers_fall count Needs numbers x [] end n h = n.below x end h
-numbers_fall count Needs numbers x (next ∷ xs) end n h = omega (arith, n.below x next h.0, numbers_fall count Needs numbers next xs end n h.1)
+pub numbers_fall : {count : ℕ} {Needs : Relation} {numbers : Numbers} (x : ℕ) (xs : Numbers) (end : ℕ) → IsNumbering count Needs numbers →
+    IsChain Needs (x ∷ xs) end → slice_index numbers end < slice_index numbers x
+numbers_fall x [] end n h = n.below x end h
+numbers_fall {count} {Needs} {numbers} x (next ∷ xs) end n h = omega (arith, n.below x next h.0, numbers_fall next xs end n h.1)
 
 -- what can be numbered has no cycle
-pub no_cycle : (count : ℕ) (Needs : ℕ → ℕ → Type 0) (cycle : List ℕ) → IsOrderable count Needs → IsCycle Needs cycle → ⊥
+pub no_cycle : (count : ℕ) (Needs : Relation) (cycle : Numbers) → IsOrderable count Needs → IsCycle Needs cycle → ⊥
 no_cycle count Needs [] o h = h
-no_cycle count Needs (first ∷ others) o h = absurd (omega (arith, numbers_fall count Needs o.0 first others first o.1 h))
+no_cycle count Needs (first ∷ others) o h = absurd (omega (arith, numbers_fall first others first o.1 h))
 
 -- ---- whether a list has a number: what can be decided, and how a number's count changes
 
@@ -79,37 +92,37 @@ pub other_number : (x y : ℕ) → x ≢ y → eqb x y ≡ false
 other_number x y h = grind (arith, nat_tests)
 
 -- a list has a number if the search says so
-pub has_from_any : (xs : List ℕ) (x : ℕ) → list_any (eqb x) xs ≡ true → Contains xs x
+pub has_from_any : (xs : Numbers) (x : ℕ) → list_any (eqb x) xs ≡ true → Contains xs x
 has_from_any xs x h = Contains-from_any same x xs h
 
 -- if a list has a number, the search says so
-pub any_from_has : (xs : List ℕ) (x : ℕ) → Contains xs x → list_any (eqb x) xs ≡ true
+pub any_from_has : (xs : Numbers) (x : ℕ) → Contains xs x → list_any (eqb x) xs ≡ true
 any_from_has xs x h = list_any-from_Contains nat_eq_equiv x xs h
 
 -- a list has a number or not
-pub has_or_not : (xs : List ℕ) (x : ℕ) → Contains xs x ⊎ ¬ Contains xs x
+pub has_or_not : (xs : Numbers) (x : ℕ) → Contains xs x ⊎ ¬ Contains xs x
 has_or_not xs x =
     ⊎_elim (λ h. inl (has_from_any xs x h)) (λ h. inr (λ c. false≢true (sym h ∙ any_from_has xs x c))) (cases_Bool (list_any (eqb x) xs))
 
 -- a list has its first number
-pub has_head : (x : ℕ) (xs : List ℕ) → Contains (x ∷ xs) x
+pub has_head : (x : ℕ) (xs : Numbers) → Contains (x ∷ xs) x
 has_head x xs = (0, omega arith, refl)
 
 -- a list has what its rest has
-pub has_tail : (x y : ℕ) (xs : List ℕ) → Contains xs y → Contains (x ∷ xs) y
-has_tail x y xs h = (suc h.0, omega (arith, h.1), h.2)
+pub has_tail : (x y : ℕ) (xs : Numbers) → Contains xs y → Contains (x ∷ xs) y
+has_tail x y xs h = (suc h.0, omega arith, h.2)
 
 -- the empty list has no number
 pub has_none : (x : ℕ) → Contains [] x → ⊥
-has_none x h = absurd (omega (arith, h.1))
+has_none x h = absurd (omega arith)
 
 -- what a list has is its first number or in its rest
-pub has_cons_cases : (x y : ℕ) (xs : List ℕ) → Contains (x ∷ xs) y → (x ≡ y) ⊎ Contains xs y
+pub has_cons_cases : (x y : ℕ) (xs : Numbers) → Contains (x ∷ xs) y → (x ≡ y) ⊎ Contains xs y
 has_cons_cases x y xs h =
     ⊎_elim (λ e. inl e) (λ ne. inr (Contains-tail x xs y ne h)) (cases_eq x y)
 
 -- each of the first is one of the second, or some is not
-pub all_or_missing : (xs ys : List ℕ) → ((x : ℕ) → Contains xs x → Contains ys x) ⊎ ((x : ℕ) × Contains xs x × (¬ Contains ys x))
+pub all_or_missing : (xs ys : Numbers) → ((x : ℕ) → Contains xs x → Contains ys x) ⊎ ((x : ℕ) × Contains xs x × (¬ Contains ys x))
 all_or_missing [] ys = inl (λ x h. absurd (has_none x h))
 all_or_missing (x ∷ xs) ys =
     ⊎_elim
@@ -121,43 +134,43 @@ all_or_missing (x ∷ xs) ys =
     (has_or_not ys x)
 
 -- counted with one more in front
-pub count-cons : (x y : ℕ) (xs : List ℕ) → count_of x (y ∷ xs) ≡ one_if (eqb x y) + count_of x xs
+pub count-cons : (x y : ℕ) (xs : Numbers) → count_of x (y ∷ xs) ≡ one_if (eqb x y) + count_of x xs
 count-cons x y xs = sum_by-cons (λ z. one_if (eqb x z)) y xs
 
 -- counted with one more at the end
-pub count_push : (x y : ℕ) (xs : List ℕ) → count_of x (xs ++ y ∷ []) ≡ count_of x xs + one_if (eqb x y)
+pub count_push : (x y : ℕ) (xs : Numbers) → count_of x (xs ++ y ∷ []) ≡ count_of x xs + one_if (eqb x y)
 count_push x y xs = sum_by_push (λ z. one_if (eqb x z)) xs y
 
 -- what is counted is there
-pub has_from_count : (x : ℕ) (xs : List ℕ) → 0 < count_of x xs → Contains xs x
-has_from_count x [] h = absurd (omega (arith, h))
+pub has_from_count : (x : ℕ) (xs : Numbers) → 0 < count_of x xs → Contains xs x
+has_from_count x [] h = absurd (omega arith)
 has_from_count x (y ∷ xs) h =
     ⊎_elim
-    (λ e. subst (λ z. Contains (z ∷ xs) x) e (has_head x xs))
-    (λ ne. let k : 0 < count_of x xs = omega (arith, h, count-cons x y xs, ap one_if (other_number x y ne)) in has_tail y x xs (has_from_count x xs k))
+    (λ e. rw (← e) (has_head x xs))
+    (λ ne. let k : 0 < count_of x xs = omega (arith, count-cons x y xs, ap one_if (other_number x y ne)) in has_tail y x xs (has_from_count x xs k))
     (cases_eq x y)
 
 -- what is there is counted
-pub count_from_has : (x : ℕ) (xs : List ℕ) → Contains xs x → 0 < count_of x xs
+pub count_from_has : (x : ℕ) (xs : Numbers) → Contains xs x → 0 < count_of x xs
 count_from_has x [] h = absurd (has_none x h)
 count_from_has x (y ∷ xs) h =
     ⊎_elim
-    (λ e. let one : one_if (eqb x y) ≡ 1 = subst (λ z. one_if (eqb x z) ≡ 1) (sym e) (ap one_if (same_itself x)) in omega (arith, count-cons x y xs, one))
+    (λ e. let one : one_if (eqb x y) ≡ 1 = rw e (ap one_if (same_itself x)) in omega (arith, count-cons x y xs))
     (λ t. omega (arith, count-cons x y xs, count_from_has x xs t))
     (has_cons_cases y x xs h)
 
 -- ---- what an order by smallest numbers gives: a numbering
 
 -- the needs are among the things
-abbrev pub AreWithin : ℕ → (ℕ → ℕ → Type 0) → Type 0
+abbrev pub AreWithin : ℕ → Relation → Type 0
 AreWithin count Needs = (thing needed : ℕ) → Needs thing needed → (thing < count) × (needed < count)
 
 -- the index at which a thing first is in an order
-abbrev pub first_index : List ℕ → ℕ → ℕ
+abbrev pub first_index : Numbers → ℕ → ℕ
 first_index order thing = position_or_len (eqb thing) order
 
 -- the first index of a thing is at most any at which it is
-pub first_index-le : (order : List ℕ) (thing index : ℕ) → get_or order index thing ≡ thing → index < length order → first_index order thing ≤ index
+pub first_index-le : (order : Numbers) (thing index : ℕ) → get_or order index thing ≡ thing → index < length order → first_index order thing ≤ index
 first_index-le order thing index at in' =
     ⊎_elim
     (λ before. absurd (false≢true (sym (fails_before_first (eqb thing) order index thing before) ∙ ap (eqb thing) at ∙ same_itself thing)))
@@ -165,68 +178,73 @@ first_index-le order thing index at in' =
     (cases_lt index (first_index order thing))
 
 -- what an order has is at its first index
-pub at_first_index : (order : List ℕ) (thing : ℕ) → Contains order thing → (first_index order thing < length order) × (get_or order (first_index order thing) 0 ≡ thing)
+pub at_first_index : (order : Numbers) (thing : ℕ) → Contains order thing →
+    (first_index order thing < length order) × (get_or order (first_index order thing) 0 ≡ thing)
 at_first_index order thing has =
     let le : first_index order thing ≤ has.0 = first_index-le order thing has.0 has.2 has.1 in
-    let lt : first_index order thing < length order = omega (arith, has.1) in
+    let lt : first_index order thing < length order = omega arith in
     (lt, sym (same thing (get_or order (first_index order thing) 0) (passes_at_first (eqb thing) order 0 lt)))
 
 -- each need of what is in the order is before it
-pub needed_before : (count : ℕ) (Needs : ℕ → ℕ → Type 0) (order : List ℕ) (thing needed : ℕ) → EachSmallest count Needs order → Contains order thing → Needs thing needed → Contains order needed × (first_index order needed < first_index order thing)
+pub needed_before : (count : ℕ) (Needs : Relation) (order : Numbers) (thing needed : ℕ) → EachSmallest count Needs order → Contains order thing →
+    Needs thing needed → Contains order needed × (first_index order needed < first_index order thing)
 needed_before count Needs order thing needed each has need =
     let at = at_first_index order thing has in
     let here = each (first_index order thing) at.0 in
-    let before = here.ready needed (subst (λ z. Needs z needed) (sym at.1) need) in
-    let short : length (take (first_index order thing) order) ≡ first_index order thing = length-take-le (first_index order thing) order (omega (arith, at.0)) in
-    let lt : before.0 < first_index order thing = omega (arith, before.1, short) in
+    let before = here.ready needed (rw at.1 need) in
+    let short : length (take (first_index order thing) order) ≡ first_index order thing = length-take-le (first_index order thing) order (omega arith) in
+    let lt : before.0 < first_index order thing = omega arith in
     let there : get_or order before.0 needed ≡ needed = sym (get_or-take (first_index order thing) order before.0 needed lt) ∙ before.2 in
-    let in' : before.0 < length order = omega (arith, lt, at.0) in
-    ((before.0, in', there), omega (arith, first_index-le order needed before.0 there in', lt))
+    let in' : before.0 < length order = omega arith in
+    ((before.0, in', there), omega (arith, first_index-le order needed before.0 there in'))
 
 -- the first indexes are a numbering
-pub orderable : (count : ℕ) (Needs : ℕ → ℕ → Type 0) (order : List ℕ) → AreWithin count Needs → IsLeastOrder count Needs order → IsOrderable count Needs
+pub orderable : (count : ℕ) (Needs : Relation) (order : Numbers) → AreWithin count Needs → IsLeastOrder count Needs order → IsOrderable count Needs
 orderable count Needs order within least = (
   map (first_index order) (range_with_len 0 count),
   record {
     one_each = length-map-range_with_len (first_index order) 0 count;
     below = λ thing needed need.
         let w = within thing needed need in
-        let here : get_or (map (first_index order) (range_with_len 0 count)) thing 0 ≡ first_index order thing = get_or-map-range_with_len (first_index order) 0 count thing thing 0 w.0 (omega arith) in
-        let there : get_or (map (first_index order) (range_with_len 0 count)) needed 0 ≡ first_index order needed = get_or-map-range_with_len (first_index order) 0 count needed needed 0 w.1 (omega arith) in
+        let here : get_or (map (first_index order) (range_with_len 0 count)) thing 0 ≡ first_index order thing =
+        get_or-map-range_with_len (first_index order) 0 count thing thing 0 w.0 (omega arith) in
+        let there : get_or (map (first_index order) (range_with_len 0 count)) needed 0 ≡ first_index order needed =
+        get_or-map-range_with_len (first_index order) 0 count needed needed 0 w.1 (omega arith) in
         let lt = needed_before count Needs order thing needed least.each (least.all thing w.0) need in
-        omega (arith, here, there, lt.1);
+        omega arith;
   },
 )
 
 -- what lies on a cycle needs something on a cycle
-pub next_on_cycle : (Needs : ℕ → ℕ → Type 0) (x : ℕ) (others : List ℕ) → IsCycle Needs (x ∷ others) → (y : ℕ) × Needs x y × Contains (x ∷ others) y
+pub next_on_cycle : (Needs : Relation) (x : ℕ) (others : Numbers) → IsCycle Needs (x ∷ others) → (y : ℕ) × Needs x y × Contains (x ∷ others) y
 next_on_cycle Needs x [] h = (x, h, (0, omega arith, refl))
 next_on_cycle Needs x (next ∷ others) h = (next, h.0, (1, omega arith, refl))
 
 -- ---- at most one list is the order by smallest numbers, and at most one is the least cycle
 
-smallest_one : (count : ℕ) (Needs : ℕ → ℕ → Type 0) (before : List ℕ) (a b : ℕ) → IsSmallestReady count Needs before a → IsSmallestReady count Needs before b → a ≡ b
-smallest_one count Needs before a b p q = omega (arith, p.smallest b q.in_range q.fresh q.ready, q.smallest a p.in_range p.fresh p.ready)
+smallest_one : {count : ℕ} {Needs : Relation} {before : Numbers} {a b : ℕ} → IsSmallestReady count Needs before a → IsSmallestReady count Needs before b → a ≡ b
+smallest_one {a} {b} p q = omega (arith, p.smallest b q.in_range q.fresh q.ready, q.smallest a p.in_range p.fresh p.ready)
 
-same_so_far : (count : ℕ) (Needs : ℕ → ℕ → Type 0) (a b : List ℕ) → EachSmallest count Needs a → EachSmallest count Needs b → length a ≡ length b → (k : ℕ) → k ≤ length a → take k a ≡ take k b
+same_so_far : (count : ℕ) (Needs : Relation) (a b : Numbers) → EachSmallest count Needs a → EachSmallest count Needs b → length a ≡ length b → (k : ℕ) →
+    k ≤ length a → take k a ≡ take k b
 same_so_far count Needs a b p q e zero le = refl
 same_so_far count Needs a b p q e (suc k) le =
     let la : k < length a = omega arith in
     let lb : k < length b = omega arith in
     let front : take k a ≡ take k b = same_so_far count Needs a b p q e k (omega arith) in
-    let here : get_or a k 0 ≡ get_or b k 0 = smallest_one count Needs (take k b) (get_or a k 0) (get_or b k 0) (subst (λ xs. IsSmallestReady count Needs xs (get_or a k 0)) front (p k la)) (q k lb) in
+    let here : get_or a k 0 ≡ get_or b k 0 = smallest_one (rw (← front) (p k la)) (q k lb) in
     let ma : take (suc k) a ≡ take k a ++ get_or a k 0 ∷ [] = simp unary_clauses at (take_more a k 0 la) in
     let mb : take (suc k) b ≡ take k b ++ get_or b k 0 ∷ [] = simp unary_clauses at (take_more b k 0 lb) in
     ma ∙ ap (λ xs. xs ++ get_or a k 0 ∷ []) front ∙ ap (λ x. take k b ++ x ∷ []) here ∙ sym mb
 
 -- at most one list is the order
-pub one_order : (count : ℕ) (Needs : ℕ → ℕ → Type 0) (a b : List ℕ) → IsLeastOrder count Needs a → IsLeastOrder count Needs b → a ≡ b
+pub one_order : (count : ℕ) (Needs : Relation) (a b : Numbers) → IsLeastOrder count Needs a → IsLeastOrder count Needs b → a ≡ b
 one_order count Needs a b p q =
-    let e : length a ≡ length b = omega (arith, p.as_many, q.as_many) in
+    let e : length a ≡ length b = omega arith in
     sym (take_all (length a) a (omega arith)) ∙ same_so_far count Needs a b p.each q.each e (length a) (omega arith) ∙ take_all (length a) b (omega arith)
 
 -- a cycle has its first thing
-pub has_first : (Needs : ℕ → ℕ → Type 0) (cycle : List ℕ) → IsCycle Needs cycle → Contains cycle (first_of cycle)
+pub has_first : (Needs : Relation) (cycle : Numbers) → IsCycle Needs cycle → Contains cycle (first_of cycle)
 has_first Needs [] h = absurd h
 has_first Needs (first ∷ others) h = (0, omega arith, refl)
 
@@ -235,50 +253,52 @@ level Less u e p q = absurd (q e)
 level Equal u e p q = refl
 level Greater u e p q = absurd (p refl)
 
-least_lists : (a b : List ℕ) → slice_cmp nat_cmp a b ≢ Greater → slice_cmp nat_cmp b a ≢ Greater → a ≡ b
+least_lists : (a b : Numbers) → slice_cmp nat_cmp a b ≢ Greater → slice_cmp nat_cmp b a ≢ Greater → a ≡ b
 least_lists a b p q = exact_bytes a b (level (slice_cmp nat_cmp a b) (slice_cmp nat_cmp b a) (nat_list_cmp_total.antisymm b a) p q)
 
 -- at most one list is the least cycle
-pub one_cycle : (Needs : ℕ → ℕ → Type 0) (a b : List ℕ) → IsLeastCycle Needs a → IsLeastCycle Needs b → a ≡ b
+pub one_cycle : (Needs : Relation) (a b : Numbers) → IsLeastCycle Needs a → IsLeastCycle Needs b → a ≡ b
 one_cycle Needs a b p q =
-    let le : first_of a ≤ first_of b = least_first_le a b p q in
-    let ge : first_of b ≤ first_of a = least_first_le b a q p in
+    let le : first_of a ≤ first_of b = least_first_le p q in
+    let ge : first_of b ≤ first_of a = least_first_le q p in
     let e : first_of a ≡ first_of b = omega arith in
-    let short : length a ≤ length b = p.shortest b q.is_cycle (subst (Contains b) (sym e) (has_first Needs b q.is_cycle)) in
+    let short : length a ≤ length b = p.shortest b q.is_cycle (rw e (has_first Needs b q.is_cycle)) in
     let long : length b ≤ length a = q.shortest a p.is_cycle (subst (Contains a) e (has_first Needs a p.is_cycle)) in
     let l : length a ≡ length b = omega arith in
     least_lists a b (p.least_list b q.is_cycle (sym e) (sym l)) (q.least_list a p.is_cycle e l)
   where
-    least_first_le : (a b : List ℕ) → IsLeastCycle Needs a → IsLeastCycle Needs b → first_of a ≤ first_of b
-    least_first_le a b p q = let h = has_first Needs b q.is_cycle in subst (λ x. first_of a ≤ x) h.2 (p.least_first b q.is_cycle h.0 (first_of b) h.1)
+    least_first_le : {a b : Numbers} → IsLeastCycle Needs a → IsLeastCycle Needs b → first_of a ≤ first_of b
+    least_first_le {b} p q = let h = has_first Needs b q.is_cycle in rw (← h.2) (p.least_first b q.is_cycle h.0 (first_of b) h.1)
 
 -- ---- the same under needs that hold of the same things, and numberings one over another
 
 -- if one needs it, so does the other
-abbrev pub Implies : (ℕ → ℕ → Type 0) → (ℕ → ℕ → Type 0) → Type 0
+abbrev pub Implies : Relation → Relation → Type 0
 Implies Needs Other = (thing needed : ℕ) → Needs thing needed → Other thing needed
 
 -- the same chain
-pub chain_same : (Needs Other : ℕ → ℕ → Type 0) → Implies Needs Other → (things : List ℕ) (end : ℕ) → IsChain Needs things end → IsChain Other things end
+pub chain_same : (Needs Other : Relation) → Implies Needs Other → (things : Numbers) (end : ℕ) → IsChain Needs things end → IsChain Other things end
 chain_same Needs Other to [] end h = tt
 chain_same Needs Other to (x ∷ []) end h = to x end h
 chain_same Needs Other to (x ∷ next ∷ things) end h = (to x next h.0, chain_same Needs Other to (next ∷ things) end h.1)
 
 -- the same cycle
-pub cycle_same : (Needs Other : ℕ → ℕ → Type 0) → Implies Needs Other → (cycle : List ℕ) → IsCycle Needs cycle → IsCycle Other cycle
+pub cycle_same : (Needs Other : Relation) → Implies Needs Other → (cycle : Numbers) → IsCycle Needs cycle → IsCycle Other cycle
 cycle_same Needs Other to [] h = h
 cycle_same Needs Other to (first ∷ others) h = chain_same Needs Other to (first ∷ others) first h
 
 -- the same reach
-pub reaches_same : (Needs Other : ℕ → ℕ → Type 0) → Implies Needs Other → (from end : ℕ) → Reaches Needs from end → Reaches Other from end
+pub reaches_same : (Needs Other : Relation) → Implies Needs Other → (from end : ℕ) → Reaches Needs from end → Reaches Other from end
 reaches_same Needs Other to from end h = ⊎_elim (λ e. inl e) (λ c. inr (c.0, chain_same Needs Other to (from ∷ c.0) end c.1)) h
 
 -- orderable by needs that hold of no more things
-pub orderable_same : (count : ℕ) (Needs Other : ℕ → ℕ → Type 0) → Implies Other Needs → IsOrderable count Needs → IsOrderable count Other
-orderable_same count Needs Other from o = (o.0, record { one_each = o.1.one_each; below = λ thing needed need. o.1.below thing needed (from thing needed need) })
+pub orderable_same : (count : ℕ) (Needs Other : Relation) → Implies Other Needs → IsOrderable count Needs → IsOrderable count Other
+orderable_same count Needs Other from o =
+    (o.0, record { one_each = o.1.one_each; below = λ thing needed need. o.1.below thing needed (from thing needed need) })
 
 -- the same order
-pub order_same : (count : ℕ) (Needs Other : ℕ → ℕ → Type 0) (order : List ℕ) → Implies Needs Other → Implies Other Needs → IsLeastOrder count Needs order → IsLeastOrder count Other order
+pub order_same : (count : ℕ) (Needs Other : Relation) (order : Numbers) → Implies Needs Other → Implies Other Needs → IsLeastOrder count Needs order →
+    IsLeastOrder count Other order
 order_same count Needs Other order to from h = record {
   as_many = h.as_many;
   all = h.all;
@@ -291,7 +311,8 @@ order_same count Needs Other order to from h = record {
 }
 
 -- the same least cycle
-pub least_cycle_same : (Needs Other : ℕ → ℕ → Type 0) (cycle : List ℕ) → Implies Needs Other → Implies Other Needs → IsLeastCycle Needs cycle → IsLeastCycle Other cycle
+pub least_cycle_same : (Needs Other : Relation) (cycle : Numbers) → Implies Needs Other → Implies Other Needs → IsLeastCycle Needs cycle →
+    IsLeastCycle Other cycle
 least_cycle_same Needs Other cycle to from h = record {
   is_cycle = cycle_same Needs Other to cycle h.is_cycle;
   least_first = λ other c. h.least_first other (cycle_same Other Needs from other c);
@@ -300,12 +321,17 @@ least_cycle_same Needs Other cycle to from h = record {
 }
 
 -- a sorting of needs is one of any needs that hold of the same things
-pub sorting_same : (count : ℕ) (Needs Other : ℕ → ℕ → Type 0) (sorting : Sorting) → Implies Needs Other → Implies Other Needs → IsSortingOf count Needs sorting → IsSortingOf count Other sorting
+pub sorting_same : (count : ℕ) (Needs Other : Relation) (sorting : Sorting) → Implies Needs Other → Implies Other Needs → IsSortingOf count Needs sorting →
+    IsSortingOf count Other sorting
 sorting_same count Needs Other (Order order) to from h = (orderable_same count Needs Other from h.0, order_same count Needs Other order.items to from h.1)
-sorting_same count Needs Other (Cycle cycle) to from h = ((λ o. h.0 (orderable_same count Other Needs to o)), least_cycle_same Needs Other cycle.items to from h.1)
+sorting_same count Needs Other (Cycle cycle) to from h =
+    ((λ o. h.0 (orderable_same count Other Needs to o)), least_cycle_same Needs Other cycle.items to from h.1)
 
 -- Numbers that put each needed thing lower or level, and inner numbers that put those that are level strictly below, make a numbering.
-pub layered : (count : ℕ) (Needs : ℕ → ℕ → Type 0) (outer inner : List ℕ) → AreWithin count Needs → length inner ≡ count → ((thing needed : ℕ) → Needs thing needed → (slice_index outer needed < slice_index outer thing) ⊎ ((slice_index outer needed ≡ slice_index outer thing) × (slice_index inner needed < slice_index inner thing))) → IsOrderable count Needs
+pub layered : (count : ℕ) (Needs : Relation) (outer inner : Numbers) → AreWithin count Needs → length inner ≡ count →
+    ((thing needed : ℕ) → Needs thing needed →
+    (slice_index outer needed < slice_index outer thing) ⊎
+    ((slice_index outer needed ≡ slice_index outer thing) × (slice_index inner needed < slice_index inner thing))) → IsOrderable count Needs
 layered count Needs outer inner within long h =
     let both : ℕ → ℕ = λ thing. slice_index outer thing * suc (sum inner) + slice_index inner thing in (
       map both (range_with_len 0 count),
@@ -313,16 +339,18 @@ layered count Needs outer inner within long h =
         one_each = length-map-range_with_len both 0 count;
         below = λ thing needed need.
             let w = within thing needed need in
-            let here : get_or (map both (range_with_len 0 count)) thing 0 ≡ both thing = get_or-map-range_with_len both 0 count thing thing 0 w.0 (omega arith) in
-            let there : get_or (map both (range_with_len 0 count)) needed 0 ≡ both needed = get_or-map-range_with_len both 0 count needed needed 0 w.1 (omega arith) in
-            let small : slice_index inner needed ≤ sum inner = get_or-le-sum_by (λ x. x) inner needed 0 (omega (arith, w.1, long)) in
+            let here : get_or (map both (range_with_len 0 count)) thing 0 ≡ both thing =
+            get_or-map-range_with_len both 0 count thing thing 0 w.0 (omega arith) in
+            let there : get_or (map both (range_with_len 0 count)) needed 0 ≡ both needed =
+            get_or-map-range_with_len both 0 count needed needed 0 w.1 (omega arith) in
+            let small : slice_index inner needed ≤ sum inner = get_or-le-sum_by (λ x. x) inner needed 0 (omega arith) in
             ⊎_elim
             (λ lt.
             let step : suc (slice_index outer needed) * suc (sum inner) ≤ slice_index outer thing * suc (sum inner) = mul-le-mul_right (suc (sum inner)) lt in
-            omega (arith, here, there, small, step))
+            omega arith)
             (λ level.
             let e : slice_index outer needed * suc (sum inner) ≡ slice_index outer thing * suc (sum inner) = ap (λ n. n * suc (sum inner)) level.0 in
-            omega (arith, here, there, e, level.1))
+            omega (arith, level.1))
             (h thing needed need);
       },
     )

@@ -9,57 +9,59 @@ use Rattle.dep_order.specs.Needs.{needs_of, NodeNeeds, IsChain, Reaches}
 use Rattle.dep_order.specs.inner.Users.{one_if, count_of}
 use Rattle.dep_order.specs.inner.Postorders.{is_seen, IsBeforeOrLeads, IsPostorder, IsWalk, IsInDepth, SeesMore, IsFirstUnseen}
 use Rattle.dep_order.proofs.Orders.{has_none, has_cons_cases, count-cons, count_push, count_from_has, has_from_count, same_itself, chain_append}
+use Rattle.dep_order.proofs.Words.{Graph, Numbers, Relation}
 
 -- chains of needs lead on
-pub reaches_on : (Needs : ℕ → ℕ → Type 0) (x y z : ℕ) → Reaches Needs x y → Reaches Needs y z → Reaches Needs x z
+pub reaches_on : (Needs : Relation) (x y z : ℕ) → Reaches Needs x y → Reaches Needs y z → Reaches Needs x z
 reaches_on Needs x y z p q =
     ⊎_elim
     (λ e. subst (λ w. Reaches Needs w z) (sym e) q)
     (λ c. ⊎_elim
-    (λ e. inr (c.0, subst (IsChain Needs (x ∷ c.0)) e c.1))
+    (λ e. inr (c.0, rw (← e) c.1))
     (λ d. inr (c.0 ++ y ∷ d.0, chain_append Needs (x ∷ c.0) y d.0 z c.1 d.1))
     q)
     p
 
 -- a walk with one thing more, and one less
-pub walk_push : (Needs : ℕ → ℕ → Type 0) (xs : List ℕ) (y z : ℕ) → IsWalk Needs (xs ++ y ∷ []) → Needs y z → IsWalk Needs ((xs ++ y ∷ []) ++ z ∷ [])
+pub walk_push : (Needs : Relation) (xs : Numbers) (y z : ℕ) → IsWalk Needs (xs ++ y ∷ []) → Needs y z → IsWalk Needs ((xs ++ y ∷ []) ++ z ∷ [])
 walk_push Needs [] y z w need = (need, tt)
 walk_push Needs (x ∷ []) y z w need = (w.0, (need, tt))
 walk_push Needs (x ∷ next ∷ xs) y z w need = (w.0, walk_push Needs (next ∷ xs) y z w.1 need)
 
 -- a walk without its last thing
-pub walk_pop : (Needs : ℕ → ℕ → Type 0) (xs : List ℕ) (y : ℕ) → IsWalk Needs (xs ++ y ∷ []) → IsWalk Needs xs
+pub walk_pop : (Needs : Relation) (xs : Numbers) (y : ℕ) → IsWalk Needs (xs ++ y ∷ []) → IsWalk Needs xs
 walk_pop Needs [] y w = tt
 walk_pop Needs (x ∷ []) y w = tt
 walk_pop Needs (x ∷ next ∷ xs) y w = (w.0, walk_pop Needs (next ∷ xs) y w.1)
 
 -- the first thing of a walk leads to its last
-walk_first : (Needs : ℕ → ℕ → Type 0) (x : ℕ) (xs : List ℕ) (y : ℕ) → IsWalk Needs ((x ∷ xs) ++ y ∷ []) → Reaches Needs x y
+walk_first : (Needs : Relation) (x : ℕ) (xs : Numbers) (y : ℕ) → IsWalk Needs ((x ∷ xs) ++ y ∷ []) → Reaches Needs x y
 walk_first Needs x [] y w = inr ([], w.0)
 walk_first Needs x (next ∷ xs) y w = reaches_on Needs x next y (inr ([], w.0)) (walk_first Needs next xs y w.1)
 
 -- each thing of a walk leads to its last
-pub walk_reaches : (Needs : ℕ → ℕ → Type 0) (xs : List ℕ) (y x : ℕ) → IsWalk Needs (xs ++ y ∷ []) → Contains xs x → Reaches Needs x y
+pub walk_reaches : (Needs : Relation) (xs : Numbers) (y x : ℕ) → IsWalk Needs (xs ++ y ∷ []) → Contains xs x → Reaches Needs x y
 walk_reaches Needs [] y x w has = absurd (has_none x has)
-walk_reaches Needs (first ∷ []) y x w has = ⊎_elim (λ e. subst (λ z. Reaches Needs z y) e (walk_first Needs first [] y w)) (λ t. absurd (has_none x t)) (has_cons_cases first x [] has)
+walk_reaches Needs (first ∷ []) y x w has = ⊎_elim (λ e. subst (λ z. Reaches Needs z y) e (walk_first Needs first [] y w)) (λ t. absurd (has_none x t))
+    (has_cons_cases first x [] has)
 walk_reaches Needs (first ∷ next ∷ xs) y x w has =
     ⊎_elim
     (λ e. subst (λ z. Reaches Needs z y) e (walk_first Needs first (next ∷ xs) y w))
     (λ t. walk_reaches Needs (next ∷ xs) y x w.1 t)
     (has_cons_cases first x (next ∷ xs) has)
 
-twice : (xs : List ℕ) (y x j : ℕ) → count_of x (y ∷ xs) ≤ 1 → j < length xs → y ≡ x → slice_index xs j ≡ x → ⊥
+twice : (xs : Numbers) (y x j : ℕ) → count_of x (y ∷ xs) ≤ 1 → j < length xs → y ≡ x → slice_index xs j ≡ x → ⊥
 twice xs y x j few q e f =
     let here : one_if (eqb x y) ≡ 1 = ap one_if (subst (λ z. eqb x z ≡ true) (sym e) (same_itself x)) in
-    absurd (omega (arith, few, count-cons x y xs, here, count_from_has x xs (j, q, get_or_default xs j x 0 q ∙ f)))
+    absurd (omega (arith, count-cons x y xs, count_from_has x xs (j, q, get_or_default xs j x 0 q ∙ f)))
 
 -- what is once in a list has one index there
-pub one_index : (xs : List ℕ) (x i j : ℕ) → count_of x xs ≤ 1 → i < length xs → j < length xs → slice_index xs i ≡ x → slice_index xs j ≡ x → i ≡ j
-one_index [] x i j few p q e f = absurd (omega (arith, p))
+pub one_index : (xs : Numbers) (x i j : ℕ) → count_of x xs ≤ 1 → i < length xs → j < length xs → slice_index xs i ≡ x → slice_index xs j ≡ x → i ≡ j
+one_index [] x i j few p q e f = absurd (omega arith)
 one_index (y ∷ xs) x zero zero few p q e f = refl
-one_index (y ∷ xs) x zero (suc j) few p q e f = absurd (twice xs y x j few (omega (arith, q)) e f)
-one_index (y ∷ xs) x (suc i) zero few p q e f = absurd (twice xs y x i few (omega (arith, p)) f e)
-one_index (y ∷ xs) x (suc i) (suc j) few p q e f = ap (λ n. suc n) (one_index xs x i j (omega (arith, few, count-cons x y xs)) (omega (arith, p)) (omega (arith, q)) e f)
+one_index (y ∷ xs) x zero (suc j) few p q e f = absurd (twice xs y x j few (omega arith) e f)
+one_index (y ∷ xs) x (suc i) zero few p q e f = absurd (twice xs y x i few (omega arith) f e)
+one_index (y ∷ xs) x (suc i) (suc j) few p q e f = ap (λ n. suc n) (one_index xs x i j (omega (arith, count-cons x y xs)) (omega arith) (omega arith) e f)
 
 -- what is seen is a node
 pub seen_in_range : (seen : List Bool) (node : ℕ) → is_seen seen node ≡ true → node < length seen
@@ -70,55 +72,65 @@ pub sees_more : (seen : List Bool) (next : ℕ) → next < length seen → SeesM
 sees_more seen next lt node e = grind (arith, common_steps)
 
 -- what is on the path is seen
-pub path_seen : (needs : List (List ℕ)) (seen : List Bool) (scanned path left : List ℕ) (node : ℕ) → IsInDepth needs seen scanned path left → Contains path node → is_seen seen node ≡ true
-path_seen needs seen scanned path left node h has =
+pub path_seen : {needs : Graph} {seen : List Bool} {scanned path left : Numbers} (node : ℕ) → IsInDepth needs seen scanned path left → Contains path node →
+    is_seen seen node ≡ true
+path_seen {seen} {path} node h has =
     ⊎_elim (λ e. e) (λ e. absurd (omega (arith, h.counted node, count_from_has node path has, ap one_if e))) (cases_Bool (is_seen seen node))
 
 -- what is seen is left or on the path
-pub seen_where : (needs : List (List ℕ)) (seen : List Bool) (scanned path left : List ℕ) (node : ℕ) → IsInDepth needs seen scanned path left → is_seen seen node ≡ true → Contains left node ⊎ Contains path node
-seen_where needs seen scanned path left node h e =
+pub seen_where : {needs : Graph} {seen : List Bool} {scanned path left : Numbers} (node : ℕ) → IsInDepth needs seen scanned path left →
+    is_seen seen node ≡ true → Contains left node ⊎ Contains path node
+seen_where {path} {left} node h e =
     let one : count_of node left + count_of node path ≡ 1 = h.counted node ∙ ap one_if e in
     ⊎_elim
     (λ some. inl (has_from_count node left some))
-    (λ none. inr (has_from_count node path (omega (arith, one, none))))
+    (λ none. inr (has_from_count node path (omega arith)))
     (cases_lt 0 (count_of node left))
 
 -- a node is counted when it comes onto the path
-counted_push : (seen : List Bool) (path left : List ℕ) (next : ℕ) → next < length seen → is_seen seen next ≡ false → ((node : ℕ) → count_of node left + count_of node path ≡ one_if (is_seen seen node)) → (node : ℕ) → count_of node left + count_of node (path ++ next ∷ []) ≡ one_if (is_seen (set seen next true) node)
+counted_push : (seen : List Bool) (path left : Numbers) (next : ℕ) → next < length seen → is_seen seen next ≡ false →
+    ((node : ℕ) → count_of node left + count_of node path ≡ one_if (is_seen seen node)) → (node : ℕ) →
+    count_of node left + count_of node (path ++ next ∷ []) ≡ one_if (is_seen (set seen next true) node)
 counted_push seen path left next lt unseen h node = grind (arith, common_steps)
 
 -- the search begins at a root
-pub begun : (needs : List (List ℕ)) (seen : List Bool) (scanned path left : List ℕ) (root : ℕ) → path ≡ root ∷ [] → root < length needs → is_seen seen root ≡ false → IsInDepth needs seen scanned [] left → IsInDepth needs (set seen root true) scanned path left
-begun needs seen scanned path left root e lt unseen h = record {
+pub begun : {needs : Graph} {seen : List Bool} {scanned : Numbers} (path : Numbers) {left : Numbers} (root : ℕ) → path ≡ root ∷ [] → root < length needs →
+    is_seen seen root ≡ false → IsInDepth needs seen scanned [] left → IsInDepth needs (set seen root true) scanned path left
+begun {needs} {seen} path {left} root e lt unseen h = record {
   seen_each = length-set seen root true ∙ h.seen_each;
   scanned_each = h.scanned_each;
-  counted = λ node. subst (λ xs. count_of node left + count_of node xs ≡ one_if (is_seen (set seen root true) node)) (sym e) (counted_push seen [] left root (omega (arith, lt, h.seen_each)) unseen h.counted node);
-  scanned_seen = λ node k below in'. sees_more seen root (omega (arith, lt, h.seen_each)) (slice_index (needs_of needs node) k) (h.scanned_seen node k below in');
-  walk = subst (IsWalk (NodeNeeds needs)) (sym e) tt;
+  counted = λ node. rw e (counted_push seen [] left root (omega arith) unseen h.counted node);
+  scanned_seen = λ node k below in'. sees_more seen root (omega arith) (slice_index (needs_of needs node) k) (h.scanned_seen node k below in');
+  walk = rw e tt;
   settled = λ index needed in' need. ⊎_elim (λ s. inl s) (λ p. absurd (has_none needed p.0)) (h.settled index needed in' need);
 }
 
 -- the search continues with a node that the last of the path needs
-pub entered : (needs : List (List ℕ)) (seen : List Bool) (scanned rest path left : List ℕ) (node index next : ℕ) → path ≡ rest ++ node ∷ [] → node < length needs → next < length needs → index < length (needs_of needs node) → slice_index (needs_of needs node) index ≡ next → is_seen seen next ≡ false → ((k : ℕ) → slice_index scanned node ≤ k → k < index → is_seen seen (slice_index (needs_of needs node) k) ≡ true) → IsInDepth needs seen scanned path left → IsInDepth needs (set seen next true) (set scanned node (index + 1)) ((rest ++ node ∷ []) ++ next ∷ []) left
-entered needs seen scanned rest path left node index next e lt next_lt in_row at unseen before h = record {
+pub entered : {needs : Graph} {seen : List Bool} {scanned : Numbers} (rest : Numbers) {path left : Numbers} (node index next : ℕ) → path ≡ rest ++ node ∷ [] →
+    node < length needs → next < length needs → index < length (needs_of needs node) → slice_index (needs_of needs node) index ≡ next →
+    is_seen seen next ≡ false → ((k : ℕ) → slice_index scanned node ≤ k → k < index → is_seen seen (slice_index (needs_of needs node) k) ≡ true) →
+    IsInDepth needs seen scanned path left → IsInDepth needs (set seen next true) (set scanned node (index + 1)) ((rest ++ node ∷ []) ++ next ∷ []) left
+entered {needs} {seen} {scanned} rest {left = left} node index next e lt next_lt in_row at unseen before h = record {
   seen_each = length-set seen next true ∙ h.seen_each;
   scanned_each = length-set scanned node (index + 1) ∙ h.scanned_each;
-  counted = counted_push seen (rest ++ node ∷ []) left next next_in unseen (λ x. subst (λ xs. count_of x left + count_of x xs ≡ one_if (is_seen seen x)) e (h.counted x));
+  counted = counted_push seen (rest ++ node ∷ []) left next next_in unseen (λ x. rw (← e) (h.counted x));
   scanned_seen = λ other k below in'.
       ⊎_elim
       (λ same.
-      let one_more : slice_index (set scanned node (index + 1)) other ≡ index + 1 = ap (slice_index (set scanned node (index + 1))) same ∙ get_or-set_same scanned node (index + 1) 0 (omega (arith, lt, h.scanned_each)) in
-      subst (λ x. is_seen (set seen next true) (slice_index (needs_of needs x) k) ≡ true) (sym same) (up_to k (omega (arith, below, one_more))))
+      let one_more : slice_index (set scanned node (index + 1)) other ≡ index + 1 = ap (slice_index (set scanned node (index + 1))) same ∙
+      get_or-set_same scanned node (index + 1) 0 (omega arith) in
+      rw same (up_to k (omega arith)))
       (λ ne.
       let as_was : slice_index (set scanned node (index + 1)) other ≡ slice_index scanned other = get_or-set_other scanned node other (index + 1) 0 ne in
-      kept (slice_index (needs_of needs other) k) (h.scanned_seen other k (omega (arith, below, as_was)) in'))
+      kept (slice_index (needs_of needs other) k) (h.scanned_seen other k (omega arith) in'))
       (cases_eq other node);
-  walk = walk_push (NodeNeeds needs) rest node next (subst (IsWalk (NodeNeeds needs)) e h.walk) need;
-  settled = λ i needed in' uses. ⊎_elim (λ s. inl s) (λ p. inr (Contains-append_left (rest ++ node ∷ []) (next ∷ []) needed (subst (λ xs. Contains xs needed) e p.0), p.1)) (h.settled i needed in' uses);
+  walk = walk_push (NodeNeeds needs) rest node next (rw (← e) h.walk) need;
+  settled = λ i needed in' uses. ⊎_elim (λ s. inl s) (λ p. inr (Contains-append_left (rest ++ node ∷ []) (next ∷ []) needed (rw (← e) p.0), p.1))
+      (h.settled i needed in' uses);
 }
   where
     next_in : next < length seen
-    next_in = omega (arith, next_lt, h.seen_each)
+    next_in = omega arith
 
     kept : SeesMore seen (set seen next true)
     kept = sees_more seen next next_in
@@ -130,54 +142,75 @@ entered needs seen scanned rest path left node index next e lt next_lt in_row at
     up_to k below =
         ⊎_elim
         (λ earlier. ⊎_elim
-        (λ old. kept (slice_index (needs_of needs node) k) (h.scanned_seen node k old (omega (arith, earlier, in_row))))
+        (λ old. kept (slice_index (needs_of needs node) k) (h.scanned_seen node k old (omega arith)))
         (λ new. kept (slice_index (needs_of needs node) k) (before k new earlier))
         (cases_lt k (slice_index scanned node)))
         (λ ge.
-        let same : index ≡ k = omega (arith, ge, below) in
-        subst (λ i. is_seen (set seen next true) (slice_index (needs_of needs node) i) ≡ true) same
-        (subst (λ x. is_seen (set seen next true) x ≡ true) (sym at) (get_or-set_same seen next true false next_in)))
+        let same : index ≡ k = omega arith in
+        rw (← same) (rw (← (sym at)) (get_or-set_same seen next true false next_in)))
         (cases_lt k index)
 
 -- the search leaves the last node of the path, all of whose needs are seen
-pub left_behind : (needs : List (List ℕ)) (seen : List Bool) (scanned rest path left : List ℕ) (node : ℕ) → path ≡ rest ++ node ∷ [] → ((k : ℕ) → slice_index scanned node ≤ k → k < length (needs_of needs node) → is_seen seen (slice_index (needs_of needs node) k) ≡ true) → IsInDepth needs seen scanned path left → IsInDepth needs seen scanned rest (left ++ node ∷ [])
-left_behind needs seen scanned rest path left node e behind h = record {
+pub left_behind : {needs : Graph} {seen : List Bool} {scanned : Numbers} (rest : Numbers) {path left : Numbers} (node : ℕ) → path ≡ rest ++ node ∷ [] →
+    ((k : ℕ) → slice_index scanned node ≤ k → k < length (needs_of needs node) → is_seen seen (slice_index (needs_of needs node) k) ≡ true) →
+    IsInDepth needs seen scanned path left → IsInDepth needs seen scanned rest (left ++ node ∷ [])
+left_behind {needs} {seen} {scanned} rest {path} {left} node e behind h = record {
   seen_each = h.seen_each;
   scanned_each = h.scanned_each;
-  counted = λ x. omega (arith, subst (λ xs. count_of x left + count_of x xs ≡ one_if (is_seen seen x)) e (h.counted x), count_push x node left, count_push x node rest);
+  counted = λ x. omega (arith, rw e at (h.counted x), count_push x node left, count_push x node rest);
   scanned_seen = h.scanned_seen;
   walk = walk_pop (NodeNeeds needs) rest node walk;
   settled = λ index needed in' need.
       ⊎_elim
-      (λ lt. old index needed lt (h.settled index needed lt (subst (λ x. NodeNeeds needs x needed) (get_or_append_left left (node ∷ []) 0 index lt) need)))
+      (λ lt. old index needed lt (h.settled index needed lt (rw (← (get_or_append_left left (node ∷ []) 0 index lt)) need)))
       (λ ge.
-      let last : length left ≡ index = omega (arith, ge, in', length_push left node) in
-      new index needed last (subst (λ x. NodeNeeds needs x needed) (get_or_push left node 0 index last) need))
+      let last : length left ≡ index = omega (arith, length_push left node) in
+      new index needed last (rw (← (get_or_push left node 0 index last)) need))
       (cases_lt index (length left));
 }
   where
     walk : IsWalk (NodeNeeds needs) (rest ++ node ∷ [])
-    walk = subst (IsWalk (NodeNeeds needs)) e h.walk
+    walk = rw (← e) h.walk
 
     -- the nodes up to the last one are as they were, and then comes this one
-    upto : (needed index : ℕ) → ((k : ℕ) → index ≤ k → k < length left → Reaches (NodeNeeds needs) needed (slice_index left k)) → Reaches (NodeNeeds needs) needed node → (k : ℕ) → index ≤ k → k < length (left ++ node ∷ []) → Reaches (NodeNeeds needs) needed (slice_index (left ++ node ∷ []) k)
+    upto : (needed index : ℕ) → ((k : ℕ) → index ≤ k → k < length left → Reaches (NodeNeeds needs) needed (slice_index left k)) →
+        Reaches (NodeNeeds needs) needed node → (k : ℕ) → index ≤ k → k < length (left ++ node ∷ []) →
+        Reaches (NodeNeeds needs) needed (slice_index (left ++ node ∷ []) k)
     upto needed index front end k ge lt =
         ⊎_elim
-        (λ below. subst (Reaches (NodeNeeds needs) needed) (sym (get_or_append_left left (node ∷ []) 0 k below)) (front k ge below))
-        (λ above. subst (Reaches (NodeNeeds needs) needed) (sym (get_or_push left node 0 k (omega (arith, above, lt, length_push left node)))) end)
+        (λ below. rw (get_or_append_left left (node ∷ []) 0 k below) (front k ge below))
+        (λ above. rw (get_or_push left node 0 k (omega (arith, length_push left node))) end)
         (cases_lt k (length left))
 
-    old : (index needed : ℕ) → index < length left → IsBeforeOrLeads needs left index needed ⊎ (Contains path needed × ((k : ℕ) → index ≤ k → k < length left → Reaches (NodeNeeds needs) needed (slice_index left k))) → IsBeforeOrLeads needs (left ++ node ∷ []) index needed ⊎ (Contains rest needed × ((k : ℕ) → index ≤ k → k < length (left ++ node ∷ []) → Reaches (NodeNeeds needs) needed (slice_index (left ++ node ∷ []) k)))
+    old : (index needed : ℕ) → index < length left →
+        IsBeforeOrLeads needs left index needed ⊎
+        (Contains path needed × ((k : ℕ) → index ≤ k → k < length left → Reaches (NodeNeeds needs) needed (slice_index left k))) →
+        IsBeforeOrLeads needs (left ++ node ∷ []) index needed ⊎
+        (Contains rest needed × ((k : ℕ) → index ≤ k → k < length (left ++ node ∷ []) → Reaches (NodeNeeds needs) needed (slice_index (left ++ node ∷ []) k)))
     old index needed lt s =
         ⊎_elim
         (λ t. inl (⊎_elim
-        (λ b. inl (b.0, b.1, get_or_append_left left (node ∷ []) 0 b.0 (omega (arith, b.1, lt)) ∙ b.2))
-        (λ b. inr (b.0, b.1, omega (arith, b.2, length_push left node), get_or_append_left left (node ∷ []) 0 b.0 b.2 ∙ b.3, λ k ge le. subst (Reaches (NodeNeeds needs) needed) (sym (get_or_append_left left (node ∷ []) 0 k (omega (arith, le, b.2)))) (b.4 k ge le)))
+        (λ b. inl (b.0, b.1, get_or_append_left left (node ∷ []) 0 b.0 (omega arith) ∙ b.2))
+        (λ b. inr (
+          b.0,
+          b.1,
+          omega (arith, length_push left node),
+          get_or_append_left left (node ∷ []) 0 b.0 b.2 ∙
+              b.3,
+          λ k ge le. rw (get_or_append_left left (node ∷ []) 0 k (omega arith)) (b.4 k ge le),
+        ))
         t))
         (λ p. ⊎_elim
         (λ r. inr (r, upto needed index p.1 (walk_reaches (NodeNeeds needs) rest node needed walk r)))
-        (λ same. inl (inr (length left, omega (arith, lt), omega (arith, length_push left node), get_or_push left node 0 (length left) refl ∙ same, λ k ge le. upto needed index p.1 (inl (sym same)) k ge (omega (arith, le, length_push left node)))))
-        (Contains-push_cases rest node needed (subst (λ xs. Contains xs needed) e p.0)))
+        (λ same. inl (inr (
+          length left,
+          omega arith,
+          omega (arith, length_push left node),
+          get_or_push left node 0 (length left) refl ∙
+              same,
+          λ k ge le. upto needed index p.1 (inl (sym same)) k ge (omega (arith, length_push left node)),
+        )))
+        (Contains-push_cases rest node needed (rw (← e) p.0)))
         s
 
     needs_seen : (needed : ℕ) → NodeNeeds needs node needed → is_seen seen needed ≡ true
@@ -186,54 +219,71 @@ left_behind needs seen scanned rest path left node e behind h = record {
         subst (λ x. is_seen seen x ≡ true) at
         (⊎_elim (λ lt. h.scanned_seen node need.0 lt need.1) (λ ge. behind need.0 ge need.1) (cases_lt need.0 (slice_index scanned node)))
 
-    new : (index needed : ℕ) → length left ≡ index → NodeNeeds needs node needed → IsBeforeOrLeads needs (left ++ node ∷ []) index needed ⊎ (Contains rest needed × ((k : ℕ) → index ≤ k → k < length (left ++ node ∷ []) → Reaches (NodeNeeds needs) needed (slice_index (left ++ node ∷ []) k)))
+    new : (index needed : ℕ) → length left ≡ index → NodeNeeds needs node needed →
+        IsBeforeOrLeads needs (left ++ node ∷ []) index needed ⊎
+        (Contains rest needed × ((k : ℕ) → index ≤ k → k < length (left ++ node ∷ []) → Reaches (NodeNeeds needs) needed (slice_index (left ++ node ∷ []) k)))
     new index needed last need =
-        let none : (k : ℕ) → index ≤ k → k < length left → Reaches (NodeNeeds needs) needed (slice_index left k) = λ k ge lt. absurd (omega (arith, ge, lt, last)) in
+        let none : (k : ℕ) → index ≤ k → k < length left → Reaches (NodeNeeds needs) needed (slice_index left k) = λ k ge lt. absurd (omega arith) in
         ⊎_elim
-        (λ has. inl (inl (has.0, omega (arith, has.1, last), get_or_append_left left (node ∷ []) 0 has.0 has.1 ∙ get_or_default left has.0 0 needed has.1 ∙ has.2)))
+        (λ has. inl (inl (has.0, omega arith, get_or_append_left left (node ∷ []) 0 has.0 has.1 ∙ get_or_default left has.0 0 needed has.1 ∙ has.2)))
         (λ on. ⊎_elim
         (λ r. inr (r, upto needed index none (walk_reaches (NodeNeeds needs) rest node needed walk r)))
-        (λ same. inl (inr (index, omega arith, omega (arith, last, length_push left node), get_or_push left node 0 index last ∙ same, λ k ge le. upto needed index none (inl (sym same)) k ge (omega (arith, le, last, length_push left node)))))
-        (Contains-push_cases rest node needed (subst (λ xs. Contains xs needed) e on)))
-        (seen_where needs seen scanned path left needed h (needs_seen needed need))
+        (λ same. inl (inr (
+          index,
+          omega arith,
+          omega (arith, length_push left node),
+          get_or_push left node 0 index last ∙
+              same,
+          λ k ge le. upto needed index none (inl (sym same)) k ge (omega (arith, length_push left node)),
+        )))
+        (Contains-push_cases rest node needed (rw (← e) on)))
+        (seen_where needed h (needs_seen needed need))
 
 -- all are left
-pub all_left : (needs : List (List ℕ)) (seen : List Bool) (scanned left : List ℕ) → ((node : ℕ) → node < length needs → is_seen seen node ≡ true) → IsInDepth needs seen scanned [] left → IsPostorder needs left
-all_left needs seen scanned left all h = record {
+pub all_left : {needs : Graph} {seen : List Bool} {scanned left : Numbers} → ((node : ℕ) → node < length needs → is_seen seen node ≡ true) →
+    IsInDepth needs seen scanned [] left → IsPostorder needs left
+all_left {seen} {left} all h = record {
   nodes = λ k d lt.
       let x : ℕ = get_or left k d in
       let some : 0 < count_of (get_or left k d) left = count_from_has (get_or left k d) left (Contains-get_or left k d lt) in
-      let seen_here : is_seen seen (get_or left k d) ≡ true = ⊎_elim (λ e. e) (λ e. absurd (omega (arith, h.counted (get_or left k d), some, ap one_if e))) (cases_Bool (is_seen seen (get_or left k d))) in
-      omega (arith, seen_in_range seen (get_or left k d) seen_here, h.seen_each);
-  once = λ node lt. let e : one_if (is_seen seen node) ≡ 1 = ap one_if (all node lt) in omega (arith, h.counted node, e);
+      let seen_here : is_seen seen (get_or left k d) ≡
+      true = ⊎_elim (λ e. e) (λ e. absurd (omega (arith, h.counted (get_or left k d), ap one_if e))) (cases_Bool (is_seen seen (get_or left k d))) in
+      omega (arith, seen_in_range seen (get_or left k d) seen_here);
+  once = λ node lt. let e : one_if (is_seen seen node) ≡ 1 = ap one_if (all node lt) in omega (arith, h.counted node);
   left = λ index needed in' need. ⊎_elim (λ s. s) (λ p. absurd (has_none needed p.0)) (h.settled index needed in' need);
 }
 
 -- If the free nodes are up to the last of them, what leads to that one by free nodes is led to from
 -- it, and so is all between.
-pub led_back : (needs : List (List ℕ)) (postorder : List ℕ) (IsFree : ℕ → Type 0) (last : ℕ) → IsPostorder needs postorder → last < length postorder → ((index : ℕ) → index < length postorder → IsFree (slice_index postorder index) → index ≤ last) → (x : ℕ) (things : List ℕ) (index : ℕ) → IsChain (NodeNeeds needs) (x ∷ things) (slice_index postorder last) → IsFree x → All IsFree things → index < length postorder → slice_index postorder index ≡ x → (k : ℕ) → index ≤ k → k ≤ last → Reaches (NodeNeeds needs) (slice_index postorder last) (slice_index postorder k)
-led_back needs postorder IsFree last p in' bound x [] index need free all lt at k ge le =
+pub led_back : {needs : Graph} {postorder : Numbers} (IsFree : ℕ → Type 0) (last : ℕ) → IsPostorder needs postorder → last < length postorder →
+    ((index : ℕ) → index < length postorder → IsFree (slice_index postorder index) → index ≤ last) → (x : ℕ) (things : Numbers) (index : ℕ) →
+    IsChain (NodeNeeds needs) (x ∷ things) (slice_index postorder last) → IsFree x → All IsFree things → index < length postorder →
+    slice_index postorder index ≡ x → (k : ℕ) → index ≤ k → k ≤ last → Reaches (NodeNeeds needs) (slice_index postorder last) (slice_index postorder k)
+led_back {needs} {postorder} IsFree last p in' bound x [] index need free all lt at k ge le =
     let root : ℕ = slice_index postorder last in
     let few : count_of (slice_index postorder last) postorder ≤ 1 = omega (arith, p.once (slice_index postorder last) (p.nodes last 0 in')) in
     let here : index ≤ last = bound index lt (subst IsFree (sym at) free) in
     ⊎_elim
-    (λ b. absurd (omega (arith, one_index postorder (slice_index postorder last) b.0 last few (omega (arith, b.1, lt)) in' b.2 refl, b.1, here)))
-    (λ b. b.4 k ge (omega (arith, le, one_index postorder (slice_index postorder last) b.0 last few b.2 in' b.3 refl)))
-    (p.left index (slice_index postorder last) lt (subst (λ z. NodeNeeds needs z (slice_index postorder last)) (sym at) need))
-led_back needs postorder IsFree last p in' bound x (next ∷ things) index h free all lt at k ge le =
-    let rest : (j : ℕ) → j < length postorder → slice_index postorder j ≡ next → (i : ℕ) → j ≤ i → i ≤ last → Reaches (NodeNeeds needs) (slice_index postorder last) (slice_index postorder i) =
-    λ j j_lt j_at. led_back needs postorder IsFree last p in' bound next things j h.1 (All-head IsFree next things all) (All-tail IsFree next things all) j_lt j_at in
+    (λ b. absurd (omega (arith, one_index postorder (slice_index postorder last) b.0 last few (omega arith) in' b.2 refl)))
+    (λ b. b.4 k ge (omega (arith, one_index postorder (slice_index postorder last) b.0 last few b.2 in' b.3 refl)))
+    (p.left index (slice_index postorder last) lt (rw (← (sym at)) need))
+led_back {needs} {postorder} IsFree last p in' bound x (next ∷ things) index h free all lt at k ge le =
+    let rest : (j : ℕ) → j < length postorder → slice_index postorder j ≡ next → (i : ℕ) → j ≤ i → i ≤ last →
+    Reaches (NodeNeeds needs) (slice_index postorder last) (slice_index postorder i) =
+    λ j j_lt j_at. led_back IsFree last p in' bound next things j h.1 (All-head IsFree next things all) (All-tail IsFree next things all) j_lt j_at in
     ⊎_elim
-    (λ b. rest b.0 (omega (arith, b.1, lt)) b.2 k (omega (arith, b.1, ge)) le)
+    (λ b. rest b.0 (omega arith) b.2 k (omega arith) le)
     (λ b. ⊎_elim
     (λ before.
     let j_le : b.0 ≤ last = bound b.0 b.2 (subst IsFree (sym b.3) (All-head IsFree next things all)) in
-    reaches_on (NodeNeeds needs) (slice_index postorder last) next (slice_index postorder k) (subst (Reaches (NodeNeeds needs) (slice_index postorder last)) b.3 (rest b.0 b.2 b.3 b.0 (omega arith) j_le)) (b.4 k ge (omega (arith, before))))
+    reaches_on (NodeNeeds needs) (slice_index postorder last) next (slice_index postorder k) (rw (← b.3) (rest b.0 b.2 b.3 b.0 (omega arith) j_le))
+    (b.4 k ge (omega arith)))
     (λ behind. rest b.0 b.2 b.3 k behind le)
     (cases_lt k b.0))
-    (p.left index next lt (subst (λ z. NodeNeeds needs z next) (sym at) h.0))
+    (p.left index next lt (rw (← (sym at)) h.0))
 
 -- the first index whose node isn't seen, of the same row, nodes seen and start
-pub first_unseen_at : (row own_row : List ℕ) (seen own_seen : List Bool) (from shared_from : ℕ) (found : Option ℕ) → row ≡ own_row → seen ≡ own_seen → from ≡ shared_from → IsFirstUnseen row seen from found → IsFirstUnseen own_row own_seen shared_from found
+pub first_unseen_at : (row own_row : Numbers) (seen own_seen : List Bool) (from shared_from : ℕ) (found : Option ℕ) → row ≡ own_row → seen ≡ own_seen →
+    from ≡ shared_from → IsFirstUnseen row seen from found → IsFirstUnseen own_row own_seen shared_from found
 first_unseen_at row own_row seen own_seen from shared_from found e f g h =
-    subst (λ n. IsFirstUnseen own_row own_seen n found) g (subst (λ xs. IsFirstUnseen own_row xs from found) f (subst (λ xs. IsFirstUnseen xs seen from found) e h))
+    rw (← g) (rw (← f) (rw (← e) h))

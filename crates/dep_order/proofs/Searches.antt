@@ -1,6 +1,6 @@
 -- Searches: by levels for distances, and from row to row for what a node reaches.
 use Rattle.std.proofs.lemmas.Grind.{common_steps}
-use Rattle.std.proofs.Common.{◌≡◌, ◌≢◌, ℕ, ◌+◌, ◌<◌, ◌≤◌, Bool, true, false, not, List, [], ◌∷◌, ◌++◌, length, take, get_or, set, Option, Some, None, refl, sym, ◌∙◌, ap, subst, inl, inr, ◌⊎◌, ⊎_elim, arith, length-set, Vec, vec_len, eqb, ◌-◌, slice_index, append_assoc, length-append, replicate}
+use Rattle.std.proofs.Common.{◌≡◌, ◌≢◌, ℕ, ◌+◌, ◌<◌, ◌≤◌, Bool, true, false, not, [], ◌∷◌, ◌++◌, length, take, get_or, set, Option, Some, None, refl, sym, ◌∙◌, ap, subst, inl, inr, ◌⊎◌, ⊎_elim, arith, length-set, Vec, vec_len, eqb, ◌-◌, slice_index, append_assoc, length-append, replicate}
 use Rattle.std.specs.Option.{is_none, is_some}
 use Rattle.std.specs.declared.alloc.Global.{Global}
 use Rattle.std.specs.List.{Contains, All, AllPairs, IsDistinct}
@@ -21,6 +21,7 @@ use Rattle.std.proofs.lemmas.Map.Keys.{IsDistinct-from_apart, IsDistinct-IsPermu
 use Rattle.std.proofs.lemmas.List.Sorted.{IsNonDecreasingBy-from_sort, Contains-permutation, IsPermutation-sym}
 use Rattle.std.proofs.lemmas.Map.Steps.{length-le_from_distinct_below}
 use Rattle.dep_order.specs.inner.Found.{AreFound, IsRowFound}
+use Rattle.dep_order.proofs.Words.{Graph, Marks, Numbers, Relation}
 
 -- ---- the search by levels, from step to step
 
@@ -38,11 +39,13 @@ pub one_value : (o : Option ℕ) (j k : ℕ) → o ≡ Some j → o ≡ Some k �
 one_value o j k e f = let g : Some j ≡ Some k = sym e ∙ f in cc
 
 -- what a read and its test say
-pub read_none : (steps : List (Option ℕ)) (i : ℕ) (o : Option ℕ) (b : Bool) → i < length steps → o ≡ get_or steps i o → is_some o ≡ not b → b ≡ true → mark_of steps i ≡ None
+pub read_none : (steps : Marks) (i : ℕ) (o : Option ℕ) (b : Bool) → i < length steps → o ≡ get_or steps i o → is_some o ≡ not b → b ≡ true →
+    mark_of steps i ≡ None
 read_none steps i o b lt is e t = grind (arith, common_steps)
 
 -- the same if there is a value
-pub read_some : (steps : List (Option ℕ)) (i : ℕ) (o : Option ℕ) (b : Bool) → i < length steps → o ≡ get_or steps i o → is_some o ≡ not b → b ≡ false → (k : ℕ) × (mark_of steps i ≡ Some k)
+pub read_some : (steps : Marks) (i : ℕ) (o : Option ℕ) (b : Bool) → i < length steps → o ≡ get_or steps i o → is_some o ≡ not b → b ≡ false →
+    (k : ℕ) × (mark_of steps i ≡ Some k)
 read_some steps i o b lt is e t = let s = something o (e ∙ ap not t) in (s.0, sym (get_or_read steps i o lt is None) ∙ s.1)
   where
     something : (o : Option ℕ) → is_some o ≡ true → (k : ℕ) × (o ≡ Some k)
@@ -50,37 +53,40 @@ read_some steps i o b lt is e t = let s = something o (e ∙ ap not t) in (s.0, 
     something (Some k) e = (k, refl)
 
 -- a node of the row that steps lead to already
-pub visited_old : (row : List ℕ) (i count : ℕ) (first steps : List (Option ℕ)) (next now : List ℕ) → i < length row → (k : ℕ) → mark_of steps (get_or row i 0) ≡ Some k → AreMarked (take i row) count first steps next now → AreMarked (take (i + 1) row) count first steps next now
-visited_old row i count first steps next now lt k is h = record {
+pub visited_old : (row : Numbers) (i : ℕ) {count : ℕ} {first steps : Marks} {next now : Numbers} → i < length row → (k : ℕ) →
+    mark_of steps (get_or row i 0) ≡ Some k → AreMarked (take i row) count first steps next now → AreMarked (take (i + 1) row) count first steps next now
+visited_old row i lt k is h = record {
   as_many = h.as_many;
   kept = h.kept;
   came = λ node j e. ⊎_elim (λ o. inl o) (λ c. inr (c.0, has_more_front row i node lt c.1, c.2)) (h.came node j e);
-  reached = λ node has. ⊎_elim (λ front. h.reached node front) (λ last. (k, subst (λ x. mark_of steps x ≡ Some k) last is)) (has_more row i node lt has);
+  reached = λ node has. ⊎_elim (λ front. h.reached node front) (λ last. (k, rw (← last) is)) (has_more row i node lt has);
   next_kept = h.next_kept;
   next_came = h.next_came;
   accounted = h.accounted;
 }
 
 -- a node of the row that no steps led to
-pub visited_new : (row : List ℕ) (i count : ℕ) (first steps : List (Option ℕ)) (next now : List ℕ) → i < length row → get_or row i 0 < length steps → mark_of steps (get_or row i 0) ≡ None → AreMarked (take i row) count first steps next now → AreMarked (take (i + 1) row) count first (set steps (get_or row i 0) (Some count)) next (now ++ get_or row i 0 ∷ [])
-visited_new row i count first steps next now lt in' is h = record {
-  as_many = omega (arith, h.as_many, length-set steps (get_or row i 0) (Some count));
+pub visited_new : (row : Numbers) (i : ℕ) {count : ℕ} {first steps : Marks} {next now : Numbers} → i < length row → get_or row i 0 < length steps →
+    mark_of steps (get_or row i 0) ≡ None → AreMarked (take i row) count first steps next now →
+    AreMarked (take (i + 1) row) count first (set steps (get_or row i 0) (Some count)) next (now ++ get_or row i 0 ∷ [])
+visited_new row i {count} {first} {steps} {now} lt in' is h = record {
+  as_many = omega (arith, length-set steps (get_or row i 0) (Some count));
   kept = λ node k e. kept node k (h.kept node k e);
   came = λ node k e. came node k e (cases_eq node (get_or row i 0));
   reached = λ node has.
       ⊎_elim
       (λ front. let was = h.reached node front in (was.0, kept node was.0 was.1))
-      (λ last. (count, subst (λ x. mark_of (set steps (get_or row i 0) (Some count)) x ≡ Some count) last here))
+      (λ last. (count, rw (← last) here))
       (has_more row i node lt has);
   next_kept = λ node has. Contains-append_left now (get_or row i 0 ∷ []) node (h.next_kept node has);
   next_came = λ node has.
       ⊎_elim
       (λ front. ⊎_elim (λ n. inl n) (λ e. inr (kept node count e)) (h.next_came node front))
-      (λ last. inr (subst (λ x. mark_of (set steps (get_or row i 0) (Some count)) x ≡ Some count) last here))
+      (λ last. inr (rw (← last) here))
       (Contains-push_cases now (get_or row i 0) node has);
   accounted =
       let before : one_if (is_none (get_or steps (get_or row i 0) None)) ≡ 1 = ap (λ o. one_if (is_none o)) is in
-      omega (arith, h.accounted, length_push now (get_or row i 0), sum_by-set (λ o. one_if (is_none o)) steps (get_or row i 0) (Some count) None in', before);
+      omega (arith, length_push now (get_or row i 0), sum_by-set (λ o. one_if (is_none o)) steps (get_or row i 0) (Some count) None in');
 }
   where
     here : mark_of (set steps (get_or row i 0) (Some count)) (get_or row i 0) ≡ Some count
@@ -90,23 +96,28 @@ visited_new row i count first steps next now lt in' is h = record {
     there node ne = get_or-set_other steps (get_or row i 0) node (Some count) None ne
 
     kept : (node k : ℕ) → mark_of steps node ≡ Some k → mark_of (set steps (get_or row i 0) (Some count)) node ≡ Some k
-    kept node k e = there node (λ same. none_is_no_some (mark_of steps node) k (subst (λ x. mark_of steps x ≡ None) (sym same) is) e) ∙ e
+    kept node k e = there node (λ same. none_is_no_some (mark_of steps node) k (rw same is) e) ∙ e
 
-    came : (node k : ℕ) → mark_of (set steps (get_or row i 0) (Some count)) node ≡ Some k → (node ≡ get_or row i 0) ⊎ (node ≢ get_or row i 0) → (mark_of first node ≡ Some k) ⊎ ((k ≡ count) × Contains (take (i + 1) row) node × Contains (now ++ get_or row i 0 ∷ []) node)
+    came : (node k : ℕ) → mark_of (set steps (get_or row i 0) (Some count)) node ≡ Some k → (node ≡ get_or row i 0) ⊎ (node ≢ get_or row i 0) →
+        (mark_of first node ≡ Some k) ⊎ ((k ≡ count) × Contains (take (i + 1) row) node × Contains (now ++ get_or row i 0 ∷ []) node)
     came node k e c =
         ⊎_elim
         (λ same. inr (
-          one_value (mark_of (set steps (get_or row i 0) (Some count)) (get_or row i 0)) k count (subst (λ x. mark_of (set steps (get_or row i 0) (Some count)) x ≡ Some k) same e) here,
-          subst (Contains (take (i + 1) row)) (sym same) (has_more_last row i lt),
-          subst (Contains (now ++ get_or row i 0 ∷ [])) (sym same) (Contains-push now (get_or row i 0)),
+          one_value (mark_of (set steps (get_or row i 0) (Some count)) (get_or row i 0)) k count
+              (subst (λ x. mark_of (set steps (get_or row i 0) (Some count)) x ≡ Some k) same e) here,
+          rw same (has_more_last row i lt),
+          rw same (Contains-push now (get_or row i 0)),
         ))
-        (λ ne. ⊎_elim (λ o. inl o) (λ w. inr (w.0, has_more_front row i node lt w.1, Contains-append_left now (get_or row i 0 ∷ []) node w.2)) (h.came node k (sym (there node ne) ∙ e)))
+        (λ ne. ⊎_elim (λ o. inl o) (λ w. inr (w.0, has_more_front row i node lt w.1, Contains-append_left now (get_or row i 0 ∷ []) node w.2))
+        (h.came node k (sym (there node ne) ∙ e)))
         c
 
 -- one more node of the frontier
-pub advanced_more : (rows : List (List ℕ)) (frontier : List ℕ) (i count : ℕ) (first steps new_steps : List (Option ℕ)) (next new_next : List ℕ) → i < length frontier → AreAdvanced rows (take i frontier) count first steps next → AreMarked (needs_of rows (get_or frontier i 0)) count steps new_steps next new_next → AreAdvanced rows (take (i + 1) frontier) count first new_steps new_next
-advanced_more rows frontier i count first steps new_steps next new_next lt h v = record {
-  as_many = omega (arith, h.as_many, v.as_many);
+pub advanced_more : {rows : Graph} (frontier : Numbers) (i : ℕ) {count : ℕ} {first steps new_steps : Marks} {next new_next : Numbers} → i < length frontier →
+    AreAdvanced rows (take i frontier) count first steps next → AreMarked (needs_of rows (get_or frontier i 0)) count steps new_steps next new_next →
+    AreAdvanced rows (take (i + 1) frontier) count first new_steps new_next
+advanced_more frontier i {count} lt h v = record {
+  as_many = omega arith;
   kept = λ node k e. v.kept node k (h.kept node k e);
   came = λ node k e.
       ⊎_elim
@@ -116,14 +127,14 @@ advanced_more rows frontier i count first steps new_steps next new_next lt h v =
   reached = λ before node has leads.
       ⊎_elim
       (λ front. let was = h.reached before node front leads in (was.0, v.kept node was.0 was.1))
-      (λ last. v.reached node (subst (λ x. NodeNeeds rows x node) (sym last) leads))
+      (λ last. v.reached node (rw last leads))
       (has_more frontier i before lt has);
   next_came = λ node has. ⊎_elim (λ n. v.kept node count (h.next_came node n)) (λ e. e) (v.next_came node has);
-  accounted = omega (arith, h.accounted, v.accounted);
+  accounted = omega arith;
 }
 
 -- after this many levels: what they reached is exact, and the frontier is what the last of them reached
-pub record IsSearching (rows : List (List ℕ)) (from : ℕ) (steps : List (Option ℕ)) (frontier : List ℕ) (count : ℕ) : Type 0 where
+pub record IsSearching (rows : Graph) (from : ℕ) (steps : Marks) (frontier : Numbers) (count : ℕ) : Type 0 where
   pub as_many : length steps ≡ length rows
   pub start : mark_of steps from ≡ Some 0
   pub only_start : (node : ℕ) → mark_of steps node ≡ Some 0 → node ≡ from
@@ -131,30 +142,32 @@ pub record IsSearching (rows : List (List ℕ)) (from : ℕ) (steps : List (Opti
   pub level : (node k : ℕ) → mark_of steps node ≡ Some k → k ≤ count
   pub at_level : (node : ℕ) → Contains frontier node → mark_of steps node ≡ Some count
   pub of_level : (node : ℕ) → mark_of steps node ≡ Some count → Contains frontier node
-  pub closed : (before node k : ℕ) → mark_of steps before ≡ Some k → k < count → NodeNeeds rows before node → (fewer : ℕ) × (mark_of steps node ≡ Some fewer) × (fewer ≤ k + 1)
+  pub closed : (before node k : ℕ) → mark_of steps before ≡ Some k → k < count → NodeNeeds rows before node →
+      (fewer : ℕ) × (mark_of steps node ≡ Some fewer) × (fewer ≤ k + 1)
   pub few : count + unmarked steps + length frontier ≤ length rows
 
 -- before the first level only the start has steps
-pub search_begun : (rows : List (List ℕ)) (from : ℕ) (steps : List (Option ℕ)) → from < length rows → steps ≡ replicate (length rows) None → IsSearching rows from (set steps from (Some 0)) (from ∷ []) 0
+pub search_begun : (rows : Graph) (from : ℕ) (steps : Marks) → from < length rows → steps ≡ replicate (length rows) None →
+    IsSearching rows from (set steps from (Some 0)) (from ∷ []) 0
 search_begun rows from steps lt e = record {
   as_many = length-set steps from (Some 0) ∙ many;
   start = here;
   only_start = λ node is. (only node 0 is).0;
   behind = λ node fewer is. absurd (omega (arith, (only node (fewer + 1) is).1));
   level = λ node k is. omega (arith, (only node k is).1);
-  at_level = λ node has. ⊎_elim (λ n. absurd (has_none node n)) (λ last. subst (λ x. mark_of (set steps from (Some 0)) x ≡ Some 0) last here) (Contains-push_cases [] from node has);
-  of_level = λ node is. subst (Contains (from ∷ [])) (sym (only node 0 is).0) (Contains-push [] from);
-  closed = λ before node k is below leads. absurd (omega (arith, below));
+  at_level = λ node has. ⊎_elim (λ n. absurd (has_none node n)) (λ last. rw (← last) here) (Contains-push_cases [] from node has);
+  of_level = λ node is. rw (only node 0 is).0 (Contains-push [] from);
+  closed = λ before node k is below leads. absurd (omega arith);
   few =
       let before : one_if (is_none (get_or steps from None)) ≡ 1 = ap (λ o. one_if (is_none o)) (nothing from) in
-      omega (arith, sum_by-set (λ o. one_if (is_none o)) steps from (Some 0) None in', before, count_by-le-length is_none steps, many);
+      omega (arith, sum_by-set (λ o. one_if (is_none o)) steps from (Some 0) None in', count_by-le-length is_none steps, many);
 }
   where
     many : length steps ≡ length rows
     many = ap length e ∙ length-replicate {A = Option ℕ} (length rows) None
 
     in' : from < length steps
-    in' = omega (arith, lt, many)
+    in' = omega (arith, many)
 
     here : mark_of (set steps from (Some 0)) from ≡ Some 0
     here = get_or-set_same steps from (Some 0) None in'
@@ -163,7 +176,7 @@ search_begun rows from steps lt e = record {
     nothing node =
         ⊎_elim
         (λ below. ap (λ xs. mark_of xs node) e ∙ get_or-replicate (length rows) node None None below)
-        (λ ge. get_or_past steps node None (omega (arith, ge, many)))
+        (λ ge. get_or_past steps node None (omega (arith, many)))
         (cases_lt node (length rows))
 
     only : (node k : ℕ) → mark_of (set steps from (Some 0)) node ≡ Some k → (node ≡ from) × (k ≡ 0)
@@ -174,17 +187,18 @@ search_begun rows from steps lt e = record {
         (cases_eq node from)
 
 -- one more level
-pub next_level : (rows : List (List ℕ)) (from : ℕ) (steps new_steps : List (Option ℕ)) (frontier next : List ℕ) (count : ℕ) → 0 < length frontier → IsSearching rows from steps frontier count → AreAdvanced rows frontier (count + 1) steps new_steps next → IsSearching rows from new_steps next (count + 1)
-next_level rows from steps new_steps frontier next count some h a = record {
-  as_many = omega (arith, h.as_many, a.as_many);
+pub next_level : {rows : Graph} {from : ℕ} {steps new_steps : Marks} {frontier next : Numbers} {count : ℕ} → 0 < length frontier →
+    IsSearching rows from steps frontier count → AreAdvanced rows frontier (count + 1) steps new_steps next → IsSearching rows from new_steps next (count + 1)
+next_level {from} {new_steps} {count} some h a = record {
+  as_many = omega arith;
   start = a.kept from 0 h.start;
-  only_start = λ node e. ⊎_elim (λ o. h.only_start node o) (λ w. absurd (omega (arith, w.0))) (a.came node 0 e);
+  only_start = λ node e. ⊎_elim (λ o. h.only_start node o) (λ w. absurd (omega arith)) (a.came node 0 e);
   behind = λ node fewer e.
       ⊎_elim
       (λ o. let b = h.behind node fewer o in (b.0, a.kept b.0 fewer b.1, b.2))
       (λ w.
-      let same : count ≡ fewer = omega (arith, w.0) in
-      (w.2.0, subst (λ k. mark_of new_steps w.2.0 ≡ Some k) same (a.kept w.2.0 count (h.at_level w.2.0 w.2.1)), w.2.2))
+      let same : count ≡ fewer = omega arith in
+      (w.2.0, rw (← same) (a.kept w.2.0 count (h.at_level w.2.0 w.2.1)), w.2.2))
       (a.came node (fewer + 1) e);
   level = level;
   at_level = a.next_came;
@@ -194,21 +208,22 @@ next_level rows from steps new_steps frontier next count some h a = record {
       (λ o. ⊎_elim
       (λ below. let c = h.closed before node k o below leads in (c.0, a.kept node c.0 c.1, c.2))
       (λ ge.
-      let same : k ≡ count = omega (arith, ge, lt) in
-      let r = a.reached before node (h.of_level before (subst (λ z. mark_of steps before ≡ Some z) same o)) leads in
+      let same : k ≡ count = omega arith in
+      let r = a.reached before node (h.of_level before (rw (← same) o)) leads in
       (r.0, r.1, omega (arith, level node r.0 r.1, same)))
       (cases_lt k count))
-      (λ w. absurd (omega (arith, w.0, lt)))
+      (λ w. absurd (omega arith))
       (a.came before k e);
-  few = omega (arith, h.few, a.accounted, some);
+  few = omega arith;
 }
   where
     level : (node k : ℕ) → mark_of new_steps node ≡ Some k → k ≤ count + 1
-    level node k e = ⊎_elim (λ o. omega (arith, h.level node k o)) (λ w. omega (arith, w.0)) (a.came node k e)
+    level node k e = ⊎_elim (λ o. omega (arith, h.level node k o)) (λ w. omega arith) (a.came node k e)
 
 -- the last level is empty
-pub all_levels : (rows : List (List ℕ)) (from : ℕ) (steps : List (Option ℕ)) (frontier : List ℕ) (count : ℕ) → frontier ≡ [] → IsSearching rows from steps frontier count → AreSteps (length rows) (NodeNeeds rows) from steps
-all_levels rows from steps frontier count e h = record {
+pub all_levels : {rows : Graph} {from : ℕ} {steps : Marks} {frontier : Numbers} {count : ℕ} → frontier ≡ [] → IsSearching rows from steps frontier count →
+    AreSteps (length rows) (NodeNeeds rows) from steps
+all_levels {steps} {count} e h = record {
   as_many = h.as_many;
   start = h.start;
   only_start = h.only_start;
@@ -217,7 +232,7 @@ all_levels rows from steps frontier count e h = record {
       ⊎_elim
       (λ below. h.closed before node k is below leads)
       (λ ge.
-      let same : k ≡ count = omega (arith, ge, h.level before k is) in
+      let same : k ≡ count = omega (arith, h.level before k is) in
       absurd (has_none before (subst (λ xs. Contains xs before) e (h.of_level before (subst (λ z. mark_of steps before ≡ Some z) same is)))))
       (cases_lt k count);
 }
@@ -228,36 +243,38 @@ nonempty v e = grind (arith, common_steps)
 
 -- a vector of no length has no items
 pub emptied_by : (v : Vec ℕ Global) → (0 < vec_len v → ⊥) → v.items ≡ []
-emptied_by v none = nil_from_length v.items (⊎_elim (λ lt. absurd (none lt)) (λ ge. omega (arith, ge, v.ok.0)) (cases_lt 0 (vec_len v)))
+emptied_by v none = nil_from_length v.items (⊎_elim (λ lt. absurd (none lt)) (λ ge. omega arith) (cases_lt 0 (vec_len v)))
 
 -- an empty vector has no items
 pub emptied : (v : Vec ℕ Global) → true ≡ eqb (vec_len v) 0 → v.items ≡ []
-emptied v e = let z : vec_len v ≡ 0 = same (vec_len v) 0 (sym e) in nil_from_length v.items (omega (arith, z, v.ok.0))
+emptied v e = let z : vec_len v ≡ 0 = same (vec_len v) 0 (sym e) in nil_from_length v.items (omega arith)
 
 -- what steps lead to is a node
-pub node_in_range : (steps : List (Option ℕ)) (node k : ℕ) → mark_of steps node ≡ Some k → node < length steps
-node_in_range steps node k e = ⊎_elim (λ lt. lt) (λ ge. absurd (none_is_no_some (mark_of steps node) k (get_or_past steps node None ge) e)) (cases_lt node (length steps))
+pub node_in_range : (steps : Marks) (node k : ℕ) → mark_of steps node ≡ Some k → node < length steps
+node_in_range steps node k e = ⊎_elim (λ lt. lt) (λ ge. absurd (none_is_no_some (mark_of steps node) k (get_or_past steps node None ge) e))
+    (cases_lt node (length steps))
 
 -- the frontier are nodes
-pub frontier_in_range : (rows : List (List ℕ)) (from : ℕ) (steps : List (Option ℕ)) (frontier : List ℕ) (count n : ℕ) → length rows ≡ n → IsSearching rows from steps frontier count → All (λ node. node < n) frontier
-frontier_in_range rows from steps frontier count n e h k d lt =
-    omega (arith, e, h.as_many, node_in_range steps (get_or frontier k d) count (h.at_level (get_or frontier k d) (Contains-get_or frontier k d lt)))
+pub frontier_in_range : {rows : Graph} {from : ℕ} {steps : Marks} {frontier : Numbers} {count : ℕ} (n : ℕ) → length rows ≡ n →
+    IsSearching rows from steps frontier count → All (λ node. node < n) frontier
+frontier_in_range {steps} {frontier} {count} n e h k d lt =
+    omega (arith, node_in_range steps (get_or frontier k d) count (h.at_level (get_or frontier k d) (Contains-get_or frontier k d lt)))
 
 -- ---- a search for what a node reaches, from row to row
 
 -- an index at which a list has a number
-index_of : (xs : List ℕ) (x : ℕ) → Contains xs x → (k : ℕ) × (k < length xs) × (slice_index xs k ≡ x)
+index_of : (xs : Numbers) (x : ℕ) → Contains xs x → (k : ℕ) × (k < length xs) × (slice_index xs k ≡ x)
 index_of xs x has = (has.0, has.1, get_or_default xs has.0 0 x has.1 ∙ has.2)
 
 -- numbers that differ differ by the test
-distinct : (xs : List ℕ) → AllPairs (λ one other. one ≢ other) xs → IsDistinct eqb xs
+distinct : (xs : Numbers) → AllPairs (λ one other. one ≢ other) xs → IsDistinct eqb xs
 distinct xs apart = IsDistinct-from_apart eqb xs (λ i j d lt in_j. other_number (get_or xs i d) (get_or xs j d) (apart i j d lt in_j))
 
 -- what holds of all that a list has
-all_of : (P : ℕ → Type 0) (xs : List ℕ) → ((x : ℕ) → Contains xs x → P x) → All P xs
+all_of : (P : ℕ → Type 0) (xs : Numbers) → ((x : ℕ) → Contains xs x → P x) → All P xs
 all_of P xs h k d lt = h (get_or xs k d) (Contains-get_or xs k d lt)
 
-module _ (indexes found : List ℕ) (f : AreFound indexes found) where
+module _ (indexes found : Numbers) (f : AreFound indexes found) where
   -- a node is found if it is at its index
   pub found_there : (node index : ℕ) → slice_index indexes node ≡ index → index < length found → slice_index found index ≡ node → Contains found node
   found_there node index at lt is = subst (Contains found) is (Contains-get_or found index 0 lt)
@@ -267,16 +284,16 @@ module _ (indexes found : List ℕ) (f : AreFound indexes found) where
   there_if_found node has =
       let at = index_of found node has in
       let index : slice_index indexes node ≡ at.0 = ap (slice_index indexes) (sym at.2) ∙ f.kept at.0 at.1 in
-      (omega (arith, index, at.1), ap (slice_index found) index ∙ at.2)
+      (omega arith, ap (slice_index found) index ∙ at.2)
 
   -- no node is at two indexes
   pub found_once : AllPairs (λ one other. one ≢ other) found
   found_once i j d lt in_j same =
-      let in_i : i < length found = omega (arith, lt, in_j) in
+      let in_i : i < length found = omega arith in
       let at_i = f.kept i in_i in
       let at_j = f.kept j in_j in
       let one : slice_index found i ≡ slice_index found j = get_or_default found i 0 d in_i ∙ same ∙ get_or_default found j d 0 in_j in
-      omega (arith, lt, at_i, at_j, ap (slice_index indexes) one)
+      omega (arith, ap (slice_index indexes) one)
 
   pub found_in_range : (node : ℕ) → Contains found node → node < length indexes
   found_in_range node has = All-contains (λ n. n < length indexes) found node f.nodes has
@@ -290,7 +307,7 @@ module _ (indexes found : List ℕ) (f : AreFound indexes found) where
   found_more node lt fresh = record {
     nodes = all_of (λ n. n < length (set indexes node (length found))) (found ++ node ∷ []) (λ n has. ⊎_elim
         (λ old. omega (arith, found_in_range n old, length-set indexes node (length found)))
-        (λ same. omega (arith, same, lt, length-set indexes node (length found)))
+        (λ same. omega (arith, same, length-set indexes node (length found)))
         (Contains-push_cases found node n has));
     kept = λ k in_k. ⊎_elim
         (λ old.
@@ -298,7 +315,7 @@ module _ (indexes found : List ℕ) (f : AreFound indexes found) where
         let other : slice_index found k ≢ node = (λ same. fresh (subst (Contains found) same (Contains-get_or found k 0 old))) in
         ap (slice_index (set indexes node (length found))) at ∙ get_or-set_other indexes node (slice_index found k) (length found) 0 other ∙ f.kept k old)
         (λ last.
-        let is : length found ≡ k = omega (arith, last, in_k, length_push found node) in
+        let is : length found ≡ k = omega (arith, length_push found node) in
         let at : slice_index (found ++ node ∷ []) k ≡ node = get_or_push found node 0 k is in
         ap (slice_index (set indexes node (length found))) at ∙ get_or-set_same indexes node (length found) 0 lt ∙ is)
         (cases_lt k (length found));
@@ -306,39 +323,41 @@ module _ (indexes found : List ℕ) (f : AreFound indexes found) where
 
 -- ---- a row
 
-module _ (row indexes found now_indexes now_found : List ℕ) (i : ℕ) (lt : i < length row) (h : IsRowFound (take i row) indexes found now_indexes now_found) where
-  -- the next node of the row is found already
-  pub row_old : Contains now_found (slice_index row i) → IsRowFound (take (i + 1) row) indexes found now_indexes now_found
-  row_old known = record {
-    as_many = h.as_many;
-    are_found = h.are_found;
-    behind = h.behind;
-    all = h.all;
-    of_row = λ node has. has_more_front row i node lt (h.of_row node has);
-    whole = λ node has. ⊎_elim (λ old. h.whole node old) (λ same. subst (Contains now_found) same known) (has_more row i node lt has);
-  }
+module _ (row indexes found now_indexes now_found : Numbers) (i : ℕ) (lt : i < length row) (h : IsRowFound (take i row) indexes found now_indexes now_found)
+  where
+    -- the next node of the row is found already
+    pub row_old : Contains now_found (slice_index row i) → IsRowFound (take (i + 1) row) indexes found now_indexes now_found
+    row_old known = record {
+      as_many = h.as_many;
+      are_found = h.are_found;
+      behind = h.behind;
+      all = h.all;
+      of_row = λ node has. has_more_front row i node lt (h.of_row node has);
+      whole = λ node has. ⊎_elim (λ old. h.whole node old) (λ same. subst (Contains now_found) same known) (has_more row i node lt has);
+    }
 
-  -- or it is found now
-  pub row_new : slice_index row i < length now_indexes → (Contains now_found (slice_index row i) → ⊥) → IsRowFound (take (i + 1) row) indexes found (set now_indexes (slice_index row i) (length now_found)) (now_found ++ slice_index row i ∷ [])
-  row_new below fresh = record {
-    as_many = length-set now_indexes (slice_index row i) (length now_found) ∙ h.as_many;
-    are_found = found_more now_indexes now_found h.are_found (slice_index row i) below fresh;
-    behind = h.behind ++ slice_index row i ∷ [];
-    all = ap (λ xs. xs ++ slice_index row i ∷ []) h.all ∙ append_assoc found h.behind (slice_index row i ∷ []);
-    of_row = λ node has. ⊎_elim
-        (λ old. has_more_front row i node lt (h.of_row node old))
-        (λ same. subst (Contains (take (i + 1) row)) same (has_more_last row i lt))
-        (Contains-push_cases h.behind (slice_index row i) node has);
-    whole = λ node has. ⊎_elim
-        (λ old. Contains-append_left now_found (slice_index row i ∷ []) node (h.whole node old))
-        (λ same. subst (Contains (now_found ++ slice_index row i ∷ [])) same (Contains-push now_found (slice_index row i)))
-        (has_more row i node lt has);
-  }
+    -- or it is found now
+    pub row_new : slice_index row i < length now_indexes → (Contains now_found (slice_index row i) → ⊥) →
+        IsRowFound (take (i + 1) row) indexes found (set now_indexes (slice_index row i) (length now_found)) (now_found ++ slice_index row i ∷ [])
+    row_new below fresh = record {
+      as_many = length-set now_indexes (slice_index row i) (length now_found) ∙ h.as_many;
+      are_found = found_more now_indexes now_found h.are_found (slice_index row i) below fresh;
+      behind = h.behind ++ slice_index row i ∷ [];
+      all = ap (λ xs. xs ++ slice_index row i ∷ []) h.all ∙ append_assoc found h.behind (slice_index row i ∷ []);
+      of_row = λ node has. ⊎_elim
+          (λ old. has_more_front row i node lt (h.of_row node old))
+          (λ same. rw (← same) (has_more_last row i lt))
+          (Contains-push_cases h.behind (slice_index row i) node has);
+      whole = λ node has. ⊎_elim
+          (λ old. Contains-append_left now_found (slice_index row i ∷ []) node (h.whole node old))
+          (λ same. rw (← same) (Contains-push now_found (slice_index row i)))
+          (has_more row i node lt has);
+    }
 
 -- ---- all rows
 
 -- The nodes before the next one are searched: all that they need is found.
-pub record AreReachedSoFar (needs : List (List ℕ)) (from next : ℕ) (indexes found : List ℕ) : Type 0 where
+pub record AreReachedSoFar (needs : Graph) (from next : ℕ) (indexes found : Numbers) : Type 0 where
   pub as_many : length indexes ≡ length needs
   pub are_found : AreFound indexes found
   pub searched : next ≤ length found
@@ -347,49 +366,51 @@ pub record AreReachedSoFar (needs : List (List ℕ)) (from next : ℕ) (indexes 
   pub all : (k needed : ℕ) → k < next → NodeNeeds needs (slice_index found k) needed → Contains found needed
 
 -- one step more
-reaches_more : (Needs : ℕ → ℕ → Type 0) (from x y : ℕ) → Reaches Needs from x → Needs x y → Reaches Needs from y
-reaches_more Needs from x y (inl same) need = inr ([], subst (λ z. Needs z y) (sym same) need)
+reaches_more : (Needs : Relation) (from x y : ℕ) → Reaches Needs from x → Needs x y → Reaches Needs from y
+reaches_more Needs from x y (inl same) need = inr ([], rw same need)
 reaches_more Needs from x y (inr c) need = inr (c.0 ++ x ∷ [], chain_append Needs (from ∷ c.0) x [] y c.1 need)
 
-module _ (needs : List (List ℕ)) (from next : ℕ) (indexes found new_indexes new_found : List ℕ) (lt : next < length found) (h : AreReachedSoFar needs from next indexes found)
+module _ (needs : Graph) (from next : ℕ) (indexes found new_indexes new_found : Numbers) (lt : next < length found)
+    (h : AreReachedSoFar needs from next indexes found)
     (r : IsRowFound (needs_of needs (slice_index found next)) indexes found new_indexes new_found) where
   still : (k : ℕ) → k < length found → slice_index new_found k ≡ slice_index found k
   still k in_k = ap (λ xs. slice_index xs k) r.all ∙ get_or_append_left found r.behind 0 k in_k
 
   kept : (node : ℕ) → Contains found node → Contains new_found node
-  kept node has = subst (λ xs. Contains xs node) (sym r.all) (Contains-append_left found r.behind node has)
+  kept node has = rw r.all (Contains-append_left found r.behind node has)
 
   pub reach_more : AreReachedSoFar needs from (next + 1) new_indexes new_found
   reach_more = record {
     as_many = r.as_many ∙ h.as_many;
     are_found = r.are_found;
-    searched = omega (arith, lt, ap length r.all, length-append found r.behind);
+    searched = omega (arith, ap length r.all, length-append found r.behind);
     start = kept from h.start;
     reached = λ node has. ⊎_elim
         (λ old. h.reached node old)
-        (λ new. reaches_more (NodeNeeds needs) from (slice_index found next) node (h.reached (slice_index found next) (Contains-get_or found next 0 lt)) (r.of_row node new))
-        (Contains-append_cases found r.behind node (subst (λ xs. Contains xs node) r.all has));
+        (λ new. reaches_more (NodeNeeds needs) from (slice_index found next) node (h.reached (slice_index found next) (Contains-get_or found next 0 lt))
+        (r.of_row node new))
+        (Contains-append_cases found r.behind node (rw (← r.all) has));
     all = λ k needed in_k need.
-        let here : k < length found = omega (arith, in_k, lt) in
-        let old : NodeNeeds needs (slice_index found k) needed = subst (λ x. NodeNeeds needs x needed) (still k here) need in
+        let here : k < length found = omega arith in
+        let old : NodeNeeds needs (slice_index found k) needed = rw (← (still k here)) need in
         ⊎_elim
         (λ before. kept needed (h.all k needed before old))
-        (λ last. let e : k ≡ next = omega (arith, last, in_k) in r.whole needed (subst (λ x. NodeNeeds needs (slice_index found x) needed) e old))
+        (λ last. let e : k ≡ next = omega arith in r.whole needed (rw (← e) old))
         (cases_lt k next);
   }
 
   -- the more nodes are searched, the fewer are left
   pub reach_falls : length needs - (next + 1) < length needs - next
-  reach_falls = let few = found_few indexes found h.are_found in omega (arith, few, lt, h.as_many)
+  reach_falls = let few = found_few indexes found h.are_found in omega (arith, few)
 
-module _ (needs : List (List ℕ)) (from next : ℕ) (indexes found : List ℕ) (h : AreReachedSoFar needs from next indexes found) where
+module _ (needs : Graph) (from next : ℕ) (indexes found : Numbers) (h : AreReachedSoFar needs from next indexes found) where
   module _ (done : length found ≤ next) where
     closed : (node needed : ℕ) → Contains found node → NodeNeeds needs node needed → Contains found needed
     closed node needed has need =
         let at = index_of found node has in
-        h.all at.0 needed (omega (arith, at.1, done)) (subst (λ x. NodeNeeds needs x needed) (sym at.2) need)
+        h.all at.0 needed (omega arith) (rw at.2 need)
 
-    chained : (x : ℕ) (xs : List ℕ) (node : ℕ) → Contains found x → IsChain (NodeNeeds needs) (x ∷ xs) node → Contains found node
+    chained : (x : ℕ) (xs : Numbers) (node : ℕ) → Contains found x → IsChain (NodeNeeds needs) (x ∷ xs) node → Contains found node
     chained x [] node has need = closed x node has need
     chained x (y ∷ xs) node has chain = chained y xs node (closed x y has chain.0) chain.1
 
@@ -403,9 +424,11 @@ module _ (needs : List (List ℕ)) (from next : ℕ) (indexes found : List ℕ) 
     }
 
 -- nodes that are reached, put in order
-pub is_reach : (Needs : ℕ → ℕ → Type 0) (from : ℕ) (found sorted : List ℕ) → AreReached Needs from found → IsPermutation found sorted → IsSorted nat_cmp sorted → IsReach Needs from sorted
-is_reach Needs from found sorted h permuted in_order = record {
-  rising = IsStrictlyIncreasing-from_distinct sorted (IsNonDecreasingBy-from_sort (λ x. x) sorted in_order) (IsDistinct-IsPermutation eqb flips found sorted permuted (distinct found h.once));
+pub is_reach : {Needs : Relation} {from : ℕ} {found : Numbers} (sorted : Numbers) → AreReached Needs from found → IsPermutation found sorted →
+    IsSorted nat_cmp sorted → IsReach Needs from sorted
+is_reach {found} sorted h permuted in_order = record {
+  rising = IsStrictlyIncreasing-from_distinct sorted (IsNonDecreasingBy-from_sort (λ x. x) sorted in_order)
+      (IsDistinct-IsPermutation eqb flips found sorted permuted (distinct found h.once));
   exactly = λ node. (
     (λ has. (h.exactly node).0 (Contains-permutation sorted found node (IsPermutation-sym found sorted permuted) has)),
     (λ r. Contains-permutation found sorted node permuted ((h.exactly node).1 r)),

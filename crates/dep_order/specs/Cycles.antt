@@ -6,7 +6,7 @@ use Rattle.std.specs.Cmp.Lexicographic.{slice_cmp}
 use Rattle.dep_order.specs.Numbers.{Numbers}
 use Rattle.dep_order.specs.Needs.{IsChain}
 
--- each of these things needs the next, and the last needs the first; there is at least one
+-- each of these things needs the next, and the last needs the first; there is at least one thing
 abbrev pub IsCycle : (ℕ → ℕ → Type 0) → Numbers → Type 0
 IsCycle Needs [] = ⊥
 IsCycle Needs (first ∷ others) = IsChain Needs (first ∷ others) first
@@ -19,8 +19,8 @@ first_of cycle = slice_index cycle 0
 abbrev pub IsAtMost : Numbers → Numbers → Type 0
 IsAtMost list other = slice_cmp nat_cmp list other ≢ Greater
 
--- The first thing is the least on any cycle, no cycle through it is shorter, and of the cycles of
--- that length that begin with it this list is least.
+-- The first thing is the least that is on any cycle, and no cycle through it is shorter. This list
+-- is the least of the cycles of its length that begin with this thing.
 pub record IsLeastCycle (Needs : ℕ → ℕ → Type 0) (cycle : Numbers) : Type 0 where
   pub is_cycle : IsCycle Needs cycle
   pub least_first : (other : Numbers) → IsCycle Needs other →

@@ -1,4 +1,4 @@
--- The word for a list of numbers: things by their numbers, from 0, or a number for each thing.
+-- A list of numbers: things, which are numbered from 0, or one number for each thing.
 use Rattle.std.specs.Prelude.{ℕ, List}
 
 abbrev pub Numbers : Type 0

@@ -1,4 +1,4 @@
--- Lists of vectors and of slices as lists of lists.
+-- Vectors and slices of numbers as lists of lists.
 use Rattle.std.specs.Prelude.{ℕ, List, map, Vec}
 use Rattle.std.specs.Borrow.{Bor}
 use Rattle.std.specs.declared.alloc.Global.{Global}

@@ -1,5 +1,4 @@
 pub mod Users
-pub mod Spans
 pub mod Ordering
 pub mod Marks
 pub mod Steps

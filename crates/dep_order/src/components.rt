@@ -11,8 +11,8 @@ use crate::rows::row_of;
 use crate::searching::{mark_row, postorder_of};
 use std::alloc::{AllocError, Global};
 
-/// Returns the number of the component of each node. Two nodes have the same number if and only if each
-/// leads to the other.
+/// Returns the number of the component of each node. Two nodes have the same number if and only if
+/// each leads to the other.
 pub fn components_of(
     alloc: Global,
     needs: &[&[usize]],

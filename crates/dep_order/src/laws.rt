@@ -1,5 +1,5 @@
-//! Laws about orders and cycles. A law is the contract of a function that does nothing; callers call it
-//! to use the law in a proof.
+//! Laws about orders and cycles. A law is the contract of a function that does nothing; callers
+//! call it to use the law in a proof.
 ghost use Rattle.std.specs.Prelude.{◌≡◌, ℕ, List, length};
 ghost use Rattle.dep_order.specs.Numbers.{Numbers};
 ghost use Rattle.dep_order.specs.Needs.{NodeNeeds, NeedsAreNodes, IsOrderable};
@@ -7,7 +7,7 @@ ghost use Rattle.dep_order.specs.Orders.{IsLeastOrder};
 ghost use Rattle.dep_order.specs.Cycles.{IsCycle, IsLeastCycle};
 
 /// A digraph has at most one order by smallest numbers, and at most one least cycle.
-pub fn one_answer()
+pub fn least_order_and_least_cycle_are_unique()
     ensures order { (graph : List Numbers) (a b : Numbers)
         → IsLeastOrder (length graph) (NodeNeeds graph) a
         → IsLeastOrder (length graph) (NodeNeeds graph) b
@@ -18,8 +18,8 @@ pub fn one_answer()
         → a ≡ b }
 {}
 
-/// A digraph can be ordered if and only if it has no cycle.
-pub fn orderable_without_cycle()
+/// A digraph can be ordered if and only if it has no cycle: it has one or the other, and not both.
+pub fn a_digraph_has_an_order_or_a_cycle()
     ensures no_cycle { (graph : List Numbers) (cycle : Numbers)
         → IsOrderable (length graph) (NodeNeeds graph)
         → IsCycle (NodeNeeds graph) cycle

@@ -5,14 +5,14 @@
 //! numbers, or the least cycle. [`reach`] returns all nodes to which chains of needs lead, and
 //! [`Reaching`] does so for one node after the other. Each has one clause that says all:
 //! `IsSortingOf` (`specs/Sortings.antt`, with `specs/Orders.antt` and `specs/Cycles.antt`), and
-//! `IsReach` and `AreReached` (`specs/Needs.antt`). The only error is a failed allocation. The module
-//! [`laws`] proves that there is at most one order and at most one least cycle, and that there is an
-//! order if and only if there is no cycle.
+//! `IsReach` and `AreReached` (`specs/Needs.antt`). The only error is a failed allocation. The
+//! module [`laws`] proves that there is at most one order and at most one least cycle, and that
+//! there is an order if and only if there is no cycle.
 //!
 //! # How it works
 //!
-//! - `users_of` reverses the needs, by a counting sort into one vector. `order_ready` counts the
-//!   missing needs of each node and keeps the nodes that are ready in an ordered set.
+//! - `users_of` reverses the needs. `order_ready` counts the missing needs of each node and keeps
+//!   the nodes that are ready in an ordered set.
 //! - If nodes are left over, one search tests whether the first node with needs and users is on a
 //!   cycle; then it is the least such node. If it is not, `components_of` numbers the strongly
 //!   connected components: a depth-first search with a stack of its own gives a postorder, and from
@@ -23,32 +23,32 @@
 //! - `Reaching` keeps the nodes that it finds in a sparse set, so that nothing has to be cleared
 //!   between two searches.
 //!
-//! Work grows linearly with the nodes and needs, except for a logarithm in ordering nodes. No function
-//! is recursive. The crate depends on std alone. Definitions that only private contracts use are in
-//! `specs/inner/`.
+//! Work grows linearly with the nodes and needs, except for a logarithm in ordering nodes. No
+//! function is recursive. The crate depends on std alone. Definitions that only private contracts
+//! use are in `specs/inner/`.
 //!
-//! `must-fail/` has a wrong body of each public function, except for laws, which have no body, and for
-//! [`Digraph::new`] and [`Reaching::new`], which fill fields.
+//! `must-fail/` has a wrong body of each public function, except for laws, which have no body, and
+//! for [`Reaching::new`], which only fills fields.
 //!
 //! # Dependencies between other things
 //!
-//! The definitions speak of any relation between numbered things. A caller with a relation of its own
-//! builds the digraph so that `NodeNeeds` holds if and only if the relation does, calls [`order`], and
-//! transfers the clause with `sorting_same` of `proofs/ForCallers.antt`. That file has all lemmas for
-//! other crates:
+//! The definitions speak of any relation between numbered things. A caller with a relation of its
+//! own builds the digraph so that `NodeNeeds` holds if and only if the relation does, calls
+//! [`order`], and transfers the clause with `sorting_same` of `proofs/ForCallers.antt`. That file
+//! has all lemmas for other crates:
 //!
-//! - `rows_are_nodes`: what `Digraph::new` requires;
 //! - `sorting_same`, `orderable_same`, `order_same`, `least_cycle_same`, `cycle_same`,
 //!   `chain_same`, `reaches_same`: equal relations have equal results;
-//! - `no_cycle`, `orderable_or_cycle`: an orderable digraph has no cycle, and a digraph is orderable
-//!   or has a cycle;
+//! - `no_cycle`, `orderable_or_cycle`: an orderable digraph has no cycle, and a digraph is
+//!   orderable or has a cycle;
 //! - `least_is_short`, `no_cycle_without_least`: the least cycle is no longer than the number of
 //!   things, and without a least cycle there is no cycle;
 //! - `orderable`, `AreWithin`, `within`: things with an order are orderable, if all needs are among
 //!   the things, as in a digraph;
 //! - `layered`: numbers that put needed things lower or level, and inner numbers for level things,
 //!   make needs orderable;
-//! - `one_order`, `one_cycle`: there is at most one of each.
+//! - `one_order`, `one_cycle`: there is at most one of each;
+//! - `other_number`: different numbers test as different.
 #![tactic(auto)]
 
 mod components;
@@ -68,7 +68,7 @@ ghost use Rattle.dep_order.specs.Sortings.{IsSortingOf};
 use cycles::least_cycle;
 use ordering::order_ready;
 pub use reaching::Reaching;
-use rows::{part_slices, row_slices};
+use rows::row_slices;
 use std::alloc::{AllocError, Global};
 use std::marker::Model;
 use users::users_of;
@@ -93,9 +93,9 @@ impl Model for Digraph {
 }
 
 impl Digraph {
-    /// Returns the digraph in which node i needs the nodes of list i. A list may be in any order and
-    /// contain a node more than once, and a node may need itself. Each number in a list has to be that
-    /// of a node.
+    /// Returns the digraph in which node i needs the nodes of list i. A list may be in any order
+    /// and contain a node more than once, and a node may need itself. Each number in a list has to
+    /// be that of a node.
     pub fn new(needs: Vec<Vec<usize>>) -> Digraph
         requires { NeedsAreNodes (rows needs.items) }
         ensures { result ≡ rows needs.items }
@@ -116,7 +116,8 @@ impl Digraph {
 /// The nodes of a digraph in order, or a cycle if they have no order.
 #[derive(Debug, PartialEq, Eq, Drop)]
 pub enum Sorting {
-    /// All nodes, each once and after all that it needs. Each index has the smallest possible number.
+    /// All nodes, each once and after all that it needs. Each index has the smallest possible
+    /// number.
     Order(Vec<usize>),
     /// A cycle: each node needs the next, and the last needs the first. It begins with the
     /// lowest-numbered node that is on any cycle. It is a shortest cycle through that node, and of
@@ -134,8 +135,8 @@ pub fn order(alloc: Global, graph: &Digraph) -> Result<Sorting, AllocError>
 {
     let rows = row_slices(alloc, graph.needs.as_slice())?;
     let needs = rows.as_slice();
-    let user_parts = users_of(alloc, needs)?;
-    let users = part_slices(alloc, &user_parts)?;
+    let user_rows = users_of(alloc, needs)?;
+    let users = row_slices(alloc, user_rows.as_slice())?;
     let ordered = order_ready(alloc, needs, users.as_slice())?;
     if ordered.len() == needs.len() {
         return Ok(Sorting::Order(ordered));

@@ -7,9 +7,9 @@ use crate::Digraph;
 use std::alloc::{AllocError, Global};
 use std::marker::Model;
 
-/// A search for the nodes that are reachable from nodes of a digraph. It reuses its workspace, so the
-/// work for a node grows with the nodes it reaches and their needs, and not with the digraph. Its view
-/// is the digraph.
+/// A search for the nodes that are reachable from nodes of a digraph. It reuses its workspace, so
+/// the work for a node grows with the nodes it reaches and their needs, and not with the digraph.
+/// Its view is the digraph.
 #[derive(Drop)]
 pub struct Reaching<'g> {
     graph: &'g Digraph,

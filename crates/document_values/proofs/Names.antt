@@ -28,7 +28,8 @@ at_other false x [] = refl
 at_other true x (p ∷ ps) = rw (some_bytes x p) refl
 at_other false x (p ∷ ps) = refl
 
-turn : (b fresh : Bool) (x : ℕ) (rest : List (List ℕ)) → cond b (not fresh && onward true rest) (onward false rest) ≡ onward fresh (cond b ([] ∷ rest) (onto_first x rest))
+turn : (b fresh : Bool) (x : ℕ) (rest : List (List ℕ)) →
+    cond b (not fresh && onward true rest) (onward false rest) ≡ onward fresh (cond b ([] ∷ rest) (onto_first x rest))
 turn true fresh x rest = at_separator fresh rest
 turn false fresh x rest = at_other fresh x rest
 
@@ -64,7 +65,8 @@ name_from colon fresh [] = not fresh
 name_from colon fresh (x ∷ xs) =
     if not (is_name_byte x) || ((x == 58) && colon) || (is_separator x && fresh) then false else name_from (colon || (x == 58)) (is_separator x) xs
 
-parted : (byte second empty few full bytes : Bool) → cond (not byte || second || empty) false (few && full && bytes) ≡ ((not second && few) && (not empty && full) && (byte && bytes))
+parted : (byte second empty few full bytes : Bool) →
+    cond (not byte || second || empty) false (few && full && bytes) ≡ ((not second && few) && (not empty && full) && (byte && bytes))
 parted true true empty few full bytes = refl
 parted true false true true full bytes = refl
 parted true false true false full bytes = refl
@@ -91,9 +93,11 @@ name_from_is colon fresh (x ∷ xs) =
     let bytes = list_all is_name_byte xs in
     ap (λ b. cond (not (is_name_byte x) || ((x == 58) && colon) || (is_separator x && fresh)) false b) (name_from_is (colon || (x == 58)) (is_separator x) xs)
     ∙ parted (is_name_byte x) ((x == 58) && colon) (is_separator x && fresh) few full bytes
-    ∙ sym (ap (λ b. b && full_from fresh (x ∷ xs) && list_all is_name_byte (x ∷ xs)) colons ∙ ap (λ b. (not ((x == 58) && colon) && few) && b && list_all is_name_byte (x ∷ xs)) parts)
+    ∙ sym (ap (λ b. b && full_from fresh (x ∷ xs) && list_all is_name_byte (x ∷ xs)) colons ∙
+    ap (λ b. (not ((x == 58) && colon) && few) && b && list_all is_name_byte (x ∷ xs)) parts)
 
-name_parts : (xs : List ℕ) → name_from false true xs ≡ (nat_le (count_by (λ b. b == 58) xs) 1 && list_all is_not_empty (slice_split is_separator xs) && list_all is_name_byte xs)
+name_parts : (xs : List ℕ) →
+    name_from false true xs ≡ (nat_le (count_by (λ b. b == 58) xs) 1 && list_all is_not_empty (slice_split is_separator xs) && list_all is_name_byte xs)
 name_parts xs = name_from_is false true xs ∙ rw (full_parts xs) refl
 
 -- the limit apart, it is the whole test

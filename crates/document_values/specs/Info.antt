@@ -1,9 +1,8 @@
--- What is seen of an info file.
+-- The contents of an info file, as contracts see them.
 use Rattle.std.specs.Prelude.{List, Bool}
 use Rattle.ninja_text.specs.Bytes.{PathText, Name}
 
--- a module, its file, the modules that it requires, each with the file that it was found in, and
--- whether it is private
+-- a module, its BMI, the modules that it requires, each with its BMI, and whether it is private
 pub record ModuleValue : Type 0 where
   pub name : Name
   pub file : PathText

@@ -1,4 +1,4 @@
--- Which texts are names of modules and of targets.
+-- Which strings are names of modules and of targets.
 use Rattle.std.specs.Prelude.{◌≡◌, ℕ, [], ◌∷◌, length, count_by, Bool, true, not, ◌&&◌, ◌||◌, ◌==◌, nat_le, nat_lt, IsUtf8}
 use Rattle.std.specs.List.{list_all, list_any, slice_split}
 use Rattle.ninja_text.specs.Bytes.{Bytes, Text, Name, space, double_quote, dollar, single_quote, dot, slash, colon, equals_sign, backslash, vertical_bar, delete}
@@ -16,16 +16,17 @@ abbrev pub reserved_bytes : Bytes
 reserved_bytes =
     slash ∷ backslash ∷ double_quote ∷ single_quote ∷ equals_sign ∷ vertical_bar ∷ dollar ∷ []
 
--- no control byte, no space, no 127 and none that is reserved; bytes from 128 on are accepted
+-- not a control byte, a space, 127 or a reserved byte; bytes from 128 on are accepted
 abbrev pub is_name_byte : ℕ → Bool
 is_name_byte b =
     nat_lt space b && not (b == delete) && not (list_any (λ r. b == r) reserved_bytes)
 
--- a part has a byte
+-- a part is not empty
 abbrev pub is_not_empty : Text → Bool
 is_not_empty part = nat_lt 0 (length part)
 
--- A module's name: one colon at most, before a partition, and no part between separators is empty.
+-- A module's name. It has one colon at most, before a partition, and no part between separators is
+-- empty.
 unfoldable pub is_name : Text → Bool
 is_name text =
     nat_le 1 (length text) && nat_le (length text) name_limit
@@ -33,18 +34,18 @@ is_name text =
     && list_all is_not_empty (slice_split is_separator text)
     && list_all is_name_byte text
 
--- A target's name: no control byte and no 127.
+-- A target's name. It has no control byte and no 127.
 unfoldable pub is_target_name : Text → Bool
 is_target_name text =
     nat_le 1 (length text) && nat_le (length text) name_limit
     && list_all (λ b. nat_le space b && not (b == delete)) text
 
--- the name of a module is accepted, and is text, as JSON can hold it
+-- the string is the name of a module, and is UTF-8, as in JSON
 pub record IsName (name : Name) : Type 0 where
   pub accepted : is_name name ≡ true
   pub utf8 : IsUtf8 name
 
--- so is the name of a target
+-- the string is the name of a target, and is UTF-8
 pub record IsTargetName (name : Name) : Type 0 where
   pub accepted : is_target_name name ≡ true
   pub utf8 : IsUtf8 name

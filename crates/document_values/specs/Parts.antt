@@ -1,4 +1,4 @@
--- A part of the info files that a target links: all of them, each with only some of its modules.
+-- A part of the info files that a target links: all of the files, but each with only some modules.
 use Rattle.std.specs.Prelude.{◌≡◌, ◌⊎◌, ℕ, true, List, map, slice_get, Some, Contains}
 use Rattle.ninja_text.specs.Bytes.{PathText, Name}
 use Rattle.document_values.specs.Rule.{RuleValue}
@@ -18,7 +18,8 @@ pub record IsAlike (m w : ModuleValue) : Type 0 where
   pub fewer : (name : Name) (file : PathText) → Contains m.required (name, file)
       → Contains w.required (name, file)
 
--- The same targets in the same order. Each module of the part is alike to one of the same target.
+-- The targets are the same, in the same order. Each module of the part is like one of the same
+-- target.
 pub record IsPartOf (part infos : List InfoValue) : Type 0 where
   pub targets : map (λ info. info.target) part ≡ map (λ info. info.target) infos
   pub modules : (i j : ℕ) (m : ModuleValue) → HasModule part i j m
@@ -34,7 +35,8 @@ abbrev pub InfosApart : List InfoValue → Type 0
 InfosApart infos = (i j k l : ℕ) (a b : ModuleValue) → HasModule infos i j a
     → HasModule infos k l b → (a.name ≡ b.name) ⊎ (a.file ≡ b.file) → (i ≡ k) × (j ≡ l)
 
--- no object provides the name or the file of a module of the info files, or is such a file
+-- no object provides a module with the name or the file of a module of the info files, and no
+-- object is such a file
 pub record OwnApart (objects : List RuleValue) (infos : List InfoValue) : Type 0 where
   pub names : (o j i k : ℕ) (rule : RuleValue) (name : Name) (file : PathText) (m : ModuleValue)
       → slice_get objects o ≡ Some rule → slice_get rule.provided j ≡ Some (name, file)
@@ -45,8 +47,8 @@ pub record OwnApart (objects : List RuleValue) (infos : List InfoValue) : Type 0
   pub paths : (o i k : ℕ) (rule : RuleValue) (m : ModuleValue)
       → slice_get objects o ≡ Some rule → HasModule infos i k m → rule.object ≡ m.file → ⊥
 
--- If a module of the info files requires a name with a file, a module of the info files has this name
--- and this file. It is private only if both are of the same info file.
+-- If a module of the info files requires a name with a file, a module of the info files has this
+-- name and this file. It is private only if both are of the same info file.
 abbrev pub AreClosed : List InfoValue → Type 0
 AreClosed infos = (i j : ℕ) (m : ModuleValue) (name : Name) (file : PathText)
     → HasModule infos i j m → Contains m.required (name, file)

@@ -3,14 +3,14 @@
 //!
 //! - [`Name`] and [`TargetName`] hold strings that are names (`specs/Name.antt`). The names of a
 //!   document share one string ([`SharedNames`]).
-//! - [`Rule`] is a rule of a scan document (`specs/Rule.antt`), and [`Info`] what a target tells the
-//!   targets that link it (`specs/Info.antt`).
+//! - [`Rule`] is a rule of a scan document (`specs/Rule.antt`), and [`Info`] what a target tells
+//!   the targets that link it (`specs/Info.antt`).
 //!
 //! `must-fail/` has a wrong body for each clause that is stated here. The clause that rejects
 //! `name_bytes_of_another` is also that of [`Name::text`] and [`TargetName::text`], and
 //! `name_copy_of_another` also stands for the copies of [`TargetName`]. `name_limit_one_less` turns
-//! the test that [`Name::of`] and [`SharedNames::read`] share. [`SharedNames::new`] has no clause,
-//! because which string names share decides only how much memory they take.
+//! the test that [`Name::of`] and [`SharedNames::read`] share. No clause says which
+//! names share the string of a [`SharedNames`], because it decides only how much memory they take.
 #![tactic(auto)]
 
 mod info;

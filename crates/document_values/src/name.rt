@@ -121,8 +121,8 @@ impl Clone for Name {
     }
 }
 
-/// The names of a document, one after the other in one string. The names that are made of it share
-/// the string, so that they need one allocation.
+/// The names of a document, one after the other in one string, which is their view. The names that
+/// are made of it share the string, so that they need one allocation.
 #[derive(Drop)]
 pub struct SharedNames {
     text: RcSlice<u8>,
@@ -130,13 +130,24 @@ pub struct SharedNames {
     start: usize,
 }
 
+impl Model for SharedNames {
+    ghost use Rattle.std.specs.Rc.{rc_slice_items};
+    ghost use Rattle.ninja_text.specs.Bytes.{Bytes};
+
+    ghost Value = { Bytes };
+
+    ghost view = { λ names. rc_slice_items names.text };
+}
+
 impl SharedNames {
-    /// Returns the names in this string, of which the first is the next one to be made.
+    /// Returns the names in this string. The next one to be made begins the string.
     ///
     /// # Errors
     ///
     /// Returns an error if an allocation fails.
-    pub fn new(text: Vec<u8>) -> Result<SharedNames, AllocError> {
+    pub fn new(text: Vec<u8>) -> Result<SharedNames, AllocError>
+        ensures { IfOk result (λ names. names ≡ text.items) }
+    {
         let text = RcSlice::from_vec(text)?;
         Ok(SharedNames { text, start: 0 })
     }

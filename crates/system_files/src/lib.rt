@@ -48,18 +48,18 @@ pub fn has_bytes<R: Files>(rt: &R, name: &str, bytes: &[u8]) -> io::Result<bool>
     Ok(file.read(&mut found[..1])? == 0)
 }
 
-/// Returns a random number for the names of new files, which no other run has. Returns `None` if the
-/// system gives no random bytes.
+/// Returns a random number for the names of new files, which no other run has. Returns `None` if
+/// the system gives no random bytes.
 pub fn mark<R: RandomSource>(rt: &R) -> Option<u64> {
     let mut bytes = [0; 8];
     rt.fill_bytes(&mut bytes).ok()?;
     Some(u64::from_le_bytes(bytes))
 }
 
-/// Makes these the bytes of the file of this name. A file that is replaced keeps its permissions. If
-/// the name is a link, the file that it leads to is written. Without a `mark` of the run, the file is
-/// written in place. After an error the file has its old bytes, or, if it was written in place, maybe
-/// only the first of the new ones.
+/// Makes these the bytes of the file of this name. A file that is replaced keeps its permissions.
+/// If the name is a link, the file that it leads to is written. Without a `mark` of the run, the
+/// file is written in place. After an error the file has its old bytes, or, if it was written in
+/// place, maybe only the first of the new ones.
 pub fn write<R: Files + AllocGlobal>(
     rt: &R,
     mark: Option<u64>,

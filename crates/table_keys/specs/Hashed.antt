@@ -1,4 +1,4 @@
--- Words for what is digested.
+-- Types of what is digested.
 use Rattle.std.specs.Prelude.{ℕ, List}
 
 -- an entry of a table, such as a name or a path

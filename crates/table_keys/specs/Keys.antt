@@ -15,6 +15,7 @@ HasAdded digest entries = Holds512 digest.digest (digested entries)
 abbrev pub IsKeyOf : TableKey → TableEntries → Type 0
 IsKeyOf key entries = key.start ≡ sip.write sip.initial (sha512 (digested entries))
 
--- the key is made of a list in which each of these entries is, so they cannot be chosen to fit the key
+-- the key is made of a list in which each of these entries is, so they cannot be chosen to fit the
+-- key
 abbrev pub Covers : TableKey → TableEntries → Type 0
 Covers key entries = (all : TableEntries) × IsKeyOf key all × All (Contains all) entries

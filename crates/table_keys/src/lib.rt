@@ -1,10 +1,10 @@
 //! Keys for hash tables whose entries strangers choose.
 //!
 //! Whoever knows how a table hashes can choose entries that all hash alike, so that each look-up
-//! searches the whole table. A [`TableKey`] is made of the SHA-512 digest of the entries themselves:
-//! whoever chooses the entries cannot choose the digest as well. So a table needs no random bytes
-//! from outside, and a program hashes the same way in each run. Each entry is digested with its
-//! length, so one digest cannot stand for the same bytes cut into other entries.
+//! searches the whole table. A [`TableKey`] is made of the SHA-512 digest of the entries
+//! themselves: whoever chooses the entries cannot choose the digest as well. So a table needs no
+//! random bytes from outside, and a program hashes the same way in each run. Each entry is digested
+//! with its length, so one digest cannot stand for the same bytes cut into other entries.
 //!
 //! ```rust
 //! let key = TableKey::of(&[b"first".as_slice(), b"second".as_slice()]);

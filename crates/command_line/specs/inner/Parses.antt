@@ -1,4 +1,4 @@
--- What the parser of the command line is made of, and what a parse finds.
+-- The program's commands as the parser has them, and the task that a parse finds.
 use Rattle.std.specs.Prelude.{Bool, true, false, List, [], ◌∷◌, Option, Some, None, option_map, option_and_then, fold, if◌then◌else◌, codes}
 use Rattle.std.specs.Str.{bytes_eq}
 use Rattle.clap.specs.Words.{App, Row, Rule, Shape, Text, new_app, new_rule, with_rule, first_of}
@@ -7,11 +7,11 @@ use Rattle.clap.specs.declared.builder.command.Command.{Command}
 use Rattle.clap.specs.declared.builder.command.Command.TheViews.{out-Command}
 use Rattle.command_line.specs.Tasks.{TaskValue, one, collate, show, effect, order, project}
 
--- a command, or one under it, has an argument that all under it have too
+-- the command or a subcommand has an argument that is passed on to all subcommands
 abbrev pub has_globals : Command → Bool
 has_globals c = (out-Command c).has_globals
 
--- an operand that has to be there
+-- an operand, which is required
 abbrev pub needed : Text → Rule
 needed id = record (new_rule id) { required = true }
 
@@ -19,7 +19,7 @@ needed id = record (new_rule id) { required = true }
 abbrev pub command_app : Text → List Text → App
 command_app name = fold (λ app operand. with_rule app (needed operand)) (new_app name)
 
--- the command above the others, which has no flag and no command for help
+-- the command that has the others as subcommands; it has no flag and no subcommand for help
 abbrev pub top : Shape
 top = record (new_shape (codes "dyncollate")) {
   disable_help_flag = true;
@@ -39,7 +39,7 @@ program = record {
       ∷ (command_app (codes "project") (codes "document" ∷ [])).top ∷ [];
 }
 
--- the texts of three operands
+-- three operands
 abbrev pub Three : Type 0
 Three = Text × Text × Text
 
@@ -56,11 +56,13 @@ made task (first, second, third) = task first second third
 abbrev pub task_by : Text → (Text → Option Text) → Option TaskValue
 task_by command found =
     if bytes_eq command (codes "one")
-    then option_map (made one) (three (found (codes "scan")) (found (codes "dir")) (found (codes "ext")))
+    then option_map (made one)
+    (three (found (codes "scan")) (found (codes "dir")) (found (codes "ext")))
     else (if bytes_eq command (codes "collate") then option_map collate (found (codes "target"))
     else (if bytes_eq command (codes "show") then option_map show (found (codes "dyndep"))
     else (if bytes_eq command (codes "effect")
-    then option_map (made effect) (three (found (codes "name")) (found (codes "edges")) (found (codes "dyndep")))
+    then option_map (made effect)
+    (three (found (codes "name")) (found (codes "edges")) (found (codes "dyndep")))
     else (if bytes_eq command (codes "order") then option_map order (found (codes "edges"))
     else (if bytes_eq command (codes "project") then option_map project (found (codes "document"))
     else None)))))

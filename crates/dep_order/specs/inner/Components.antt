@@ -19,7 +19,7 @@ pub record AreComponents (needs : List (List ℕ)) (components : List (Option �
   pub same : (node other : ℕ) → node < length needs → other < length needs →
       HaveSame components node other ↔ LeadToEachOther needs node other
 
--- one of the row is in the node's component
+-- some node of the row is in the node's component
 abbrev pub SharesComponent : List ℕ → List (Option ℕ) → ℕ → Type 0
 SharesComponent row components node =
     (other : ℕ) × Contains row other × HaveSame components other node
@@ -44,8 +44,8 @@ abbrev pub LeadsFree : List (List ℕ) → List (Option ℕ) → ℕ → ℕ →
 LeadsFree users numbers node root =
     (mark_of numbers node ≡ None) × ((node ≡ root) ⊎ HasFreeChain users numbers node root)
 
--- The root has a number now, and apart from it only nodes that had none and that lead to it by such
--- nodes; theirs is this one.
+-- The root has a number now. The only other nodes that got one had none and lead to the root
+-- through such nodes. Their number is this one.
 pub record IsNumberAdded (users : List (List ℕ)) (root number : ℕ)
     (numbers new_numbers : List (Option ℕ)) : Type 0 where
   pub kept : KeepsMarks numbers new_numbers

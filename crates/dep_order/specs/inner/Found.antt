@@ -1,7 +1,8 @@
 -- What a search has found: nodes, and the index of each of them.
 use Rattle.std.specs.Prelude.{◌≡◌, ℕ, ◌<◌, List, ◌++◌, length, slice_index, Contains, All}
 
--- The index of each node that is found is stored at the node. At other nodes any number may be stored.
+-- The index of each node that is found is stored at the node. At other nodes any number may be
+-- stored.
 pub record AreFound (indexes found : List ℕ) : Type 0 where
   pub nodes : All (λ node. node < length indexes) found
   pub kept : (k : ℕ) → k < length found → slice_index indexes (slice_index found k) ≡ k

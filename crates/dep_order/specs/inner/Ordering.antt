@@ -14,8 +14,8 @@ pub record AreReleased (users missing new_missing ready new_ready : List ℕ) : 
       Contains new_ready node
       ↔ (Contains ready node ⊎ (Contains users node × (slice_index new_missing node ≡ 0)))
 
--- Nodes put in order by smallest numbers until none is ready: each node that isn't in order needs
--- another that isn't.
+-- Nodes are put in order by smallest numbers until none is ready: each node that is not in order
+-- needs another that is not.
 pub record AreOrdered (needs : List (List ℕ)) (ordered : List ℕ) : Type 0 where
   pub each : EachSmallest (length needs) (NodeNeeds needs) ordered
   pub no_more_ready : (node : ℕ) → node < length needs → ¬ Contains ordered node →

@@ -1,4 +1,4 @@
--- The order in which a search in depth leaves the nodes.
+-- The postorder of a depth-first search.
 use Rattle.std.specs.Prelude.{◌≡◌, ℕ, ◌+◌, ◌<◌, ◌≤◌, Bool, true, false, List, [], ◌∷◌, length, slice_index, slice_index_or, Contains, All, ◌⊎◌, Option, Some, None}
 use Rattle.dep_order.specs.Needs.{needs_of, NodeNeeds, Reaches}
 use Rattle.dep_order.specs.inner.Users.{one_if, count_of}
@@ -22,7 +22,7 @@ abbrev pub IsBeforeOrLeads : List (List ℕ) → List ℕ → ℕ → ℕ → Ty
 IsBeforeOrLeads needs left index needed =
     StandsBefore left index needed ⊎ LeadsUpToItself needs left index needed
 
--- Each node is there once, and what a node needs is before it or leads to it and all between.
+-- Each node is there once. What a node needs comes before it, or leads to it and to all between.
 pub record IsPostorder (needs : List (List ℕ)) (postorder : List ℕ) : Type 0 where
   pub nodes : All (λ node. node < length needs) postorder
   pub once : (node : ℕ) → node < length needs → count_of node postorder ≡ 1
@@ -42,8 +42,8 @@ IsOnPathAndLeads needs path left index node =
     Contains path node
     × ((k : ℕ) → index ≤ k → k < length left → Reaches (NodeNeeds needs) node (slice_index left k))
 
--- A depth-first search: the nodes that it left, and the path to the current node. The first nodes of
--- each node's row are scanned, as many as its number says, and these are seen.
+-- A depth-first search: the nodes that it left, and the path to the current node. The first nodes
+-- of each node's row are scanned, as many as its number says, and these are seen.
 pub record IsInDepth (needs : List (List ℕ)) (seen : List Bool)
     (scanned path left : List ℕ) : Type 0 where
   pub seen_each : length seen ≡ length needs
@@ -57,7 +57,7 @@ pub record IsInDepth (needs : List (List ℕ)) (seen : List Bool)
       NodeNeeds needs (slice_index left index) needed →
       IsBeforeOrLeads needs left index needed ⊎ IsOnPathAndLeads needs path left index needed
 
--- what was seen is seen
+-- every node that was seen still is
 abbrev pub SeesMore : List Bool → List Bool → Type 0
 SeesMore seen new_seen = (node : ℕ) → is_seen seen node ≡ true → is_seen new_seen node ≡ true
 

@@ -3,8 +3,8 @@ use Rattle.std.specs.Prelude.{◌≡◌, ℕ, ◌+◌, ◌≤◌, List, length, 
 use Rattle.dep_order.specs.Needs.{NodeNeeds}
 use Rattle.dep_order.specs.inner.Marks.{mark_of, unmarked, HasMark, KeepsMarks}
 
--- The start is no step away. Each other node that steps lead to is one step farther than one
--- that is nearer, and no node is more than one step farther than another that leads to it.
+-- The start is 0 steps away. Every other node with a distance is one step farther than some node
+-- that leads to it, and no node is more than one step farther than one that leads to it.
 pub record AreSteps (count : ℕ) (Leads : ℕ → ℕ → Type 0) (from : ℕ)
     (steps : List (Option ℕ)) : Type 0 where
   pub as_many : length steps ≡ count

@@ -12,20 +12,15 @@ use Rattle.command_line.proofs.Commands.{all_text, no_task, task_parsed}
 use Rattle.command_line.proofs.arguments.task_of.Goals as goal
 
 -- the task of the name and the rows that were found
-found : (m : ArgMatches) (name : Text) (rows : List Row) → Some name ≡ subcommand_name_of m →
-    Some rows ≡ option_map (λ p. p.1) (subcommand_rows_of m) →
-    task_by name (λ id. first_of id rows) ≡ task_found (subcommand_rows_of m)
-found m name rows named given = go (out-ArgMatches m).subcommand named given
-  where
-    go : (o : Option (Box SubCommand Global)) →
-        Some name ≡ option_map (λ b. (out-SubCommand (box_value b)).name.now) o →
-        Some rows ≡ option_map (λ p. p.1) (subcommand_rows o) →
-        task_by name (λ id. first_of id rows) ≡ task_found (subcommand_rows o)
-    go None a b = cc
-    go (Some x) a b =
-        let same : name ≡ (out-SubCommand (box_value x)).name.now = cc in
-        let have : rows ≡ rows_of (found_of (out-SubCommand (box_value x)).matches) = cc in
-        λ i. task_by (same i) (λ id. first_of id (have i))
+found : (o : Option (Box SubCommand Global)) (name : Text) (rows : List Row) →
+    Some name ≡ option_map (λ b. (out-SubCommand (box_value b)).name.now) o →
+    Some rows ≡ option_map (λ p. p.1) (subcommand_rows o) →
+    task_by name (λ id. first_of id rows) ≡ task_found (subcommand_rows o)
+found None name rows a b = cc
+found (Some x) name rows a b =
+    let same : name ≡ (out-SubCommand (box_value x)).name.now = cc in
+    let have : rows ≡ rows_of (found_of (out-SubCommand (box_value x)).matches) = cc in
+    λ i. task_by (same i) (λ id. first_of id (have i))
 
 -- a command was given
 pub returns-in-Some : goal.returns-in-Some
@@ -33,7 +28,7 @@ returns-in-Some c =
     let name : Text = c.in-Some.command.now in
     let given = found_of c.in-Some.given.now in
     c.task_by.ensures ∙ (λ i. task_by name (λ id. first_value-rows given id i))
-    ∙ found c.in-Ok.matches name (rows_of given) c.in-Some.ensures.name c.in-Some.ensures.rows
+    ∙ found (out-ArgMatches c.in-Ok.matches).subcommand name (rows_of given) c.in-Some.ensures.name c.in-Some.ensures.rows
     ∙ task_parsed (app_of c.in_ok-command.command) (map string_bytes c.args.arguments.now) c.in-Ok.matches
     c.in_ok-command.ensures (all_text c.args.arguments.now) c.in-Ok.ensures.kinds c.in-Ok.ensures.matches
 

@@ -50,8 +50,6 @@ returns c =
     IfOk-weaker c.subcommand.result _
     (λ m. IsOkAnd c.args.program (λ above. app_of m
     ≡ with_subcommand (app_of above) (command_app c.args.name.now given).top))
-    (λ m h. subst (λ (r : Result Command AllocError). IsOkAnd r (λ above. app_of m
-    ≡ with_subcommand (app_of above) (command_app c.args.name.now given).top)) (sym c.in_ok-program.was)
-    (h.shape c.loop-operand.invariant.globals
+    (λ m h. rw c.in_ok-program.was (h.shape c.loop-operand.invariant.globals
     ∙ ap (λ (a : App). with_subcommand (app_of c.in_ok-program.program) a.top) made))
     c.subcommand.ensures

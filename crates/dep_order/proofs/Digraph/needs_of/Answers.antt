@@ -1,4 +1,4 @@
-use Rattle.std.proofs.Common.{◌≡◌, ◌<◌, All, length, refl, sym, subst, arith}
+use Rattle.std.proofs.Common.{◌≡◌, length, refl, subst, arith}
 use Rattle.std.proofs.lemmas.Grind.{common_steps}
 use Rattle.dep_order.specs.Needs.{needs_of, NeedsAreNodes}
 use Rattle.dep_order.proofs.Answered.{row_nodes}
@@ -8,4 +8,4 @@ pub returns-clause-nodes : goal.returns-clause-nodes
 returns-clause-nodes c =
     let graph = c.args.self.now in
     let row : c.deref.result.now ≡ needs_of graph c.args.node = grind (arith, common_steps, c.index.ensures, c.deref.ensures.value, c.self.view_is) in
-    subst (All (λ needed. needed < length graph)) (sym row) (row_nodes graph c.args.node (length graph) refl c.requires (subst NeedsAreNodes c.self.view_is c.self.invariant))
+    rw row (row_nodes graph c.args.node (length graph) refl c.requires (subst NeedsAreNodes c.self.view_is c.self.invariant))

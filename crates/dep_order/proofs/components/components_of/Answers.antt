@@ -1,5 +1,5 @@
 use Rattle.std.proofs.Common.{◌≡◌, ◌<◌, ◌+◌, [], sym, ◌∙◌, ap, subst, arith, rules, length, replicate, None}
-use Rattle.std.specs.List.{All, Contains}
+use Rattle.std.specs.List.{Contains}
 use Rattle.std.proofs.lemmas.Bool.{false≢true}
 use Rattle.std.proofs.lemmas.List.{length_push}
 use Rattle.std.proofs.lemmas.List.Elements.{All-cons, All-contains, All-nil, Contains-append_left, Contains-push}
@@ -15,51 +15,73 @@ use Rattle.dep_order.proofs.components.components_of.Goals as goal
 
 pub loop-root-init : goal.loop-root-init
 loop-root-init c =
-    let none : c.in_ok-components.components.items ≡ replicate (length c.args.users.now) None = c.in_ok-components.ensures.items_if_clones_equal (search rules) in
+    let none : c.in_ok-components.components.items ≡ replicate (length c.args.users.now) None =
+    c.in_ok-components.ensures.items_if_clones_equal (search rules) in
     record {
-      so_far = none_so_far (lists c.args.needs.now) (lists c.args.users.now) c.in_ok-postorder.postorder.items c.in_ok-components.components.items (none ∙ ap (λ n. replicate n None) (sym (length_lists c.args.users.now)));
+      so_far = none_so_far (lists c.args.needs.now) (lists c.args.users.now) c.in_ok-postorder.postorder.items c.in_ok-components.components.items
+          (none ∙ ap (λ n. replicate n None) (sym (length_lists c.args.users.now)));
       none_wait = c.new-waiting.ensures.items;
     }
 
 pub mark_row-requires : goal.mark_row-requires
 mark_row-requires c =
-    let in_left : Contains c.loop-root.postorder.items c.in-Some.root = subst (λ xs. Contains xs c.in-Some.root) (sym c.in-Some.ensures.items) (Contains-push c.pop.new.self.items c.in-Some.root) in
-    let in_all : Contains c.in_ok-postorder.postorder.items c.in-Some.root = subst (λ xs. Contains xs c.in-Some.root) (sym c.loop-root.invariant.so_far.front) (Contains-append_left c.loop-root.postorder.items c.loop-root.invariant.so_far.behind c.in-Some.root in_left) in
+    let in_left : Contains c.loop-root.postorder.items c.in-Some.root = rw c.in-Some.ensures.items (Contains-push c.pop.new.self.items c.in-Some.root) in
+    let in_all : Contains c.in_ok-postorder.postorder.items c.in-Some.root =
+    rw c.loop-root.invariant.so_far.front (Contains-append_left c.loop-root.postorder.items c.loop-root.invariant.so_far.behind c.in-Some.root in_left) in
     let below : c.in-Some.root < length c.loop-root.components.items =
-    omega (arith, All-contains (λ node. node < length (lists c.args.needs.now)) c.in_ok-postorder.postorder.items c.in-Some.root c.in_ok-postorder.ensures.nodes in_all, c.requires.users.each, c.loop-root.invariant.so_far.in_order.as_many) in
+    omega (
+      arith,
+      All-contains (λ node. node < length (lists c.args.needs.now)) c.in_ok-postorder.postorder.items c.in-Some.root c.in_ok-postorder.ensures.nodes
+          in_all,
+    ) in
     All-cons (λ node. node < length c.loop-root.components.items) c.in-Some.root [] below (All-nil (λ node. node < length c.loop-root.components.items))
 
 pub loop-node-init : goal.loop-node-init
 loop-node-init c =
-    let e : length c.loop-root.postorder.items ≡ c.len-number.result + 1 = omega (arith, c.len-number.ensures, c.pop.new.self.ok.0, ap length c.in-Some.ensures.items, length_push c.pop.new.self.items c.in-Some.root) in
+    let e : length c.loop-root.postorder.items ≡ c.len-number.result + 1 =
+    omega (arith, ap length c.in-Some.ensures.items, length_push c.pop.new.self.items c.in-Some.root) in
     record {
-      so_far = numbers_begun (lists c.args.users.now) c.in-Some.root c.len-number.result c.loop-root.components.items c.mark_row.new.marks.items c.loop-root.waiting.items c.mark_row.new.next.items c.loop-root.invariant.none_wait
-          (subst (λ n. AreNumbersFrom (lists c.args.users.now) n c.loop-root.components.items) e c.loop-root.invariant.so_far.in_order) c.in_ok-mark_row.ensures;
+      so_far = numbers_begun c.in-Some.root c.loop-root.invariant.none_wait
+          (rw (← e) c.loop-root.invariant.so_far.in_order) c.in_ok-mark_row.ensures;
       added = λ first none_lower so_far. so_far;
     }
 
 pub row_of-requires : goal.row_of-requires
 row_of-requires c =
-    let has : Contains c.loop-node.waiting.items c.in-Some-pop.node = subst (λ xs. Contains xs c.in-Some-pop.node) (sym c.in-Some-pop.ensures.items) (Contains-push c.pop-in-loop-node.new.self.items c.in-Some-pop.node) in
-    omega (arith, node_in_range c.loop-node.components.items c.in-Some-pop.node c.len-number.result (c.loop-node.invariant.so_far.waiting_on c.in-Some-pop.node has), c.loop-node.invariant.so_far.as_many, length_lists c.args.users.now)
+    let has : Contains c.loop-node.waiting.items c.in-Some-pop.node =
+    rw c.in-Some-pop.ensures.items (Contains-push c.pop-in-loop-node.new.self.items c.in-Some-pop.node) in
+    omega (
+      arith,
+      node_in_range c.loop-node.components.items c.in-Some-pop.node c.len-number.result
+          (c.loop-node.invariant.so_far.waiting_on c.in-Some-pop.node has),
+      length_lists c.args.users.now,
+    )
 
 pub mark_row-requires-in-Some-pop : goal.mark_row-requires-in-Some-pop
 mark_row-requires-in-Some-pop c =
-    let has : Contains c.loop-node.waiting.items c.in-Some-pop.node = subst (λ xs. Contains xs c.in-Some-pop.node) (sym c.in-Some-pop.ensures.items) (Contains-push c.pop-in-loop-node.new.self.items c.in-Some-pop.node) in
+    let has : Contains c.loop-node.waiting.items c.in-Some-pop.node =
+    rw c.in-Some-pop.ensures.items (Contains-push c.pop-in-loop-node.new.self.items c.in-Some-pop.node) in
     let below : c.in-Some-pop.node < length (lists c.args.users.now) =
-    omega (arith, node_in_range c.loop-node.components.items c.in-Some-pop.node c.len-number.result (c.loop-node.invariant.so_far.waiting_on c.in-Some-pop.node has), c.loop-node.invariant.so_far.as_many) in
-    subst (All (λ node. node < length c.loop-node.components.items)) (sym c.row_of.ensures)
-    (row_nodes (lists c.args.users.now) c.in-Some-pop.node (length c.loop-node.components.items) c.loop-node.invariant.so_far.as_many below
-    (users_are_nodes (lists c.args.needs.now) (lists c.args.users.now) c.requires.users c.requires.nodes))
+    omega (
+      arith,
+      node_in_range c.loop-node.components.items c.in-Some-pop.node c.len-number.result
+          (c.loop-node.invariant.so_far.waiting_on c.in-Some-pop.node has),
+    ) in
+    rw c.row_of.ensures (row_nodes (lists c.args.users.now) c.in-Some-pop.node (length c.loop-node.components.items) c.loop-node.invariant.so_far.as_many below
+    (users_are_nodes c.requires.users c.requires.nodes))
 
 pub loop-node-preserved : goal.loop-node-preserved
 loop-node-preserved c =
-    let has : Contains c.loop-node.waiting.items c.in-Some-pop.node = subst (λ xs. Contains xs c.in-Some-pop.node) (sym c.in-Some-pop.ensures.items) (Contains-push c.pop-in-loop-node.new.self.items c.in-Some-pop.node) in
-    let marked : AreMarked (needs_of (lists c.args.users.now) c.in-Some-pop.node) c.len-number.result c.loop-node.components.items c.mark_row-in-Some-pop.new.marks.items c.pop-in-loop-node.new.self.items c.mark_row-in-Some-pop.new.next.items =
-    subst (λ row. AreMarked row c.len-number.result c.loop-node.components.items c.mark_row-in-Some-pop.new.marks.items c.pop-in-loop-node.new.self.items c.mark_row-in-Some-pop.new.next.items) c.row_of.ensures c.in_ok-mark_row-2.ensures in
+    let has : Contains c.loop-node.waiting.items c.in-Some-pop.node =
+    rw c.in-Some-pop.ensures.items (Contains-push c.pop-in-loop-node.new.self.items c.in-Some-pop.node) in
+    let marked : AreMarked (needs_of (lists c.args.users.now) c.in-Some-pop.node) c.len-number.result c.loop-node.components.items
+    c.mark_row-in-Some-pop.new.marks.items c.pop-in-loop-node.new.self.items c.mark_row-in-Some-pop.new.next.items =
+    rw (← c.row_of.ensures) c.in_ok-mark_row-2.ensures in
     record {
-      so_far = numbers_more (lists c.args.users.now) c.len-number.result c.in-Some-pop.node c.loop-node.components.items c.mark_row-in-Some-pop.new.marks.items c.loop-node.waiting.items c.pop-in-loop-node.new.self.items c.mark_row-in-Some-pop.new.next.items c.in-Some-pop.ensures.items c.loop-node.invariant.so_far marked;
-      added = λ first none_lower so_far. added_more (lists c.args.users.now) c.in-Some.root c.len-number.result c.in-Some-pop.node first c.loop-node.components.items c.mark_row-in-Some-pop.new.marks.items c.loop-node.waiting.items c.pop-in-loop-node.new.self.items c.mark_row-in-Some-pop.new.next.items
+      so_far = numbers_more c.in-Some-pop.node c.in-Some-pop.ensures.items c.loop-node.invariant.so_far marked;
+      added = λ first none_lower so_far.
+          added_more (lists c.args.users.now) c.in-Some.root c.len-number.result c.in-Some-pop.node first c.loop-node.components.items
+          c.mark_row-in-Some-pop.new.marks.items c.loop-node.waiting.items c.pop-in-loop-node.new.self.items c.mark_row-in-Some-pop.new.next.items
           none_lower (c.loop-node.invariant.so_far.waiting_on c.in-Some-pop.node has) marked (c.loop-node.invariant.added first none_lower so_far);
     }
 
@@ -67,20 +89,21 @@ pub loop-root-preserved : goal.loop-root-preserved
 loop-root-preserved c =
     let users = lists c.args.users.now in
     let first = c.loop-root.components.items in
-    let number : c.len-number.result ≡ length c.pop.new.self.items = omega (arith, c.len-number.ensures, c.pop.new.self.ok.0) in
-    let e : length c.loop-root.postorder.items ≡ c.len-number.result + 1 = omega (arith, number, ap length c.in-Some.ensures.items, length_push c.pop.new.self.items c.in-Some.root) in
+    let number : c.len-number.result ≡ length c.pop.new.self.items = omega arith in
+    let e : length c.loop-root.postorder.items ≡ c.len-number.result + 1 =
+    omega (arith, ap length c.in-Some.ensures.items, length_push c.pop.new.self.items c.in-Some.root) in
     let none : c.loop-node.waiting.items ≡ [] = emptied_by c.loop-node.waiting (λ lt. false≢true (c.in_default-pop.ensures.variant.1 lt)) in
     let added = c.loop-node.invariant.added first (subst (λ n. AreNumbersFrom users n first) e c.loop-root.invariant.so_far.in_order)
-    (added_begun users c.in-Some.root c.len-number.result first c.mark_row.new.marks.items c.loop-root.waiting.items c.mark_row.new.next.items c.in_ok-mark_row.ensures) in
+    (added_begun users c.in-Some.root c.in_ok-mark_row.ensures) in
     record {
-      so_far = more_so_far (lists c.args.needs.now) users c.in_ok-postorder.postorder.items c.loop-root.postorder.items c.pop.new.self.items c.in-Some.root first c.loop-node.components.items
+      so_far = more_so_far c.pop.new.self.items
           c.requires.users c.in_ok-postorder.ensures c.in-Some.ensures.items c.loop-root.invariant.so_far
-          (subst (λ n. AreNumbersFrom users n c.loop-node.components.items) number (numbers_ended users c.len-number.result c.loop-node.components.items c.loop-node.waiting.items none c.loop-node.invariant.so_far))
+          (subst (λ n. AreNumbersFrom users n c.loop-node.components.items) number (numbers_ended none c.loop-node.invariant.so_far))
           (subst (λ n. IsNumberAdded users c.in-Some.root n first c.loop-node.components.items) number added);
-      none_wait = emptied_by c.pop-in-loop-node.new.self (λ lt. omega (arith, lt, c.in_default-pop.ensures.cases.1));
+      none_wait = emptied_by c.pop-in-loop-node.new.self (λ lt. omega (arith, c.in_default-pop.ensures.cases.1));
     }
 
 pub returns : goal.returns
 returns c =
-    all_so_far (lists c.args.needs.now) (lists c.args.users.now) c.in_ok-postorder.postorder.items c.loop-root.postorder.items c.loop-root.components.items c.requires.users c.in_ok-postorder.ensures
+    all_so_far c.requires.users c.in_ok-postorder.ensures
     (emptied_by c.loop-root.postorder (λ lt. false≢true (c.in_default.ensures.variant.1 lt))) c.loop-root.invariant.so_far

@@ -1,8 +1,9 @@
-use Rattle.std.proofs.Common.{◌≡◌, ◌+◌, List, Option, ℕ, [], length, vec_len}
+use Rattle.std.proofs.Common.{◌≡◌, ◌+◌, [], length, vec_len}
 use Rattle.dep_order.specs.Rows.{lists}
 use Rattle.dep_order.specs.inner.Marks.{unmarked}
 use Rattle.dep_order.specs.inner.Components.{AreNumbersFrom, IsNumberAdded}
 use Rattle.dep_order.proofs.Connected.{AreComponentsSoFar, AreNumbersSoFar}
+use Rattle.dep_order.proofs.Words.{Marks}
 use Rattle.dep_order.proofs.components.components_of.Given as goal
 
 abbrev pub invariant-loop-root : goal.invariant-loop-root
@@ -18,7 +19,7 @@ decreases-loop-root l = vec_len l.postorder
 abbrev pub invariant-loop-node : goal.invariant-loop-node
 invariant-loop-node l = record {
   so_far : AreNumbersSoFar (lists l.users) l.number l.components.items l.waiting.items;
-  added : (first : List (Option ℕ)) → AreNumbersFrom (lists l.users) (l.number + 1) first
+  added : (first : Marks) → AreNumbersFrom (lists l.users) (l.number + 1) first
       → IsNumberAdded (lists l.users) l.root l.number first l.initial.components.items → IsNumberAdded (lists l.users) l.root l.number first l.components.items;
 }
 

@@ -12,12 +12,23 @@ pub loop-node-preserved : goal.loop-node-preserved
 loop-node-preserved c =
     none_from (NodeNeeds (lists c.args.needs.now)) c.loop-node.node
     (elim c.else-not-is_empty.branch [
-      | else-not-is_empty-via-then-not-is_empty+else-not-is_empty-2 w ↦ none_without_users (lists c.args.needs.now) (lists c.args.users.now) c.loop-node.node c.requires.users (sym w.row_of-then-not-is_empty.ensures ∙ nil_from_length w.row_of-then-not-is_empty.result.now (same (length w.row_of-then-not-is_empty.result.now) 0 (sym w.is_empty-then-not-is_empty.ensures ∙ w.if-not-is_empty-2.false)))
-      | else-not-is_empty-via-else-not-is_empty w ↦ none_without_needs (lists c.args.needs.now) c.loop-node.node (sym c.row_of.ensures ∙ nil_from_length c.row_of.result.now (same (length c.row_of.result.now) 0 (sym c.is_empty.ensures ∙ w.if-not-is_empty.false)))
+      | else-not-is_empty-via-then-not-is_empty+else-not-is_empty-2 w ↦
+          none_without_users c.loop-node.node c.requires.users
+          (sym w.row_of-then-not-is_empty.ensures ∙
+          nil_from_length w.row_of-then-not-is_empty.result.now
+          (same (length w.row_of-then-not-is_empty.result.now) 0 (sym w.is_empty-then-not-is_empty.ensures ∙ w.if-not-is_empty-2.false)))
+      | else-not-is_empty-via-else-not-is_empty w ↦
+          none_without_needs (lists c.args.needs.now) c.loop-node.node
+          (sym c.row_of.ensures ∙ nil_from_length c.row_of.result.now (same (length c.row_of.result.now) 0 (sym c.is_empty.ensures ∙ w.if-not-is_empty.false)))
     ])
     c.loop-node.invariant
 
 pub unreachable-requires : goal.unreachable-requires
 unreachable-requires c =
     let cycle = c.requires.cycle in
-    absurd (omega (arith, c.loop-node.invariant cycle.0 cycle.1, first_in_range (lists c.args.needs.now) cycle.0 c.requires.nodes cycle.1, length_lists c.args.needs.now))
+    absurd (omega (
+      arith,
+      c.loop-node.invariant cycle.0 cycle.1,
+      first_in_range (lists c.args.needs.now) cycle.0 c.requires.nodes cycle.1,
+      length_lists c.args.needs.now,
+    ))

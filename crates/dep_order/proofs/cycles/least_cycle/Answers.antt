@@ -1,4 +1,4 @@
-use Rattle.std.proofs.Common.{sym, subst, None, ◌∷◌, refl}
+use Rattle.std.proofs.Common.{subst, None, ◌∷◌, refl}
 use Rattle.std.proofs.lemmas.Bool.{false≢true}
 use Rattle.dep_order.specs.Rows.{lists}
 use Rattle.dep_order.specs.Needs.{NodeNeeds, needs_of}
@@ -9,19 +9,21 @@ use Rattle.dep_order.proofs.Connected.{shared_from, cycle_from_shared}
 use Rattle.dep_order.proofs.cycles.least_cycle.Goals as goal
 
 pub returns-in-Some : goal.returns-in-Some
-returns-in-Some c = least_of_all (NodeNeeds (lists c.args.needs.now)) c.first_suspect-suspect.result c.in-Some.cycle.items c.first_suspect-suspect.ensures.none_lower (subst (IsLeastFromIfAny (NodeNeeds (lists c.args.needs.now)) c.first_suspect-suspect.result) c.in-Some.is c.in_ok-cycle.ensures)
+returns-in-Some c = least_of_all c.first_suspect-suspect.ensures.none_lower
+    (subst (IsLeastFromIfAny (NodeNeeds (lists c.args.needs.now)) c.first_suspect-suspect.result) c.in-Some.is c.in_ok-cycle.ensures)
 
 pub unreachable-requires : goal.unreachable-requires
 unreachable-requires c =
     let own : SharesComponent (needs_of (lists c.args.needs.now) c.loop-first.first) c.in_ok-components.components.items c.loop-first.first =
-    subst (λ row. SharesComponent row c.in_ok-components.components.items c.loop-first.first) c.row_of.ensures (subst (λ xs. SharesComponent c.row_of.result.now xs c.loop-first.first) c.as_slice.ensures.value (c.shares_component.ensures.0 c.if-shares_component.true)) in
-    let cycle = cycle_from_shared (lists c.args.needs.now) c.in_ok-components.components.items c.loop-first.first c.requires.nodes c.in_ok-components.ensures own in
-    let none : IsLeastFromIfAny (NodeNeeds (lists c.args.needs.now)) c.loop-first.first None = subst (IsLeastFromIfAny (NodeNeeds (lists c.args.needs.now)) c.loop-first.first) c.in-None.is c.in_ok-cycle-2.ensures in
+    rw (← c.row_of.ensures) (rw (← c.as_slice.ensures.value) (c.shares_component.ensures.0 c.if-shares_component.true)) in
+    let cycle = cycle_from_shared c.loop-first.first c.requires.nodes c.in_ok-components.ensures own in
+    let none : IsLeastFromIfAny (NodeNeeds (lists c.args.needs.now)) c.loop-first.first None =
+    subst (IsLeastFromIfAny (NodeNeeds (lists c.args.needs.now)) c.loop-first.first) c.in-None.is c.in_ok-cycle-2.ensures in
     absurd (none (c.loop-first.first ∷ cycle.0) cycle.1 refl)
 
 pub returns-then-shares_component : goal.returns-then-shares_component
 returns-then-shares_component c =
-    least_of_all (NodeNeeds (lists c.args.needs.now)) c.loop-first.first c.in-Some-2.cycle.items c.loop-first.invariant
+    least_of_all c.loop-first.invariant
     (subst (IsLeastFromIfAny (NodeNeeds (lists c.args.needs.now)) c.loop-first.first) c.in-Some-2.is c.in_ok-cycle-2.ensures)
 
 pub loop-first-preserved : goal.loop-first-preserved
@@ -31,6 +33,6 @@ loop-first-preserved c =
     let own : SharesComponent (needs_of (lists c.args.needs.now) c.loop-first.first) c.in_ok-components.components.items c.loop-first.first =
     shared_from (lists c.args.needs.now) c.in_ok-components.components.items c.loop-first.first cycle c.requires.nodes c.in_ok-components.ensures h begins in
     let seen : SharesComponent c.row_of.result.now c.as_slice.result.now c.loop-first.first =
-    subst (λ row. SharesComponent row c.as_slice.result.now c.loop-first.first) (sym c.row_of.ensures) (subst (λ xs. SharesComponent (needs_of (lists c.args.needs.now) c.loop-first.first) xs c.loop-first.first) (sym c.as_slice.ensures.value) own) in
+    rw c.row_of.ensures (rw c.as_slice.ensures.value own) in
     false≢true (c.if-shares_component.ensures.1 seen))
     c.loop-first.invariant

@@ -1,52 +1,46 @@
-use Rattle.std.proofs.Common.{rules, ◌≡◌, ◌<◌, ◌∙◌, ap, arith, replicate, set, sym, subst, length, slice_index, ◌+◌, Some, None}
+use Rattle.std.proofs.Common.{rules, ◌≡◌, ◌<◌, ◌∙◌, ap, arith, replicate, sym, length, slice_index, ◌+◌, None}
 use Rattle.std.specs.List.{All}
 use Rattle.std.proofs.lemmas.List.{take_all}
 use Rattle.dep_order.specs.Rows.{lists}
-use Rattle.dep_order.specs.Needs.{NodeNeeds}
-use Rattle.dep_order.specs.inner.Marks.{AreMarked}
-use Rattle.dep_order.specs.inner.Steps.{AreSteps, AreAdvanced}
 use Rattle.dep_order.proofs.Releases.{length_lists}
 use Rattle.dep_order.proofs.Answered.{row_nodes}
-use Rattle.dep_order.proofs.Searches.{IsSearching, search_begun, next_level, all_levels, nonempty, emptied, frontier_in_range, advanced_more}
+use Rattle.dep_order.proofs.Searches.{search_begun, next_level, all_levels, nonempty, emptied, frontier_in_range, advanced_more}
 use Rattle.dep_order.proofs.searching.steps_from.Goals as goal
 
 pub levels-init : goal.levels-init
 levels-init c =
     let none : c.in_ok-steps.steps.items ≡ replicate (length c.args.slices.now) None = c.in_ok-steps.ensures.items_if_clones_equal (search rules) in
-    subst (λ xs. IsSearching (lists c.args.slices.now) c.args.start (set c.in_ok-steps.steps.items c.args.start (Some 0)) xs 0) (sym c.in_ok-frontier.ensures.items)
-    (search_begun (lists c.args.slices.now) c.args.start c.in_ok-steps.steps.items (omega (arith, c.requires.start, length_lists c.args.slices.now))
+    rw c.in_ok-frontier.ensures.items
+    (search_begun (lists c.args.slices.now) c.args.start c.in_ok-steps.steps.items (omega (arith, length_lists c.args.slices.now))
     (none ∙ ap (λ n. replicate n None) (sym (length_lists c.args.slices.now))))
 
 pub mark_row-requires : goal.mark_row-requires
 mark_row-requires c =
     let in_range : All (λ node. node < length c.args.slices.now) c.levels.frontier.items =
-    frontier_in_range (lists c.args.slices.now) c.args.start c.levels.steps.items c.levels.frontier.items c.levels.count (length c.args.slices.now) (length_lists c.args.slices.now) c.levels.invariant in
-    let lent : All (λ node. node < length c.args.slices.now) c.deref-node-items.result.now = subst (All (λ node. node < length c.args.slices.now)) (sym c.deref-node-items.ensures.value) in_range in
-    subst (All (λ node. node < length c.loop-node.steps.items)) (sym c.row_of.ensures)
-    (row_nodes (lists c.args.slices.now) (slice_index c.deref-node-items.result.now c.loop-node.node-index) (length c.loop-node.steps.items)
-    (omega (arith, c.loop-node.invariant.as_many, c.levels.invariant.as_many, length_lists c.args.slices.now))
+    frontier_in_range (length c.args.slices.now) (length_lists c.args.slices.now) c.levels.invariant in
+    let lent : All (λ node. node < length c.args.slices.now) c.deref-node-items.result.now = rw c.deref-node-items.ensures.value in_range in
+    rw c.row_of.ensures (row_nodes (lists c.args.slices.now) (slice_index c.deref-node-items.result.now c.loop-node.node-index) (length c.loop-node.steps.items)
+    (omega (arith, length_lists c.args.slices.now))
     (omega (arith, lent c.loop-node.node-index 0 c.loop-node-test.true, length_lists c.args.slices.now)) c.requires.nodes)
 
 pub loop-node-preserved : goal.loop-node-preserved
 loop-node-preserved c =
-    advanced_more (lists c.args.slices.now) c.deref-node-items.result.now c.loop-node.node-index (c.levels.count + 1) c.levels.steps.items c.loop-node.steps.items c.mark_row.new.marks.items c.loop-node.next.items c.mark_row.new.next.items
+    advanced_more c.deref-node-items.result.now c.loop-node.node-index
     c.loop-node-test.true c.loop-node.invariant
-    (subst (λ row. AreMarked row (c.levels.count + 1) c.loop-node.steps.items c.mark_row.new.marks.items c.loop-node.next.items c.mark_row.new.next.items) c.row_of.ensures c.in_ok-mark_row.ensures)
+    (rw (← c.row_of.ensures) c.in_ok-mark_row.ensures)
 
 pub levels-preserved : goal.levels-preserved
 levels-preserved c =
-    next_level (lists c.args.slices.now) c.args.start c.levels.steps.items c.loop-node.steps.items c.levels.frontier.items c.loop-node.next.items c.levels.count (nonempty c.levels.frontier c.levels-test.ensures) c.levels.invariant
-    (subst (λ nodes. AreAdvanced (lists c.args.slices.now) nodes (c.levels.count + 1) c.levels.steps.items c.loop-node.steps.items c.loop-node.next.items)
-    (take_all c.loop-node.node-index c.deref-node-items.result.now c.loop-node-test.false ∙ c.deref-node-items.ensures.value) c.loop-node.invariant)
+    next_level (nonempty c.levels.frontier c.levels-test.ensures) c.levels.invariant
+    (rw (← (take_all c.loop-node.node-index c.deref-node-items.result.now c.loop-node-test.false ∙ c.deref-node-items.ensures.value)) c.loop-node.invariant)
 
 pub returns : goal.returns
 returns c =
-    subst (λ n. AreSteps n (NodeNeeds (lists c.args.slices.now)) c.args.start c.levels.steps.items) (length_lists c.args.slices.now)
-    (all_levels (lists c.args.slices.now) c.args.start c.levels.steps.items c.levels.frontier.items c.levels.count (emptied c.levels.frontier c.levels-test.ensures) c.levels.invariant)
+    rw (← (length_lists c.args.slices.now)) (all_levels (emptied c.levels.frontier c.levels-test.ensures) c.levels.invariant)
 
 pub row_of-requires : goal.row_of-requires
 row_of-requires c =
     let in_range : All (λ node. node < length c.args.slices.now) c.levels.frontier.items =
-    frontier_in_range (lists c.args.slices.now) c.args.start c.levels.steps.items c.levels.frontier.items c.levels.count (length c.args.slices.now) (length_lists c.args.slices.now) c.levels.invariant in
-    let lent : All (λ node. node < length c.args.slices.now) c.deref-node-items.result.now = subst (All (λ node. node < length c.args.slices.now)) (sym c.deref-node-items.ensures.value) in_range in
+    frontier_in_range (length c.args.slices.now) (length_lists c.args.slices.now) c.levels.invariant in
+    let lent : All (λ node. node < length c.args.slices.now) c.deref-node-items.result.now = rw c.deref-node-items.ensures.value in_range in
     omega (arith, lent c.loop-node.node-index 0 c.loop-node-test.true)

@@ -14,12 +14,20 @@ pub returns : goal.returns
 returns c =
     let text = c.as_bytes-bytes.result.now in
     let some : 1 ≤ length text = grind (arith, nat_tests) in
-    let printed : c.all-are_printed.result ≡ list_all (λ b. nat_le 32 b && not (b == 127)) text = all_from_yields_List (λ b. nat_le 32 b && not (b == 127)) _ _ c.all-are_printed.result c.all-are_printed.ensures.ran (YieldsList-from_slice text cc) (λ x b q k. search (rules, tests)) in
-    (ap is_target_name (sym c.as_bytes-bytes.ensures.value) ∙ accepted text some c.if-bytes-gt-NAME_LIMIT.false (sym printed ∙ c.if-not-are_printed.false), c.in_ok-text.ensures.ok)
+    let printed : c.all-are_printed.result ≡ list_all (λ b. nat_le 32 b && not (b == 127)) text =
+    all_from_yields_List (λ b. nat_le 32 b && not (b == 127)) _ _ c.all-are_printed.result c.all-are_printed.ensures.ran (YieldsList-from_slice text cc)
+    (λ x b q k. search (rules, tests)) in (
+      ap is_target_name (sym c.as_bytes-bytes.ensures.value) ∙
+          accepted text some c.if-bytes-gt-NAME_LIMIT.false (sym printed ∙ c.if-not-are_printed.false),
+      c.in_ok-text.ensures.ok,
+    )
 
 pub invariant_of-result : goal.invariant_of-result
 invariant_of-result c =
     let text = c.as_bytes-bytes.result.now in
     let some : 1 ≤ length text = grind (arith, nat_tests) in
-    let printed : c.all-are_printed.result ≡ list_all (λ b. nat_le 32 b && not (b == 127)) text = all_from_yields_List (λ b. nat_le 32 b && not (b == 127)) _ _ c.all-are_printed.result c.all-are_printed.ensures.ran (YieldsList-from_slice text cc) (λ x b q k. search (rules, tests)) in
-    ap is_target_name (c.in_ok-text.ensures.ok ∙ sym c.as_bytes-bytes.ensures.value) ∙ accepted text some c.if-bytes-gt-NAME_LIMIT.false (sym printed ∙ c.if-not-are_printed.false)
+    let printed : c.all-are_printed.result ≡ list_all (λ b. nat_le 32 b && not (b == 127)) text =
+    all_from_yields_List (λ b. nat_le 32 b && not (b == 127)) _ _ c.all-are_printed.result c.all-are_printed.ensures.ran (YieldsList-from_slice text cc)
+    (λ x b q k. search (rules, tests)) in
+    ap is_target_name (c.in_ok-text.ensures.ok ∙ sym c.as_bytes-bytes.ensures.value) ∙
+    accepted text some c.if-bytes-gt-NAME_LIMIT.false (sym printed ∙ c.if-not-are_printed.false)

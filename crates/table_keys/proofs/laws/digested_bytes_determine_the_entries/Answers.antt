@@ -1,5 +1,5 @@
 use Rattle.table_keys.proofs.Framing.{one_list}
-use Rattle.table_keys.proofs.laws.one_list_of_entries.Goals as goal
+use Rattle.table_keys.proofs.laws.digested_bytes_determine_the_entries.Goals as goal
 
 pub returns : goal.returns
 returns c = one_list
