@@ -15,8 +15,10 @@ use Rattle.module_table.specs.TableValue.{TableValue}
 use Rattle.module_table.specs.Needed.{IsNeeded}
 use Rattle.module_table.proofs.ForCallers.{one_list_of_pairs}
 use Rattle.module_maps.specs.Values.{ModuleMapValue}
-use Rattle.module_maps.specs.Maps.{Written, AreStyleLaws}
+use Rattle.module_maps.specs.Maps.{Written, AreStyleLaws, map_fault}
 use Rattle.module_maps.specs.declared.fault.MapFault.{MapFault}
+use Rattle.module_maps.specs.declared.fault.UnwritableMap.{UnwritableMap}
+use Rattle.module_maps.specs.declared.fault.UnwritableMap.TheVariants.{MapPath, TwoProvided}
 use Rattle.scan_docs.specs.Values.{rules_of, info_of}
 use Rattle.collate_core.specs.Documents.{all_rules, table_of, IsScanAccepted, IsInfoAccepted, AreScansAccepted, rule_limit}
 use Rattle.collate_core.specs.Statements.{statements_of}
@@ -68,12 +70,12 @@ module _ (answers : OneAnswer) where
   no_info infos i fault all r = (answers.info r.info).not_both (info_of r.info) fault (all_at IsInfoAccepted infos i r.info all r.here) r.faulty
 
   -- a map that is written is not rejected
-  pub no_map_fault : (t : TableValue) (written : Written) (o : ℕ) (rule : RuleValue) (fault : MapFault) → IsMapWritten t written o rule → IsMapFault t written o rule fault → ⊥
+  pub no_map_fault : (t : TableValue) (written : Written) (o : ℕ) (rule : RuleValue) (fault : UnwritableMap) → IsMapWritten t written o rule → IsMapFault t written o rule fault → ⊥
   no_map_fault t written o rule fault good bad =
-      let both : Ok good.0 ≡ Err fault = sym good.1.2 ∙ ap written (one_map t o rule good.1.0 bad.0 good.1.1 bad.1) ∙ bad.2 in
+      let both : Ok good.0 ≡ Err (map_fault fault) = sym good.1.2 ∙ ap written (one_map t o rule good.1.0 bad.0 good.1.1 bad.1) ∙ bad.2 in
       cc
 
-  no_map : (t : TableValue) (written : Written) (texts : List (List ℕ)) (o : ℕ) (fault : MapFault) → AreMaps t (Some written) texts → IsMapRefusal t written o fault → ⊥
+  no_map : (t : TableValue) (written : Written) (texts : List (List ℕ)) (o : ℕ) (fault : UnwritableMap) → AreMaps t (Some written) texts → IsMapRefusal t written o fault → ⊥
   no_map t written texts o fault maps r =
       let within : o < length t.objects = slice_get_within _ _ _ r.here in
       let text : (x : List ℕ) × (slice_get texts o ≡ Some x) = element_at texts o (omega (arith, maps.0, within)) in
@@ -93,6 +95,13 @@ module _ (answers : OneAnswer) where
 -- equal rejections are one
 pub equal : (refusal other : Refusal) → refusal ≡ other → IsSameRefusal refusal other
 equal refusal other e = subst (IsSameRefusal refusal) e same_refusal
+
+-- each error of writing a map is a fault of its own
+one_unwritable : (fault other : UnwritableMap) → map_fault fault ≡ map_fault other → fault ≡ other
+one_unwritable (MapPath path) (MapPath _) same = cc
+one_unwritable (MapPath path) TwoProvided same = cc
+one_unwritable TwoProvided (MapPath path) same = cc
+one_unwritable TwoProvided TwoProvided same = refl
 
 module _ (answers : OneAnswer) (one_fault : OneTableFault) where
   -- ---- scan documents
@@ -154,15 +163,15 @@ module _ (answers : OneAnswer) (one_fault : OneTableFault) where
 
   -- ---- maps
 
-  map_later : (t : TableValue) (written : Written) (o p : ℕ) (fault other : MapFault) → o < p → IsMapRefusal t written o fault → IsMapRefusal t written p other → ⊥
+  map_later : (t : TableValue) (written : Written) (o p : ℕ) (fault other : UnwritableMap) → o < p → IsMapRefusal t written o fault → IsMapRefusal t written p other → ⊥
   map_later t written o p fault other less r q = no_map_fault answers t written o r.rule fault (q.before o r.rule less r.here) r.faulty
 
-  map_faults : (t : TableValue) (written : Written) (o : ℕ) (rule : RuleValue) (fault other : MapFault) → IsMapFault t written o rule fault → IsMapFault t written o rule other → fault ≡ other
+  map_faults : (t : TableValue) (written : Written) (o : ℕ) (rule : RuleValue) (fault other : UnwritableMap) → IsMapFault t written o rule fault → IsMapFault t written o rule other → fault ≡ other
   map_faults t written o rule fault other a b =
-      let both : Err fault ≡ Err other = sym a.2 ∙ ap written (one_map t o rule a.0 b.0 a.1 b.1) ∙ b.2 in
-      cc
+      let both : Err (map_fault fault) ≡ Err (map_fault other) = sym a.2 ∙ ap written (one_map t o rule a.0 b.0 a.1 b.1) ∙ b.2 in
+      one_unwritable fault other cc
 
-  one_map_refusal : (t : TableValue) (written : Written) (o p : ℕ) (fault other : MapFault) → IsMapRefusal t written o fault → IsMapRefusal t written p other → Map o fault ≡ Map p other
+  one_map_refusal : (t : TableValue) (written : Written) (o p : ℕ) (fault other : UnwritableMap) → IsMapRefusal t written o fault → IsMapRefusal t written p other → Map o fault ≡ Map p other
   one_map_refusal t written o p fault other r q = elim (three_ways o p) [
     | inl less ↦ absurd (map_later t written o p fault other less r q)
     | inr more ↦ elim more [

@@ -14,8 +14,8 @@ use Rattle.scan_docs.specs.declared.fault.Place.TheVariants.{Document}
 use Rattle.module_table.specs.TableValue.{TableValue}
 use Rattle.module_table.specs.Faults.{IsReported}
 use Rattle.module_maps.specs.Values.{ModuleMapValue}
-use Rattle.module_maps.specs.Maps.{Written}
-use Rattle.module_maps.specs.declared.fault.MapFault.{MapFault}
+use Rattle.module_maps.specs.Maps.{Written, map_fault}
+use Rattle.module_maps.specs.declared.fault.UnwritableMap.{UnwritableMap}
 use Rattle.collate_core.specs.Values.{TargetValue}
 use Rattle.collate_core.specs.Documents.{IsScanAccepted, IsInfoAccepted, AreScansAccepted, AreAccepted, IsResolved, all_rules, rule_limit, table_of}
 use Rattle.collate_core.specs.Statements.{statements_of}
@@ -47,9 +47,9 @@ pub record IsInfoRefusal (infos : List Text) (i : ℕ) (fault : DocFault) : Type
   pub faulty : IsRefused info_checks info fault
 
 -- the object's map is rejected with this fault
-abbrev pub IsMapFault : TableValue → Written → ℕ → RuleValue → MapFault → Type 0
+abbrev pub IsMapFault : TableValue → Written → ℕ → RuleValue → UnwritableMap → Type 0
 IsMapFault t written o rule fault =
-    (m : ModuleMapValue) × IsMapOf t o rule m × (written m ≡ Err fault)
+    (m : ModuleMapValue) × IsMapOf t o rule m × (written m ≡ Err (map_fault fault))
 
 -- an object's map is written
 abbrev pub IsMapWritten : TableValue → Written → ℕ → RuleValue → Type 0
@@ -57,7 +57,7 @@ IsMapWritten t written o rule = (text : Text) × IsMapText t written o rule text
 
 -- The map of the object of this index is the first that is rejected, and this is its fault.
 pub record IsMapRefusal (t : TableValue) (written : Written) (o : ℕ)
-    (fault : MapFault) : Type 0 where
+    (fault : UnwritableMap) : Type 0 where
   pub before : (p : ℕ) (earlier : RuleValue) →
       p < o → slice_get t.objects p ≡ Some earlier → IsMapWritten t written p earlier
   pub rule : RuleValue

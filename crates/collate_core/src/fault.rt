@@ -5,7 +5,7 @@ ghost use Rattle.ninja_text.specs.Failure.{Turns};
 use build_effect::EffectFault;
 use document_values::{Info, Rule};
 use dyndep_file::ReadFault;
-use module_maps::MapFault;
+use module_maps::UnwritableMap;
 use module_table::TableFault;
 use ninja_text::Failure;
 use scan_docs::DocFault;
@@ -31,7 +31,7 @@ pub enum Refusal {
     StatementTooLong { statement: usize },
     /// The map of this object does not fit the style (K1, K2).
     #[error("object {object}: {fault}")]
-    Map { object: usize, fault: MapFault },
+    Map { object: usize, fault: UnwritableMap },
     /// A target of a project links one that is not earlier (K3).
     #[error("K3 LinkedLater")]
     LinkedLater,

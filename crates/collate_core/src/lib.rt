@@ -70,7 +70,7 @@ pub use laws::{
     headline, no_false_cycle, no_false_rebuild, no_false_wait, no_race, one_outcome, project_maps,
     project_orders,
 };
-pub use module_maps::{Clang, Gcc, MapEntry, MapFault, MapStyle, ModuleMap};
+pub use module_maps::{Clang, Gcc, MapEntry, MapFault, MapStyle, ModuleMap, UnwritableMap};
 pub use projects::{ProjectOut, ProjectTarget, project, project_or_refused};
 pub use rehearsal::{check_edges, rehearse};
 pub use table::RULE_LIMIT;

@@ -16,7 +16,7 @@ use Rattle.std.specs.List.{join_with_byte, AllByRecursion}
 use Rattle.std.proofs.lemmas.List.Elements.{All-nil, All-from_recursion}
 use Rattle.std.proofs.lemmas.List.{take-append-drop}
 use Rattle.std.proofs.lemmas.Slice.Eq.{bytes_eq-Decides}
-use Rattle.ninja_text.specs.Bytes.{Precedes}
+use Rattle.ninja_text.specs.Bytes.{Precedes, Text}
 use Rattle.module_maps.specs.Values.{ModuleMapValue}
 use Rattle.module_maps.specs.Maps.{IsModulePair, IsWrittenText, IsRising}
 use Rattle.module_maps.specs.MapLines.{behind, pair_in, is_fit, first_unfit, named, nameless, lines_of, read_lines}
@@ -28,27 +28,27 @@ use Rattle.module_maps.specs.map_laws.ClangLemmas.{RisesBehind, last-entry, map_
 use Rattle.module_maps.proofs.LinesOnly.{pair-is, EachBehind, IsLineOf, lines-only, none-unfit, some-module, path-is}
 
 -- what follows a prefix
-behind-is : (prefix text rest : List ℕ) → behind prefix text ≡ Some rest → text ≡ prefix ++ rest
+behind-is : (prefix text rest : Text) → behind prefix text ≡ Some rest → text ≡ prefix ++ rest
 behind-is prefix text rest e = by (bytes_eq (take (length prefix) text) prefix) refl e where
   by : (t : Bool) → bytes_eq (take (length prefix) text) prefix ≡ t →
       cond t (Some (drop (length prefix) text)) None ≡ Some rest → text ≡ prefix ++ rest
   by false is found = absurd cc
   by true is found =
-      let front : take (length prefix) text ≡ prefix = (bytes_eq-Decides (take (length prefix) text) prefix).0 is in
+      let front = (bytes_eq-Decides (take (length prefix) text) prefix).0 is in
       let back : drop (length prefix) text ≡ rest = cc in
-      sym (take-append-drop (length prefix) text) ∙ ap₂ (λ (a b : List ℕ). a ++ b) front back
+      sym (take-append-drop (length prefix) text) ∙ ap₂ (λ (a b : Text). a ++ b) front back
 
 -- a line that is read is that of a module which fits, and whose name rises
-abbrev IsFile : List MapEntry → List ℕ × List ℕ → Type 0
+abbrev IsFile : List MapEntry → Text × Text → Type 0
 IsFile entries x = IsModulePair x × (is_fit x.1 ≡ true) × RisesBehind entries x.0
 
 -- the text is the line of such a module
-abbrev IsFileLine : List MapEntry → List ℕ → MapEntry → Type 0
+abbrev IsFileLine : List MapEntry → Text → MapEntry → Type 0
 IsFileLine entries text e = IsLineOf file_line named IsFile entries text e
 
-file-only : (entries : List MapEntry) (text : List ℕ) (e : MapEntry) → clang_form entries text ≡ Some e → IsFileLine entries text e
+file-only : (entries : List MapEntry) (text : Text) (e : MapEntry) → clang_form entries text ≡ Some e → IsFileLine entries text e
 file-only entries text e read = by (behind file_flag text) refl read where
-  rising : (rest : List ℕ) (x : List ℕ × List ℕ) → behind file_flag text ≡ Some rest → pair_in 61 rest ≡ Some x →
+  rising : (rest : Text) (x : Text × Text) → behind file_flag text ≡ Some rest → pair_in 61 rest ≡ Some x →
       (t : Bool) → rises_behind (slice_get entries (length entries - 1)) x.0 ≡ t →
       cond t (Some (named x)) None ≡ Some e → IsFileLine entries text e
   rising rest x is pair false up found = absurd cc
@@ -58,54 +58,54 @@ file-only entries text e read = by (behind file_flag text) refl read where
       let whole : text ≡ file_line x = behind-is file_flag text rest is ∙ ap (λ t. file_flag ++ t) facts.0 in
       (x, whole, sym same, (facts.1, facts.2, up))
 
-  paired : (rest : List ℕ) (o : Option (List ℕ × List ℕ)) → behind file_flag text ≡ Some rest → pair_in 61 rest ≡ o →
+  paired : (rest : Text) (o : Option (Text × Text)) → behind file_flag text ≡ Some rest → pair_in 61 rest ≡ o →
       file_entry entries o ≡ Some e → IsFileLine entries text e
   paired rest None is pair found = absurd cc
   paired rest (Some x) is pair found =
       rising rest x is pair
       (rises_behind (slice_get entries (length entries - 1)) x.0) refl found
 
-  by : (o : Option (List ℕ)) → behind file_flag text ≡ o → file_entry entries (file_pair o) ≡ Some e → IsFileLine entries text e
+  by : (o : Option Text) → behind file_flag text ≡ o → file_entry entries (file_pair o) ≡ Some e → IsFileLine entries text e
   by None is found = absurd cc
   by (Some rest) is found = paired rest (pair_in 61 rest) is refl found
 
 -- the names of modules that were read rise
-before : (a b : List ℕ) → is_lt (slice_cmp nat_cmp a b) ≡ true → Precedes a b
+before : (a b : Text) → is_lt (slice_cmp nat_cmp a b) ≡ true → Precedes a b
 before a b e = by (slice_cmp nat_cmp a b) e where
   by : (o : Ordering) → is_lt o ≡ true → o ≡ Less
   by Less e = refl
   by Equal e = absurd cc
   by Greater e = absurd cc
 
-next-is : (entries : List MapEntry) (x y : List ℕ × List ℕ) → IsFile (entries ++ named x ∷ []) y → Precedes x.0 y.0
+next-is : (entries : List MapEntry) (x y : Text × Text) → IsFile (entries ++ named x ∷ []) y → Precedes x.0 y.0
 next-is entries x y is =
     let behind_x : rises_behind (Some (named x)) y.0 ≡ true = ap (λ o. rises_behind o y.0) (sym (last-entry entries (named x))) ∙ is.2 in
     before x.0 y.0 behind_x
 
 -- the name comes before all of these
-abbrev PrecedesAll : List ℕ → Pairs → Type 0
-PrecedesAll name xs = AllByRecursion (λ (y : List ℕ × List ℕ). Precedes name y.0) xs
+abbrev PrecedesAll : Text → Pairs → Type 0
+PrecedesAll name xs = AllByRecursion (λ (y : Text × Text). Precedes name y.0) xs
 
-rest-rises : (first x : List ℕ × List ℕ) (entries : List MapEntry) (xs : Pairs) →
+rest-rises : (first x : Text × Text) (entries : List MapEntry) (xs : Pairs) →
     Precedes first.0 x.0 → EachBehind named IsFile (entries ++ named x ∷ []) xs →
     PrecedesAll first.0 xs
 rest-rises first x entries [] less each = tt
 rest-rises first x entries (y ∷ ys) less each =
-    let next : Precedes first.0 y.0 = nat_list_cmp_total.trans first.0 x.0 y.0 less (next-is entries x y each.0) in
+    let next = nat_list_cmp_total.trans first.0 x.0 y.0 less (next-is entries x y each.0) in
     (next, rest-rises first y (entries ++ named x ∷ []) ys next each.1)
 
-rises-from : (entries : List MapEntry) (x : List ℕ × List ℕ) (xs : Pairs) →
+rises-from : (entries : List MapEntry) (x : Text × Text) (xs : Pairs) →
     EachBehind named IsFile (entries ++ named x ∷ []) xs → PrecedesAll x.0 xs
 rises-from entries x [] each = tt
 rises-from entries x (y ∷ ys) each =
-    let next : Precedes x.0 y.0 = next-is entries x y each.0 in
+    let next = next-is entries x y each.0 in
     (next, rest-rises x y (entries ++ named x ∷ []) ys next each.1)
 
 rising-only : (entries : List MapEntry) (xs : Pairs) → EachBehind named IsFile entries xs → IsRising xs
 rising-only entries [] each = λ i j d less within. absurd (omega (arith, less, within))
 rising-only entries (x ∷ xs) each =
-    AllPairs-cons (λ (a b : List ℕ × List ℕ). Precedes a.0 b.0) x xs
-    (All-from_recursion (λ (y : List ℕ × List ℕ). Precedes x.0 y.0) xs (rises-from entries x xs each.1))
+    AllPairs-cons (λ (a b : Text × Text). Precedes a.0 b.0) x xs
+    (All-from_recursion (λ (y : Text × Text). Precedes x.0 y.0) xs (rises-from entries x xs each.1))
     (rising-only (entries ++ named x ∷ []) xs each.1)
 
 modules-of : (entries : List MapEntry) (xs : Pairs) → EachBehind named IsFile entries xs → AreModules xs × AreFit xs
@@ -115,11 +115,11 @@ modules-of entries (x ∷ xs) each =
     ((each.0.0, rest.0), (each.0.1, rest.1))
 
 -- the text is that of a map of which these entries are kept
-abbrev IsWritten : List ℕ → List MapEntry → Type 0
+abbrev IsWritten : Text → List MapEntry → Type 0
 IsWritten text found = IsWrittenText clang_written clang_kept text found
 
 -- lines of needed modules were written for them
-files-only : (lines : List (List ℕ)) (found : List MapEntry) →
+files-only : (lines : List Text) (found : List MapEntry) →
     read_lines clang_form [] 1 lines ≡ Ok found → IsWritten (join_with_byte 10 lines) found
 files-only lines found e =
     let w = lines-only clang_form file_line named IsFile file-only [] 1 lines found e in
@@ -137,14 +137,14 @@ files-only lines found e =
     }
 
 -- the text of a provided module's path, and of what follows its line
-abbrev provided_text : List ℕ → List ℕ → List ℕ
+abbrev provided_text : Text → Text → Text
 provided_text path rest = module_flag ++ 10 ∷ (output_flag ++ path) ++ 10 ∷ rest
 
-provided-only : (path : List ℕ) (lines : List (List ℕ)) (found : List MapEntry) → IsPath path → is_fit path ≡ true →
+provided-only : (path : Text) (lines : List Text) (found : List MapEntry) → IsPath path → is_fit path ≡ true →
     read_lines clang_form (record { name = None; path = path } ∷ []) 3 lines ≡ Ok found →
     IsWritten (provided_text path (join_with_byte 10 lines)) found
 provided-only path lines found is fit e =
-    let x : List ℕ × List ℕ = (codes "A", path) in
+    let x : Text × Text = (codes "A", path) in
     let earlier : List MapEntry = nameless x ∷ [] in
     let w = lines-only clang_form file_line named IsFile file-only earlier 3 lines found e in
     let both = modules-of earlier w.xs w.each in
@@ -164,35 +164,35 @@ provided-only path lines found is fit e =
     }
 
 -- the line is that of this path, which can be in a map
-abbrev IsOutputLine : List ℕ → List ℕ → Type 0
+abbrev IsOutputLine : Text → Text → Type 0
 IsOutputLine line path = (line ≡ output_flag ++ path) × IsPath path × (is_fit path ≡ true)
 
-output-is : (line path : List ℕ) → output_path (behind output_flag line) ≡ Some path → IsOutputLine line path
+output-is : (line path : Text) → output_path (behind output_flag line) ≡ Some path → IsOutputLine line path
 output-is line path e = by (behind output_flag line) refl e where
-  by : (o : Option (List ℕ)) → behind output_flag line ≡ o → output_path o ≡ Some path → IsOutputLine line path
+  by : (o : Option Text) → behind output_flag line ≡ o → output_path o ≡ Some path → IsOutputLine line path
   by None is found = absurd cc
   by (Some rest) is found =
       let facts = path-is rest path found in (
         behind-is output_flag line rest is ∙ ap (λ t. output_flag ++ t) (sym facts.0),
         subst IsPath (sym facts.0) facts.1,
-        subst (λ t. is_fit t ≡ true) (sym facts.0) facts.2,
+        rw (← facts.0) at facts.2,
       )
 
-behind-only : (lines : List (List ℕ)) (found : List MapEntry) →
+behind-only : (lines : List Text) (found : List MapEntry) →
     read_provided lines ≡ Ok found → IsWritten (module_flag ++ 10 ∷ join_with_byte 10 lines) found
 behind-only [] found e = absurd cc
 behind-only (last ∷ []) found e = absurd cc
 behind-only (line ∷ next ∷ lines) found e = by (output_path (behind output_flag line)) refl e where
-  by : (o : Option (List ℕ)) → output_path (behind output_flag line) ≡ o → read_behind o (next ∷ lines) ≡ Ok found →
+  by : (o : Option Text) → output_path (behind output_flag line) ≡ o → read_behind o (next ∷ lines) ≡ Ok found →
       IsWritten (module_flag ++ 10 ∷ join_with_byte 10 (line ∷ next ∷ lines)) found
   by None is read = absurd cc
   by (Some path) is read =
       let facts = output-is line path is in
-      let rest : List ℕ = join_with_byte 10 (next ∷ lines) in
+      let rest = join_with_byte 10 (next ∷ lines) in
       subst (λ t. IsWritten (module_flag ++ 10 ∷ t ++ 10 ∷ rest) found) (sym facts.0)
       (provided-only path (next ∷ lines) found facts.1 facts.2 read)
 
-read-only : (lines : List (List ℕ)) (found : List MapEntry) → clang_read lines ≡ Ok found → IsWritten (join_with_byte 10 lines) found
+read-only : (lines : List Text) (found : List MapEntry) → clang_read lines ≡ Ok found → IsWritten (join_with_byte 10 lines) found
 read-only [] found e = files-only [] found e
 read-only (last ∷ []) found e = files-only (last ∷ []) found e
 read-only (first ∷ next ∷ lines) found e = by (bytes_eq first module_flag) refl e where
@@ -200,18 +200,17 @@ read-only (first ∷ next ∷ lines) found e = by (bytes_eq first module_flag) r
       IsWritten (join_with_byte 10 (first ∷ next ∷ lines)) found
   by false is read = files-only (first ∷ next ∷ lines) found read
   by true is read =
-      let flag : first ≡ module_flag = (bytes_eq-Decides first module_flag).0 is in
+      let flag = (bytes_eq-Decides first module_flag).0 is in
       subst (λ t. IsWritten (t ++ 10 ∷ join_with_byte 10 (next ∷ lines)) found) (sym flag)
       (behind-only (next ∷ lines) found read)
 
-pub clang-only : (text : List ℕ) (found : List MapEntry) → clang_entries text ≡ Ok found →
+pub clang-only : (text : Text) (found : List MapEntry) → clang_entries text ≡ Ok found →
     IsWrittenText clang_written clang_kept text found
 clang-only text found e =
-    subst (λ t. IsWritten t found) (join_with_byte-slice_split 10 text)
-    (read-only (lines_of text) found e)
+    rw (join_with_byte-slice_split 10 text) at (read-only (lines_of text) found e)
 
 -- so what the style reads was written
-pub clang-read : (text : List ℕ) (result : Result (Vec MapEntry Global) (Failure MapFault)) →
+pub clang-read : (text : Text) (result : Result (Vec MapEntry Global) (Failure MapFault)) →
     Gives (λ found. found.items) result (clang_entries text) →
     IfOk result (λ found. IsWrittenText clang_written clang_kept text found.items)
 clang-read text (Ok found) gives = clang-only text found.items gives

@@ -1,5 +1,6 @@
 -- The texts that are read as maps of GCC were written for maps.
 use Rattle.std.proofs.Common.{◌≡◌, ℕ, ◌∷◌, [], ◌++◌, List, Option, Some, None, Ok, refl, ap, sym, ◌∙◌, true, map, arith, append-nil}
+use Rattle.ninja_text.specs.Bytes.{Text}
 use Rattle.std.specs.Prelude.{option_map, Result, Err, IfOk, Vec}
 use Rattle.std.specs.declared.alloc.Global.{Global}
 use Rattle.ninja_text.specs.Failure.{Gives}
@@ -16,13 +17,13 @@ use Rattle.module_maps.specs.declared.module_map.MapEntry.{MapEntry}
 use Rattle.module_maps.specs.declared.fault.MapFault.{MapFault}
 
 -- a line that is read is that of a module which fits
-abbrev IsGccModule : List MapEntry → List ℕ × List ℕ → Type 0
+abbrev IsGccModule : List MapEntry → Text × Text → Type 0
 IsGccModule entries pair = IsModulePair pair × (is_fit pair.1 ≡ true)
 
-line-only : (entries : List MapEntry) (text : List ℕ) (e : MapEntry) →
+line-only : (entries : List MapEntry) (text : Text) (e : MapEntry) →
     gcc_form entries text ≡ Some e → IsLineOf gcc_line named IsGccModule entries text e
 line-only entries text e read = by (pair_in 32 text) refl read where
-  by : (o : Option (List ℕ × List ℕ)) → pair_in 32 text ≡ o → option_map named o ≡ Some e →
+  by : (o : Option (Text × Text)) → pair_in 32 text ≡ o → option_map named o ≡ Some e →
       IsLineOf gcc_line named IsGccModule entries text e
   by None is found = absurd cc
   by (Some x) is found =
@@ -37,13 +38,13 @@ modules-of entries (x ∷ xs) each =
     ((each.0.0, rest.0), (each.0.1, rest.1))
 
 -- what is read was written
-pub gcc-only : (text : List ℕ) (found : List MapEntry) → gcc_entries text ≡ Ok found → IsWrittenText gcc_written gcc_kept text found
+pub gcc-only : (text : Text) (found : List MapEntry) → gcc_entries text ≡ Ok found → IsWrittenText gcc_written gcc_kept text found
 gcc-only text found e =
     let w = lines-only gcc_form gcc_line named IsGccModule line-only [] 1 (lines_of text) found e in
     let m : ModuleMapValue = record { provided = w.xs; needed = [] } in
     let both = modules-of [] w.xs w.each in
-    let pairs : w.xs ++ [] ≡ w.xs = append-nil w.xs in
-    let same : lines_text gcc_line w.xs ≡ text = sym w.text ∙ join_with_byte-slice_split 10 text in
+    let pairs = append-nil w.xs in
+    let same = sym w.text ∙ join_with_byte-slice_split 10 text in
     record {
       value = m;
       is_map = record {
@@ -56,7 +57,7 @@ gcc-only text found e =
     }
 
 -- so what the style reads was written
-pub gcc-read : (text : List ℕ) (result : Result (Vec MapEntry Global) (Failure MapFault)) →
+pub gcc-read : (text : Text) (result : Result (Vec MapEntry Global) (Failure MapFault)) →
     Gives (λ found. found.items) result (gcc_entries text) →
     IfOk result (λ found. IsWrittenText gcc_written gcc_kept text found.items)
 gcc-read text (Ok found) gives = gcc-only text found.items gives

@@ -1,5 +1,6 @@
 -- The lines that are read were written.
 use Rattle.std.proofs.Common.{◌≡◌, ℕ, ◌+◌, ◌<◌, ◌==◌, ◌&&◌, Bool, true, false, cond, List, [], ◌∷◌, ◌++◌, length, take, drop, get_or, Option, Some, None, Result, Ok, Err, refl, ap, ap₂, subst, sym, ◌∙◌, arith, position, IsTrue, map, append_assoc, append-nil, suc, eqb-true, codes}
+use Rattle.ninja_text.specs.Bytes.{Text}
 use Rattle.std.specs.Prelude.{⊤, bytes_eq, IsUtf8, option_map}
 use Rattle.std.specs.List.{join_with_byte}
 use Rattle.std.specs.Str.{is_utf8, IsAscii}
@@ -19,28 +20,28 @@ use Rattle.module_maps.specs.declared.fault.MapFault.TheVariants.{BadMapLine}
 use Rattle.module_maps.specs.map_laws.LineLemmas.{Pairs, AreFit, lines_text, read_on, parts_at, pair-of}
 
 -- a text that is cut is what is before the mark, the mark, and what is after it
-cut-whole : (mark : ℕ) (text first rest : List ℕ) → cut mark text ≡ Some (first, rest) → text ≡ first ++ mark ∷ rest
+cut-whole : (mark : ℕ) (text first rest : Text) → cut mark text ≡ Some (first, rest) → text ≡ first ++ mark ∷ rest
 cut-whole mark text first rest e = by (position (λ b. b == mark) text) refl e where
   by : (index : Option ℕ) → position (λ b. b == mark) text ≡ index →
       option_map (parts_at text) index ≡ Some (first, rest) → text ≡ first ++ mark ∷ rest
   by None is found = absurd cc
   by (Some i) is found =
       let facts = position-Some (λ b. b == mark) text i 0 is in
-      let within : i < length text = facts.0 in
+      let within = facts.0 in
       let next : suc i ≡ i + 1 = omega arith in
-      let here : get_or text i 0 ≡ mark = eqb-true (get_or text i 0) mark facts.1 in
+      let here = eqb-true (get_or text i 0) mark facts.1 in
       let parts : parts_at text i ≡ (first, rest) = cc in
-      let front : take i text ≡ first = ap (λ (p : List ℕ × List ℕ). p.0) parts in
-      let back : drop (i + 1) text ≡ rest = ap (λ (p : List ℕ × List ℕ). p.1) parts in
+      let front : take i text ≡ first = ap (λ (p : Text × Text). p.0) parts in
+      let back : drop (i + 1) text ≡ rest = ap (λ (p : Text × Text). p.1) parts in
       let behind : drop i text ≡ mark ∷ rest =
-      drop-cons text i 0 within ∙ ap₂ (λ (x : ℕ) (t : List ℕ). x ∷ t) here (ap (λ n. drop n text) next ∙ back) in
+      drop-cons text i 0 within ∙ ap₂ (λ (x : ℕ) (t : Text). x ∷ t) here (ap (λ n. drop n text) next ∙ back) in
       sym (take-append-drop i text) ∙ ap (λ t. take i text ++ t) behind ∙ ap (λ t. t ++ mark ∷ rest) front
 
 -- the name is the text, which is one
-abbrev IsNameOf : List ℕ → List ℕ → Type 0
+abbrev IsNameOf : Text → Text → Type 0
 IsNameOf text name = (name ≡ text) × IsTrue (is_name text) × IsUtf8 text
 
-name-is : (text name : List ℕ) → name_in text ≡ Some name → IsNameOf text name
+name-is : (text name : Text) → name_in text ≡ Some name → IsNameOf text name
 unfolding name_in
 name-is text name e = by (is_utf8 text) (is_name text) refl refl e where
   by : (u n : Bool) → is_utf8 text ≡ u → is_name text ≡ n → cond (u && n) (Some text) None ≡ Some name → IsNameOf text name
@@ -51,13 +52,13 @@ name-is text name e = by (is_utf8 text) (is_name text) refl refl e where
   by false n utf is found = absurd cc
 
 -- the path is the text, which is one and can be in a map
-abbrev pub IsPathOf : List ℕ → List ℕ → Type 0
+abbrev pub IsPathOf : Text → Text → Type 0
 IsPathOf text path = (path ≡ text) × IsPath text × (is_fit text ≡ true)
 
-pub path-is : (text path : List ℕ) → path_in text ≡ Some path → IsPathOf text path
+pub path-is : (text path : Text) → path_in text ≡ Some path → IsPathOf text path
 unfolding path_in
 path-is text path e = by (is_fit text) (path_of text) refl refl e where
-  at : (fit : is_fit text ≡ true) (p : List ℕ) → path_of text ≡ Ok p →
+  at : (fit : is_fit text ≡ true) (p : Text) → path_of text ≡ Ok p →
       (t : Bool) → bytes_eq p text ≡ t → cond t (Some text) None ≡ Some path →
       IsPathOf text path
   at fit p is true same found =
@@ -65,14 +66,14 @@ path-is text path e = by (is_fit text) (path_of text) refl refl e where
       (sym e, is ∙ ap (λ t. Ok t) ((bytes_eq-Decides p text).0 same), fit)
   at fit p is false same found = absurd cc
 
-  by : (f : Bool) (r : Result (List ℕ) PathFault) → is_fit text ≡ f → path_of text ≡ r →
+  by : (f : Bool) (r : Result Text PathFault) → is_fit text ≡ f → path_of text ≡ r →
       cond f (canonical_in text r) None ≡ Some path → IsPathOf text path
   by false r fit is found = absurd cc
   by true (Err fault) fit is found = absurd cc
   by true (Ok p) fit is found = at fit p is (bytes_eq p text) refl found
 
 -- a path that was read without a name is that of a module
-pub some-module : (path : List ℕ) → IsPath path → IsModulePair (codes "A", path)
+pub some-module : (path : Text) → IsPath path → IsModulePair (codes "A", path)
 unfolding is_name
 some-module path is =
     record { name = refl; text = IsUtf8-from_ascii (codes "A") ascii; path = is } where
@@ -80,13 +81,13 @@ some-module path is =
       ascii = IsAscii-cons 65 [] (omega arith) IsAscii-nil
 
 -- the text is what is written of the pair, which is a module that can be in a map
-abbrev pub IsPairOf : ℕ → List ℕ → List ℕ × List ℕ → Type 0
+abbrev pub IsPairOf : ℕ → Text → Text × Text → Type 0
 IsPairOf mark text pair = (text ≡ pair.0 ++ mark ∷ pair.1) × IsModulePair pair × (is_fit pair.1 ≡ true)
 
-pub pair-is : (mark : ℕ) (text : List ℕ) (pair : List ℕ × List ℕ) → pair_in mark text ≡ Some pair → IsPairOf mark text pair
+pub pair-is : (mark : ℕ) (text : Text) (pair : Text × Text) → pair_in mark text ≡ Some pair → IsPairOf mark text pair
 pair-is mark text pair e = by (cut mark text) refl where
-  parts : (name file : List ℕ) → cut mark text ≡ Some (name, file) →
-      (n p : Option (List ℕ)) → name_in name ≡ n → path_in file ≡ p → both n p ≡ Some pair →
+  parts : (name file : Text) → cut mark text ≡ Some (name, file) →
+      (n p : Option Text) → name_in name ≡ n → path_in file ≡ p → both n p ≡ Some pair →
       IsPairOf mark text pair
   parts name file is None p en ep found = absurd cc
   parts name file is (Some n) None en ep found = absurd cc
@@ -94,14 +95,13 @@ pair-is mark text pair e = by (cut mark text) refl where
       let of_name = name-is name n en in
       let of_path = path-is file p ep in
       let same : (n, p) ≡ pair = cc in
-      let pairs : (name, file) ≡ pair = ap₂ (λ (x y : List ℕ). (x, y)) (sym of_name.0) (sym of_path.0) ∙ same in
+      let pairs : (name, file) ≡ pair = ap₂ (λ (x y : Text). (x, y)) (sym of_name.0) (sym of_path.0) ∙ same in
       let is_module : IsModulePair (name, file) =
       record { name = of_name.1; text = of_name.2; path = of_path.1 } in
-      subst (λ (z : List ℕ × List ℕ). IsPairOf mark text z) pairs
-      (cut-whole mark text name file is, is_module, of_path.2)
+      subst (IsPairOf mark text) pairs (cut-whole mark text name file is, is_module, of_path.2)
 
-  by : (o : Option (List ℕ × List ℕ)) → cut mark text ≡ o → IsPairOf mark text pair
-  by None is = absurd (let no : None ≡ Some pair = sym (pair-of mark text None is) ∙ e in cc)
+  by : (o : Option (Text × Text)) → cut mark text ≡ o → IsPairOf mark text pair
+  by None is = absurd (let no = sym (pair-of mark text None is) ∙ e in cc)
   by (Some c) is =
       parts c.0 c.1 is (name_in c.0) (path_in c.1) refl refl
       (sym (pair-of mark text (Some c) is) ∙ e)
@@ -112,8 +112,8 @@ EachBehind entry Q entries [] = ⊤
 EachBehind entry Q entries (x ∷ xs) = Q entries x × EachBehind entry Q (entries ++ entry x ∷ []) xs
 
 -- Entries that were read after others are those of what was written in these lines.
-pub record AreWritten {X : Type 0} (line : X → List ℕ) (entry : X → MapEntry)
-    (Q : List MapEntry → X → Type 0) (entries : List MapEntry) (lines : List (List ℕ))
+pub record AreWritten {X : Type 0} (line : X → Text) (entry : X → MapEntry)
+    (Q : List MapEntry → X → Type 0) (entries : List MapEntry) (lines : List Text)
     (found : List MapEntry) : Type 0 where
   pub xs : List X
   pub text : join_with_byte 10 lines ≡ lines_text line xs
@@ -121,27 +121,27 @@ pub record AreWritten {X : Type 0} (line : X → List ℕ) (entry : X → MapEnt
   pub each : EachBehind entry Q entries xs
 
 -- the text is the line of a thing with this entry, of which this holds after earlier entries
-abbrev pub IsLineOf : {X : Type 0} → (X → List ℕ) → (X → MapEntry) →
-    (List MapEntry → X → Type 0) → List MapEntry → List ℕ → MapEntry → Type 0
+abbrev pub IsLineOf : {X : Type 0} → (X → Text) → (X → MapEntry) →
+    (List MapEntry → X → Type 0) → List MapEntry → Text → MapEntry → Type 0
 IsLineOf {X} line entry Q entries text e = (x : X) × (text ≡ line x) × (e ≡ entry x) × Q entries x
 
-empty-is : (xs : List ℕ) → is_empty xs ≡ true → xs ≡ []
+empty-is : (xs : Text) → is_empty xs ≡ true → xs ≡ []
 empty-is [] e = refl
 empty-is (x ∷ xs) e = absurd cc
 
 -- nothing was written if no line is read
-none-written : {X : Type 0} (line : X → List ℕ) (entry : X → MapEntry)
-    (Q : List MapEntry → X → Type 0) (entries : List MapEntry) (lines : List (List ℕ))
+none-written : {X : Type 0} (line : X → Text) (entry : X → MapEntry)
+    (Q : List MapEntry → X → Type 0) (entries : List MapEntry) (lines : List Text)
     (found : List MapEntry) → join_with_byte 10 lines ≡ [] → entries ≡ found →
     AreWritten line entry Q entries lines found
 none-written line entry Q entries lines found empty same =
     record { xs = []; text = empty; all = sym same ∙ sym (append-nil entries); each = tt }
 
-pub lines-only : {X : Type 0} (form : LineForm) (line : X → List ℕ) (entry : X → MapEntry)
+pub lines-only : {X : Type 0} (form : LineForm) (line : X → Text) (entry : X → MapEntry)
     (Q : List MapEntry → X → Type 0) →
-    ((entries : List MapEntry) (text : List ℕ) (e : MapEntry) →
+    ((entries : List MapEntry) (text : Text) (e : MapEntry) →
     form entries text ≡ Some e → IsLineOf line entry Q entries text e) →
-    (entries : List MapEntry) (n : ℕ) (lines : List (List ℕ)) (found : List MapEntry) →
+    (entries : List MapEntry) (n : ℕ) (lines : List Text) (found : List MapEntry) →
     read_lines form entries n lines ≡ Ok found → AreWritten line entry Q entries lines found
 lines-only form line entry Q back entries n [] found e =
     let same : entries ≡ found = cc in
@@ -167,7 +167,7 @@ lines-only {X} form line entry Q back entries n (first ∷ next ∷ lines) found
           let rest = more z read in
           record {
             xs = one.0 ∷ rest.xs;
-            text = ap₂ (λ (a b : List ℕ). a ++ 10 ∷ b) one.1 rest.text ∙ sym (append_assoc (line one.0) (10 ∷ []) (lines_text line rest.xs));
+            text = ap₂ (λ (a b : Text). a ++ 10 ∷ b) one.1 rest.text ∙ sym (append_assoc (line one.0) (10 ∷ []) (lines_text line rest.xs));
             all = rest.all ∙ append_assoc entries (z ∷ []) (map entry rest.xs) ∙ ap (λ y. entries ++ y ∷ map entry rest.xs) one.2;
             each = (
               one.3,

@@ -1,5 +1,5 @@
 -- What the styles of module maps share: the paths that can be in a map, and how its lines are read.
-use Rattle.std.specs.Prelude.{ℕ, ◌+◌, ◌==◌, Bool, not, ◌&&◌, if◌then◌else◌, nat_lt, List, [], ◌∷◌, ◌++◌, length, take, drop, option_map, Option, Some, None, Result, Ok, Err, bytes_eq, position}
+use Rattle.std.specs.Prelude.{◌≡◌, ℕ, ◌+◌, ◌<◌, ◌==◌, Bool, not, ◌&&◌, if◌then◌else◌, nat_lt, List, [], ◌∷◌, ◌++◌, length, take, drop, option_map, Option, Some, None, Result, Ok, Err, bytes_eq, position}
 use Rattle.std.specs.List.{list_all, slice_split}
 use Rattle.std.specs.Str.{is_utf8}
 use Rattle.ninja_text.specs.Paths.{path_of, is_empty}
@@ -74,6 +74,10 @@ named pair = record { name = Some pair.0; path = pair.1 }
 
 abbrev pub nameless : Name × PathText → MapEntry
 nameless pair = record { name = None; path = pair.1 }
+
+-- the first of these entries were appended, but not all of them
+abbrev pub AppendsFirst : List MapEntry → List MapEntry → List MapEntry → Type 0
+AppendsFirst old entries new = (k : ℕ) × (k < length entries) × (new ≡ old ++ take k entries)
 
 -- what follows a prefix
 abbrev pub behind : Text → Text → Option Text

@@ -8,7 +8,9 @@ use Rattle.document_values.specs.Name.{is_name}
 use Rattle.module_maps.specs.Values.{ModuleMapValue}
 use Rattle.module_maps.specs.declared.module_map.MapEntry.{MapEntry}
 use Rattle.module_maps.specs.declared.fault.MapFault.{MapFault}
-use Rattle.module_maps.specs.declared.fault.MapFault.TheVariants.{BadMapLine}
+use Rattle.module_maps.specs.declared.fault.MapFault.TheVariants.{MapPath, TwoProvided, BadMapLine}
+use Rattle.module_maps.specs.declared.fault.UnwritableMap.{UnwritableMap}
+use Rattle.module_maps.specs.declared.fault.UnwritableMap.TheVariants as unwritable
 
 -- the names and the paths that are borrowed
 abbrev pub lent_pairs : List (Bor Name × Bor PathText) → List (Name × PathText)
@@ -55,6 +57,11 @@ Entries = Text → Result (List MapEntry) MapFault
 abbrev pub FaultsAreOfMaps : Written → Type 0
 FaultsAreOfMaps written = (m : ModuleMapValue) (line : ℕ) →
     IsModuleMap m → written m ≢ Err (BadMapLine line)
+
+-- the same error among all errors of maps
+abbrev pub map_fault : UnwritableMap → MapFault
+map_fault (unwritable.MapPath path) = MapPath path
+map_fault unwritable.TwoProvided = TwoProvided
 
 -- what was written for a map is read as what the style keeps of it
 abbrev pub ReadsWritten : Written → (ModuleMapValue → List MapEntry) → Entries → Type 0

@@ -1,10 +1,10 @@
 //! The maps of Clang.
-ghost use Rattle.std.specs.Prelude.{◌≡◌, ◌++◌, ◌-◌, length, slice_get, IfOk, OnOk};
+ghost use Rattle.std.specs.Prelude.{◌≡◌, ◌++◌, ◌-◌, length, slice_get, option_copied, IfOk, OnOk};
 ghost use Rattle.std.specs.List.{flat_map};
 ghost use Rattle.ninja_text.specs.Failure.{Gives};
 ghost use Rattle.module_maps.specs.Maps.{IsWrittenText, lent_pairs};
 ghost use Rattle.module_maps.specs.MapLines.{lines_of};
-ghost use Rattle.module_maps.specs.ClangMaps.{output_text, rises_behind, read_provided};
+ghost use Rattle.module_maps.specs.ClangMaps.{output_text, rises, rises_behind, read_provided};
 
 use crate::fault::MapFault;
 use crate::map_lines::{
@@ -19,9 +19,10 @@ use std::alloc::{AllocError, Global};
 
 /// The style of Clang, for a response file (Clang documentation, "Standard C++ Modules").
 ///
-/// If the object provides a module, the map has the lines `-x c++-module` and `-fmodule-output=PATH`.
-/// For each needed module it has a line `-fmodule-file=NAME=PATH`. The name of the provided module is
-/// not kept. A map fits if no path needs quotes and at most one module is provided.
+/// If the object provides a module, the map has the lines `-x c++-module` and
+/// `-fmodule-output=PATH`. For each needed module it has a line `-fmodule-file=NAME=PATH`. The name
+/// of the provided module is not kept. A map fits if no path needs quotes and at most one module is
+/// provided.
 pub struct Clang;
 
 impl MapStyle for Clang {
@@ -71,8 +72,8 @@ impl MapStyle for Clang {
     ///
     /// # Errors
     ///
-    /// Returns K4 with the first bad line if no map is written as this text, or [`Failure::Memory`] if
-    /// an allocation fails.
+    /// Returns K4 with the first bad line if no map is written as this text, or [`Failure::Memory`]
+    /// if an allocation fails.
     fn read(&self, alloc: Global, text: &[u8]) -> Result<Vec<MapEntry>, Failure<MapFault>>
         ensures entries { Gives (λ found. found.items) result (clang_entries text.now) }
         // The text was written for a map of which these entries are kept.
@@ -136,14 +137,25 @@ fn read_provided(alloc: Global, text: &[u8]) -> Result<Vec<MapEntry>, Failure<Ma
 fn rises_behind(entries: &[MapEntry], name: &Name) -> bool
     ensures { result ≡ rises_behind (slice_get entries.now (length entries.now - 1)) name.now }
 {
-    match entries.last().and_then(|entry| entry.name.as_ref()) {
+    match entries.last() {
+        Some(entry) => rises(entry.name.as_ref(), name),
+        None => true,
+    }
+}
+
+/// Returns whether a name comes after another one, if there is one.
+fn rises(before: Option<&Name>, name: &Name) -> bool
+    ensures { result ≡ rises (option_copied before.entry) name.now }
+{
+    match before {
         Some(before) => before < name,
         None => true,
     }
 }
 
 fn push_outputs(text: &mut Vec<u8>, pairs: &[(&Name, &Path)]) -> Result<(), AllocError>
-    ensures { OnOk result (text.new.items ≡ text.old.items ++ flat_map output_text (lent_pairs pairs.now)) }
+    ensures { OnOk result
+        (text.new.items ≡ text.old.items ++ flat_map output_text (lent_pairs pairs.now)) }
 {
     for pair in pairs {
         text.extend_from_slice(b"-x c++-module\n-fmodule-output=")?;

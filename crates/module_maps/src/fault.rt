@@ -16,3 +16,14 @@ pub enum MapFault {
     #[error("K4 BadMapLine line {line}")]
     BadMapLine { line: u64 },
 }
+
+/// Why a map cannot be written: K1 and K2 of [`MapFault`]. K4 is an error of reading a text.
+#[derive(Debug, Drop, Error)]
+pub enum UnwritableMap {
+    /// The style cannot express this path.
+    #[error("K1 MapPath")]
+    MapPath { path: Path },
+    /// The object provides two modules, but a map of the style has at most one.
+    #[error("K2 TwoProvided")]
+    TwoProvided,
+}

@@ -12,8 +12,8 @@ use std::alloc::{AllocError, Global};
 
 /// The style of GCC's module mapper files (GCC manual, "C++ Module Mapper").
 ///
-/// The map has a line with name, space and path for each module. All names are kept. A map fits if no
-/// path has a byte below 33, 127, or one of `'`, `"`, `\`.
+/// The map has a line with name, space and path for each module. All names are kept. A map fits if
+/// no path has a byte below 33, 127, or one of `'`, `"`, `\`.
 pub struct Gcc;
 
 impl MapStyle for Gcc {
@@ -58,8 +58,8 @@ impl MapStyle for Gcc {
     ///
     /// # Errors
     ///
-    /// Returns K4 with the first bad line if no map is written as this text, or [`Failure::Memory`] if
-    /// an allocation fails.
+    /// Returns K4 with the first bad line if no map is written as this text, or [`Failure::Memory`]
+    /// if an allocation fails.
     fn read(&self, alloc: Global, text: &[u8]) -> Result<Vec<MapEntry>, Failure<MapFault>>
         ensures entries { Gives (λ found. found.items) result (gcc_entries text.now) }
         // The text was written for a map of which these entries are kept.

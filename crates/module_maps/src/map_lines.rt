@@ -1,9 +1,9 @@
 //! Helpers for styles of module maps: which paths a map can have, and how its lines are read.
-ghost use Rattle.std.specs.Prelude.{◌≡◌, ◌<◌, ◌≤◌, ◌==◌, ◌++◌, [], ◌∷◌, length, map, Some, None, IfOk, OnOk, IfSome, MatchOption, option_copied, position};
+ghost use Rattle.std.specs.Prelude.{◌≡◌, ◌<◌, ◌≤◌, ◌==◌, ◌++◌, [], ◌∷◌, length, map, Some, None, IfOk, OnOk, OnErr, IfSome, MatchOption, option_copied, position};
 ghost use Rattle.std.specs.List.{flat_map};
 ghost use Rattle.ninja_text.specs.Failure.{Gives};
 ghost use Rattle.module_maps.specs.Maps.{pairs_of, lent_pairs};
-ghost use Rattle.module_maps.specs.MapLines.{LineForm, is_map_byte, is_fit, first_unfit, named, nameless, ended_line, lines_of, cut, path_in, pair_in, read_lines};
+ghost use Rattle.module_maps.specs.MapLines.{LineForm, AppendsFirst, is_map_byte, is_fit, first_unfit, named, nameless, ended_line, lines_of, cut, path_in, pair_in, read_lines};
 
 use crate::fault::MapFault;
 use crate::module_map::{MapEntry, ModuleMap};
@@ -31,13 +31,13 @@ pub trait LineForm {
         ensures { IfOk result (λ entry. entry ≡ form self.now entries.now line.now) };
 }
 
-/// Returns the earlier entries and the entries of the lines of a text. The first line has this number,
-/// which is at most 3.
+/// Returns the earlier entries and the entries of the lines of a text. The first line has this
+/// number, which is at most 3.
 ///
 /// # Errors
 ///
-/// Returns K4 with the first line that does not have the form or has no end, or [`Failure::Memory`] if
-/// an allocation fails.
+/// Returns K4 with the first line that does not have the form or has no end, or [`Failure::Memory`]
+/// if an allocation fails.
 pub fn read_lines<F: LineForm>(
     alloc: Global,
     form: &F,
@@ -95,8 +95,8 @@ fn index_of(text: &[u8], mark: u8) -> Option<usize>
     text.iter().position(|b| *b == mark)
 }
 
-/// Returns the module in a text: a name, the first byte that is the mark, and a path. Returns `None` if
-/// the text does not have this form.
+/// Returns the module in a text: a name, the first byte that is the mark, and a path. Returns
+/// `None` if the text does not have this form.
 ///
 /// # Errors
 ///
@@ -139,8 +139,8 @@ pub fn path_in(alloc: Global, text: &[u8]) -> Result<Option<Path>, AllocError>
     }
 }
 
-/// Returns whether a map can have this path. No byte ends the loop, so the compiler can make it test
-/// 16 bytes at a time.
+/// Returns whether a map can have this path. No byte ends the loop, so the compiler can make it
+/// test 16 bytes at a time.
 fn is_fit(path: &[u8]) -> bool
     ensures { result ≡ is_fit path.now }
 {
@@ -186,7 +186,8 @@ pub(crate) fn push_lines(
     pairs: &[(&Name, &Path)],
 ) -> Result<(), AllocError>
     ensures { OnOk result (text.new.items ≡ text.old.items
-        ++ flat_map (λ pair. ended_line (prefix.now ++ pair.0 ++ mark ∷ pair.1)) (lent_pairs pairs.now)) }
+        ++ flat_map (λ pair. ended_line (prefix.now ++ pair.0 ++ mark ∷ pair.1))
+        (lent_pairs pairs.now)) }
 {
     for pair in pairs {
         text.extend_from_slice(prefix)?;
@@ -202,13 +203,16 @@ pub(crate) fn push_lines(
 ///
 /// # Errors
 ///
-/// Returns an error if an allocation fails.
+/// Returns an error if an allocation fails. The entries of the first modules are appended then.
 pub fn push_named(
     alloc: Global,
     entries: &mut Vec<MapEntry>,
     pairs: &[(&Name, &Path)],
 ) -> Result<(), AllocError>
-    ensures { OnOk result (entries.new.items ≡ entries.old.items ++ map named (lent_pairs pairs.now)) }
+    ensures all { OnOk result
+        (entries.new.items ≡ entries.old.items ++ map named (lent_pairs pairs.now)) }
+    ensures first { OnErr result (AppendsFirst
+        entries.old.items (map named (lent_pairs pairs.now)) entries.new.items) }
 {
     for pair in pairs {
         let name = Some(pair.0.copy(alloc)?);
@@ -222,13 +226,16 @@ pub fn push_named(
 ///
 /// # Errors
 ///
-/// Returns an error if an allocation fails.
+/// Returns an error if an allocation fails. The entries of the first modules are appended then.
 pub fn push_nameless(
     alloc: Global,
     entries: &mut Vec<MapEntry>,
     pairs: &[(&Name, &Path)],
 ) -> Result<(), AllocError>
-    ensures { OnOk result (entries.new.items ≡ entries.old.items ++ map nameless (lent_pairs pairs.now)) }
+    ensures all { OnOk result
+        (entries.new.items ≡ entries.old.items ++ map nameless (lent_pairs pairs.now)) }
+    ensures first { OnErr result (AppendsFirst
+        entries.old.items (map nameless (lent_pairs pairs.now)) entries.new.items) }
 {
     for pair in pairs {
         let path = pair.1.copy(alloc)?;

@@ -106,8 +106,8 @@ impl<'m> ModuleMap<'m> {
     }
 }
 
-/// Returns the number of bytes of the names and paths. Each of them has been looked at then, so it is
-/// known to be a name or a path.
+/// Returns the number of bytes of the names and paths. Each of them has been looked at then, so it
+/// is known to be a name or a path.
 fn bytes_in(pairs: &[(&Name, &Path)]) -> usize
     ensures { All IsModulePair (lent_pairs pairs.now) }
 {

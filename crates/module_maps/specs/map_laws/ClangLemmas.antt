@@ -1,5 +1,6 @@
 -- The maps of Clang.
 use Rattle.std.proofs.Common.{◌≡◌, ◌≢◌, ℕ, ◌+◌, ◌-◌, ◌<◌, ◌==◌, zero, suc, Bool, true, false, not, cond, nat_lt, List, [], ◌∷◌, ◌++◌, length, map, Option, Some, None, Result, Ok, Err, refl, ap, sym, subst, ◌∙◌, arith, append_assoc, append-nil, length-append, slice_get}
+use Rattle.ninja_text.specs.Bytes.{Text}
 use Rattle.std.specs.Prelude.{⊤, bytes_eq}
 use Rattle.std.specs.Ordering.{is_lt}
 use Rattle.std.proofs.lemmas.List.Splits.{slice_split_at}
@@ -29,7 +30,7 @@ last-entry entries entry =
     ∙ slice_get_read _ _ _ _ refl within (sym (get_or-append_seam entries entry [] entry))
 
 -- the name rises after the last of the entries
-abbrev pub RisesBehind : List MapEntry → List ℕ → Type 0
+abbrev pub RisesBehind : List MapEntry → Text → Type 0
 RisesBehind entries name = rises_behind (slice_get entries (length entries - 1)) name ≡ true
 
 -- the first name rises after the last entry
@@ -37,29 +38,29 @@ abbrev Begins : List MapEntry → Pairs → Type 0
 Begins entries [] = ⊤
 Begins entries (x ∷ xs) = RisesBehind entries x.0
 
-begins-next : (entries : List MapEntry) (x : List ℕ × List ℕ) (xs : Pairs) →
+begins-next : (entries : List MapEntry) (x : Text × Text) (xs : Pairs) →
     IsRising (x ∷ xs) → Begins (entries ++ named x ∷ []) xs
 begins-next entries x [] rising = tt
 begins-next entries x (y ∷ ys) rising =
     ap (λ o. rises_behind o y.0) (last-entry entries (named x))
     ∙ ap is_lt (rising 0 1 x (omega arith) (omega arith))
 
-rising-rest : (x : List ℕ × List ℕ) (xs : Pairs) → IsRising (x ∷ xs) → IsRising xs
+rising-rest : (x : Text × Text) (xs : Pairs) → IsRising (x ∷ xs) → IsRising xs
 rising-rest x xs rising i j d less within =
     rising (suc i) (suc j) d (omega (arith, less)) (omega (arith, within))
 
 -- a text of other bytes has no line end
-no-line-end : (text : List ℕ) → list_all (λ b. not (b == 10)) text ≡ true → Lacks 10 text
+no-line-end : (text : Text) → list_all (λ b. not (b == 10)) text ≡ true → Lacks 10 text
 no-line-end text others = lacks (λ b. not (b == 10)) 10 refl text others
 
 -- nor has one that such a text is before
-no-line-end-behind : (front text : List ℕ) → list_all (λ b. not (b == 10)) front ≡ true →
+no-line-end-behind : (front text : Text) → list_all (λ b. not (b == 10)) front ≡ true →
     Lacks 10 text → Lacks 10 (front ++ text)
 no-line-end-behind front text others lacking =
     All-append (λ b. (b == 10) ≡ false) front text (no-line-end front others) lacking
 
 -- the line of a needed module is read as that module, if its name rises
-file-back : (entries : List MapEntry) (x : List ℕ × List ℕ) → IsModulePair x → is_fit x.1 ≡ true →
+file-back : (entries : List MapEntry) (x : Text × Text) → IsModulePair x → is_fit x.1 ≡ true →
     RisesBehind entries x.0 → clang_form entries (file_line x) ≡ Some (named x)
 file-back entries x is fit rises =
     ap (file_entry entries) (pair-back 61 x refl is fit)
@@ -77,12 +78,12 @@ files-each entries (x ∷ xs) modules fits rising begins =
     )
 
 -- how the lines after the first are read, if it is the flag, and if it is not
-abbrev pub read_behind_first : List ℕ → List (List ℕ) → Bool → Result (List MapEntry) MapFault
+abbrev pub read_behind_first : Text → List Text → Bool → Result (List MapEntry) MapFault
 read_behind_first first lines is_flag =
     cond is_flag (read_provided lines) (read_lines clang_form [] 1 (first ∷ lines))
 
 -- a text has a line after the first
-first-line : (first text : List ℕ) → clang_read (first ∷ lines_of text) ≡
+first-line : (first text : Text) → clang_read (first ∷ lines_of text) ≡
     read_behind_first first (lines_of text) (bytes_eq first module_flag)
 first-line first text =
     let some = some-line text in
@@ -90,16 +91,16 @@ first-line first text =
     read_behind_first first lines (bytes_eq first module_flag)) (sym some.2) refl
 
 -- a text whose first line is not the flag
-pub not-provided : (first text : List ℕ) → bytes_eq first module_flag ≡ false →
+pub not-provided : (first text : Text) → bytes_eq first module_flag ≡ false →
     clang_read (first ∷ lines_of text) ≡ read_lines clang_form [] 1 (first ∷ lines_of text)
 not-provided first text other =
     first-line first text ∙ ap (read_behind_first first (lines_of text)) other
 
-pub is-provided : (first text : List ℕ) → bytes_eq first module_flag ≡ true →
+pub is-provided : (first text : Text) → bytes_eq first module_flag ≡ true →
     clang_read (first ∷ lines_of text) ≡ read_provided (lines_of text)
 is-provided first text is = first-line first text ∙ ap (read_behind_first first (lines_of text)) is
 
-pub provided-line : (line text : List ℕ) (path : Option (List ℕ)) →
+pub provided-line : (line text : Text) (path : Option Text) →
     output_path (behind output_flag line) ≡ path →
     read_provided (line ∷ lines_of text) ≡ read_behind path (lines_of text)
 provided-line line text path is =
@@ -112,7 +113,7 @@ files-back : (xs : Pairs) → AreModules xs → AreFit xs → IsRising xs →
     clang_entries (lines_text file_line xs) ≡ Ok (map named xs)
 files-back [] modules fits rising = refl
 files-back (x ∷ xs) modules fits rising =
-    let rest : List ℕ = lines_text file_line xs in
+    let rest : Text = lines_text file_line xs in
     let each : ReadsEach clang_form file_line named [] (x ∷ xs) =
     files-each [] (x ∷ xs) modules fits rising refl in
     let parts : lines_of (lines_text file_line (x ∷ xs)) ≡ file_line x ∷ lines_of rest =
@@ -123,17 +124,17 @@ files-back (x ∷ xs) modules fits rising =
     ∙ lines-back clang_form file_line named [] 1 (x ∷ xs) each
 
 -- the text of a provided module and of needed ones
-pub one-text : (path files : List ℕ) → ((path ++ 10 ∷ []) ++ []) ++ files ≡ path ++ 10 ∷ files
+pub one-text : (path files : Text) → ((path ++ 10 ∷ []) ++ []) ++ files ≡ path ++ 10 ∷ files
 one-text path files =
     ap (λ t. t ++ files) (append-nil (path ++ 10 ∷ [])) ∙ append_assoc path (10 ∷ []) files
 
-one-back : (x : List ℕ × List ℕ) (xs : Pairs) → IsModulePair x → is_fit x.1 ≡ true →
+one-back : (x : Text × Text) (xs : Pairs) → IsModulePair x → is_fit x.1 ≡ true →
     AreModules xs → AreFit xs → IsRising xs →
     clang_entries (clang_text (record { provided = x ∷ []; needed = xs })) ≡
     Ok (nameless x ∷ map named xs)
 one-back x xs is fit modules fits rising =
-    let files : List ℕ = lines_text file_line xs in
-    let output : List ℕ = output_line x ++ 10 ∷ files in
+    let files : Text = lines_text file_line xs in
+    let output : Text = output_line x ++ 10 ∷ files in
     let lacking : Lacks 10 (output_line x) =
     no-line-end-behind output_flag x.1 refl (fit-lacks 10 x.1 refl fit) in
     let each : ReadsEach clang_form file_line named (nameless x ∷ []) xs =
@@ -154,7 +155,7 @@ one-back x xs is fit modules fits rising =
 abbrev pub map_with : Pairs → Pairs → ModuleMapValue
 map_with provided needed = record { provided = provided; needed = needed }
 
-text-back : (provided needed : Pairs) (text : List ℕ) → AreModules (provided ++ needed) →
+text-back : (provided needed : Pairs) (text : Text) → AreModules (provided ++ needed) →
     AreFit (provided ++ needed) → IsRising needed →
     clang_result (map_with provided needed) None ≡ Ok text →
     clang_entries text ≡ Ok (clang_kept (map_with provided needed))
@@ -172,7 +173,7 @@ text-back (x ∷ y ∷ more) needed text modules fits rising e =
     sym (ap (λ t. cond t (Err TwoProvided) (Ok (clang_text m))) two) ∙ e in
     absurd cc
 
-pub clang-back : (m : ModuleMapValue) (text : List ℕ) → IsModuleMap m →
+pub clang-back : (m : ModuleMapValue) (text : Text) → IsModuleMap m →
     clang_written m ≡ Ok text → clang_entries text ≡ Ok (clang_kept m)
 clang-back m text is e = by (first_unfit (pairs_of m)) refl e
   where
@@ -180,7 +181,7 @@ clang-back m text is e = by (first_unfit (pairs_of m)) refl e
     modules = recursion_from_All IsModulePair (pairs_of m)
         (All-append IsModulePair m.provided m.needed is.provided is.needed)
 
-    by : (unfit : Option (List ℕ)) → first_unfit (pairs_of m) ≡ unfit →
+    by : (unfit : Option Text) → first_unfit (pairs_of m) ≡ unfit →
         clang_result m unfit ≡ Ok text → clang_entries text ≡ Ok (clang_kept m)
     by (Some path) found e = absurd cc
     by None found e =
@@ -192,9 +193,9 @@ kept-paths : (xs ys : Pairs) →
 kept-paths [] ys = (named-pairs ys).paths
 kept-paths (x ∷ xs) ys = ap (λ ps. x.1 ∷ ps) (kept-paths xs ys)
 
-kept-names : (xs ys : Pairs) (k : ℕ) (e : MapEntry) (name : List ℕ) →
+kept-names : (xs ys : Pairs) (k : ℕ) (e : MapEntry) (name : Text) →
     slice_get (map nameless xs ++ map named ys) k ≡ Some e → e.name ≡ Some name →
-    (path : List ℕ) × (slice_get (xs ++ ys) k ≡ Some (name, path))
+    (path : Text) × (slice_get (xs ++ ys) k ≡ Some (name, path))
 kept-names [] ys k e name here given = (named-pairs ys).names k e name here given
 kept-names (x ∷ xs) ys zero e name here given =
     let entry : nameless x ≡ e = cc in
@@ -209,7 +210,8 @@ clang-pairs m = record {
 }
 
 -- why nothing is written is a fact about the map
-no-line : (m : ModuleMapValue) (unfit : Option (List ℕ)) (line : ℕ) → clang_result m unfit ≢ Err (BadMapLine line)
+no-line : (m : ModuleMapValue) (unfit : Option Text) (line : ℕ) →
+    clang_result m unfit ≢ Err (BadMapLine line)
 no-line m (Some path) line e = absurd cc
 no-line m None line e = by (nat_lt 1 (length m.provided)) e
   where

@@ -1,5 +1,6 @@
 -- The maps of GCC.
 use Rattle.std.proofs.Common.{◌≡◌, ◌≢◌, Err, ℕ, ◌∷◌, [], ◌++◌, List, Option, Some, None, Ok, refl, ap, sym, ◌∙◌, map}
+use Rattle.ninja_text.specs.Bytes.{Text}
 use Rattle.std.specs.Prelude.{option_map}
 use Rattle.std.proofs.lemmas.List.Elements.{All-append, recursion_from_All}
 use Rattle.module_maps.specs.Values.{ModuleMapValue}
@@ -21,7 +22,7 @@ gcc-each entries (x ∷ xs) modules fits = (
 )
 
 -- what was written is read
-text-back : (pairs : Pairs) (text : List ℕ) (unfit : Option (List ℕ)) →
+text-back : (pairs : Pairs) (text : Text) (unfit : Option Text) →
     first_unfit pairs ≡ unfit → AreModules pairs → gcc_text pairs unfit ≡ Ok text →
     gcc_entries text ≡ Ok (map named pairs)
 text-back pairs text (Some path) is modules e = absurd cc
@@ -30,7 +31,7 @@ text-back pairs text None is modules e =
     ap gcc_entries (sym same)
     ∙ lines-back gcc_form gcc_line named [] 1 pairs (gcc-each [] pairs modules (each-fit pairs is))
 
-pub gcc-back : (m : ModuleMapValue) (text : List ℕ) → IsModuleMap m → gcc_written m ≡ Ok text →
+pub gcc-back : (m : ModuleMapValue) (text : Text) → IsModuleMap m → gcc_written m ≡ Ok text →
     gcc_entries text ≡ Ok (gcc_kept m)
 gcc-back m text is e =
     let modules : AreModules (pairs_of m) = recursion_from_All IsModulePair (pairs_of m)
@@ -41,7 +42,8 @@ pub gcc-pairs : (m : ModuleMapValue) → AreEntriesOf (pairs_of m) (gcc_kept m)
 gcc-pairs m = named-pairs (pairs_of m)
 
 -- why nothing is written is a fact about the map
-no-line : (pairs : Pairs) (unfit : Option (List ℕ)) (line : ℕ) → gcc_text pairs unfit ≢ Err (BadMapLine line)
+no-line : (pairs : Pairs) (unfit : Option Text) (line : ℕ) →
+    gcc_text pairs unfit ≢ Err (BadMapLine line)
 no-line pairs None line e = absurd cc
 no-line pairs (Some path) line e = absurd cc
 

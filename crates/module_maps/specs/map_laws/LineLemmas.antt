@@ -1,5 +1,6 @@
 -- The lines of module maps.
 use Rattle.std.proofs.Common.{◌≡◌, ℕ, ◌+◌, ◌<◌, ◌==◌, ◌&&◌, Bool, true, false, cond, nat_lt, nat_le, List, [], ◌∷◌, ◌++◌, length, take, drop, get_or, Option, Some, None, Result, Ok, Err, refl, ap, ap₂, subst, sym, ◌∙◌, arith, position, IsTrue, map, append_assoc, append-nil, suc, eqb-true, length-append}
+use Rattle.ninja_text.specs.Bytes.{Text}
 use Rattle.std.specs.Prelude.{⊤, slice_get, IsUtf8, option_map, All}
 use Rattle.std.specs.List.{slice_split, onto_first, position_or_len, list_all, count_by, flat_map, AllByRecursion}
 use Rattle.std.specs.Str.{is_utf8}
@@ -24,7 +25,7 @@ use Rattle.module_maps.specs.declared.fault.MapFault.TheVariants.{BadMapLine}
 
 -- pairs of a name and a path
 abbrev pub Pairs : Type 0
-Pairs = List (List ℕ × List ℕ)
+Pairs = List (Text × Text)
 
 -- each pair is a module
 abbrev pub AreModules : Pairs → Type 0
@@ -35,17 +36,17 @@ abbrev pub AreFit : Pairs → Type 0
 AreFit pairs = AllByRecursion (λ pair. is_fit pair.1 ≡ true) pairs
 
 -- no byte of the text is the mark
-abbrev pub Lacks : ℕ → List ℕ → Type 0
+abbrev pub Lacks : ℕ → Text → Type 0
 Lacks mark text = All (λ b. (b == mark) ≡ false) text
 
 -- ---- cutting a text
 
 -- what is before the byte of this index, and what is after it
-abbrev pub parts_at : List ℕ → ℕ → List ℕ × List ℕ
+abbrev pub parts_at : Text → ℕ → Text × Text
 parts_at text i = (take i text, drop (i + 1) text)
 
 -- the text up to the index that is found
-cut-parts : (p : ℕ → Bool) (xs : List ℕ) (i : ℕ) → position p xs ≡ Some i →
+cut-parts : (p : ℕ → Bool) (xs : Text) (i : ℕ) → position p xs ≡ Some i →
     slice_split p xs ≡ take i xs ∷ slice_split p (drop (i + 1) xs)
 cut-parts p xs i e =
     let f = position-Some p xs i 0 e in
@@ -55,7 +56,7 @@ cut-parts p xs i e =
     subst (λ n. slice_split p xs ≡ take n xs ∷ slice_split p (drop (n + 1) xs)) at
     (slice_split_first p xs 0 within)
 
-pass-none : (p : ℕ → Bool) (xs : List ℕ) → position p xs ≡ None → All (λ x. p x ≡ false) xs
+pass-none : (p : ℕ → Bool) (xs : Text) → position p xs ≡ None → All (λ x. p x ≡ false) xs
 pass-none p xs e k d within = by (nat_lt (position_or_len p xs) (length xs)) refl e
   where
     by : (t : Bool) → nat_lt (position_or_len p xs) (length xs) ≡ t →
@@ -63,42 +64,42 @@ pass-none p xs e k d within = by (nat_lt (position_or_len p xs) (length xs)) ref
     by true is found = absurd (let no : Some (position_or_len p xs) ≡ None = found in cc)
     by false is found = fails_before_first p xs k d (grind arith)
 
-cut-none : (p : ℕ → Bool) (xs : List ℕ) → position p xs ≡ None → slice_split p xs ≡ xs ∷ []
+cut-none : (p : ℕ → Bool) (xs : Text) → position p xs ≡ None → slice_split p xs ≡ xs ∷ []
 cut-none p xs e = slice_split_none p xs (pass-none p xs e)
 
 -- the lines of a text that is cut so at its first line end
-abbrev HasLines : List ℕ → Option (List ℕ × List ℕ) → Type 0
+abbrev HasLines : Text → Option (Text × Text) → Type 0
 HasLines text None = lines_of text ≡ text ∷ []
 HasLines text (Some c) = lines_of text ≡ c.0 ∷ lines_of c.1
 
 -- what the index says of the lines
-by-index : (text : List ℕ) (index : Option ℕ) → position is_line_end text ≡ index →
-    (found : Option (List ℕ × List ℕ)) → option_map (parts_at text) index ≡ found →
+by-index : (text : Text) (index : Option ℕ) → position is_line_end text ≡ index →
+    (found : Option (Text × Text)) → option_map (parts_at text) index ≡ found →
     HasLines text found
 by-index text None e None is = cut-none is_line_end text e
 by-index text None e (Some c) is = absurd cc
 by-index text (Some i) e None is = absurd cc
 by-index text (Some i) e (Some c) is =
     let parts : parts_at text i ≡ c = cc in
-    subst (λ (z : List ℕ × List ℕ). lines_of text ≡ z.0 ∷ lines_of z.1) parts
+    subst (λ (z : Text × Text). lines_of text ≡ z.0 ∷ lines_of z.1) parts
     (cut-parts is_line_end text i e)
 
-pub lines-cut : (text first more : List ℕ) → cut 10 text ≡ Some (first, more) →
+pub lines-cut : (text first more : Text) → cut 10 text ≡ Some (first, more) →
     lines_of text ≡ first ∷ lines_of more
 lines-cut text first more e =
     by-index text (position is_line_end text) refl (Some (first, more)) e
 
-pub lines-whole : (text : List ℕ) → cut 10 text ≡ None → lines_of text ≡ text ∷ []
+pub lines-whole : (text : Text) → cut 10 text ≡ None → lines_of text ≡ text ∷ []
 lines-whole text e = by-index text (position is_line_end text) refl None e
 
 -- ---- the module in a text
 
-pub pair-of : (mark : ℕ) (text : List ℕ) (texts : Option (List ℕ × List ℕ)) →
+pub pair-of : (mark : ℕ) (text : Text) (texts : Option (Text × Text)) →
     cut mark text ≡ texts → pair_in mark text ≡ read_pair texts
 unfolding pair_in
 pair-of mark text texts e = ap read_pair e
 
-pub name-text : (text : List ℕ) (name : Option (List ℕ)) →
+pub name-text : (text : Text) (name : Option Text) →
     SomeIff name (IsTrue (is_name text)) text → IsUtf8 text → name ≡ name_in text
 unfolding name_in
 name-text text None not_name utf =
@@ -113,7 +114,7 @@ name-text text (Some name) is utf = rw (is_utf8-from_IsUtf8 text utf) (by (is_na
     by true holds = ap (λ n. Some n) is.1
     by false holds = absurd cc
 
-pub name-other : (text : List ℕ) → (IsUtf8 text → ⊥) → None ≡ name_in text
+pub name-other : (text : Text) → (IsUtf8 text → ⊥) → None ≡ name_in text
 unfolding name_in
 name-other text other = by (is_utf8 text) refl
   where
@@ -123,7 +124,7 @@ name-other text other = by (is_utf8 text) refl
 
 -- ---- paths that are unfit
 
-pub unfit-front : (xs ys : Pairs) (path : List ℕ) → first_unfit xs ≡ Some path →
+pub unfit-front : (xs ys : Pairs) (path : Text) → first_unfit xs ≡ Some path →
     first_unfit (xs ++ ys) ≡ Some path
 unfit-front [] ys path e = absurd cc
 unfit-front (x ∷ xs) ys path e = by (is_fit x.1) e (unfit-front xs ys path)
@@ -148,29 +149,29 @@ unfit-back (x ∷ xs) ys e = by (is_fit x.1) e (unfit-back xs ys)
 -- ---- reading lines
 
 -- a text has a first line, or what counts as one
-pub some-line : (text : List ℕ) →
-    (line : List ℕ) × (lines : List (List ℕ)) × (lines_of text ≡ line ∷ lines)
+pub some-line : (text : Text) →
+    (line : Text) × (lines : List Text) × (lines_of text ≡ line ∷ lines)
 some-line [] = ([], [], refl)
 some-line (b ∷ bs) =
     let more = some-line bs in
     by (is_line_end b) (lines_of bs) more.0 more.1 more.2
   where
-    by : (t : Bool) (parts : List (List ℕ)) (line : List ℕ) (lines : List (List ℕ)) →
+    by : (t : Bool) (parts : List Text) (line : Text) (lines : List Text) →
         parts ≡ line ∷ lines →
-        (first : List ℕ) × (rest : List (List ℕ))
+        (first : Text) × (rest : List Text)
         × (cond t ([] ∷ parts) (onto_first b parts) ≡ first ∷ rest)
     by true parts line lines e = ([], parts, refl)
     by false parts line lines e = (b ∷ line, lines, ap (onto_first b) e)
 
 -- how reading continues after a line with this entry, or with none
-abbrev pub read_on : LineForm → List MapEntry → ℕ → List (List ℕ) → Option MapEntry →
+abbrev pub read_on : LineForm → List MapEntry → ℕ → List Text → Option MapEntry →
     Result (List MapEntry) MapFault
 read_on form entries n lines None = Err (BadMapLine n)
 read_on form entries n lines (Some entry) =
     read_lines form (entries ++ entry ∷ []) (n + 1) lines
 
 -- a line is followed by others, if not by an empty one
-line-then : (form : LineForm) (entries : List MapEntry) (n : ℕ) (line text : List ℕ) →
+line-then : (form : LineForm) (entries : List MapEntry) (n : ℕ) (line text : Text) →
     read_lines form entries n (line ∷ lines_of text) ≡
     read_on form entries n (lines_of text) (form entries line)
 line-then form entries n line text =
@@ -179,14 +180,14 @@ line-then form entries n line text =
     read_on form entries n parts (form entries line)) (sym some.2) refl
 
 -- one line is read, and lines follow
-pub line-read : (form : LineForm) (entries : List MapEntry) (n : ℕ) (line text : List ℕ)
+pub line-read : (form : LineForm) (entries : List MapEntry) (n : ℕ) (line text : Text)
     (entry : MapEntry) → form entries line ≡ Some entry →
     read_lines form entries n (line ∷ lines_of text) ≡
     read_lines form (entries ++ entry ∷ []) (n + 1) (lines_of text)
 line-read form entries n line text entry e =
     line-then form entries n line text ∙ ap (read_on form entries n (lines_of text)) e
 
-pub line-bad : (form : LineForm) (entries : List MapEntry) (n : ℕ) (line text : List ℕ) →
+pub line-bad : (form : LineForm) (entries : List MapEntry) (n : ℕ) (line text : Text) →
     form entries line ≡ None →
     read_lines form entries n (line ∷ lines_of text) ≡ Err (BadMapLine n)
 line-bad form entries n line text e =
@@ -195,7 +196,7 @@ line-bad form entries n line text e =
 -- ---- what was written is read
 
 -- bytes of which a test holds are not among those of which it does not
-pub lacks : (test : ℕ → Bool) (mark : ℕ) → test mark ≡ false → (xs : List ℕ) →
+pub lacks : (test : ℕ → Bool) (mark : ℕ) → test mark ≡ false → (xs : Text) →
     list_all test xs ≡ true → Lacks mark xs
 lacks test mark outside xs all k d within = by (get_or xs k d == mark) refl
   where
@@ -210,10 +211,10 @@ lacks test mark outside xs all k d within = by (get_or xs k d == mark) refl
     by false is = is
 
 -- a text is cut after what lacks the mark
-cut-at : (mark : ℕ) (first rest : List ℕ) → Lacks mark first →
+cut-at : (mark : ℕ) (first rest : Text) → Lacks mark first →
     cut mark (first ++ mark ∷ rest) ≡ Some (first, rest)
 cut-at mark first rest none =
-    let text : List ℕ = first ++ mark ∷ rest in
+    let text : Text = first ++ mark ∷ rest in
     let p : ℕ → Bool = (λ b. b == mark) in
     let size : length text ≡ length first + length (mark ∷ rest) =
     length-append first (mark ∷ rest) in
@@ -227,7 +228,7 @@ cut-at mark first rest none =
     let found : position p text ≡ Some (length first) =
     ap (λ t. cond t (Some (position_or_len p text)) None) within ∙ ap (λ n. Some n) index in
     ap (option_map (parts_at text)) found
-    ∙ ap₂ (λ (a b : List ℕ). Some (a, b)) (take-append_seam first (mark ∷ rest))
+    ∙ ap₂ (λ (a b : Text). Some (a, b)) (take-append_seam first (mark ∷ rest))
     (drop-append-add first (mark ∷ rest) 1)
 
 -- the last of five tests
@@ -235,7 +236,7 @@ last-test : (a b c d e : Bool) → (a && b && c && d && e) ≡ true → e ≡ tr
 last-test a b c d true h = refl
 last-test a b c d false h = grind (arith, h)
 
-pub name-bytes : (text : List ℕ) → is_name text ≡ true → list_all is_name_byte text ≡ true
+pub name-bytes : (text : Text) → is_name text ≡ true → list_all is_name_byte text ≡ true
 unfolding is_name
 name-bytes text h =
     last-test (nat_le 1 (length text)) (nat_le (length text) name_limit)
@@ -243,17 +244,17 @@ name-bytes text h =
     (list_all is_not_empty (slice_split is_separator text)) (list_all is_name_byte text) h
 
 -- a name has none of the bytes that no name has
-name-lacks : (mark : ℕ) (name : List ℕ) → is_name_byte mark ≡ false → is_name name ≡ true →
+name-lacks : (mark : ℕ) (name : Text) → is_name_byte mark ≡ false → is_name name ≡ true →
     Lacks mark name
 name-lacks mark name outside is = lacks is_name_byte mark outside name (name-bytes name is)
 
 -- a path of a map has none of the bytes that no such path has
-pub fit-lacks : (mark : ℕ) (path : List ℕ) → is_map_byte mark ≡ false → is_fit path ≡ true →
+pub fit-lacks : (mark : ℕ) (path : Text) → is_map_byte mark ≡ false → is_fit path ≡ true →
     Lacks mark path
 fit-lacks mark path outside fit = lacks is_map_byte mark outside path fit
 
 -- the bytes of the two are not those that neither may have
-pub pair-lacks : (mark between : ℕ) (pair : List ℕ × List ℕ) → is_name_byte mark ≡ false →
+pub pair-lacks : (mark between : ℕ) (pair : Text × Text) → is_name_byte mark ≡ false →
     is_map_byte mark ≡ false → (between == mark) ≡ false → IsModulePair pair →
     is_fit pair.1 ≡ true → Lacks mark (pair.0 ++ between ∷ pair.1)
 pair-lacks mark between pair no_name no_path other is fit =
@@ -261,14 +262,14 @@ pair-lacks mark between pair no_name no_path other is fit =
     All-append IsOther pair.0 (between ∷ pair.1) (name-lacks mark pair.0 no_name is.name)
     (All-cons IsOther between pair.1 other (fit-lacks mark pair.1 no_path fit))
 
-pub path-back : (text : List ℕ) → IsPath text → is_fit text ≡ true → path_in text ≡ Some text
+pub path-back : (text : Text) → IsPath text → is_fit text ≡ true → path_in text ≡ Some text
 unfolding path_in
 path-back text is fit =
     ap (λ t. cond t (canonical_in text (path_of text)) None) fit ∙ ap (canonical_in text) is
     ∙ ap (λ t. cond t (Some text) None) ((bytes_eq-Decides text text).1 refl)
 
 -- a name that is text and a path that fits are read again
-pub pair-back : (mark : ℕ) (pair : List ℕ × List ℕ) → is_name_byte mark ≡ false →
+pub pair-back : (mark : ℕ) (pair : Text × Text) → is_name_byte mark ≡ false →
     IsModulePair pair → is_fit pair.1 ≡ true →
     pair_in mark (pair.0 ++ mark ∷ pair.1) ≡ Some pair
 pair-back mark pair outside is fit =
@@ -278,23 +279,23 @@ pair-back mark pair outside is fit =
     (path-back pair.1 is.path fit)
 
 -- the lines of things, each with its end
-abbrev pub lines_text : {X : Type 0} → (X → List ℕ) → List X → List ℕ
+abbrev pub lines_text : {X : Type 0} → (X → Text) → List X → Text
 lines_text line xs = flat_map (λ x. ended_line (line x)) xs
 
 -- each line is read as its entry, after those before it
-abbrev pub ReadsEach : {X : Type 0} → LineForm → (X → List ℕ) → (X → MapEntry) →
+abbrev pub ReadsEach : {X : Type 0} → LineForm → (X → Text) → (X → MapEntry) →
     List MapEntry → List X → Type 0
 ReadsEach form line entry entries [] = ⊤
 ReadsEach form line entry entries (x ∷ xs) =
     (form entries (line x) ≡ Some (entry x)) × Lacks 10 (line x)
     × ReadsEach form line entry (entries ++ entry x ∷ []) xs
 
-pub lines-back : {X : Type 0} (form : LineForm) (line : X → List ℕ) (entry : X → MapEntry)
+pub lines-back : {X : Type 0} (form : LineForm) (line : X → Text) (entry : X → MapEntry)
     (entries : List MapEntry) (n : ℕ) (xs : List X) → ReadsEach form line entry entries xs →
     read_lines form entries n (lines_of (lines_text line xs)) ≡ Ok (entries ++ map entry xs)
 lines-back form line entry entries n [] reads = ap Ok (sym (append-nil entries))
 lines-back form line entry entries n (x ∷ xs) reads =
-    let rest : List ℕ = lines_text line xs in
+    let rest : Text = lines_text line xs in
     ap (λ t. read_lines form entries n (lines_of t)) (append_assoc (line x) (10 ∷ []) rest)
     ∙ ap (read_lines form entries n)
     (slice_split_at is_line_end (line x) 10 rest reads.1 refl)
@@ -324,9 +325,9 @@ named-pairs pairs = record {
     paths-of [] = refl
     paths-of (x ∷ xs) = ap (λ ps. x.1 ∷ ps) (paths-of xs)
 
-    at : (k : ℕ) (e : MapEntry) (name : List ℕ) (o : Option (List ℕ × List ℕ)) →
+    at : (k : ℕ) (e : MapEntry) (name : Text) (o : Option (Text × Text)) →
         slice_get pairs k ≡ o → option_map named o ≡ Some e → e.name ≡ Some name →
-        (path : List ℕ) × (slice_get pairs k ≡ Some (name, path))
+        (path : Text) × (slice_get pairs k ≡ Some (name, path))
     at k e name None is here given = absurd cc
     at k e name (Some pair) is here given =
         let entry : named pair ≡ e = cc in

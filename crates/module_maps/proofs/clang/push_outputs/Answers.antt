@@ -1,18 +1,18 @@
-use Rattle.std.proofs.Common.{◌≡◌, ◌<◌, ℕ, List, [], ◌∷◌, ◌++◌, length, arith, ap, Bor, ◌∙◌}
-use Rattle.module_maps.specs.ClangMaps.{module_flag, output_flag, output_text}
-use Rattle.module_maps.proofs.Pushes.{one-more, three-parts, written-all}
+use Rattle.std.proofs.Common.{◌≡◌, ◌<◌, ℕ, List, [], ◌∷◌, ◌++◌, length, arith, ap, Bor, ◌∙◌, append_assoc}
+use Rattle.module_maps.specs.ClangMaps.{output_text}
+use Rattle.module_maps.proofs.Pushes.{one-more, written-all}
 use Rattle.module_maps.proofs.clang.push_outputs.Goals as goal
 
 pub loop-pair-preserved : goal.loop-pair-preserved
 loop-pair-preserved c =
     let within : c.loop-pair.pair-index < length c.args.pairs.now = omega arith in
-    let old : List ℕ = c.loop-pair.text.items in
+    let old = c.loop-pair.text.items in
     let written : c.push.new.self.items ≡ old ++ output_text (c.pair-item.result.0.now, c.pair-item.result.1.now) =
-    three-parts old c.extend_from_slice.new.self.items c.extend_from_slice-in-loop-pair.new.self.items c.push.new.self.items (module_flag ++ 10 ∷ output_flag) c.pair-item.result.1.now (10 ∷ [])
-    c.in_ok-extend_from_slice.ensures.items
-    (c.in_ok-extend_from_slice-2.ensures.items ∙ ap (λ t. c.extend_from_slice.new.self.items ++ t) c.bytes.ensures.text)
-    c.in_ok-push.ensures.items in
-    one-more (λ (pair : Bor (List ℕ) × Bor (List ℕ)). output_text (pair.0.now, pair.1.now)) c.args.text.now.items old c.push.new.self.items c.args.pairs.now c.loop-pair.pair-index c.pair-item.result within c.pair-item.is c.loop-pair.invariant written
+    rw (c.in_ok-push.ensures.items, c.in_ok-extend_from_slice-2.ensures.items, c.bytes.ensures.text, c.in_ok-extend_from_slice.ensures.items)
+    (simp append_assoc) in
+    one-more (λ (pair : Bor (List ℕ) × Bor (List ℕ)). output_text (pair.0.now, pair.1.now)) c.args.text.now.items old c.push.new.self.items c.args.pairs.now
+    c.loop-pair.pair-index c.pair-item.result within c.pair-item.is c.loop-pair.invariant written
 
 pub returns : goal.returns
-returns c = written-all (output_text) (λ pair. (pair.0.now, pair.1.now)) c.args.text.now.items c.loop-pair.text.items c.args.pairs.now c.loop-pair.pair-index c.loop-pair-test.false c.loop-pair.invariant
+returns c = written-all (output_text) (λ pair. (pair.0.now, pair.1.now)) c.args.text.now.items c.loop-pair.text.items c.args.pairs.now c.loop-pair.pair-index
+    c.loop-pair-test.false c.loop-pair.invariant

@@ -13,11 +13,12 @@ behind_is flag line rest begins is = rw (begins, is) refl
 
 pub returns : goal.returns
 returns c =
-    let line : List ℕ = c.in-Some.line.now in
-    let rest : List ℕ = c.in-Some.rest.now in
-    let output : behind output_flag line ≡ Some c.in-Some-strip_prefix.output.now = behind_is output_flag line c.in-Some-strip_prefix.output.now c.in-Some-strip_prefix.ensures.cases.0 c.in-Some-strip_prefix.ensures.cases.1 in
-    let path : output_path (behind output_flag line) ≡ Some c.in-Some-2.path = ap output_path output ∙ sym c.in_ok-path.ensures ∙ c.in-Some-2.is in
+    let line = c.in-Some.line.now in
+    let rest = c.in-Some.rest.now in
+    let output = behind_is output_flag line c.in-Some-strip_prefix.output.now c.in-Some-strip_prefix.ensures.cases.0 c.in-Some-strip_prefix.ensures.cases.1 in
+    let path = ap output_path output ∙ sym c.in_ok-path.ensures ∙ c.in-Some-2.is in
     let same : read_lines clang_form c.push.new.self.items 3 (lines_of rest) ≡ read_provided (lines_of c.args.text.now) =
-    ap (λ es. read_lines clang_form es 3 (lines_of rest)) (c.in_ok-push.ensures.items ∙ ap (λ (es : List MapEntry). es ++ record { name = None; path = c.in-Some-2.path } ∷ []) c.new-entries.ensures.items)
+    ap (λ es. read_lines clang_form es 3 (lines_of rest))
+    (c.in_ok-push.ensures.items ∙ ap (λ (es : List MapEntry). es ++ record { name = None; path = c.in-Some-2.path } ∷ []) c.new-entries.ensures.items)
     ∙ sym (ap read_provided c.in-Some.ensures.lines ∙ provided-line line rest (Some c.in-Some-2.path) path) in
     subst (Gives (λ found. found.items) c.read_lines.result) same c.read_lines.ensures

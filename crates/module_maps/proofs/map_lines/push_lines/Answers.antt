@@ -1,26 +1,32 @@
-use Rattle.std.proofs.Common.{◌≡◌, ◌<◌, ℕ, List, [], ◌∷◌, ◌++◌, length, arith, ap, Bor, ◌∙◌}
+use Rattle.std.proofs.Common.{◌≡◌, ◌<◌, ℕ, List, [], ◌∷◌, ◌++◌, length, arith, ap, Bor, ◌∙◌, append_assoc}
+use Rattle.ninja_text.specs.Bytes.{Text}
 use Rattle.module_maps.specs.MapLines.{ended_line}
-use Rattle.module_maps.proofs.Pushes.{one-more, five-parts, written-all}
+use Rattle.module_maps.proofs.Pushes.{one-more, written-all}
 use Rattle.module_maps.proofs.map_lines.push_lines.Goals as goal
 
 -- the line of a module
-abbrev line_of : List ℕ → ℕ → List ℕ × List ℕ → List ℕ
+abbrev line_of : Text → ℕ → Text × Text → Text
 line_of prefix mark pair = ended_line (prefix ++ pair.0 ++ mark ∷ pair.1)
 
 pub loop-pair-preserved : goal.loop-pair-preserved
 loop-pair-preserved c =
     let within : c.loop-pair.pair-index < length c.args.pairs.now = omega arith in
-    let old : List ℕ = c.loop-pair.text.items in
-    let line : List ℕ × List ℕ → List ℕ = line_of c.args.prefix.now c.args.mark in
+    let old = c.loop-pair.text.items in
+    let line = line_of c.args.prefix.now c.args.mark in
     let written : c.push-in-loop-pair.new.self.items ≡ old ++ line (c.pair-item.result.0.now, c.pair-item.result.1.now) =
-    five-parts old c.extend_from_slice.new.self.items c.extend_from_slice-in-loop-pair.new.self.items c.push.new.self.items c.extend_from_slice-in-loop-pair-2.new.self.items c.push-in-loop-pair.new.self.items
-    c.args.prefix.now c.pair-item.result.0.now (c.args.mark ∷ []) c.pair-item.result.1.now (10 ∷ [])
-    c.in_ok-extend_from_slice.ensures.items
-    (c.in_ok-extend_from_slice-2.ensures.items ∙ ap (λ t. c.extend_from_slice.new.self.items ++ t) c.bytes.ensures.text)
-    c.in_ok-push.ensures.items
-    (c.in_ok-extend_from_slice-3.ensures.items ∙ ap (λ t. c.push.new.self.items ++ t) c.bytes-in-loop-pair.ensures.text)
-    c.in_ok-push-2.ensures.items in
-    one-more (λ (pair : Bor (List ℕ) × Bor (List ℕ)). line (pair.0.now, pair.1.now)) c.args.text.now.items old c.push-in-loop-pair.new.self.items c.args.pairs.now c.loop-pair.pair-index c.pair-item.result within c.pair-item.is c.loop-pair.invariant written
+    rw (
+      c.in_ok-push-2.ensures.items,
+      c.in_ok-extend_from_slice-3.ensures.items,
+      c.bytes-in-loop-pair.ensures.text,
+      c.in_ok-push.ensures.items,
+      c.in_ok-extend_from_slice-2.ensures.items,
+      c.bytes.ensures.text,
+      c.in_ok-extend_from_slice.ensures.items,
+    )
+    (simp append_assoc) in
+    one-more (λ (pair : Bor Text × Bor Text). line (pair.0.now, pair.1.now)) c.args.text.now.items old c.push-in-loop-pair.new.self.items c.args.pairs.now
+    c.loop-pair.pair-index c.pair-item.result within c.pair-item.is c.loop-pair.invariant written
 
 pub returns : goal.returns
-returns c = written-all (line_of c.args.prefix.now c.args.mark) (λ pair. (pair.0.now, pair.1.now)) c.args.text.now.items c.loop-pair.text.items c.args.pairs.now c.loop-pair.pair-index c.loop-pair-test.false c.loop-pair.invariant
+returns c = written-all (line_of c.args.prefix.now c.args.mark) (λ pair. (pair.0.now, pair.1.now)) c.args.text.now.items c.loop-pair.text.items c.args.pairs.now
+    c.loop-pair.pair-index c.loop-pair-test.false c.loop-pair.invariant

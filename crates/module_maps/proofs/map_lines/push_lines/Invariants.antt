@@ -5,4 +5,5 @@ use Rattle.module_maps.proofs.map_lines.push_lines.Given as goal
 
 -- the lines so far
 abbrev pub invariant-loop-pair : goal.invariant-loop-pair
-invariant-loop-pair l = l.text.items ≡ l.initial.text.items ++ flat_map (λ pair. ended_line (l.prefix ++ pair.0.now ++ l.mark ∷ pair.1.now)) (take l.pair-index l.pairs)
+invariant-loop-pair l = l.text.items ≡
+    l.initial.text.items ++ flat_map (λ pair. ended_line (l.prefix ++ pair.0.now ++ l.mark ∷ pair.1.now)) (take l.pair-index l.pairs)

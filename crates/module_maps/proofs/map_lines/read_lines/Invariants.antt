@@ -6,7 +6,8 @@ use Rattle.module_maps.proofs.map_lines.read_lines.Given as goal
 abbrev pub invariant-loop-first : goal.invariant-loop-first
 invariant-loop-first g l =
     record {
-      same : read_lines (g.F.LineForm.form l.form) l.fn.earlier.items l.fn.number (lines_of l.fn.text) ≡ read_lines (g.F.LineForm.form l.form) l.entries.items l.line (lines_of l.rest);
+      same : read_lines (g.F.LineForm.form l.form) l.fn.earlier.items l.fn.number (lines_of l.fn.text) ≡
+          read_lines (g.F.LineForm.form l.form) l.entries.items l.line (lines_of l.rest);
       bound : l.line + length l.rest ≤ 3 + length l.fn.text;
     }
 

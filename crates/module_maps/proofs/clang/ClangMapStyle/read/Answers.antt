@@ -9,10 +9,10 @@ use Rattle.module_maps.proofs.clang.ClangMapStyle.read.Goals as goal
 
 pub returns-then-eq-clause-entries : goal.returns-then-eq-clause-entries
 returns-then-eq-clause-entries c =
-    let first : List ℕ = c.in-Some.first.now in
-    let rest : List ℕ = c.in-Some.rest.now in
-    let flag : bytes_eq first module_flag ≡ true = ap (bytes_eq first) (sym c.as_slice.ensures) ∙ sym c.eq.ensures ∙ c.if-eq.true in
-    let same : read_provided (lines_of rest) ≡ clang_entries c.args.text.now = sym (ap clang_read c.in-Some.ensures.lines ∙ is-provided first rest flag) in
+    let first = c.in-Some.first.now in
+    let rest = c.in-Some.rest.now in
+    let flag = ap (bytes_eq first) (sym c.as_slice.ensures) ∙ sym c.eq.ensures ∙ c.if-eq.true in
+    let same = sym (ap clang_read c.in-Some.ensures.lines ∙ is-provided first rest flag) in
     subst (Gives (λ found. found.items) c.read_provided.result) same c.read_provided.ensures
 
 pub returns-then-eq-clause-written : goal.returns-then-eq-clause-written

@@ -6,8 +6,8 @@ use Rattle.module_maps.proofs.module_map.ModuleMap.of_rising.Goals as goal
 pub invariant_of-result : goal.invariant_of-result
 invariant_of-result c =
     record {
-      provided = subst (λ pairs. All IsModulePair (lent_pairs pairs)) c.deref.ensures.value c.bytes_in.ensures;
-      needed = subst (λ pairs. All IsModulePair (lent_pairs pairs)) c.deref-2.ensures.value c.bytes_in-2.ensures;
+      provided = rw c.deref.ensures.value at c.bytes_in.ensures;
+      needed = rw c.deref-2.ensures.value at c.bytes_in-2.ensures;
       rising = c.requires;
     }
 

@@ -4,18 +4,14 @@ use Rattle.std.proofs.lemmas.List.{map-id}
 use Rattle.std.proofs.lemmas.Iterator.{YieldsList-from_slice, YieldsList-from_map_by}
 use Rattle.std.proofs.lemmas.Iterator.Consumers.{YieldsList-at, map_from_collect}
 use Rattle.module_table.specs.Needed.{lent}
-use Rattle.collate_core.proofs.object_maps.map_text.Given.{Over}
-use Rattle.collate_core.proofs.object_maps.map_text.Goals as goal
+use Rattle.collate_core.proofs.object_maps.map_of.Goals as goal
 
-provided : (g : Over) (c : goal.After-drop-map-inside-2 g) → map lent c.in_ok-provided.provided.items ≡ c.provided.result.now
-provided g c =
+provided : (c : goal.After-of_rising) → map lent c.in_ok-provided.provided.items ≡ c.provided.result.now
+provided c =
     let pairs : List (List ℕ × List ℕ) = c.provided.result.now in
     map_from_collect {E = AllocError} (Ok c.in_ok-provided.provided) c.in_ok-provided.ensures.ran
     (YieldsList-from_map_by _ lent (λ pair. pair) (YieldsList-at c.map.ensures.source (YieldsList-from_slice pairs c.iter-provided.ensures.rest)) c.map.ensures.closure (λ x r q k. search (rules, tests)))
     ∙ map-id pairs
 
-pub returns-clause-text : goal.returns-clause-text
-returns-clause-text g c = search (rules, provided g c) fits 200
-
-pub returns-clause-refused : goal.returns-clause-refused
-returns-clause-refused g c = search (rules, provided g c)
+pub returns-clause-map : goal.returns-clause-map
+returns-clause-map c = search (rules, provided c) fits 200
