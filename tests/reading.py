@@ -22,7 +22,7 @@ from pathlib import Path
 TOP = Path(__file__).resolve().parent.parent / "crates"
 PAGE = TOP.parent / "docs/PROVED.md"
 CRATES = [re.split("[ :]", line)[0] for line in (TOP.parent / "crates.txt").read_text().splitlines()]
-COMMANDS = ("collate_scan", "collate_target", "collate_project", "apply_dyndep", "order_edges", "show_dyndep")
+COMMANDS = ("one", "collate", "project", "effect", "order", "show")
 # How the table calls a theorem; its crate, its call, and its clause, or "" for the whole contract.
 LAWS = ["no_race", "no_false_rebuild", "no_false_cycle"]
 THEOREMS = ([(f"`{call}`", "commands", call, "") for call in COMMANDS] + [("the headline", "collate_core", "collate", "headline")]

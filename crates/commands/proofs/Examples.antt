@@ -8,8 +8,8 @@ use Rattle.ninja_text.specs.declared.failure.Failure.TheVariants.{Fault}
 use Rattle.commands.specs.Files.{FilesOf, TargetFilesValue}
 use Rattle.commands.specs.Folder.{FileCall, FileRead, reading, up_to}
 use Rattle.commands.specs.Listings.{ListingRead, IsListingRead}
-use Rattle.commands.specs.Outcomes.{goes_on, stops, failed, document_most}
-use Rattle.commands.proofs.Outcomes.{all_read, document_call}
+use Rattle.commands.specs.Outcomes.{ReadsAll, goes_on, stops, failed, document_most}
+use Rattle.commands.proofs.Outcomes.{document_call, read_more}
 
 -- a target document that names a scan document, an info file and a listing of edges
 abbrev named : document.TargetDocumentValue
@@ -27,7 +27,11 @@ named = record {
   restat = false;
 }
 
--- what is read of the listing
+-- one document
+one_read : (name file : List ℕ) → ReadsAll (name ∷ []) (document_call name file ∷ []) (Ok (file ∷ []))
+one_read name file = goes_on (file ∷ []) (document_call name file ∷ []) [] refl (read_more [] name file) (refl, refl)
+
+-- what is read of the edge list
 abbrev edges_read : FileRead
 edges_read = record { bytes = codes "E"; ended = true }
 
@@ -44,8 +48,8 @@ info_calls = document_call (codes "k.info") (codes "K") ∷ listing_call
 in_order : (listing : ListingRead) → IsListingRead edges_read listing →
     FilesOf named (codes "k.info" ∷ []) (document_call (codes "a.ddi") (codes "A") ∷ info_calls) (Ok (its_files listing))
 in_order listing is =
-    goes_on (codes "A" ∷ []) (document_call (codes "a.ddi") (codes "A") ∷ []) info_calls refl (all_read (codes "a.ddi" ∷ []) (codes "A" ∷ []) refl)
-    (goes_on (codes "K" ∷ []) (document_call (codes "k.info") (codes "K") ∷ []) listing_call refl (all_read (codes "k.info" ∷ []) (codes "K" ∷ []) refl)
+    goes_on (codes "A" ∷ []) (document_call (codes "a.ddi") (codes "A") ∷ []) info_calls refl (one_read (codes "a.ddi") (codes "A"))
+    (goes_on (codes "K" ∷ []) (document_call (codes "k.info") (codes "K") ∷ []) listing_call refl (one_read (codes "k.info") (codes "K"))
     (goes_on (Some listing) listing_call [] refl (goes_on listing listing_call [] refl (edges_read, refl, is) (refl, refl)) (refl, refl)))
 
 -- none is read after one that can't be
@@ -53,8 +57,9 @@ one_unread : (error : Error) → (error_kind error ≡ OutOfMemory → ⊥) →
     FilesOf named (codes "k.info" ∷ []) (document_call (codes "a.ddi") (codes "A") ∷ reading (codes "k.info") (Err error) ∷ [])
     (Err (Fault (failed 3 (codes "cannot read k.info"))))
 one_unread error other =
-    goes_on (codes "A" ∷ []) (document_call (codes "a.ddi") (codes "A") ∷ []) (reading (codes "k.info") (Err error) ∷ []) refl (all_read (codes "a.ddi" ∷ []) (codes "A" ∷ []) refl)
-    (stops _ (stops _ ((error, refl, other), refl) refl) refl)
+    goes_on (codes "A" ∷ []) (document_call (codes "a.ddi") (codes "A") ∷ []) (reading (codes "k.info") (Err error) ∷ []) refl
+    (one_read (codes "a.ddi") (codes "A"))
+    (stops _ (stops _ (stops _ ((error, refl, other), refl) refl) refl) refl)
 
 -- a document of which one byte more was read than it may have has not ended, and one that has as many as it may have has
 too_large : (bytes : List ℕ) → length bytes ≡ 16777217 → (up_to document_most bytes).ended ≡ false

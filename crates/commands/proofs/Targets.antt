@@ -1,8 +1,8 @@
 -- What the targets of a run collate to, and how a rejected one is reported.
-use Rattle.std.proofs.Common.{◌≡◌, ◌∙◌, ℕ, suc, List, [], ◌∷◌, ◌++◌, map, zip, Bool, Option, Result, Ok, Err, refl, ap, sym, subst, arith, zero, ◌<◌, inl, inr, true, false, cond, length, Some, None, ap₂, bytes_eq, ◌+◌, ◌≤◌, take, get_or, append-nil, All, IsUtf8, Vec, OnOk, IfOk, IfErr, IsErrAnd, MatchResult, slice_get, option_map, Global}
+use Rattle.std.proofs.Common.{◌≡◌, ◌∙◌, ℕ, suc, List, [], ◌∷◌, ◌++◌, map, zip, Bool, Option, Result, Ok, Err, refl, ap, sym, subst, arith, zero, ◌<◌, inl, inr, true, false, cond, length, Some, None, ap₂, bytes_eq, ◌+◌, take, get_or, append-nil, All, IsUtf8, Vec, OnOk, slice_get, option_map, Global}
 use Rattle.std.specs.List.{AllZip}
 use Rattle.std.proofs.lemmas.List.{map-append, take_more, length-map, map_push}
-use Rattle.std.proofs.lemmas.List.Elements.{All-nil, All-cons, All-head, All-tail, All-append, All-map}
+use Rattle.std.proofs.lemmas.List.Elements.{All-nil, All-cons, All-append, All-map}
 use Rattle.scan_docs.specs.Scan.{SettingValue, IsRule}
 use Rattle.document_values.specs.Rule.{RuleValue}
 use Rattle.scan_docs.specs.Values.{rules_of, info_of}
@@ -34,11 +34,14 @@ use Rattle.commands.specs.ProjectCommand.{ReadTargetValue, index_or_head, last_w
 use Rattle.commands.specs.inner.ProjectTargets.{LinkEarlier, IsReportable}
 use Rattle.std.specs.Option.{option_map_or}
 use Rattle.std.proofs.lemmas.Grind.{flat_map-append}
+use Rattle.std.proofs.lemmas.Simd.{map-map}
+use Rattle.std.proofs.lemmas.Slice.Zip.{get_or-zip, length-zip}
 use Rattle.collate_core.specs.Projects.{target_of, CollatesProject, IsProjectRefusal, WasReadAt}
 
 -- ---- objects are text
 
-rules_text : {D : Type 0} (R : D → RuleValue → Type 0) → ((d : D) (rule : RuleValue) → R d rule → IsUtf8 rule.object) → (ds : List D) (rules : List RuleValue) → AllZip R ds rules → All (λ (r : RuleValue). IsUtf8 r.object) rules
+rules_text : {D : Type 0} (R : D → RuleValue → Type 0) → ((d : D) (rule : RuleValue) → R d rule → IsUtf8 rule.object) → (ds : List D) (rules : List RuleValue) →
+    AllZip R ds rules → All (λ (r : RuleValue). IsUtf8 r.object) rules
 rules_text R text [] [] h = All-nil (λ (r : RuleValue). IsUtf8 r.object)
 rules_text R text [] (rule ∷ rules) h = absurd h
 rules_text R text (d ∷ ds) [] h = absurd h
@@ -54,13 +57,14 @@ all_rules_text s (scan ∷ scans) h =
 
 pub objects_text : (target : TargetValue) (style : Option Written) (c : CollatedValue) → Collates target style c → All IsUtf8 c.objects
 objects_text target style c h =
-    subst (All IsUtf8) (sym h.objects) (All-map IsUtf8 (λ (r : RuleValue). r.object) (table_of target).objects (all_rules_text target.setting target.scans h.resolved.documents.scans.each))
+    subst (All IsUtf8) (sym h.objects)
+    (All-map IsUtf8 (λ (r : RuleValue). r.object) (table_of target).objects (all_rules_text target.setting target.scans h.resolved.documents.scans.each))
 
 -- what holds of the first list holds of the first parts
 pub first_all : {A B : Type 0} (P : A → Type 0) (xs : List A) (ys : List B) → All P xs → All (λ (p : A × B). P p.0) (zip xs ys)
-first_all P [] ys h = All-nil (λ p. P p.0)
-first_all P (x ∷ xs) [] h = All-nil (λ p. P p.0)
-first_all P (x ∷ xs) (y ∷ ys) h = All-cons (λ p. P p.0) (x, y) (zip xs ys) (All-head P x xs h) (first_all P xs ys (All-tail P x xs h))
+first_all {A} {B} P xs ys h = λ k d lt.
+    let left : k < length xs = omega (arith, lt, length-zip xs ys) in
+    subst (λ (p : A × B). P p.0) (sym (get_or-zip xs ys k d left (omega (arith, lt, length-zip xs ys)))) (h k d.0 left)
 
 -- ---- the files of a collated target
 
@@ -94,11 +98,6 @@ names_line target (StatementTooLong k) read names h = refl
 names_line target (Map o f) read names h = ap (λ (t : TableValue). map_text t.objects o f) h
 names_line target LinkedLater read names h = refl
 
--- the names of info files
-names_same : (infos : List (List ℕ)) → map (λ (i : InfoValue). i.target) (map info_of infos) ≡ map (λ i. (info_of i).target) infos
-names_same [] = refl
-names_same (i ∷ is) = ap (λ z. (info_of i).target ∷ z) (names_same is)
-
 -- and info files have the names that are in the info documents
 infos_line : (target : TargetValue) (refusal : Refusal) (read : TableValue) → WasRead target refusal read →
     refusal_line read.objects (map (λ (i : InfoValue). i.target) read.infos) refusal ≡ refusal_text target refusal
@@ -106,7 +105,7 @@ infos_line target (Scan i f) read h = refl
 infos_line target (Info i f) read h = refl
 infos_line target (Table f) read h =
     ap (λ (t : TableValue). fault_text t.objects (map (λ (i : InfoValue). i.target) t.infos) f) h
-    ∙ ap (λ names. fault_text (all_rules target.setting target.scans) names f) (names_same target.infos)
+    ∙ ap (λ names. fault_text (all_rules target.setting target.scans) names f) (map-map (λ (i : InfoValue). i.target) info_of target.infos)
 infos_line target (StatementTooLong k) read h = refl
 infos_line target (Map o f) read h = ap (λ (t : TableValue). map_text t.objects o f) h
 infos_line target LinkedLater read h = refl
@@ -131,32 +130,23 @@ pub target_rejected : (target : TargetValue) (style : Option Written) (failure :
     ForFault (λ (r : RefusedTarget). WasRead target r.refusal (table_with r.objects.items r.infos.items)) failure →
     Reports refused_line failure stop → TargetOf target style [] (Err stop)
 target_rejected target style failure stop is read h =
-    in_words (Collates target style) (IsRejected target style) refused_line (IsRefusal target style) (refusal_text target) [] (Err stop) (rejected_line target style)
+    in_words (Collates target style) (IsRejected target style) refused_line (IsRefusal target style) (refusal_text target)
+    [] (Err stop) (rejected_line target style)
     (fault_reported (Collates target style) (IsRejected target style) refused_line failure stop (both _ _ failure is read) h)
-
--- what a target collates to, or its rejection, by `map_err`
-pub target_given : (target : TargetValue) (style : Option Written) (Post : Failure RefusedTarget → Failure LineValue → Type 0)
-    (r : Result CollatedValue (Failure RefusedTarget)) (s : Outcome CollatedValue) →
-    ((failure : Failure RefusedTarget) (stop : Failure LineValue) → Post failure stop → Reports refused_line failure stop) →
-    IfOk r (Collates target style) →
-    IfErr r (ForFault (λ (r : RefusedTarget). IsRefusal target style r.refusal)) →
-    IfErr r (ForFault (λ (r : RefusedTarget). WasRead target r.refusal (table_with r.objects.items r.infos.items))) →
-    MatchResult r (λ value. s ≡ Ok value) (λ failure. IsErrAnd s (Post failure)) → TargetOf target style [] s
-target_given target style Post (Ok value) s to ok is read h = subst (TargetOf target style []) (sym h) (refl, ok)
-target_given target style Post (Err failure) (Err stop) to ok is read h = target_rejected target style failure stop is read (to failure stop h)
-target_given target style Post (Err failure) (Ok value) to ok is read h = absurd h
 
 -- ---- the last target with an info
 
 some_same : {X : Type 0} {x y : X} → Some x ≡ Some y → x ≡ y
 some_same e = cc
 
-last_with_push : (ts : List ReadTargetValue) (t : ReadTargetValue) (info : List ℕ) → last_with (ts ++ t ∷ []) info ≡ cond (bytes_eq t.spec.info info) (Some (length ts)) (last_with ts info)
+last_with_push : (ts : List ReadTargetValue) (t : ReadTargetValue) (info : List ℕ) →
+    last_with (ts ++ t ∷ []) info ≡ cond (bytes_eq t.spec.info info) (Some (length ts)) (last_with ts info)
 last_with_push [] t info = refl
 last_with_push (h ∷ ts) t info =
     ap (λ r. index_or_head r (bytes_eq h.spec.info info)) (last_with_push ts t info) ∙ go (bytes_eq t.spec.info info)
   where
-    go : (b : Bool) → index_or_head (cond b (Some (length ts)) (last_with ts info)) (bytes_eq h.spec.info info) ≡ cond b (Some (suc (length ts))) (index_or_head (last_with ts info) (bytes_eq h.spec.info info))
+    go : (b : Bool) → index_or_head (cond b (Some (length ts)) (last_with ts info)) (bytes_eq h.spec.info info) ≡
+        cond b (Some (suc (length ts))) (index_or_head (last_with ts info) (bytes_eq h.spec.info info))
     go true = refl
     go false = refl
 
@@ -202,7 +192,8 @@ links_push targets target before own = λ index t e. elim (from_push targets tar
 
 -- ---- parts about one target
 
-pub at_target : {V : Type 0} (index : ℕ) (Holds : Part V) (own outcome : Outcome V) (n : ℕ) → index ≡ n → Holds [] own → IsTargetOutcome index own outcome → At n Holds [] outcome
+pub at_target : {V : Type 0} (index : ℕ) (Holds : Part V) (own outcome : Outcome V) (n : ℕ) → index ≡ n → Holds [] own → IsTargetOutcome index own outcome →
+    At n Holds [] outcome
 at_target index Holds own outcome n e h is = (own, h, subst (λ i. IsTargetOutcome i own outcome) e is)
 
 -- it has a value
@@ -211,7 +202,8 @@ at_value index (Ok other) value is = sym is
 at_value index (Err stop) value is = absurd is
 
 -- viewed like this
-pub at_target_seen : {T V : Type 0} (view : T → V) (index : ℕ) (Holds : Part V) (own outcome : Outcome T) (n : ℕ) → index ≡ n → Holds [] (seen view own) → IsTargetOutcome index own outcome → At n Holds [] (seen view outcome)
+pub at_target_seen : {T V : Type 0} (view : T → V) (index : ℕ) (Holds : Part V) (own outcome : Outcome T) (n : ℕ) → index ≡ n → Holds [] (seen view own) →
+    IsTargetOutcome index own outcome → At n Holds [] (seen view outcome)
 at_target_seen view index Holds (Ok value) outcome n e h is = (Ok (view value), h, ap (seen view) is)
 at_target_seen view index Holds (Err stop) (Ok value) n e h is = absurd is
 at_target_seen view index Holds (Err stop) (Err other) n e h is = (Err stop, h, subst (λ i. IsTargetStop i stop other) e is)
@@ -219,7 +211,8 @@ at_target_seen view index Holds (Err stop) (Err other) n e h is = (Err stop, h, 
 -- ---- the rejected target of a project
 
 -- what is needed to report a rejection
-pub reported : (style : Option Written) (targets : List ReadTargetValue) (n : ℕ) (refusal : Refusal) → LinkEarlier targets → IsProjectRefusal style (map project_target targets) n refusal → IsReportable targets n
+pub reported : (style : Option Written) (targets : List ReadTargetValue) (n : ℕ) (refusal : Refusal) → LinkEarlier targets →
+    IsProjectRefusal style (map project_target targets) n refusal → IsReportable targets n
 reported style targets n refusal links h =
     let found = from_map project_target targets n h.1 h.3 in
     let t = found.0 in
@@ -227,8 +220,10 @@ reported style targets n refusal links h =
     (t, found.1, λ k d lt. let below : get_or t.linked k d < n = links n t found.1 k d lt in omega (arith, below, within))
 
 -- the line of the rejection of this target, by what was read of it
-pub line_is : (style : Option Written) (targets : List ReadTargetValue) (n : ℕ) (refusal : Refusal) (read : TableValue) (t : ReadTargetValue) (names : List (List ℕ)) → slice_get targets n ≡ Some t →
-    WasReadAt style (map project_target targets) n refusal read → refusal_line read.objects names refusal ≡ refusal_by_names t.spec.setting t.scans names refusal
+pub line_is : (style : Option Written) (targets : List ReadTargetValue) (n : ℕ) (refusal : Refusal) (read : TableValue) (t : ReadTargetValue)
+    (names : List (List ℕ)) → slice_get targets n ≡ Some t →
+    WasReadAt style (map project_target targets) n refusal read →
+    refusal_line read.objects names refusal ≡ refusal_by_names t.spec.setting t.scans names refusal
 line_is style targets n refusal read t names at h =
     let found = from_map project_target targets n h.1 h.3 in
     let is_t : found.0 ≡ t = some_same (sym found.1 ∙ at) in
@@ -236,7 +231,8 @@ line_is style targets n refusal read t names at h =
     names_line (target_of h.0 (project_target t)) refusal read names (subst (λ (p : ProjectTargetValue). WasRead (target_of h.0 p) refusal read) is_p h.4)
 
 -- the names of the targets so far, and of one more
-pub names_next : (targets : List ReadTargetValue) (linked : List ℕ) (i : ℕ) (t : ReadTargetValue) (so_far : List (List ℕ)) (name : List ℕ) → i < length linked → slice_get targets (get_or linked i 0) ≡ Some t →
+pub names_next : (targets : List ReadTargetValue) (linked : List ℕ) (i : ℕ) (t : ReadTargetValue) (so_far : List (List ℕ)) (name : List ℕ) → i < length linked →
+    slice_get targets (get_or linked i 0) ≡ Some t →
     so_far ≡ names_at targets (take i linked) → name ≡ t.spec.target → so_far ++ name ∷ [] ≡ names_at targets (take (i + 1) linked)
 names_next targets linked i t so_far name within here are is =
     let name_of : ℕ → List ℕ = λ k. option_map_or (λ (t : ReadTargetValue). t.spec.target) (slice_get targets k) [] in
@@ -246,7 +242,8 @@ names_next targets linked i t so_far name within here are is =
 
 -- ---- the collated targets of a project
 
-pub objects_are_text : (style : Option Written) (targets : List ReadTargetValue) (outs : List CollatedValue) → CollatesProject style (map project_target targets) outs → All (λ (c : CollatedValue). All IsUtf8 c.objects) outs
+pub objects_are_text : (style : Option Written) (targets : List ReadTargetValue) (outs : List CollatedValue) →
+    CollatesProject style (map project_target targets) outs → All (λ (c : CollatedValue). All IsUtf8 c.objects) outs
 objects_are_text style targets outs project = λ k d within.
     let in_targets : k < length (map project_target targets) = omega (arith, within, project.count) in
     let p = element_at (map project_target targets) k in_targets in
@@ -263,26 +260,23 @@ pub same_at : {A B C : Type 0} (f : A → C) (h : B → C) (xs : List A) (ys : L
 same_at f h xs ys i x y e at here =
     some_same (sym (slice_get-map f xs i ∙ ap (option_map f) at) ∙ ap (λ zs. slice_get zs i) e ∙ slice_get-map h ys i ∙ ap (option_map h) here)
 
-pub zip_at : {A B : Type 0} (xs : List A) (ys : List B) (i : ℕ) (x : A) (y : B) → slice_get xs i ≡ Some x → slice_get ys i ≡ Some y → slice_get (zip xs ys) i ≡ Some (x, y)
+pub zip_at : {A B : Type 0} (xs : List A) (ys : List B) (i : ℕ) (x : A) (y : B) → slice_get xs i ≡ Some x → slice_get ys i ≡ Some y →
+    slice_get (zip xs ys) i ≡ Some (x, y)
 zip_at [] ys i x y e f = cc
 zip_at (a ∷ xs) [] i x y e f = cc
 zip_at (a ∷ xs) (b ∷ ys) zero x y e f = ap₂ (λ c d. Some (c, d)) (some_same e) (some_same f)
 zip_at (a ∷ xs) (b ∷ ys) (suc i) x y e f = zip_at xs ys i x y e f
 
-pub length_zip : {A B : Type 0} (xs : List A) (ys : List B) → length (zip xs ys) ≤ length xs
-length_zip [] ys = omega arith
-length_zip (x ∷ xs) [] = omega arith
-length_zip (x ∷ xs) (y ∷ ys) = let less : length (zip xs ys) ≤ length xs = length_zip xs ys in omega (arith, less)
-
 pub second_all : {A B : Type 0} (P : B → Type 0) (xs : List A) (ys : List B) → All P ys → All (λ (p : A × B). P p.1) (zip xs ys)
-second_all P [] ys h = All-nil (λ p. P p.1)
-second_all P (x ∷ xs) [] h = All-nil (λ p. P p.1)
-second_all P (x ∷ xs) (y ∷ ys) h = All-cons (λ p. P p.1) (x, y) (zip xs ys) (All-head P y ys h) (second_all P xs ys (All-tail P y ys h))
+second_all {A} {B} P xs ys h = λ k d lt.
+    let right : k < length ys = omega (arith, lt, length-zip xs ys) in
+    subst (λ (p : A × B). P p.1) (sym (get_or-zip xs ys k d (omega (arith, lt, length-zip xs ys)) right)) (h k d.1 right)
 
 -- ---- files
 
 -- the files of one target more
-pub files_next : (pairs : List (ReadTargetValue × CollatedValue)) (n : ℕ) (pair : ReadTargetValue × CollatedValue) (so_far more : List FileValue) → slice_get pairs n ≡ Some pair →
+pub files_next : (pairs : List (ReadTargetValue × CollatedValue)) (n : ℕ) (pair : ReadTargetValue × CollatedValue) (so_far more : List FileValue) →
+    slice_get pairs n ≡ Some pair →
     so_far ≡ all_files (take n pairs) → more ≡ files_of pair.0.spec pair.1 → so_far ++ more ≡ all_files (take (n + 1) pairs)
 files_next pairs n pair so_far more here are is =
     ap₂ (λ a b. a ++ b) are (is ∙ sym (append-nil (files_of pair.0.spec pair.1)))

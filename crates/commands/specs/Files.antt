@@ -6,7 +6,7 @@ use Rattle.ninja_text.specs.Failure.{ForFault}
 use Rattle.scan_docs.specs.Target as document
 use Rattle.commands.specs.Folder.{FileCall, comparing, writing}
 use Rattle.commands.specs.Listings.{ListingRead, ReadsListing}
-use Rattle.commands.specs.Outcomes.{Part, FileValue, Outcome, OutputValue, ReadsAll, ReadsIfNamed, Done, failed, ◌>>=◌}
+use Rattle.commands.specs.Outcomes.{Part, Each, FileValue, ReadsAll, ReadsIfNamed, Done, failed, ◌>>=◌}
 
 -- ---- files that are read
 
@@ -17,8 +17,8 @@ pub record TargetFilesValue : Type 0 where
   pub infos : List Text
   pub listing : Option ListingRead
 
--- a part that reads the files of a target in this order: the scan documents that its document names,
--- info files of these names, and the listing of edges
+-- a part that reads the files of a target in this order: the scan documents that its document
+-- names, info files of these names, and the edge list
 abbrev pub FilesOf : document.TargetDocumentValue → List PathText → Part TargetFilesValue
 FilesOf spec linked = do
   scans ← ReadsAll spec.scans
@@ -28,36 +28,23 @@ FilesOf spec linked = do
 
 -- ---- files that are written
 
--- the calls before a file is written: if it is one that is left alone, it was compared
-abbrev pub compared : FileValue → List FileCall
-compared file = if file.keeps then comparing file.name file.bytes false ∷ [] else []
+-- the calls that write a file, the last with this result: a file that may be left alone was
+-- compared before
+abbrev pub writes : FileValue → Result (Unit {0}) Error → List FileCall
+writes file result =
+    (if file.keeps then comparing file.name file.bytes false ∷ [] else [])
+    ++ writing file.name file.bytes result ∷ []
 
--- The calls gave a file its bytes, or an error: it is left alone and had them already, or it was
--- written.
-abbrev pub WritesFile : FileValue → List FileCall → Result (Unit {0}) Error → Type 0
-WritesFile file calls result =
-    ((file.keeps ≡ true) × (calls ≡ comparing file.name file.bytes true ∷ []) × (result ≡ Ok tt))
-    ⊎ (calls ≡ compared file ++ writing file.name file.bytes result ∷ [])
+-- A part that gives a file its bytes: the file has them already and is left alone, or is written.
+-- If it can't be written, the run stops with its name.
+abbrev pub WritesFile : FileValue → Part (Unit {0})
+WritesFile file calls (Ok done) =
+    ((file.keeps ≡ true) × (calls ≡ comparing file.name file.bytes true ∷ []))
+    ⊎ (calls ≡ writes file (Ok tt))
+WritesFile file calls (Err stop) =
+    ((error : Error) × (calls ≡ writes file (Err error)))
+    × ForFault (λ l. l ≡ failed 3 (codes "cannot write " ++ file.name)) stop
 
--- the calls gave these files their bytes, one after another
-abbrev pub WritesAll : List FileValue → List FileCall → Type 0
-WritesAll [] calls = calls ≡ []
-WritesAll (file ∷ files) calls =
-    (first others : List FileCall) × (calls ≡ first ++ others)
-    × WritesFile file first (Ok tt) × WritesAll files others
-
--- the run stops at the file of this name, which can't be written
-abbrev pub StopsAt : PathText → Outcome OutputValue → Type 0
-StopsAt name (Ok output) = ⊥
-StopsAt name (Err stop) = ForFault (λ l. l ≡ failed 3 (codes "cannot write " ++ name)) stop
-
--- The calls gave the files of an output their bytes, in order, each once. Or they did so for those
--- before one, the call that writes that one returned an error, and the run stops with its name.
-pub data WritesFiles (output : OutputValue) (calls : List FileCall) (outcome : Outcome OutputValue)
-    : Type 0 where
-  all_written : WritesAll output.files calls → outcome ≡ Ok output →
-      WritesFiles output calls outcome
-  one_unwritten : (before after : List FileValue) (file : FileValue) (error : Error)
-      (earlier last : List FileCall) → output.files ≡ before ++ file ∷ after →
-      calls ≡ earlier ++ last → WritesAll before earlier → WritesFile file last (Err error) →
-      StopsAt file.name outcome → WritesFiles output calls outcome
+-- a part that gives these files their bytes, one after another
+abbrev pub WritesFiles : List FileValue → Part (Unit {0})
+WritesFiles = Each (λ done. WritesFile) tt

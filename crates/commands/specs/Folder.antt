@@ -13,7 +13,7 @@ pub record FileRead : Type 0 where
 abbrev pub whole : Bytes → FileRead
 whole bytes = record { bytes = bytes; ended = true }
 
--- one call, by the name of the file, the bytes that it is compared with or that are written, and the
+-- one call: the name of the file, the bytes that it is compared with or that are written, and the
 -- result
 pub data FileCall : Type 0 where
   reading : PathText → Result FileRead Error → FileCall

@@ -1,9 +1,8 @@
 -- What a part of a run gives that reads an edge listing.
-use Rattle.std.specs.Prelude.{◌≡◌, ◌⊎◌, ⊤, List, true, Some, Result, Ok, Err}
+use Rattle.std.specs.Prelude.{◌≡◌, List, Some, Result}
 use Rattle.ninja_text.specs.Bytes.{Bytes, Text, PathText}
 use Rattle.ninja_text.specs.Failure.{ForFault}
 use Rattle.ninja_text.specs.declared.failure.Failure.{Failure}
-use Rattle.ninja_text.specs.declared.failure.Failure.TheVariants.{Memory, Fault}
 use Rattle.build_effect.specs.EdgeValue.{EdgeValue}
 use Rattle.build_effect.specs.Graphs.{IsGraph}
 use Rattle.build_effect.specs.Faults.{IsGraphFault}
@@ -14,15 +13,15 @@ use Rattle.build_effect.specs.declared.fault.ListFault.{ListFault}
 use Rattle.build_effect.specs.declared.fault.ListFault.TheVariants.{AtLine, NoGraph}
 use Rattle.commands.specs.EdgeFaults.{edges_fault_text}
 use Rattle.commands.specs.Folder.{FileRead}
-use Rattle.commands.specs.Outcomes.{Part, Returns, ReadsAs}
+use Rattle.commands.specs.Outcomes.{Part, IsReadOf, ReadsAs, ValueOf}
 
--- a reader of listings has failed: memory ran out, or a fault is in the bytes
+-- a reader of edge lists has failed: memory ran out, or a fault is in the bytes
 abbrev pub HasFailedListing : Bytes → ListingReaderState → Type 0
 HasFailedListing bytes reader =
     (failure : Failure LineFault) × (reader.failed ≡ Some failure)
     × ForFault (IsListingFaultIn bytes) failure
 
--- the result of reading a listing
+-- the result of reading an edge list
 abbrev pub ListingRead : Type 0
 ListingRead = Result (List EdgeValue) (Failure ListFault)
 
@@ -37,19 +36,18 @@ abbrev pub IsFaultIn : Bytes → ListFault → Type 0
 IsFaultIn bytes (AtLine fault) = IsListingFaultIn bytes fault
 IsFaultIn bytes (NoGraph fault) = ⊥
 
--- The result follows from what was read of the file: one that lists edges was read to its end.
-abbrev pub IsListingRead : FileRead → ListingRead → Type 0
-IsListingRead file (Ok edges) =
-    (file.ended ≡ true) × Lists file.bytes edges × IsGraph edges
-IsListingRead file (Err Memory) = ⊤
-IsListingRead file (Err (Fault fault)) =
-    IsFaultIn file.bytes fault ⊎ ((file.ended ≡ true) × IsListingFault file.bytes fault)
+-- a text lists these edges, and they are those of a graph
+abbrev pub ListsGraph : Text → List EdgeValue → Type 0
+ListsGraph text edges = Lists text edges × IsGraph edges
 
--- a part that reads the listing of this name
+-- the result follows from what was read of the file
+abbrev pub IsListingRead : FileRead → ListingRead → Type 0
+IsListingRead = IsReadOf ListsGraph IsFaultIn IsListingFault
+
+-- a part that reads the edge list of this name
 abbrev pub ReadsListing : PathText → Part ListingRead
 ReadsListing = ReadsAs IsListingRead
 
--- the edges of the graph of a listing that was read
+-- the edges of the graph of an edge list that was read
 abbrev pub ListingOf : ListingRead → Part (List EdgeValue)
-ListingOf read =
-    Returns (λ edges. read ≡ Ok edges) (λ fault. read ≡ Err (Fault fault)) edges_fault_text
+ListingOf = ValueOf edges_fault_text

@@ -1,6 +1,6 @@
 -- How the parts of a run follow one another: each continues with the value of the one before it,
 -- and the first that stops ends the run.
-use Rattle.std.specs.Prelude.{◌≡◌, ◌⊎◌, ⊤, ℕ, List, [], ◌∷◌, ◌++◌, Bool, Option, Some, None, Result, Ok, Err, codes}
+use Rattle.std.specs.Prelude.{◌≡◌, ◌⊎◌, ⊤, ℕ, List, [], ◌∷◌, ◌++◌, Bool, true, Option, Some, None, Result, Ok, Err, codes}
 use Rattle.std.specs.IoError.{error_kind}
 use Rattle.std.specs.declared.io.Error.{Error}
 use Rattle.std.specs.declared.io.ErrorKind.TheVariants.{OutOfMemory}
@@ -95,6 +95,15 @@ written files = record { text = []; files = files }
 abbrev pub Writes : List FileValue → Part OutputValue
 Writes files = Done (written files)
 
+-- ---- parts for the elements of a list
+
+-- Parts for these elements, one after another: each continues with the value of the one before it.
+abbrev pub Each : {V X : Type 0} → (V → X → Part V) → V → List X → Part V
+Each Next value [] = Comes (λ last. last ≡ value)
+Each Next value (x ∷ xs) = do
+  next ← Next value x
+  Each Next next xs
+
 -- ---- parts that read
 
 -- The file of this name can't be read, and the run stops with its name; or memory runs out, before
@@ -123,13 +132,29 @@ ReadsAs Follows name calls (Ok value) =
     (file : FileRead) × (calls ≡ reading name (Ok file) ∷ []) × Follows file value
 ReadsAs Follows name calls (Err stop) = IsUnread name calls stop
 
+-- The result of reading a file of lines follows from what was read of it. A file that has a value
+-- was read to its end. A fault is in the bytes that were read, so every file that begins with them
+-- has it; or the file ended there, and it is the fault of the whole.
+abbrev pub IsReadOf : {V F : Type 0} → (Bytes → V → Type 0) → (Bytes → F → Type 0)
+    → (Bytes → F → Type 0) → FileRead → Result V (Failure F) → Type 0
+IsReadOf Means IsFaultIn IsFaultOf file (Ok value) = (file.ended ≡ true) × Means file.bytes value
+IsReadOf Means IsFaultIn IsFaultOf file (Err Memory) = ⊤
+IsReadOf Means IsFaultIn IsFaultOf file (Err (Fault fault)) =
+    IsFaultIn file.bytes fault ⊎ ((file.ended ≡ true) × IsFaultOf file.bytes fault)
+
+-- the value of a file that was read, or the message of its fault
+abbrev pub ValueOf : {V F : Type 0} → (F → Text) → Result V (Failure F) → Part V
+ValueOf text read = Returns (λ value. read ≡ Ok value) (λ fault. read ≡ Err (Fault fault)) text
+
+-- a part that reads one document more
+abbrev pub ReadsNext : List Bytes → PathText → Part (List Bytes)
+ReadsNext before name = do
+  bytes ← ReadsDocument name
+  Done (before ++ bytes ∷ [])
+
 -- a part that reads the documents of these names, one after another
 abbrev pub ReadsAll : List PathText → Part (List Bytes)
-ReadsAll [] = Done []
-ReadsAll (name ∷ names) = do
-  bytes ← ReadsDocument name
-  others ← ReadsAll names
-  Done (bytes ∷ others)
+ReadsAll = Each ReadsNext []
 
 -- a part that reads the file of a name, if there is one
 abbrev pub ReadsIfNamed : {V : Type 0} → (PathText → Part V) → Option PathText → Part (Option V)

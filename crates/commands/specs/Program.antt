@@ -13,7 +13,7 @@ use Rattle.command_line.specs.Tasks.{TaskValue, task_in}
 use Rattle.commands.specs.Answers.{IsAnswered}
 use Rattle.commands.specs.Files.{WritesFiles}
 use Rattle.commands.specs.Folder.{FileCall}
-use Rattle.commands.specs.Outcomes.{Part, Outcome, OutputValue, Runs, failed, ◌>>=◌}
+use Rattle.commands.specs.Outcomes.{Part, Outcome, OutputValue, Comes, Runs, failed, ◌>>=◌}
 use Rattle.commands.specs.Printing.{IsPrinted, IsUnprinted}
 use Rattle.commands.specs.Runs.{TaskRun}
 use Rattle.commands.specs.declared.answer.Answer.{Answer}
@@ -44,7 +44,8 @@ abbrev pub ArgumentsRun : Words → Part OutputValue
 ArgumentsRun words = do
   task ← ArgumentsOf words
   output ← TaskRun task
-  WritesFiles output
+  _ ← WritesFiles output.files
+  Comes (λ done. done ≡ output)
 
 -- The program makes these calls and no other, and what they lead to is what it prints, with the
 -- exit status of that.

@@ -24,7 +24,7 @@ use Rattle.commands.specs.CollateCommand.{SpecOf, style_of, files_of, spec_text}
 use Rattle.commands.specs.EdgeChecks.{EdgesPass}
 use Rattle.commands.specs.Files.{TargetFilesValue, FilesOf}
 use Rattle.commands.specs.Listings.{ListingRead}
-use Rattle.commands.specs.Outcomes.{Part, Outcome, OutputValue, LineValue, FileValue, Returns, Done, ReadsDocument, Writes, failed, ◌>>=◌}
+use Rattle.commands.specs.Outcomes.{Part, Outcome, OutputValue, LineValue, FileValue, Each, Returns, Done, ReadsDocument, Writes, failed, ◌>>=◌}
 use Rattle.commands.specs.RefusalTexts.{refusal_by_names}
 
 -- ---- a part of a run about one target
@@ -62,7 +62,8 @@ pub record ReadTargetValue : Type 0 where
   pub scans : List Text
   pub listing : Option ListingRead
 
--- the index in a list: that in its tail if it has one, otherwise that of the head, if that is meant
+-- the index in a list: that in its tail if there is one, otherwise that of the head, if the flag
+-- is set
 abbrev pub index_or_head : Option ℕ → Bool → Option ℕ
 index_or_head (Some index) is_head = Some (suc index)
 index_or_head None is_head = if is_head then Some 0 else None
@@ -106,36 +107,26 @@ abbrev pub read_target : document.TargetDocumentValue → Numbers → TargetFile
 read_target spec linked files =
     record { spec = spec; linked = linked; scans = files.scans; listing = files.listing }
 
--- the indexes of the targets that a target document with these members links, if it may come after
--- these earlier ones, and the files that it names
-abbrev pub LinksAndFiles : List ReadTargetValue → document.TargetDocumentValue
-    → Part (Numbers × TargetFilesValue)
-LinksAndFiles earlier spec = do
+-- The target of the document of this name, after earlier ones. No file of a rejected document is
+-- read, and no info file.
+abbrev pub TargetAfter : List ReadTargetValue → PathText → Part ReadTargetValue
+TargetAfter earlier name = do
+  bytes ← ReadsDocument name
+  spec ← At (length earlier) (SpecOf bytes)
   _ ← At (length earlier) (FormOf earlier spec)
   linked ← At (length earlier) (LinksOf earlier spec.linked)
   files ← FilesOf spec []
-  Done (linked, files)
+  Done (read_target spec linked files)
 
--- The target after earlier ones of these bytes of a target document. No file of a rejected document
--- is read, and no info file.
-abbrev pub TargetAfter : List ReadTargetValue → Bytes → Part ReadTargetValue
-TargetAfter earlier bytes = do
-  spec ← At (length earlier) (SpecOf bytes)
-  read ← LinksAndFiles earlier spec
-  Done (read_target spec read.0 read.1)
+-- a part that reads one target more
+abbrev pub ReadsTarget : List ReadTargetValue → PathText → Part (List ReadTargetValue)
+ReadsTarget earlier name = do
+  target ← TargetAfter earlier name
+  Done (earlier ++ target ∷ [])
 
--- the target after earlier ones of the document of this name
-abbrev pub TargetOfFile : List ReadTargetValue → PathText → Part ReadTargetValue
-TargetOfFile earlier name = do
-  bytes ← ReadsDocument name
-  TargetAfter earlier bytes
-
--- the targets of the documents of these names, which are read one after another, after earlier ones
-abbrev pub TargetsAfter : List ReadTargetValue → List PathText → Part (List ReadTargetValue)
-TargetsAfter earlier [] = Done earlier
-TargetsAfter earlier (name ∷ names) = do
-  target ← TargetOfFile earlier name
-  TargetsAfter (earlier ++ target ∷ []) names
+-- a part that reads the targets of the documents of these names, one after another
+abbrev pub ReadsTargets : List PathText → Part (List ReadTargetValue)
+ReadsTargets = Each ReadsTarget []
 
 -- ---- the targets as a project
 
@@ -183,8 +174,8 @@ ProjectOf targets =
     Returns (CollatesProject (style_of (form_of targets)) (map project_target targets))
     (IsRejectedAt targets) (rejected_text targets)
 
--- the edges that each of these targets names, if any, can be put in order after its own dyndep file;
--- the first has this index
+-- the edges that each of these targets names, if any, can be put in order after its own dyndep
+-- file; the first target has this index
 abbrev pub AllEdgesPass : ℕ → List (ReadTargetValue × CollatedValue) → Part (Unit {0})
 AllEdgesPass index [] = Done tt
 AllEdgesPass index ((t, c) ∷ others) = do
@@ -194,13 +185,6 @@ AllEdgesPass index ((t, c) ∷ others) = do
 -- the files of all targets, in order
 abbrev pub all_files : List (ReadTargetValue × CollatedValue) → List FileValue
 all_files pairs = flat_map (λ pair. files_of pair.0.spec pair.1) pairs
-
--- What a run leaves for targets that were read.
-abbrev pub TargetsRun : List ReadTargetValue → Part OutputValue
-TargetsRun targets = do
-  outs ← ProjectOf targets
-  _ ← AllEdgesPass 0 (zip targets outs)
-  Writes (all_files (zip targets outs))
 
 -- ---- the run
 
@@ -221,5 +205,7 @@ ProjectDocumentOf bytes = Returns (HasProject bytes) (IsRefused project_checks b
 abbrev pub ProjectRun : Bytes → Part OutputValue
 ProjectRun bytes = do
   project ← ProjectDocumentOf bytes
-  targets ← TargetsAfter [] project.targets
-  TargetsRun targets
+  targets ← ReadsTargets project.targets
+  outs ← ProjectOf targets
+  _ ← AllEdgesPass 0 (zip targets outs)
+  Writes (all_files (zip targets outs))

@@ -9,4 +9,5 @@ use Rattle.commands.specs.RefusalTexts.{refusal_text}
 
 -- what the target collates to, with maps of this style
 abbrev pub TargetOf : TargetValue → Option Written → Part CollatedValue
-TargetOf target style = Returns (Collates target style) (IsRefusal target style) (refusal_text target)
+TargetOf target style =
+    Returns (Collates target style) (IsRefusal target style) (refusal_text target)

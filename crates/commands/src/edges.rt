@@ -1,41 +1,39 @@
-//! Edge lists: how they are read, the commands `effect` and `order`, and the check of the edges that a
-//! target document names.
+//! Edge lists: how they are read, the commands `effect` and `order`, and the check of the edges
+//! that a target document names.
 
 ghost use Rattle.std.specs.Prelude.{[]};
 ghost use Rattle.commands.specs.EdgeChecks.{EdgesPass};
-ghost use Rattle.commands.specs.Effect.{EffectOfRead, EffectRun};
-ghost use Rattle.commands.specs.Folder.{whole};
-ghost use Rattle.commands.specs.Listings.{IsListingRead, ListingOf, ReadsListing};
+ghost use Rattle.commands.specs.Effect.{EffectOf, EffectOfRead, EffectRun, ListingTextOf, NameOf};
+ghost use Rattle.commands.specs.Listings.{ListingOf};
 ghost use Rattle.commands.specs.Order.{OrderOfRead, OrderRun};
-ghost use Rattle.commands.specs.Outcomes.{Runs};
+ghost use Rattle.commands.specs.Outcomes.{seen};
+ghost use Rattle.commands.specs.inner.Parts.{bytes_of};
 
 use crate::answer::push_line;
-use crate::dyndeps::{DyndepRead, dyndep_of, statements_of};
-use crate::folder::{Folder, PieceReader};
+use crate::dyndeps::{DyndepRead, statements_of};
+use crate::folder::PieceReader;
+use crate::reading::{FileReader, read_text};
 use crate::refusal::{cycle_text, first_output, joined};
 use crate::stop::{self, Output, Stop};
 use build_effect::{Graph, ListFault, ListingReader, ListingWriteFault, apply, edge_order};
 use collate_core::{Collated, check_edges};
 use dep_order::Sorting;
+use dyndep_file::{Dyndep, DyndepReader};
 use ninja_text::{Failure, Path};
 use std::alloc::Global;
 
 /// Runs `effect NAME EDGES DYNDEP` on the name and the bytes of the two files.
-pub fn apply_dyndep(alloc: Global, name: &str, edges: &[u8], dyndep: &[u8]) -> Result<Output, Stop>
+pub fn effect(alloc: Global, name: &str, edges: &[u8], dyndep: &[u8]) -> Result<Output, Stop>
     ensures { EffectRun name.now edges.now dyndep.now [] result }
 {
-    effect_read(
-        alloc,
-        name,
-        listing_of(alloc, edges),
-        dyndep_of(alloc, dyndep),
-    )
+    let listing = read_text(ListingReader::new(alloc), edges);
+    let dyndep = read_text(DyndepReader::new(alloc), dyndep);
+    effect_of_read(alloc, name, listing, dyndep)
 }
 
 /// Runs `effect NAME EDGES DYNDEP` on the name and the two files, once they were read. The name is
-/// checked first, then the listing, and then the dyndep file. An edge whose build line is too long is
-/// named by its first output.
-pub(crate) fn effect_read(
+/// checked first, then the edge list, and then the dyndep file.
+pub(crate) fn effect_of_read(
     alloc: Global,
     name: &str,
     listing: ListingRead,
@@ -43,14 +41,43 @@ pub(crate) fn effect_read(
 ) -> Result<Output, Stop>
     ensures { EffectOfRead name.now listing dyndep [] result }
 {
-    let name = Path::of(alloc, name.as_bytes()).map_err(|f| stop::of_fault(alloc, "name: ", f))?;
+    let name = path_of(alloc, name)?;
     let old = graph_of(alloc, listing)?;
     let dyndep = statements_of(alloc, dyndep)?;
-    let new = apply(alloc, &old, &name, &dyndep).map_err(|f| stop::of_effect(alloc, f))?;
-    match new.to_text(alloc) {
-        Ok(text) => Ok(Output::text(alloc, text)),
+    let new = graph_after(alloc, &old, &name, &dyndep)?;
+    let text = listing_text(alloc, &new)?;
+    Ok(Output::text(alloc, text))
+}
+
+/// Returns the path of a name.
+fn path_of(alloc: Global, name: &str) -> Result<Path, Stop>
+    ensures { NameOf name.now [] result }
+{
+    match Path::of(alloc, name.as_bytes()) {
+        Ok(path) => Ok(path),
+        Err(failure) => Err(stop::of_fault(alloc, "name: ", failure)),
+    }
+}
+
+/// Returns the graph after the effect of the dyndep file of this name.
+fn graph_after(alloc: Global, old: &Graph, name: &Path, dyndep: &Dyndep) -> Result<Graph, Stop>
+    ensures { EffectOf old.now name.now dyndep.now [] result }
+{
+    match apply(alloc, old, name, dyndep) {
+        Ok(graph) => Ok(graph),
+        Err(failure) => Err(stop::of_effect(alloc, failure)),
+    }
+}
+
+/// Returns the edge list of a graph. An edge whose build line is too long is named by its first
+/// output.
+fn listing_text(alloc: Global, graph: &Graph) -> Result<Vec<u8>, Stop>
+    ensures { ListingTextOf graph.now [] (seen bytes_of result) }
+{
+    match graph.to_text(alloc) {
+        Ok(text) => Ok(text),
         Err(Failure::Fault(ListingWriteFault::ListingTooLong { edge })) => {
-            let output = first_output(new.edges(), edge);
+            let output = first_output(graph.edges(), edge);
             Err(stop::stopped(1, joined(alloc, &[b"E9 ListingTooLong ", output])))
         }
         Err(_) => Err(Failure::Memory),
@@ -59,14 +86,14 @@ pub(crate) fn effect_read(
 
 /// Runs `order EDGES` on the bytes of the edge listing. Each edge is named by its first output, in
 /// which control bytes are printed as `?`.
-pub fn order_edges(alloc: Global, edges: &[u8]) -> Result<Output, Stop>
+pub fn order(alloc: Global, edges: &[u8]) -> Result<Output, Stop>
     ensures { OrderRun edges.now [] result }
 {
-    order_read(alloc, listing_of(alloc, edges))
+    order_of_read(alloc, read_text(ListingReader::new(alloc), edges))
 }
 
 /// Runs `order EDGES` on the edge listing, once it was read.
-pub(crate) fn order_read(alloc: Global, listing: ListingRead) -> Result<Output, Stop>
+pub(crate) fn order_of_read(alloc: Global, listing: ListingRead) -> Result<Output, Stop>
     ensures { OrderOfRead listing [] result }
 {
     let graph = graph_of(alloc, listing)?;
@@ -82,8 +109,8 @@ pub(crate) fn order_read(alloc: Global, listing: ListingRead) -> Result<Output, 
     }
 }
 
-/// Checks that the edges of a listing that was read, if there is one, can be put in order after the
-/// effect of a collated target's dyndep file, which has that name.
+/// Checks that the edges of an edge list that was read, if there is one, can be put in order after
+/// the effect of a collated target's dyndep file, which has that name.
 pub(crate) fn pass_edges(
     alloc: Global,
     listing: &Option<ListingRead>,
@@ -108,7 +135,7 @@ pub(crate) fn pass_edges(
     }
 }
 
-/// The result of reading a listing.
+/// The result of reading an edge list.
 pub(crate) type ListingRead = Result<Graph, Failure<ListFault>>;
 
 impl PieceReader for ListingReader {
@@ -124,31 +151,19 @@ impl PieceReader for ListingReader {
     }
 }
 
-/// Reads the listing of this name, up to its end or to the first line that is rejected.
-pub(crate) fn read_listing<F: Folder>(
-    alloc: Global,
-    name: &str,
-    folder: &mut F,
-) -> Result<ListingRead, Stop>
-    ensures { Runs (F.calls folder.old) (F.calls folder.new) (ReadsListing name.now) result }
-{
-    let mut reader = ListingReader::new(alloc);
-    match folder.feed(name, &mut reader) {
-        Ok(()) => Ok(reader.finish()),
-        Err(error) => Err(stop::of_unread(alloc, name, error)),
+impl FileReader for ListingReader {
+    ghost use Rattle.commands.specs.Listings.{IsListingRead};
+
+    type Read = ListingRead;
+
+    ghost follows = { IsListingRead };
+
+    fn read(self) -> ListingRead {
+        self.finish()
     }
 }
 
-/// Returns the result of reading a listing of these bytes.
-fn listing_of(alloc: Global, text: &[u8]) -> ListingRead
-    ensures { IsListingRead (whole text.now) result }
-{
-    let mut reader = ListingReader::new(alloc);
-    reader.feed(text)?;
-    reader.finish()
-}
-
-/// Returns the graph of a listing that was read.
+/// Returns the graph of an edge list that was read.
 fn graph_of(alloc: Global, listing: ListingRead) -> Result<Graph, Stop>
     ensures { ListingOf listing [] result }
 {

@@ -3,12 +3,14 @@
 
 ghost use Rattle.std.specs.Prelude.{◌≡◌, ◌++◌, ◌∷◌, [], map, string_bytes, IfOk, OnOk};
 ghost use Rattle.commands.specs.Files.{FilesOf};
-ghost use Rattle.commands.specs.Outcomes.{Runs, ReadsDocument, ReadsAll, seen};
+ghost use Rattle.commands.specs.Folder.{FileRead, WasGiven, whole};
+ghost use Rattle.commands.specs.Outcomes.{Runs, ReadsDocument, ReadsAll, ReadsAs, seen};
 ghost use Rattle.commands.specs.inner.Parts.{bytes_of, contents};
 
-use crate::edges::{ListingRead, read_listing};
-use crate::folder::Folder;
+use crate::edges::ListingRead;
+use crate::folder::{Folder, PieceReader};
 use crate::stop::{self, Stop};
+use build_effect::ListingReader;
 use scan_docs::{DOCUMENT_LIMIT, TargetSpec};
 use std::alloc::{AllocError, Global};
 use std::marker::Model;
@@ -36,12 +38,54 @@ fn read_all<F: Folder>(
     ensures { Runs (F.calls folder.old) (F.calls folder.new)
         (ReadsAll (map string_bytes names.now)) (seen contents result) }
 {
-    let mut files = Vec::with_capacity(alloc, names.len())?;
+    let mut files = Vec::new(alloc);
     for name in names {
         let file = read(alloc, name.as_str(), folder)?;
         files = pushed(files, file)?;
     }
     Ok(files)
+}
+
+/// What reads a file of lines: its pieces, and then what they are.
+pub(crate) trait FileReader: PieceReader + Drop {
+    /// What a file is, or why it is rejected.
+    type Read;
+
+    // it follows from what was read of the file
+    ghost follows: { FileRead → Self.Read → Type 0 };
+
+    /// Returns what the pieces are that it was given.
+    fn read(self) -> Self::Read
+        ensures { (file : FileRead) → WasGiven Self.has_read Self.has_failed file self →
+            follows file result };
+}
+
+/// Reads the file of this name with a new reader, up to its end or to the first line that is
+/// rejected.
+pub(crate) fn read_file<R: FileReader, F: Folder>(
+    alloc: Global,
+    name: &str,
+    reader: R,
+    folder: &mut F,
+) -> Result<R::Read, Stop>
+    requires { R.has_read [] reader }
+    ensures { Runs (F.calls folder.old) (F.calls folder.new) (ReadsAs R.follows name.now) result }
+{
+    let mut reader = reader;
+    match folder.feed(name, &mut reader) {
+        Ok(()) => Ok(reader.read()),
+        Err(error) => Err(stop::of_unread(alloc, name, error)),
+    }
+}
+
+/// Returns what a new reader makes of a file of these bytes.
+pub(crate) fn read_text<R: FileReader>(reader: R, text: &[u8]) -> R::Read
+    requires { R.has_read [] reader }
+    ensures { R.follows (whole text.now) result }
+{
+    let mut reader = reader;
+    let _ = reader.read_piece(text);
+    reader.read()
 }
 
 /// The files of a target.
@@ -79,9 +123,21 @@ impl Model for TargetFiles {
 }
 
 impl TargetFiles {
-    /// Reads the scan documents that a target document names, the info files of these names, and
-    /// the listing of edges, in this order.
+    /// Reads the files that a target document names: its scan documents, the info files that it
+    /// links, and the edge list, in this order.
     pub(crate) fn read<F: Folder>(
+        alloc: Global,
+        spec: &TargetSpec,
+        folder: &mut F,
+    ) -> Result<TargetFiles, Stop>
+        ensures { Runs (F.calls folder.old) (F.calls folder.new)
+            (FilesOf spec.now spec.now.linked) result }
+    {
+        TargetFiles::read_with(alloc, spec, &spec.linked, folder)
+    }
+
+    /// Does the same with info files of these names.
+    pub(crate) fn read_with<F: Folder>(
         alloc: Global,
         spec: &TargetSpec,
         infos: &[String],
@@ -93,7 +149,10 @@ impl TargetFiles {
         let scans = read_all(alloc, &spec.scans, folder)?;
         let infos = read_all(alloc, infos, folder)?;
         let listing = match &spec.edges {
-            Some(name) => Some(read_listing(alloc, name.as_str(), folder)?),
+            Some(name) => {
+                let reader = ListingReader::new(alloc);
+                Some(read_file(alloc, name.as_str(), reader, folder)?)
+            }
             None => None,
         };
         Ok(TargetFiles {

@@ -2,20 +2,25 @@
 //! the writing and printing of what it leaves.
 
 ghost use Rattle.command_line.specs.Tasks.{task_value};
-ghost use Rattle.commands.specs.Files.{WritesFiles};
+ghost use Rattle.commands.specs.Answers.{file_value};
+ghost use Rattle.commands.specs.Files.{WritesFile, WritesFiles};
+ghost use Rattle.commands.specs.Folder.{MakesCalls};
 ghost use Rattle.commands.specs.Outcomes.{Runs};
 ghost use Rattle.commands.specs.Program.{ArgumentsRun, IsProgramRun, words_of};
 ghost use Rattle.commands.specs.Runs.{TaskRun};
+ghost use Rattle.commands.specs.inner.Writing.{IsLeft};
 
 use crate::answer::{Answer, print};
-use crate::collate::{collate_scan, collate_target};
-use crate::dyndeps::{read_dyndep, show_read};
-use crate::edges::{effect_read, order_read, read_listing};
+use crate::dyndeps::show_of_read;
+use crate::edges::{effect_of_read, order_of_read};
 use crate::folder::Folder;
-use crate::project::collate_project;
-use crate::reading::read;
-use crate::stop::{self, Output, Stop};
+use crate::projects::project;
+use crate::reading::{read, read_file};
+use crate::stop::{self, Output, OutputFile, Stop};
+use crate::target::{collate, one};
+use build_effect::ListingReader;
 use command_line::{Task, task_of};
+use dyndep_file::DyndepReader;
 use ninja_text::{Counted, Failure, WriteCall};
 use std::alloc::Global;
 use std::io;
@@ -57,7 +62,8 @@ fn arguments_run<F: Folder>(
         return Err(stop::stopped(2, Vec::from_slice(alloc, b"usage")));
     };
     let output = task_run(alloc, &task, folder)?;
-    write_files(alloc, output, folder)
+    write_files(alloc, &output, folder)?;
+    Ok(output)
 }
 
 /// Runs a task. The files that it names are read, each when its turn comes; none is
@@ -69,26 +75,32 @@ pub fn task_run<F: Folder>(alloc: Global, task: &Task, folder: &mut F) -> Result
     match task {
         Task::One { scan, dir, ext } => {
             let scan = read(alloc, scan, folder)?;
-            collate_scan(alloc, &scan, dir, ext)
+            one(alloc, &scan, dir, ext)
         }
         Task::Collate(target) => {
             let document = read(alloc, target, folder)?;
-            collate_target(alloc, &document, folder)
+            collate(alloc, &document, folder)
         }
-        Task::Show(dyndep) => show_read(alloc, read_dyndep(alloc, dyndep, folder)?),
+        Task::Show(dyndep) => {
+            let dyndep = read_file(alloc, dyndep, DyndepReader::new(alloc), folder)?;
+            show_of_read(alloc, dyndep)
+        }
         Task::Effect {
             name,
             edges,
             dyndep,
         } => {
-            let listing = read_listing(alloc, edges, folder)?;
-            let dyndep = read_dyndep(alloc, dyndep, folder)?;
-            effect_read(alloc, name, listing, dyndep)
+            let listing = read_file(alloc, edges, ListingReader::new(alloc), folder)?;
+            let dyndep = read_file(alloc, dyndep, DyndepReader::new(alloc), folder)?;
+            effect_of_read(alloc, name, listing, dyndep)
         }
-        Task::Order(edges) => order_read(alloc, read_listing(alloc, edges, folder)?),
+        Task::Order(edges) => {
+            let listing = read_file(alloc, edges, ListingReader::new(alloc), folder)?;
+            order_of_read(alloc, listing)
+        }
         Task::Project(document) => {
             let document = read(alloc, document, folder)?;
-            collate_project(alloc, &document, folder)
+            project(alloc, &document, folder)
         }
     }
 }
@@ -96,20 +108,36 @@ pub fn task_run<F: Folder>(alloc: Global, task: &Task, folder: &mut F) -> Result
 /// Writes the files of an output, in order, up to the first that can't be written. The run stops
 /// with the name of that file; the files before it stay. A file that has its bytes is left alone if
 /// the output says so.
-pub fn write_files<F: Folder>(alloc: Global, output: Output, folder: &mut F) -> Result<Output, Stop>
-    ensures { Runs (F.calls folder.old) (F.calls folder.new) (WritesFiles output) result }
+pub fn write_files<F: Folder>(alloc: Global, output: &Output, folder: &mut F) -> Result<(), Stop>
+    ensures { Runs (F.calls folder.old) (F.calls folder.new) (WritesFiles output.now.files) result }
 {
-    let Output { text, files } = output;
-    for file in &files {
-        let name = file.name.as_str();
-        let bytes = file.bytes.as_slice();
-        if file.keeps && folder.has(name, bytes) {
-            continue;
-        }
-        if folder.write(name, bytes).is_err() {
-            let message = format!(in alloc; "cannot write {name}");
-            return Err(stop::stopped(3, message.map(String::into_bytes)));
+    for file in &output.files {
+        write_file(alloc, file, folder)?;
+    }
+    Ok(())
+}
+
+/// Writes a file, or leaves it alone.
+fn write_file<F: Folder>(alloc: Global, file: &OutputFile, folder: &mut F) -> Result<(), Stop>
+    ensures { Runs (F.calls folder.old) (F.calls folder.new) (WritesFile (file_value file.now))
+        result }
+{
+    if is_left(file, folder) {
+        return Ok(());
+    }
+    match folder.write(file.name.as_str(), file.bytes.as_slice()) {
+        Ok(()) => Ok(()),
+        Err(_) => {
+            let message = format!(in alloc; "cannot write {}", file.name);
+            Err(stop::stopped(3, message.map(String::into_bytes)))
         }
     }
-    Ok(Output { text, files })
+}
+
+/// Returns whether a file is left alone: it may be, and it has its bytes.
+fn is_left<F: Folder>(file: &OutputFile, folder: &mut F) -> bool
+    ensures { MakesCalls (F.calls folder.old) (F.calls folder.new)
+        (IsLeft (file_value file.now) result) }
+{
+    file.keeps && folder.has(file.name.as_str(), file.bytes.as_slice())
 }

@@ -24,14 +24,14 @@ use std::alloc::{AllocError, Global};
 pub fn one_run(alloc: Global, scan: &[u8], dir: &str, ext: &str) -> Result<Answer, AllocError>
     ensures { Answers (OneRun scan.now dir.now ext.now []) result }
 {
-    Answer::of(alloc, commands::collate_scan(alloc, scan, dir, ext))
+    Answer::of(alloc, commands::one(alloc, scan, dir, ext))
 }
 
 /// Runs `show DYNDEP` on the bytes of a dyndep file.
 pub fn show_run(alloc: Global, dyndep: &[u8]) -> Result<Answer, AllocError>
     ensures { Answers (ShowRun dyndep.now []) result }
 {
-    Answer::of(alloc, commands::show_dyndep(alloc, dyndep))
+    Answer::of(alloc, commands::show(alloc, dyndep))
 }
 
 /// Runs `effect NAME EDGES DYNDEP` on a name, and on the bytes of an edge list and of the dyndep
@@ -44,14 +44,14 @@ pub fn effect_run(
 ) -> Result<Answer, AllocError>
     ensures { Answers (EffectRun name.now edges.now dyndep.now []) result }
 {
-    Answer::of(alloc, commands::apply_dyndep(alloc, name, edges, dyndep))
+    Answer::of(alloc, commands::effect(alloc, name, edges, dyndep))
 }
 
 /// Runs `order EDGES` on the bytes of an edge list.
 pub fn order_run(alloc: Global, edges: &[u8]) -> Result<Answer, AllocError>
     ensures { Answers (OrderRun edges.now []) result }
 {
-    Answer::of(alloc, commands::order_edges(alloc, edges))
+    Answer::of(alloc, commands::order(alloc, edges))
 }
 
 /// Runs `collate TARGETFILE` on the bytes of a target document. For a name in the document, the first
@@ -61,7 +61,7 @@ pub fn collate_run(alloc: Global, document: &[u8], files: &[File<'_>]) -> Result
     ensures { Answers (Over files.now (CollateRun document.now)) result }
 {
     let mut folder = Files::new(alloc, files)?;
-    let outcome = commands::collate_target(alloc, document, &mut folder);
+    let outcome = commands::collate(alloc, document, &mut folder);
     Answer::of(alloc, outcome)
 }
 
@@ -71,7 +71,7 @@ pub fn project_run(alloc: Global, document: &[u8], files: &[File<'_>]) -> Result
     ensures { Answers (Over files.now (ProjectRun document.now)) result }
 {
     let mut folder = Files::new(alloc, files)?;
-    let outcome = commands::collate_project(alloc, document, &mut folder);
+    let outcome = commands::project(alloc, document, &mut folder);
     Answer::of(alloc, outcome)
 }
 

@@ -15,8 +15,8 @@ abbrev pub IsStoppedWith : ℕ → Result (Vec ℕ Global) AllocError → Failur
 IsStoppedWith number (Err refused) stop = stop ≡ Memory
 IsStoppedWith number (Ok message) stop = stop ≡ Fault (failed number message.items)
 
--- The run stops because memory ran out if that is the error of a call, and with this message if it is
--- another error.
+-- The run stops because memory ran out, if that is the error of a call, and with this message if
+-- it is another error.
 abbrev pub IsFailedCall : Error → Result (Vec ℕ Global) AllocError → Failure LineValue → Type 0
 IsFailedCall error message stop =
     (error_kind error ≡ OutOfMemory → stop ≡ Memory)

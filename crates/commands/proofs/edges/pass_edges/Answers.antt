@@ -1,7 +1,6 @@
 use Rattle.std.proofs.Common.{◌≡◌, ◌∙◌, ℕ, List, [], Option, Some, length, refl, ap, ap₂, subst, sym, Ok, Err, Vec, Global}
 use Rattle.ninja_text.specs.Failure.{ForFault}
 use Rattle.ninja_text.specs.declared.failure.Failure.{Failure}
-use Rattle.ninja_text.specs.declared.failure.Failure.TheVariants.{Memory, Fault}
 use Rattle.dep_order.specs.Needs.{IsOrderable}
 use Rattle.dep_order.specs.Sortings.{IsSortingOf}
 use Rattle.dep_order.specs.declared.Sorting.{Sorting}
@@ -12,37 +11,33 @@ use Rattle.build_effect.specs.declared.fault.ListFault.{ListFault}
 use Rattle.collate_core.specs.Rehearsal.{HasEffect, LacksEffect}
 use Rattle.commands.specs.EdgeChecks.{EdgesPass, GraphPasses}
 use Rattle.commands.specs.EdgeFaults.{edges_fault_text, effect_text, cycle_text}
-use Rattle.commands.specs.Listings.{ListingRead, ListingOf}
-use Rattle.commands.specs.Outcomes.{LineValue, Outcome, goes_on, stops, refusal, Reports}
-use Rattle.commands.proofs.Outcomes.{its_line, said, fault_reported}
+use Rattle.commands.specs.Listings.{ListingRead}
+use Rattle.commands.specs.Outcomes.{Outcome, goes_on, stops, refusal, Reports}
+use Rattle.commands.proofs.Outcomes.{its_line, said, fault_reported, held_fault, Stop}
 use Rattle.commands.proofs.edges.pass_edges.Goals as goal
 
 -- one that gives a graph
-passed_on : (given : Option ListingRead) (edges : List EdgeValue) (name dyndep : List ℕ) (s : Outcome (Unit {0})) → given ≡ Some (Ok edges) →
+passed_on : {given : Option ListingRead} {edges : List EdgeValue} (name dyndep : List ℕ) (s : Outcome (Unit {0})) → given ≡ Some (Ok edges) →
     GraphPasses edges name dyndep [] s → EdgesPass given name dyndep [] s
-passed_on given edges name dyndep s e h = subst (λ l. EdgesPass l name dyndep [] s) (sym e) (goes_on edges [] [] refl (refl, refl) h)
+passed_on {edges = edges} name dyndep s e h = subst (λ l. EdgesPass l name dyndep [] s) (sym e) (goes_on edges [] [] refl (refl, refl) h)
 
 -- and one that does not
-reported : (failure : Failure ListFault) (stop : Failure LineValue) → Reports edges_fault_text failure stop → ListingOf (Err failure) [] (Err stop)
-reported Memory Memory h = refl
-reported Memory (Fault l) h = absurd (let e : Fault l ≡ Memory = h in cc)
-reported (Fault fault) Memory h = refl
-reported (Fault fault) (Fault l) h = (refl, (fault, refl, h))
-
-rejected : (given : Option ListingRead) (failure : Failure ListFault) (name dyndep : List ℕ) (stop : Failure LineValue) → given ≡ Some (Err failure) →
+rejected : {given : Option ListingRead} {failure : Failure ListFault} (name dyndep : List ℕ) (stop : Stop) → given ≡ Some (Err failure) →
     Reports edges_fault_text failure stop → EdgesPass given name dyndep [] (Err stop)
-rejected given failure name dyndep stop e h = subst (λ l. EdgesPass l name dyndep [] (Err stop)) (sym e) (stops stop (reported failure stop h) refl)
+rejected {failure = failure} name dyndep stop e h =
+    subst (λ l. EdgesPass l name dyndep [] (Err stop)) (sym e) (stops stop (held_fault (List EdgeValue) edges_fault_text failure stop h) refl)
 
 -- the edges after the effect have this sorting
 abbrev Sorts : List ℕ → List ℕ → List EdgeValue → Sorting → Type 0
 Sorts name dyndep old sorting =
     (new : List EdgeValue) × HasEffect dyndep name old new × IsSortingOf (length new) (EdgeNeeds new) sorting
 
-ordered : (name dyndep : List ℕ) (old : List EdgeValue) {sorting : Sorting} {order : Vec ℕ Global} → sorting ≡ Order order → Sorts name dyndep old sorting → GraphPasses old name dyndep [] (Ok tt)
+ordered : (name dyndep : List ℕ) (old : List EdgeValue) {sorting : Sorting} {order : Vec ℕ Global} → sorting ≡ Order order → Sorts name dyndep old sorting →
+    GraphPasses old name dyndep [] (Ok tt)
 ordered name dyndep old {sorting} {order} e (new, effect, is) =
     let orderable = subst (IsSortingOf (length new) (EdgeNeeds new)) e is in goes_on new [] [] refl (refl, effect) (refl, orderable.0)
 
-cyclic : (name dyndep : List ℕ) (old : List EdgeValue) (cycle : Vec ℕ Global) (stop : Failure LineValue) → Sorts name dyndep old (Cycle cycle) →
+cyclic : (name dyndep : List ℕ) (old : List EdgeValue) (cycle : Vec ℕ Global) (stop : Stop) → Sorts name dyndep old (Cycle cycle) →
     ForFault (λ l. l ≡ refusal (cycle_text old cycle.items)) stop → GraphPasses old name dyndep [] (Err stop)
 cyclic name dyndep old cycle stop (new, effect, is) h =
     goes_on new [] [] refl (refl, effect)
@@ -50,18 +45,18 @@ cyclic name dyndep old cycle stop (new, effect, is) h =
     (λ (c : Vec ℕ Global). cycle_text old c.items) cycle stop is h)
 
 pub returns-in-Err : goal.returns-in-Err
-returns-in-Err c = rejected _ _ _ _ _ (c.in-Some.is ∙ ap Some c.in-Err.is) c.of_listing.ensures
+returns-in-Err c = rejected _ _ _ (c.in-Some.is ∙ ap Some c.in-Err.is) c.of_listing.ensures
 
 pub returns-in-Ok-Order : goal.returns-in-Ok-Order
 returns-in-Ok-Order c =
-    passed_on _ _ _ _ _ (c.in-Some.is ∙ ap Some c.in-Ok.is)
+    passed_on _ _ _ (c.in-Some.is ∙ ap Some c.in-Ok.is)
     (ordered c.args.name.now c.args.collated.now.dyndep c.in-Ok.graph c.in-Ok-Order.field-0-is c.in-Ok-Order.ensures.sorted)
 
 pub returns-in-Ok-Cycle : goal.returns-in-Ok-Cycle
 returns-in-Ok-Cycle c =
     let stop = c.stopped.result in
     let line = its_line 1 _ _ stop c.cycle_text.ensures c.stopped.ensures in
-    passed_on _ _ _ _ _ (c.in-Some.is ∙ ap Some c.in-Ok.is)
+    passed_on _ _ _ (c.in-Some.is ∙ ap Some c.in-Ok.is)
     (cyclic c.args.name.now c.args.collated.now.dyndep c.in-Ok.graph c.in-Ok-Cycle.cycle stop (rw c.in-Ok-Cycle.field-0-is at c.in-Ok-Cycle.ensures.sorted)
     (subst (λ t. ForFault (λ l. l ≡ refusal t) stop) (ap₂ cycle_text c.edges.ensures.edges c.deref.ensures.value) line))
 
@@ -69,5 +64,6 @@ pub returns : goal.returns
 returns c =
     let stop = c.of_effect.result in
     let old = c.in-Ok.graph in
-    passed_on _ _ _ _ _ (c.in-Some.is ∙ ap Some c.in-Ok.is)
-    (stops stop (fault_reported (HasEffect c.args.collated.now.dyndep c.args.name.now old) (LacksEffect c.args.collated.now.dyndep c.args.name.now old) effect_text c.in-Err-check_edges.failure stop c.in-Err-check_edges.ensures.fault c.of_effect.ensures) refl)
+    passed_on _ _ _ (c.in-Some.is ∙ ap Some c.in-Ok.is)
+    (stops stop (fault_reported (HasEffect c.args.collated.now.dyndep c.args.name.now old) (LacksEffect c.args.collated.now.dyndep c.args.name.now old)
+    effect_text c.in-Err-check_edges.failure stop c.in-Err-check_edges.ensures.fault c.of_effect.ensures) refl)

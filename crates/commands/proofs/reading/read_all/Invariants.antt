@@ -1,7 +1,11 @@
+use Rattle.std.proofs.Common.{drop, map, string_bytes}
+use Rattle.commands.specs.Outcomes.{Each, ReadsAll, ReadsNext}
 use Rattle.commands.specs.inner.Parts.{contents}
-use Rattle.commands.proofs.Outcomes.{WereRead}
+use Rattle.commands.proofs.Outcomes.{Leads}
 use Rattle.commands.proofs.reading.read_all.Given as goal
 
--- the files so far were read
+-- with the files that are left after those so far, all are read
 abbrev pub invariant-loop-name : goal.invariant-loop-name
-invariant-loop-name g l = WereRead (g.F.Folder.calls l.fn.folder) (g.F.Folder.calls l.folder) l.names l.name-index (contents l.files)
+invariant-loop-name g l =
+    Leads (g.F.Folder.calls l.fn.folder) (g.F.Folder.calls l.folder)
+    (Each ReadsNext (contents l.files) (drop l.name-index (map string_bytes l.names))) (ReadsAll (map string_bytes l.names))

@@ -13,5 +13,6 @@ returns c =
     let edges = c.args.edges.now in
     let cycle = c.args.cycle.now in
     let begins = c.in_ok-extend_from_slice.ensures.items ∙ ap₂ (λ text name. text ++ name) c.in_ok-text.ensures.items c.first_output.ensures in
-    chain_whole (first_output edges) (codes "cycle ") _ _ cycle c.loop-next.next-index c.in-len1-up.len_at_least c.loop-next-test.false begins c.loop-next.invariant
+    chain_whole (first_output edges) (codes "cycle ") _ _ cycle c.loop-next.next-index c.in-len1-up.len_at_least c.loop-next-test.false begins
+    c.loop-next.invariant
     ∙ sym (ap (cycle_text edges) (drop-cons cycle 0 0 c.in-len1-up.len_at_least))

@@ -12,5 +12,7 @@ pub returns : goal.returns
 returns c =
     let objects = c.args.objects.now in
     let ring = c.args.ring.now in
-    chain_whole (object_path objects) [] _ _ ring c.loop-next.next-index c.in-len1-up.len_at_least c.loop-next-test.false (c.in_ok-text.ensures.items ∙ c.object_path.ensures) c.loop-next.invariant
+    chain_whole (object_path objects)
+    [] _ _ ring c.loop-next.next-index c.in-len1-up.len_at_least c.loop-next-test.false (c.in_ok-text.ensures.items ∙ c.object_path.ensures)
+    c.loop-next.invariant
     ∙ sym (ap (ring_text objects) (drop-cons ring 0 0 c.in-len1-up.len_at_least))

@@ -1,28 +1,24 @@
-use Rattle.std.proofs.Common.{rules, ◌≡◌, ℕ, List, [], codes, Option, None, Result, map, string_bytes, refl, ap, sym, subst, Ok, Err, IfOk, String, Vec, option_map, Global}
+use Rattle.std.proofs.Common.{rules, ◌≡◌, ℕ, List, [], codes, Option, Some, None, Result, map, string_bytes, refl, ap, sym, subst, Ok, Err, IfOk, String, Vec, option_map, Global}
 use Rattle.std.specs.IoError.{error_kind}
 use Rattle.std.specs.declared.alloc.AllocError.{AllocError}
 use Rattle.std.specs.declared.io.Error.{Error}
 use Rattle.std.specs.declared.io.ErrorKind.TheVariants.{OutOfMemory}
-use Rattle.ninja_text.specs.declared.failure.Failure.{Failure}
 use Rattle.ninja_text.specs.declared.failure.Failure.TheVariants.{Memory}
-use Rattle.command_line.specs.Tasks.{TaskValue, AreCallOf, task_value}
+use Rattle.command_line.specs.Tasks.{AreCallOf, task_value}
 use Rattle.command_line.specs.declared.arguments.Task.{Task}
-use Rattle.commands.specs.Files.{WritesFiles}
-use Rattle.commands.specs.Outcomes.{LineValue, OutputValue, Part, failed, ◌>>=◌}
+use Rattle.commands.specs.Outcomes.{failed, stops}
 use Rattle.commands.specs.Program.{AreTask, ArgumentsOf, Words, words_of}
-use Rattle.commands.specs.Runs.{TaskRun}
 use Rattle.commands.specs.inner.Stops.{IsStoppedWith}
-use Rattle.commands.proofs.Outcomes.{pure_next, pure_last, run_next, run_last, passed}
+use Rattle.commands.proofs.Outcomes.{none_made, pure_next, pure_last, run_next, run_once, run_last, Stop}
 use Rattle.commands.proofs.run.arguments_run.Goals as goal
-use Rattle.commands.proofs.run.arguments_run.Goals.{in-Ok+in_ok-task-in-Ok, in-Err-2}
-
--- what comes after the arguments
-abbrev AfterTask : TaskValue → Part OutputValue
-AfterTask task = TaskRun task >>= WritesFiles
+use Rattle.commands.proofs.run.arguments_run.Given as given
+use Rattle.commands.proofs.run.arguments_run.Goals.{In-Some, in-Ok+in_ok-task-in-Ok, in-Err-2}
 
 -- the task that was found is that of the arguments
-of_words : (arguments : Result (Vec (String Global) Global) Error) (words : Vec (String Global) Global) (items : List (String Global)) (found task : Option Task) →
-    arguments ≡ Ok words → items ≡ words.items → AreCallOf (map string_bytes items) found → task ≡ found → AreTask (words_of arguments) (option_map task_value task)
+of_words : (arguments : Result (Vec (String Global) Global) Error) (words : Vec (String Global) Global) (items : List (String Global))
+    (found task : Option Task) →
+    arguments ≡ Ok words → items ≡ words.items → AreCallOf (map string_bytes items) found → task ≡ found →
+    AreTask (words_of arguments) (option_map task_value task)
 of_words arguments words items found task is read call same =
     subst (λ a. AreTask (words_of a) (option_map task_value task)) (sym is)
     (subst (λ t. AreTask (words_of (Ok words)) (option_map task_value t)) (sym same)
@@ -36,17 +32,16 @@ of_error arguments error task is other same =
     (subst (λ t. AreTask (words_of (Err error)) (option_map task_value t)) (sym same) other)
 
 -- which is reported
-refused : (words : Words) (message : Result (Vec ℕ Global) AllocError) (stop : Failure LineValue) →
+refused : (words : Words) (message : Result (Vec ℕ Global) AllocError) (stop : Stop) →
     AreTask words None → IfOk message (λ v. v.items ≡ codes "usage") → IsStoppedWith 2 message stop → ArgumentsOf words [] (Err stop)
 refused words (Err error) stop is text h = subst (λ s. ArgumentsOf words [] (Err s)) (sym h) refl
 refused words (Ok message) stop is text h = subst (λ s. ArgumentsOf words [] (Err s)) (sym h) (refl, is, ap (failed 2) text)
 
 pub returns-in_err-task-in-Ok : goal.returns-in_err-task-in-Ok
-returns-in_err-task-in-Ok g c =
-    pure_last (ArgumentsOf (words_of c.args.arguments.now)) AfterTask _ Memory _ refl (search rules)
+returns-in_err-task-in-Ok g c = pure_last _ _ refl c.from_residual.ensures
 
 pub returns-in-Err : goal.returns-in-Err
-returns-in-Err g c = pure_last (ArgumentsOf (words_of c.args.arguments.now)) AfterTask _ Memory _ refl refl
+returns-in-Err g c = ([], none_made _, stops Memory refl refl)
 
 pub returns-in_default : goal.returns-in_default
 returns-in_default g c =
@@ -54,27 +49,29 @@ returns-in_default g c =
       | in-Ok+in_ok-task-in-Ok w ↦ of_words _ _ _ _ _ w.in-Ok.is w.deref.ensures.value w.in_ok-task-in-Ok.ensures w.task-is
       | in-Err-2 w ↦ of_error _ _ _ w.in-Err-2.is (search rules) w.task-is
     ] in
-    pure_last (ArgumentsOf (words_of c.args.arguments.now)) AfterTask _ c.stopped.result _
-    (refused (words_of c.args.arguments.now) _ _ (subst (λ t. AreTask (words_of c.args.arguments.now) (option_map task_value t)) c.in_default.is is) c.from_slice.ensures.items c.stopped.ensures) refl
+    let none = subst (λ t. AreTask (words_of c.args.arguments.now) (option_map task_value t)) c.in_default.is is in
+    ([], none_made _, stops c.stopped.result (refused (words_of c.args.arguments.now) _ _ none c.from_slice.ensures.items c.stopped.ensures) refl)
+
+-- the task that is run
+its_task : (g : given.Over) (c : In-Some g) → AreTask (words_of c.args.arguments.now) (Some (task_value c.in-Some.task))
+its_task g c =
+    let is : AreTask (words_of c.args.arguments.now) (option_map task_value c.match-arguments.task) = elim c.match-arguments.branch [
+      | in-Ok+in_ok-task-in-Ok w ↦ of_words _ _ _ _ _ w.in-Ok.is w.deref.ensures.value w.in_ok-task-in-Ok.ensures w.task-is
+      | in-Err-2 w ↦ of_error _ _ _ w.in-Err-2.is (search rules) w.task-is
+    ] in
+    subst (λ t. AreTask (words_of c.args.arguments.now) (option_map task_value t)) c.in-Some.is is
 
 pub returns-in_err-output : goal.returns-in_err-output
 returns-in_err-output g c =
-    let failure = c.in_err-output.field-0.0 in
-    let task = task_value c.in-Some.task in
-    let is : AreTask (words_of c.args.arguments.now) (option_map task_value c.match-arguments.task) = elim c.match-arguments.branch [
-      | in-Ok+in_ok-task-in-Ok w ↦ of_words _ _ _ _ _ w.in-Ok.is w.deref.ensures.value w.in_ok-task-in-Ok.ensures w.task-is
-      | in-Err-2 w ↦ of_error _ _ _ w.in-Err-2.is (search rules) w.task-is
-    ] in
-    pure_next (ArgumentsOf (words_of c.args.arguments.now)) AfterTask _ _ task _ (refl, subst (λ t. AreTask (words_of c.args.arguments.now) (option_map task_value t)) c.in-Some.is is)
-    (run_last (TaskRun task) WritesFiles _ _ (Err failure) failure _ c.in_err-output.ensures refl (passed c.from_residual-in_err-output.ensures))
+    pure_next _ (task_value c.in-Some.task) (refl, its_task g (goal.at.returns-in_err-output g c).In-Some)
+    (run_last _ _ c.in_err-output.ensures c.from_residual-in_err-output.ensures)
+
+pub returns-in_err-write_files : goal.returns-in_err-write_files
+returns-in_err-write_files g c =
+    pure_next _ (task_value c.in-Some.task) (refl, its_task g (goal.at.returns-in_err-write_files g c).In-Some)
+    (run_next _ _ c.in_ok-output.ensures (run_last _ _ c.in_err-write_files.ensures c.from_residual-in_err-write_files.ensures))
 
 pub returns : goal.returns
 returns g c =
-    let task = task_value c.in-Some.task in
-    let output = c.in_ok-output.output in
-    let is : AreTask (words_of c.args.arguments.now) (option_map task_value c.match-arguments.task) = elim c.match-arguments.branch [
-      | in-Ok+in_ok-task-in-Ok w ↦ of_words _ _ _ _ _ w.in-Ok.is w.deref.ensures.value w.in_ok-task-in-Ok.ensures w.task-is
-      | in-Err-2 w ↦ of_error _ _ _ w.in-Err-2.is (search rules) w.task-is
-    ] in
-    pure_next (ArgumentsOf (words_of c.args.arguments.now)) AfterTask _ _ task _ (refl, subst (λ t. AreTask (words_of c.args.arguments.now) (option_map task_value t)) c.in-Some.is is)
-    (run_next (TaskRun task) WritesFiles _ _ _ (Ok output) output _ c.in_ok-output.ensures refl c.write_files.ensures)
+    pure_next _ (task_value c.in-Some.task) (refl, its_task g (goal.at.returns g c).In-Some)
+    (run_next _ _ c.in_ok-output.ensures (run_once _ _ c.in_ok-write_files.ensures (refl, refl)))

@@ -1,9 +1,11 @@
-use Rattle.std.proofs.Common.{take}
-use Rattle.commands.specs.Files.{WritesAll}
-use Rattle.commands.specs.Folder.{MakesCalls}
+use Rattle.std.proofs.Common.{drop}
+use Rattle.commands.specs.Files.{WritesFile, WritesFiles}
+use Rattle.commands.specs.Outcomes.{Each}
+use Rattle.commands.proofs.Outcomes.{Leads}
 use Rattle.commands.proofs.run.write_files.Given as goal
 
--- the calls wrote the files so far
+-- with the files that are left after those so far, all are written
 abbrev pub invariant-loop-file : goal.invariant-loop-file
 invariant-loop-file g l =
-    MakesCalls (g.F.Folder.calls l.fn.folder) (g.F.Folder.calls l.folder) (WritesAll (take l.file-index l.fn.output.files))
+    Leads (g.F.Folder.calls l.fn.folder) (g.F.Folder.calls l.folder)
+    (Each (λ done. WritesFile) tt (drop l.file-index l.output.files)) (WritesFiles l.output.files)

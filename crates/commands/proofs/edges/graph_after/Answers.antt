@@ -1,0 +1,31 @@
+use Rattle.std.proofs.Common.{List, ℕ, refl}
+use Rattle.ninja_text.specs.Failure.{ForFault}
+use Rattle.ninja_text.specs.declared.failure.Failure.{Failure}
+use Rattle.ninja_text.specs.declared.failure.Failure.TheVariants.{Memory, Fault}
+use Rattle.dyndep_file.specs.StatementValue.{StatementValue}
+use Rattle.build_effect.specs.EdgeValue.{EdgeValue}
+use Rattle.build_effect.specs.Effect.{HasNoEffect, OnlyEffect}
+use Rattle.build_effect.specs.Faults.{IsEffectFault}
+use Rattle.build_effect.specs.declared.fault.EffectFault.{EffectFault}
+use Rattle.collate_core.specs.Rehearsal.{IsWithoutEffect}
+use Rattle.commands.specs.EdgeFaults.{effect_text}
+use Rattle.commands.proofs.Outcomes.{fault_reported}
+use Rattle.commands.proofs.edges.graph_after.Goals as goal
+
+-- why statements have no effect
+without : (old : List EdgeValue) (name : List ℕ) (statements : List StatementValue) (failure : Failure EffectFault) →
+    ForFault (IsEffectFault old name statements) failure → ForFault {F = EffectFault} (λ _. HasNoEffect old name statements) failure →
+    ForFault (IsWithoutEffect old name statements) failure
+without old name statements Memory reason none = tt
+without old name statements (Fault fault) reason none = record { reason = reason; none = none }
+
+pub returns-in-Ok : goal.returns-in-Ok
+returns-in-Ok c = (refl, c.in-Ok.ensures.effect)
+
+pub returns-in-Err : goal.returns-in-Err
+returns-in-Err c =
+    let old = c.args.old.now in
+    let name = c.args.name.now in
+    let statements = c.args.dyndep.now in
+    fault_reported (OnlyEffect old name statements) (IsWithoutEffect old name statements) effect_text c.in-Err.failure c.of_effect.result
+    (without old name statements c.in-Err.failure c.in-Err.ensures.fault c.in-Err.ensures.no_effect) c.of_effect.ensures

@@ -1,0 +1,6 @@
+use Rattle.std.proofs.Common.{[], refl}
+use Rattle.commands.specs.Outcomes.{goes_on}
+use Rattle.commands.proofs.edges.order.Goals as goal
+
+pub returns : goal.returns
+returns c = goes_on c.read_text.result [] [] refl (refl, c.read_text.ensures) c.order_of_read.ensures

@@ -1,0 +1,51 @@
+use Rattle.std.proofs.Common.{rules, ◌≡◌, ◌∙◌, ◌++◌, ◌∷◌, [], List, append_assoc, get_or, map, refl, ap, ap₂, subst, sym, length, ℕ, Vec, Global}
+use Rattle.ninja_text.specs.Failure.{ForFault}
+use Rattle.dep_order.specs.Sortings.{IsSortingOf}
+use Rattle.build_effect.specs.Graphs.{EdgeNeeds}
+use Rattle.ninja_text.specs.Bytes.{line_feed}
+use Rattle.commands.specs.Answers.{visible}
+use Rattle.commands.specs.EdgeFaults.{cycle_text, first_output}
+use Rattle.commands.specs.Order.{order_text, PrintsOrder}
+use Rattle.commands.specs.Outcomes.{refusal, printed}
+use Rattle.commands.proofs.Outcomes.{its_line, of_all, next, last, said, text_next}
+use Rattle.commands.proofs.edges.order_of_read.Goals as goal
+
+pub returns-in_err-graph : goal.returns-in_err-graph
+returns-in_err-graph c = last _ c.in_err-graph.ensures c.from_residual.ensures
+
+pub returns-in_err-order : goal.returns-in_err-order
+returns-in_err-order c = next _ c.in_ok-graph.ensures (search rules)
+
+pub returns-in_err-push_line-in-Order : goal.returns-in_err-push_line-in-Order
+returns-in_err-push_line-in-Order c = next _ c.in_ok-graph.ensures (search rules)
+
+pub returns-in-Order : goal.returns-in-Order
+returns-in-Order c =
+    let graph = c.in_ok-graph.graph in
+    let sorting = subst (IsSortingOf (length graph) (EdgeNeeds graph)) c.in-Order.is c.in_ok-order.ensures in
+    let order = c.deref-edge_index-items.result.now in
+    let text = of_all (order_text c.graph.inside.edges.items) order c.loop-edge_index.edge_index-index c.loop-edge_index.text.items c.loop-edge_index-test.false
+    c.loop-edge_index.invariant
+    ∙ ap₂ order_text c.graph.view_is c.deref-edge_index-items.ensures.value in
+    next _ c.in_ok-graph.ensures (refl, (c.in-Order.order, sorting, c.text.ensures ∙ ap printed text))
+
+pub returns : goal.returns
+returns c =
+    let graph = c.in_ok-graph.graph in
+    let sorting = subst (IsSortingOf (length graph) (EdgeNeeds graph)) c.in-Cycle.is c.in_ok-order.ensures in
+    let stop = its_line 1 _ _ c.stopped.result c.cycle_text.ensures c.stopped.ensures in
+    let same = ap₂ cycle_text c.edges-in-Cycle.ensures.edges c.deref.ensures.value in
+    next _ c.in_ok-graph.ensures (said (PrintsOrder graph) _ (λ (cycle : Vec ℕ Global). cycle_text graph cycle.items) c.in-Cycle.cycle c.stopped.result sorting
+    (subst (λ t. ForFault (λ l. l ≡ refusal t) c.stopped.result) same stop))
+
+-- one edge more
+pub loop-edge_index-preserved : goal.loop-edge_index-preserved
+loop-edge_index-preserved c =
+    let text = c.loop-edge_index.text.items in
+    let name_of : ℕ → List ℕ = first_output c.graph.inside.edges.items in
+    let index : ℕ = get_or c.deref-edge_index-items.result.now c.loop-edge_index.edge_index-index 0 in
+    let name = c.first_output.ensures ∙ ap (λ edges. first_output edges index) (c.edges.ensures.edges ∙ sym c.graph.view_is) in
+    text_next (λ k. map visible (name_of k) ++ line_feed ∷ [])
+    [] _ c.loop-edge_index.edge_index-index 0 text _ c.loop-edge_index-test.true c.loop-edge_index.invariant
+    (c.in_ok-push_line-in-Order.ensures ∙ ap (λ n. text ++ map visible n ++ line_feed ∷ []) name ∙
+    append_assoc text (map visible (name_of index)) (line_feed ∷ []))

@@ -1,7 +1,0 @@
-use Rattle.std.proofs.Common.{◌≡◌, take, map}
-use Rattle.commands.specs.ProjectCommand.{project_target}
-use Rattle.commands.proofs.project.in_project.Given as goal
-
--- the targets so far
-abbrev pub invariant-loop-index : goal.invariant-loop-index
-invariant-loop-index l = l.parts.items ≡ map project_target (take l.index l.targets)

@@ -1,7 +1,0 @@
-use Rattle.std.proofs.Common.{◌≡◌, take, map}
-use Rattle.commands.specs.ProjectCommand.{ReadTargetValue}
-use Rattle.commands.proofs.project.scans_of.Given as goal
-
--- the targets so far
-abbrev pub invariant-loop-target : goal.invariant-loop-target
-invariant-loop-target l = map (λ lent. map (λ s. s.now) lent.items) l.scans.items ≡ map (λ (target : ReadTargetValue). target.scans) (take l.target-index l.targets)

@@ -1,0 +1,75 @@
+use Rattle.std.proofs.Common.{◌≡◌, ◌∙◌, List, [], length, map, string_bytes, zip, codes, refl, ap, subst, sym, Ok, Err}
+use Rattle.std.proofs.lemmas.List.{length-map}
+use Rattle.scan_docs.specs.FaultTexts.{doc_fault_text}
+use Rattle.scan_docs.specs.Document.{IsRefused}
+use Rattle.scan_docs.specs.Project.{ProjectValue}
+use Rattle.scan_docs.specs.ProjectChecks.{project_checks}
+use Rattle.collate_core.specs.Values.{CollatedValue}
+use Rattle.commands.specs.CollateCommand.{style_of}
+use Rattle.commands.specs.Outcomes.{Outcome, OutputValue, Part, Runs, Writes, stops, ◌>>=◌}
+use Rattle.commands.specs.ProjectCommand.{ReadTargetValue, AllEdgesPass, HasProject, ProjectOf, ProjectRun, ReadsTargets, all_files, form_of, project_target, project_text}
+use Rattle.commands.specs.inner.ProjectTargets.{LinkEarlier}
+use Rattle.commands.proofs.Outcomes.{by_print, fault_reported, last, next, none_made, pure_next, run_as, run_once, run_last}
+use Rattle.commands.proofs.Targets.{objects_are_text}
+use Rattle.commands.proofs.projects.project.Given as given
+use Rattle.commands.proofs.projects.project.Goals as goal
+use Rattle.commands.proofs.projects.project.Goals.{In_ok-read}
+
+pub returns-in-Err : goal.returns-in-Err
+returns-in-Err g c =
+    let document = c.args.document.now in
+    let stop = c.of_fault.result in (
+      [],
+      none_made _,
+      stops stop (fault_reported (HasProject document) (IsRefused project_checks document) project_text c.in-Err.failure stop c.in-Err.ensures.refused
+          (by_print (codes "project: ") doc_fault_text c.in-Err.failure stop c.of_fault.ensures)) refl,
+    )
+
+pub returns-in_err-read : goal.returns-in_err-read
+returns-in_err-read g c =
+    let named = ap (map string_bytes) c.deref.ensures.value ∙ ap (λ (p : ProjectValue). p.targets) c.project.view_is in
+    pure_next _ c.in-Ok.project (refl, c.in-Ok.ensures.accepted)
+    (run_last _ _ (run_as ReadsTargets _ _ (Err c.in_err-read.field-0.0) named c.in_err-read.ensures) c.from_residual.ensures)
+
+pub all_collated-requires : goal.all_collated-requires
+all_collated-requires g c = subst LinkEarlier (sym c.as_slice-targets.ensures.value) c.read.invariant.0
+
+-- what comes after the targets
+abbrev AfterTargets : List ReadTargetValue → Part OutputValue
+AfterTargets targets = ProjectOf targets >>= (λ outs. AllEdgesPass 0 (zip targets outs) >>= (λ done. Writes (all_files (zip targets outs))))
+
+-- the run continues after them
+targets_next : (g : given.Over) (c : In_ok-read g) (own : List ReadTargetValue) (s : Outcome OutputValue) → own ≡ c.in_ok-read.read → AfterTargets own [] s →
+    Runs (g.F.Folder.calls c.args.folder.now) (g.F.Folder.calls c.read_targets.new.folder) (ProjectRun c.args.document.now) s
+targets_next g c own s same rest =
+    let named = ap (map string_bytes) c.deref.ensures.value ∙ ap (λ (p : ProjectValue). p.targets) c.project.view_is in
+    pure_next _ c.in-Ok.project (refl, c.in-Ok.ensures.accepted)
+    (run_once _ _ (run_as ReadsTargets _ _ (Ok c.in_ok-read.read) named c.in_ok-read.ensures) (subst (λ ts. AfterTargets ts [] s) same rest))
+
+pub returns-in_err-outs : goal.returns-in_err-outs
+returns-in_err-outs g c =
+    targets_next g (goal.at.returns-in_err-outs g c).In_ok-read _ _ (c.as_slice-targets.ensures.value ∙ c.read.view_is)
+    (last _ c.in_err-outs.ensures c.from_residual-in_err-outs.ensures)
+
+pub all_pass-requires : goal.all_pass-requires
+all_pass-requires g c =
+    let targets = c.as_slice-targets.result.now in
+    let count : length c.in_ok-outs.outs.items ≡ length (map project_target targets) = c.in_ok-outs.ensures.1.count in
+    ap length c.deref-2.ensures.value ∙ count ∙ length-map targets project_target
+
+pub returns-in_err-all_pass : goal.returns-in_err-all_pass
+returns-in_err-all_pass g c =
+    let pass = λ (outs : List CollatedValue). AllEdgesPass 0 (zip c.as_slice-targets.result.now outs) [] (Err c.in_err-all_pass.field-0.0) in
+    targets_next g (goal.at.returns-in_err-all_pass g c).In_ok-read _ _ (c.as_slice-targets.ensures.value ∙ c.read.view_is)
+    (next _ c.in_ok-outs.ensures (last _ (subst pass c.deref-2.ensures.value c.in_err-all_pass.ensures) c.from_residual-in_err-all_pass.ensures))
+
+pub write_all-requires : goal.write_all-requires
+write_all-requires g c =
+    let targets = c.as_slice-targets.result.now in
+    objects_are_text (style_of (form_of targets)) targets c.in_ok-outs.outs.items c.in_ok-outs.ensures.1
+
+pub returns : goal.returns
+returns g c =
+    let pass = λ (outs : List CollatedValue). AllEdgesPass 0 (zip c.as_slice-targets.result.now outs) [] (Ok tt) in
+    targets_next g (goal.at.returns g c).In_ok-read _ _ (c.as_slice-targets.ensures.value ∙ c.read.view_is)
+    (next _ c.in_ok-outs.ensures (next _ (subst pass c.deref-2.ensures.value c.in_ok-all_pass.ensures) c.write_all.ensures))

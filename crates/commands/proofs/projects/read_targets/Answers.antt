@@ -1,0 +1,50 @@
+use Rattle.std.proofs.Common.{◌≡◌, Some, slice_get, ◌+◌, ◌≤◌, ◌∷◌, [], ◌++◌, drop, length, map, string_bytes, refl, subst, sym, arith}
+use Rattle.std.proofs.lemmas.List.{length-map}
+use Rattle.commands.specs.Outcomes.{Each, Runs, stops}
+use Rattle.commands.specs.ProjectCommand.{ReadsTarget, ReadsTargets}
+use Rattle.commands.proofs.Outcomes.{Leads, each_done, each_last, each_next, leads_none, mapped_at, passed, run_once}
+use Rattle.commands.proofs.projects.read_targets.Given as given
+use Rattle.commands.proofs.projects.read_targets.Goals as goal
+use Rattle.commands.proofs.projects.read_targets.Goals.{After-read_target}
+
+-- the name of this turn
+here : (g : given.Over) (c : After-read_target g) → slice_get (map string_bytes c.args.names.now) c.loop-name.name-index ≡ Some c.as_str.result.now
+here g c = mapped_at string_bytes c.args.names.now _ c.name-item.result _ c.loop-name-test.true c.name-item.is c.as_str.ensures.value
+
+pub loop-name-init : goal.loop-name-init
+loop-name-init g c =
+    let known = g.F.Folder.calls c.args.folder.now in
+    let All = ReadsTargets (map string_bytes c.args.names.now) in
+    subst (λ targets. Leads known known (Each ReadsTarget targets (map string_bytes c.args.names.now)) All) (sym c.new-targets.ensures) (leads_none known All)
+
+pub returns-in_err-target : goal.returns-in_err-target
+returns-in_err-target g c =
+    let names = map string_bytes c.args.names.now in
+    let (calls, made, failed) = c.in_err-target.ensures.read in
+    subst (Runs _ _ (ReadsTargets names)) (sym (passed c.from_residual.ensures))
+    (each_last ReadsTarget names (ReadsTargets names) _ c.loop-name.name-index c.as_str.result.now _ _ _ _
+    (here g (goal.at.returns-in_err-target g c).After-read_target) c.loop-name.invariant (calls, made, stops _ failed refl))
+
+-- memory ran out after a target was read
+pub returns-in_err-targets : goal.returns-in_err-targets
+returns-in_err-targets g c =
+    let names = map string_bytes c.args.names.now in
+    subst (Runs _ _ (ReadsTargets names)) (sym (passed c.from_residual-in_err-targets.ensures))
+    (each_last ReadsTarget names (ReadsTargets names) _ c.loop-name.name-index c.as_str.result.now _ _ _ _
+    (here g (goal.at.returns-in_err-targets g c).After-read_target) c.loop-name.invariant (run_once _ _ c.in_ok-target.ensures.read refl))
+
+pub loop-name-preserved : goal.loop-name-preserved
+loop-name-preserved g c =
+    let names = map string_bytes c.args.names.now in
+    let targets = c.loop-name.targets in
+    subst (λ ts. Leads (g.F.Folder.calls c.args.folder.now) (g.F.Folder.calls c.read_target.new.folder)
+    (Each ReadsTarget ts (drop (c.loop-name.name-index + 1) names)) (ReadsTargets names)) (sym c.in_ok-targets.ensures)
+    (each_next ReadsTarget names (ReadsTargets names) _ c.loop-name.name-index c.as_str.result.now targets (targets ++ c.in_ok-target.target ∷ []) _ _
+    (here g (goal.at.loop-name-preserved g c).After-read_target) c.loop-name.invariant
+    (run_once _ _ c.in_ok-target.ensures.read (refl, refl)))
+
+pub returns : goal.returns
+returns g c =
+    let names = map string_bytes c.args.names.now in
+    let past : length names ≤ c.loop-name.name-index = let e = length-map c.args.names.now string_bytes in omega (arith, e, c.loop-name-test.false) in
+    each_done ReadsTarget names (ReadsTargets names) _ _ c.loop-name.targets _ past c.loop-name.invariant

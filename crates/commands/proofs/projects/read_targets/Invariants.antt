@@ -1,0 +1,11 @@
+use Rattle.std.proofs.Common.{drop, map, string_bytes}
+use Rattle.commands.specs.Outcomes.{Each}
+use Rattle.commands.specs.ProjectCommand.{ReadsTarget, ReadsTargets}
+use Rattle.commands.proofs.Outcomes.{Leads}
+use Rattle.commands.proofs.projects.read_targets.Given as goal
+
+-- with the targets that are left after those so far, all are read
+abbrev pub invariant-loop-name : goal.invariant-loop-name
+invariant-loop-name g l =
+    Leads (g.F.Folder.calls l.fn.folder) (g.F.Folder.calls l.folder)
+    (Each ReadsTarget l.targets (drop l.name-index (map string_bytes l.names))) (ReadsTargets (map string_bytes l.names))

@@ -1,0 +1,43 @@
+use Rattle.std.proofs.Common.{rules, ◌≡◌, List, [], ◌∷◌, ◌++◌, map, append_assoc, ap, ap₂, string_bytes, subst, sym, ◌∙◌, All, IsUtf8, OnOk, Result, Ok, Err, false}
+use Rattle.std.specs.declared.alloc.AllocError.{AllocError}
+use Rattle.scan_docs.specs.Target.{TargetDocumentValue}
+use Rattle.commands.specs.Answers.{file_value}
+use Rattle.commands.specs.CollateCommand.{output_file, map_files}
+use Rattle.commands.specs.Outcomes.{FileValue}
+use Rattle.commands.proofs.Targets.{file_more}
+use Rattle.commands.proofs.target.append_files.Goals as goal
+
+-- what follows from a fact that holds if a call succeeds
+if_done : {T E : Type 0} (r : Result T E) (P Q : Type 0) → (P → Q) → OnOk r P → OnOk r Q
+if_done (Ok x) P Q to h = to h
+if_done (Err e) P Q to h = tt
+
+-- the maps, the info and the dyndep text, in this order
+pub returns : goal.returns
+returns c =
+    let parts = c.into_parts-dyndep_text.ensures in
+    let collated = c.args.collated in
+    let spec : TargetDocumentValue = c.args.spec.now in
+    let before : List FileValue = map file_value c.args.files.now.items in
+    let maps : List FileValue = map_files spec.restat collated.objects collated.maps in
+    let keeps : c.spec.inside.restat ≡ spec.restat = ap (λ (t : TargetDocumentValue). t.restat) c.spec.view_is in
+    let info : output_file c.spec.inside.restat (string_bytes c.in_ok-from_str.field-0) c.into_parts-dyndep_text.result.info.items ≡
+    output_file spec.restat spec.info collated.info =
+    ap₂ (output_file c.spec.inside.restat) (search rules) parts.info ∙ ap (λ k. output_file k spec.info collated.info) keeps in
+    let dyndep : output_file false (string_bytes c.in_ok-from_str-2.field-0) c.into_parts-dyndep_text.result.dyndep.items ≡
+    output_file false spec.dyndep collated.dyndep =
+    ap₂ (output_file false) (search rules) parts.dyndep in
+    let maps_in = c.in_ok-append_maps.ensures ∙
+    ap₂ (λ objects texts. before ++ map_files c.spec.inside.restat objects texts) (c.deref.ensures.value ∙ parts.objects) parts.maps ∙
+    ap (λ k. before ++ map_files k collated.objects collated.maps) keeps in
+    let info_in = file_more {E = AllocError} (Ok tt) _ c.add.new.list.items _ (output_file spec.restat spec.info collated.info) info c.in_ok-add.ensures
+    ∙ ap (λ (files : List FileValue). files ++ output_file spec.restat spec.info collated.info ∷ []) maps_in in
+    if_done c.add-2.result _ _
+    (λ h. h ∙ ap (λ (files : List FileValue). files ++ output_file false spec.dyndep collated.dyndep ∷ []) info_in
+    ∙ append_assoc (before ++ maps) (output_file spec.restat spec.info collated.info ∷ []) (output_file false spec.dyndep collated.dyndep ∷ [])
+    ∙ append_assoc before maps (output_file spec.restat spec.info collated.info ∷ output_file false spec.dyndep collated.dyndep ∷ []))
+    (file_more c.add-2.result c.add.new.list.items c.add-2.new.list.items _ (output_file false spec.dyndep collated.dyndep) dyndep c.add-2.ensures)
+
+-- the objects are text
+pub append_maps-requires : goal.append_maps-requires
+append_maps-requires c = subst (All IsUtf8) (sym (c.deref.ensures.value ∙ c.into_parts-dyndep_text.ensures.objects)) c.requires

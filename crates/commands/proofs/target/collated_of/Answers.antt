@@ -1,0 +1,52 @@
+use Rattle.std.proofs.Common.{◌≡◌, ◌∙◌, ℕ, List, [], Ok, Err, map, refl, ap, subst, Vec, Global, Bor}
+use Rattle.scan_docs.specs.Scan.{SettingValue}
+use Rattle.scan_docs.specs.Target as document
+use Rattle.collate_core.specs.Values.{TargetValue, CollatedValue}
+use Rattle.commands.specs.CollateCommand.{style_of, target_with}
+use Rattle.commands.specs.Files.{TargetFilesValue}
+use Rattle.commands.specs.Outcomes.{Outcome}
+use Rattle.commands.specs.Targets.{TargetOf}
+use Rattle.commands.proofs.Targets.{target_rejected}
+use Rattle.commands.proofs.target.collated_of.Goals as goal
+use Rattle.commands.proofs.target.collated_of.Goals.{After-collate_as}
+
+-- the target of these parts
+abbrev target_of : List ℕ → SettingValue → List (List ℕ) → List (List ℕ) → List (List ℕ) → TargetValue
+target_of name setting scans infos kept =
+    record { name = name; setting = setting; scans = scans; infos = infos; kept = kept }
+
+-- the target that was made is the document's
+of_document : (spec view : document.TargetDocumentValue) (files : TargetFilesValue) (scans infos kept : List (List ℕ)) (s : Outcome CollatedValue) →
+    view ≡ spec → scans ≡ files.scans → infos ≡ files.infos → kept ≡ view.kept →
+    TargetOf (target_of view.target view.setting scans infos kept) (style_of view.map_form) [] s →
+    TargetOf (target_with spec files) (style_of spec.map_form) [] s
+of_document spec view files scans infos kept s v d i k h =
+    subst (λ (v : document.TargetDocumentValue). TargetOf (target_of v.target v.setting files.scans files.infos v.kept) (style_of v.map_form) [] s) v
+    (subst (λ (k : List (List ℕ)). TargetOf (target_of view.target view.setting files.scans files.infos k) (style_of view.map_form) [] s) k
+    (subst (λ (i : List (List ℕ)). TargetOf (target_of view.target view.setting files.scans i kept) (style_of view.map_form) [] s) i
+    (subst (λ (d : List (List ℕ)). TargetOf (target_of view.target view.setting d infos kept) (style_of view.map_form) [] s) d h)))
+
+abbrev texts : List (Bor (List ℕ)) → List (List ℕ)
+texts lent = map (λ text. text.now) lent
+
+abbrev items_of : List (Vec ℕ Global) → List (List ℕ)
+items_of files = map (λ (file : Vec ℕ Global). file.items) files
+
+-- the target that was collated is the document's
+its_target : (c : After-collate_as) (s : Outcome CollatedValue) →
+    TargetOf (target_of c.spec.inside.target c.spec.inside.setting (texts c.deref-3.result.now) (texts c.deref-4.result.now) c.deref-5.result.now)
+    (style_of c.spec.inside.map) [] s →
+    TargetOf (target_with c.args.spec.now c.args.files.now) (style_of c.args.spec.now.map_form) [] s
+its_target c s =
+    of_document c.args.spec.now _ c.args.files.now _ _ _ s c.spec.view_is
+    (ap texts c.deref-3.ensures.value ∙ c.in_ok-scans.ensures ∙ ap items_of c.deref.ensures.value ∙ ap (λ (f : TargetFilesValue). f.scans) c.files.view_is)
+    (ap texts c.deref-4.ensures.value ∙ c.in_ok-infos.ensures ∙ ap items_of c.deref-2.ensures.value ∙ ap (λ (f : TargetFilesValue). f.infos) c.files.view_is)
+    c.deref-5.ensures.value
+
+pub returns-in-Ok : goal.returns-in-Ok
+returns-in-Ok c = its_target (goal.at.returns-in-Ok c).After-collate_as (Ok c.in-Ok.collated) (refl, c.in-Ok.ensures.collated)
+
+pub returns : goal.returns
+returns c =
+    its_target (goal.at.returns c).After-collate_as (Err c.of_target.result)
+    (target_rejected _ (style_of c.spec.inside.map) c.in-Err.failure c.of_target.result c.in-Err.ensures.refused c.in-Err.ensures.read c.of_target.ensures)

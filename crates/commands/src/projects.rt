@@ -1,0 +1,326 @@
+//! The command `project`: the targets of a project, as their documents and the files that these
+//! name are read, and the files that they leave.
+
+ghost use Rattle.std.specs.Prelude.{◌≡◌, ◌<◌, ◌++◌, ◌∷◌, [], All, IsUtf8, length, map, zip, string_bytes, IfOk, IfErr};
+ghost use Rattle.ninja_text.specs.Failure.{ForFault};
+ghost use Rattle.module_table.specs.TableValue.{table_with};
+ghost use Rattle.collate_core.specs.Projects.{CollatesProject, IsProjectRefusal, WasReadAt};
+ghost use Rattle.commands.specs.CollateCommand.{style_of};
+ghost use Rattle.commands.specs.Outcomes.{Runs, Writes, seen};
+ghost use Rattle.commands.specs.ProjectCommand.{project_target, form_of, all_files, AllEdgesPass, FormOf, LinksOf, ProjectOf, ProjectRun, ReadsTargets, TargetAfter};
+ghost use Rattle.commands.specs.inner.Parts.{bytes_of};
+ghost use Rattle.commands.specs.inner.ProjectTargets.{LinkEarlier, linked_files, IsReportable, LinksAndFiles, ReportsAt};
+
+use crate::edges::pass_edges;
+use crate::folder::Folder;
+use crate::reading::{TargetFiles, pushed, read, slices};
+use crate::refusal::refusal_line;
+use crate::stop::{self, Output, Stop};
+use crate::target::{append_files, read_spec};
+use collate_core::{Collated, ProjectOut, ProjectTarget, RefusedTarget, project_or_refused};
+use module_maps::{Clang, Gcc};
+use ninja_text::Failure;
+use scan_docs::{DocFault, MapForm, Member, Place, TargetSpec, project_read};
+use std::alloc::{AllocError, Global};
+use std::collections::BTreeMap;
+use std::marker::Model;
+
+/// Runs `project FILE` on the bytes of the project document. The files of the targets are read from
+/// the `Folder`, target by target: the document of each, which may only link targets before it and
+/// has the first one's form of maps, its scan documents and its edge list. No file is read
+/// after a rejected document. All targets are read before the first is collated.
+///
+/// The output has the files of `collate`, target by target; info files that targets link are not
+/// read, since the project writes them.
+pub fn project<F: Folder>(alloc: Global, document: &[u8], folder: &mut F) -> Result<Output, Stop>
+    ensures { Runs (F.calls folder.old) (F.calls folder.new) (ProjectRun document.now) result }
+{
+    // By hand, as in `read_spec`.
+    let project = match project_read(alloc, document) {
+        Ok(project) => project,
+        Err(failure) => return Err(stop::of_fault(alloc, "project: ", failure)),
+    };
+    let read = read_targets(alloc, &project.targets, folder)?;
+    let targets = read.list.as_slice();
+    let outs = all_collated(alloc, targets)?;
+    all_pass(alloc, targets, &outs)?;
+    write_all(alloc, targets, outs)
+}
+
+/// Reads the targets of the documents of these names, one after another.
+fn read_targets<F: Folder>(alloc: Global, names: &[String], folder: &mut F) -> Result<Targets, Stop>
+    ensures { Runs (F.calls folder.old) (F.calls folder.new)
+        (ReadsTargets (map string_bytes names.now)) result }
+{
+    let mut targets = Targets::new(alloc);
+    for name in names {
+        let target = read_target(alloc, &targets, name.as_str(), folder)?;
+        targets = targets.with(alloc, target)?;
+    }
+    Ok(targets)
+}
+
+/// Collates the targets, with maps of the form of the first one.
+fn all_collated(alloc: Global, targets: &[ReadTarget]) -> Result<Vec<Collated>, Stop>
+    requires { LinkEarlier targets.now }
+    ensures { ProjectOf targets.now [] (seen (λ outs. outs.items) result) }
+{
+    match collate_all(alloc, targets) {
+        Ok(out) => Ok(out.targets),
+        Err(Failure::Memory) => Err(Failure::Memory),
+        Err(Failure::Fault((index, refused))) => {
+            let message = rejected_text(alloc, targets, index, &refused);
+            // Here, by one call: what it holds would be dropped field by field at the end.
+            drop(refused);
+            Err(stop::stopped(1, message))
+        }
+    }
+}
+
+/// Collates the targets, with maps of the form of the first one.
+fn collate_all(
+    alloc: Global,
+    targets: &[ReadTarget],
+) -> Result<ProjectOut, Failure<(usize, RefusedTarget)>>
+    ensures collated { IfOk result (λ out. CollatesProject (style_of (form_of targets.now))
+        (map project_target targets.now) out.targets.items) }
+    ensures refused { IfErr result (ForFault (λ refused.
+        IsProjectRefusal (style_of (form_of targets.now))
+        (map project_target targets.now) refused.0 refused.1.refusal)) }
+    ensures read { IfErr result (ForFault (λ refused. WasReadAt (style_of (form_of targets.now))
+        (map project_target targets.now) refused.0 refused.1.refusal
+        (table_with refused.1.objects.items refused.1.infos.items))) }
+{
+    let scans = scans_of(alloc, targets)?;
+    let parts = in_project(alloc, targets, &scans)?;
+    match form_of(targets) {
+        None => project_or_refused(alloc, &parts, None::<&Gcc>),
+        Some(MapForm::Gcc) => project_or_refused(alloc, &parts, Some(&Gcc)),
+        Some(MapForm::Clang) => project_or_refused(alloc, &parts, Some(&Clang)),
+    }
+}
+
+/// Borrows the scan documents of each target.
+fn scans_of<'t>(alloc: Global, targets: &'t [ReadTarget]) -> Result<Vec<Vec<&'t [u8]>>, AllocError>
+    ensures { IfOk result (λ scans. map (λ lent. map (λ s. s.now) lent.items) scans.items
+        ≡ map (λ target. target.scans) targets.now) }
+{
+    let mut scans = Vec::with_capacity(alloc, targets.len())?;
+    for target in targets {
+        scans = pushed(scans, slices(alloc, &target.files.scans)?)?;
+    }
+    Ok(scans)
+}
+
+/// Returns the targets as a project has them, with their scan documents.
+fn in_project<'t>(
+    alloc: Global,
+    targets: &'t [ReadTarget],
+    scans: &'t [Vec<&[u8]>],
+) -> Result<Vec<ProjectTarget<'t>>, AllocError>
+    requires { map (λ lent. map (λ s. s.now) lent.items) scans.now
+        ≡ map (λ target. target.scans) targets.now }
+    ensures { IfOk result (λ parts. parts.items ≡ map project_target targets.now) }
+{
+    let mut parts = Vec::with_capacity(alloc, targets.len())?;
+    for (index, target) in targets.iter().enumerate() {
+        let part = ProjectTarget {
+            name: &target.spec.target,
+            setting: &target.spec.setting,
+            scans: &scans[index],
+            linked: &target.linked,
+            kept: &target.spec.kept,
+        };
+        parts = pushed(parts, part)?;
+    }
+    Ok(parts)
+}
+
+/// Returns the form of maps of the first target.
+fn form_of(targets: &[ReadTarget]) -> Option<MapForm>
+    ensures { result ≡ form_of targets.now }
+{
+    match targets.first() {
+        Some(first) => first.spec.map,
+        None => None,
+    }
+}
+
+/// Returns what is reported of the rejected target of this index.
+fn rejected_text(
+    alloc: Global,
+    targets: &[ReadTarget],
+    index: usize,
+    refused: &RefusedTarget,
+) -> Result<Vec<u8>, AllocError>
+    requires { IsReportable targets.now index }
+    ensures { IfOk result (λ text. ReportsAt targets.now index refused.now text.items) }
+{
+    let target = &targets[index];
+    let mut names = Vec::with_capacity(alloc, target.linked.len())?;
+    for earlier in &target.linked {
+        let linked = &targets[*earlier];
+        names = pushed(names, &linked.spec.target)?;
+    }
+    let text = refusal_line(alloc, &refused.refusal, &refused.objects, &names)?;
+    stop::target_text(alloc, index, &text)
+}
+
+/// Checks that the edges that each target names can be put in order after its own dyndep file.
+fn all_pass(alloc: Global, targets: &[ReadTarget], outs: &[Collated]) -> Result<(), Stop>
+    requires { length outs.now ≡ length targets.now }
+    ensures { AllEdgesPass 0 (zip targets.now outs.now) [] result }
+{
+    for (index, target) in targets.iter().enumerate() {
+        let listing = &target.files.listing;
+        let passed = pass_edges(alloc, listing, &target.spec.dyndep_path, &outs[index]);
+        stop::at_target(alloc, index, passed)?;
+    }
+    Ok(())
+}
+
+/// Returns the files of all targets, which collated to these, to be written.
+fn write_all(alloc: Global, targets: &[ReadTarget], outs: Vec<Collated>) -> Result<Output, Stop>
+    requires { All (λ c. All IsUtf8 c.objects) outs.items }
+    ensures { Writes (all_files (zip targets.now outs.items)) [] result }
+{
+    let mut files = Vec::new(alloc);
+    for (target, collated) in targets.iter().zip(outs) {
+        append_files(alloc, collated, &target.spec, &mut files)?;
+    }
+    Ok(Output::files(alloc, files))
+}
+
+/// A target that was read.
+#[derive(Drop)]
+pub(crate) struct ReadTarget {
+    pub spec: TargetSpec,
+    /// The indexes of the targets that it links.
+    pub linked: Vec<usize>,
+    /// Its files, without info files.
+    pub files: TargetFiles,
+}
+
+impl Model for ReadTarget {
+    ghost use Rattle.commands.specs.ProjectCommand.{ReadTargetValue, read_target};
+
+    ghost Value = { ReadTargetValue };
+
+    ghost view = { λ t. read_target t.spec t.linked.items t.files };
+}
+
+/// The targets of a project that were read so far, and for each info file that they write the index
+/// of the last one that does.
+#[derive(Drop)]
+pub(crate) struct Targets {
+    pub list: Vec<ReadTarget>,
+    writers: BTreeMap<String, usize>,
+}
+
+impl Model for Targets {
+    ghost use Rattle.ninja_text.specs.Bytes.{PathText};
+    ghost use Rattle.std.specs.Prelude.{◌≡◌, List, ℕ};
+    ghost use Rattle.commands.specs.ProjectCommand.{ReadTargetValue, last_with};
+    ghost use Rattle.commands.specs.inner.ProjectTargets.{writer_of, LinkEarlier};
+
+    ghost Value = { List ReadTargetValue };
+
+    ghost view = { λ t. t.list.items };
+
+    ghost invariant = { λ t. LinkEarlier t.list.items × ((info : PathText) →
+        writer_of t.writers info ≡ last_with t.list.items info) };
+}
+
+impl Targets {
+    /// Returns no targets.
+    fn new(alloc: Global) -> Targets
+        ensures { result ≡ [] }
+    {
+        Targets {
+            list: Vec::new(alloc),
+            writers: BTreeMap::new(alloc),
+        }
+    }
+
+    /// Returns these targets and one more, which links some of these.
+    fn with(self, alloc: Global, target: ReadTarget) -> Result<Targets, AllocError>
+        requires { All (λ k. k < length self) target.linked }
+        ensures { IfOk result (λ targets. targets ≡ self ++ target ∷ []) }
+    {
+        let Targets { list, mut writers } = self;
+        let index = list.len();
+        let list = pushed(list, target)?;
+        let info = String::from_str(alloc, &list[index].spec.info)?;
+        writers.insert(info, index)?;
+        Ok(Targets { list, writers })
+    }
+}
+
+/// Reads the target of the document of this name, after earlier ones.
+fn read_target<F: Folder>(
+    alloc: Global,
+    earlier: &Targets,
+    name: &str,
+    folder: &mut F,
+) -> Result<ReadTarget, Stop>
+    ensures read { Runs (F.calls folder.old) (F.calls folder.new)
+        (TargetAfter earlier.now name.now) result }
+    ensures links { IfOk result (λ target. All (λ k. k < length earlier.now) target.linked) }
+{
+    let document = read(alloc, name, folder)?;
+    let spec = stop::at_target(alloc, earlier.list.len(), read_spec(alloc, &document))?;
+    let (linked, files) = links_and_files(alloc, earlier, &spec, folder)?;
+    Ok(ReadTarget {
+        spec,
+        linked,
+        files,
+    })
+}
+
+/// Returns the indexes of the targets that a target document links, and the files that it names.
+/// Apart from `read_target`, which would drop the document at each `?`: this saves the prover 20
+/// seconds.
+fn links_and_files<F: Folder>(
+    alloc: Global,
+    earlier: &Targets,
+    spec: &TargetSpec,
+    folder: &mut F,
+) -> Result<(Vec<usize>, TargetFiles), Stop>
+    ensures read { Runs (F.calls folder.old) (F.calls folder.new)
+        (LinksAndFiles earlier.now spec.now) (seen linked_files result) }
+    ensures links { IfOk result (λ read. All (λ k. k < length earlier.now) read.0.items) }
+{
+    let index = earlier.list.len();
+    stop::at_target(alloc, index, pass_form(alloc, earlier, spec))?;
+    let linked = stop::at_target(alloc, index, links_of(alloc, earlier, &spec.linked))?;
+    let files = TargetFiles::read_with(alloc, spec, &[], folder)?;
+    Ok((linked, files))
+}
+
+/// Checks that the maps of a target have the form of those of the first one.
+fn pass_form(alloc: Global, earlier: &Targets, spec: &TargetSpec) -> Result<(), Stop>
+    ensures { FormOf earlier.now spec.now [] result }
+{
+    if earlier.list.is_empty() || spec.map == form_of(&earlier.list) {
+        return Ok(());
+    }
+    let fault = DocFault::BadShape {
+        place: Place::Document,
+        member: Member::Map,
+    };
+    Err(stop::of_fault(alloc, "target: ", Failure::Fault(fault)))
+}
+
+/// Returns the indexes of the last targets that write these info files.
+fn links_of(alloc: Global, targets: &Targets, infos: &[String]) -> Result<Vec<usize>, Stop>
+    ensures { LinksOf targets.now (map string_bytes infos.now) [] (seen bytes_of result) }
+{
+    let mut linked = Vec::with_capacity(alloc, infos.len())?;
+    for info in infos {
+        let Some(index) = targets.writers.get(info.as_str()) else {
+            return Err(stop::stopped(1, Vec::from_slice(alloc, b"K3 LinkedLater")));
+        };
+        linked = pushed(linked, *index)?;
+    }
+    Ok(linked)
+}

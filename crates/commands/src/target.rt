@@ -1,0 +1,183 @@
+//! The commands `collate`, which leaves the files of a target, and `one`, which prints the dyndep
+//! text of one scan document.
+
+ghost use Rattle.std.specs.Prelude.{◌≡◌, [], ◌++◌, map, All, IsUtf8, IfErr, IfOk, OnOk};
+ghost use Rattle.ninja_text.specs.Failure.{ForFault};
+ghost use Rattle.module_table.specs.TableValue.{table_with};
+ghost use Rattle.collate_core.specs.Collation.{Collates};
+ghost use Rattle.collate_core.specs.Refusals.{IsRefusal, WasRead};
+ghost use Rattle.commands.specs.Answers.{file_value};
+ghost use Rattle.commands.specs.CollateCommand.{style_of, map_files, files_of, target_with, SpecOf, TargetRun, CollateRun};
+ghost use Rattle.commands.specs.One.{OneRun};
+ghost use Rattle.commands.specs.Outcomes.{Runs};
+ghost use Rattle.commands.specs.Targets.{TargetOf};
+
+use crate::edges::pass_edges;
+use crate::folder::Folder;
+use crate::reading::{TargetFiles, add, slices};
+use crate::stop::{self, Output, OutputFile, Stop};
+use collate_core::{
+    Collated, CollatedParts, RefusedTarget, Target, collate_dyndep_or_refused, collate_or_refused,
+};
+use document_values::TargetName;
+use module_maps::{Clang, Gcc};
+use ninja_text::{Failure, Path};
+use scan_docs::{MapForm, Setting, TargetSpec, spec_read};
+use std::alloc::{AllocError, Global};
+
+/// Runs `collate TARGETFILE` on the bytes of the target document. The files that it names are read
+/// from the `Folder`: scan documents, info files, and the edge list last. The output has the
+/// map of each object, if the document asks for maps, then the info file, and last the dyndep file.
+/// If the document names an edge list, its edges must have an order after the effect of that
+/// dyndep file. No file of a rejected document is read.
+pub fn collate<F: Folder>(alloc: Global, document: &[u8], folder: &mut F) -> Result<Output, Stop>
+    ensures { Runs (F.calls folder.old) (F.calls folder.new) (CollateRun document.now) result }
+{
+    let spec = read_spec(alloc, document)?;
+    target_run(alloc, &spec, folder)
+}
+
+/// Reads the files of a target document, and collates its target. Apart from `collate`, which
+/// would drop the document at each `?`: this saves the prover 85 seconds.
+fn target_run<F: Folder>(alloc: Global, spec: &TargetSpec, folder: &mut F) -> Result<Output, Stop>
+    ensures { Runs (F.calls folder.old) (F.calls folder.new) (TargetRun spec.now) result }
+{
+    let files = TargetFiles::read(alloc, spec, folder)?;
+    let collated = collated_of(alloc, spec, &files)?;
+    pass_edges(alloc, &files.listing, &spec.dyndep_path, &collated)?;
+    let mut written = Vec::new(alloc);
+    append_files(alloc, collated, spec, &mut written)?;
+    Ok(Output::files(alloc, written))
+}
+
+/// Reads a target document.
+pub(crate) fn read_spec(alloc: Global, document: &[u8]) -> Result<TargetSpec, Stop>
+    ensures { SpecOf document.now [] result }
+{
+    // By hand: the closure of a `map_err` over this fault takes the prover a minute and a half.
+    match spec_read(alloc, document) {
+        Ok(spec) => Ok(spec),
+        Err(failure) => Err(stop::of_fault(alloc, "target: ", failure)),
+    }
+}
+
+/// Collates the target of a document, of these files.
+fn collated_of(alloc: Global, spec: &TargetSpec, files: &TargetFiles) -> Result<Collated, Stop>
+    ensures { TargetOf (target_with spec.now files.now) (style_of spec.now.map_form) [] result }
+{
+    let scans = slices(alloc, &files.scans)?;
+    let infos = slices(alloc, &files.infos)?;
+    let target = Target {
+        name: &spec.target,
+        setting: &spec.setting,
+        scans: &scans,
+        infos: &infos,
+        kept: &spec.kept,
+    };
+    match collate_as(alloc, &target, spec.map) {
+        Ok(collated) => Ok(collated),
+        Err(failure) => Err(stop::of_target(alloc, failure)),
+    }
+}
+
+/// Collates a target, with maps of this form if there is one.
+fn collate_as(
+    alloc: Global,
+    target: &Target<'_>,
+    form: Option<MapForm>,
+) -> Result<Collated, Failure<RefusedTarget>>
+    ensures collated { IfOk result (Collates target.now (style_of form)) }
+    ensures refused { IfErr result (ForFault (λ r.
+        IsRefusal target.now (style_of form) r.refusal)) }
+    ensures read { IfErr result (ForFault (λ r.
+        WasRead target.now r.refusal (table_with r.objects.items r.infos.items))) }
+{
+    match form {
+        None => collate_or_refused(alloc, target, None::<&Gcc>),
+        Some(MapForm::Gcc) => collate_or_refused(alloc, target, Some(&Gcc)),
+        Some(MapForm::Clang) => collate_or_refused(alloc, target, Some(&Clang)),
+    }
+}
+
+/// Appends the files of a collated target, whose texts are given up and not copied.
+pub(crate) fn append_files(
+    alloc: Global,
+    collated: Collated,
+    spec: &TargetSpec,
+    files: &mut Vec<OutputFile>,
+) -> Result<(), AllocError>
+    requires { All IsUtf8 collated.objects }
+    ensures { OnOk result (map file_value files.new.items
+        ≡ map file_value files.old.items ++ files_of spec.now collated) }
+{
+    let CollatedParts {
+        dyndep: dyndep_text,
+        info: info_text,
+        objects,
+        maps,
+    } = collated.into_parts();
+    append_maps(alloc, &objects, maps, spec.restat, files)?;
+    let info = OutputFile {
+        name: String::from_str(alloc, &spec.info)?,
+        bytes: info_text,
+        keeps: spec.restat,
+    };
+    add(files, info)?;
+    let dyndep = OutputFile {
+        name: String::from_str(alloc, &spec.dyndep)?,
+        bytes: dyndep_text,
+        keeps: false,
+    };
+    add(files, dyndep)
+}
+
+/// Appends the map files of these objects, if there are maps.
+fn append_maps(
+    alloc: Global,
+    objects: &[Path],
+    maps: Vec<Vec<u8>>,
+    keeps: bool,
+    files: &mut Vec<OutputFile>,
+) -> Result<(), AllocError>
+    requires { All IsUtf8 objects.now }
+    ensures { OnOk result (map file_value files.new.items ≡ map file_value files.old.items
+        ++ map_files keeps objects.now (map (λ m. m.items) maps.items)) }
+{
+    files.reserve(maps.len())?;
+    for (object, bytes) in objects.iter().zip(maps) {
+        let Ok(object) = str::from_utf8(object.bytes()) else {
+            unreachable!()
+        };
+        let name = format!(in alloc; "{object}.modmap")?;
+        add(files, OutputFile { name, bytes, keeps })?;
+    }
+    Ok(())
+}
+
+/// Runs `one SCAN DIR EXT` on the bytes of the scan document, the directory that modules are
+/// compiled to and the ending of their file names. The document is collated as a target by itself:
+/// a module that a rule requires is looked up among those that the document's own rules provide.
+pub fn one(alloc: Global, scan: &[u8], dir: &str, ext: &str) -> Result<Output, Stop>
+    ensures { OneRun scan.now dir.now ext.now [] result }
+{
+    // Any name would do: it is not printed.
+    let Some(name) = TargetName::of(alloc, "t")? else {
+        unreachable!()
+    };
+    let setting = Setting {
+        module_dir: String::from_str(alloc, dir)?,
+        module_ext: String::from_str(alloc, ext)?,
+        build_dir: None,
+    };
+    let target = Target {
+        name: &name,
+        setting: &setting,
+        scans: &[scan],
+        infos: &[],
+        kept: &[],
+    };
+    match collate_dyndep_or_refused(alloc, &target) {
+        Ok(text) => Ok(Output::text(alloc, text)),
+        Err(failure) => Err(stop::of_target(alloc, failure)),
+    }
+}
