@@ -21,11 +21,13 @@ use Rattle.scan_docs.specs.Document.{document_limit, IsTree, IsAccepted, IsRefus
 
 -- ---- what a call returns, and the rejection
 
-none_of : (holds : Bool) (f : DocFault) (r : Option (Failure DocFault)) (s : Option DocFault) → cond holds r (Some (Fault f)) ≡ None → (r ≡ None → s ≡ None) → cond holds s (Some f) ≡ None
+none_of : (holds : Bool) (f : DocFault) (r : Option (Failure DocFault)) (s : Option DocFault) → cond holds r (Some (Fault f)) ≡ None → (r ≡ None → s ≡ None) →
+    cond holds s (Some f) ≡ None
 none_of true f r s e k = k e
 none_of false f r s e k = absurd (cc)
 
-some_of : (holds : Bool) (f g : DocFault) (r : Option (Failure DocFault)) (s : Option DocFault) → cond holds r (Some (Fault f)) ≡ Some (Fault g) → (r ≡ Some (Fault g) → s ≡ Some g) → cond holds s (Some f) ≡ Some g
+some_of : (holds : Bool) (f g : DocFault) (r : Option (Failure DocFault)) (s : Option DocFault) → cond holds r (Some (Fault f)) ≡ Some (Fault g) →
+    (r ≡ Some (Fault g) → s ≡ Some g) → cond holds s (Some f) ≡ Some g
 some_of true f g r s e k = k e
 some_of false f g r s e k = cc
 
@@ -54,7 +56,10 @@ either false f r s = refl
 -- the first checks decide, and if they hold the others decide
 pub failure_of_both : (a b : List Check) → first_failure (a ++ b) ≡ option_or (first_failure a) (first_failure b)
 failure_of_both [] b = refl
-failure_of_both (c ∷ cs) b = ap (λ r. cond c.holds r (Some (Fault c.refusal))) (failure_of_both cs b) ∙ either c.holds (Fault c.refusal) (first_failure cs) (first_failure b)
+failure_of_both (c ∷ cs) b = ap (λ r. cond c.holds r (Some (Fault c.refusal))) (failure_of_both cs b) ∙
+    either c.holds (Fault c.refusal) (first_failure cs) (first_failure b)
+
+pub ruleset both = (failure_of_both)
 
 -- if the first checks hold, the others decide
 pub failure_after : (a b : List Check) → first_failure a ≡ None → first_failure (a ++ b) ≡ first_failure b
@@ -71,13 +76,15 @@ failure_before [] b f e = absurd (cc)
 failure_before (c ∷ cs) b f e = some_step c.holds (Fault c.refusal) f (first_failure cs) (first_failure (cs ++ b)) e (failure_before cs b f)
 
 -- what a reader returns where a call within it has failed
-pub stopped : {T : Type 0} (checks : List Check) (means : T → Type 0) (r : Result T (Failure DocFault)) (e : Failure DocFault) → IsErrAnd r (λ y. y ≡ e) → (e ≢ Memory → first_failure checks ≡ Some e) → Answers checks means r
+pub stopped : {T : Type 0} (checks : List Check) (means : T → Type 0) (r : Result T (Failure DocFault)) (e : Failure DocFault) → IsErrAnd r (λ y. y ≡ e) →
+    (e ≢ Memory → first_failure checks ≡ Some e) → Answers checks means r
 stopped checks means (Ok x) e is k = absurd is
 stopped checks means (Err y) e is k = rw is k
 
 -- ---- entries of a list
 
-pub AllZip-push : {A B : Type 0} (R : A → B → Type 0) (xs : List A) (ys : List B) (x : A) (y : B) → AllZip R xs ys → R x y → AllZip R (xs ++ x ∷ []) (ys ++ y ∷ [])
+pub AllZip-push : {A B : Type 0} (R : A → B → Type 0) (xs : List A) (ys : List B) (x : A) (y : B) → AllZip R xs ys → R x y →
+    AllZip R (xs ++ x ∷ []) (ys ++ y ∷ [])
 AllZip-push R [] [] x y h r = (r, tt)
 AllZip-push R [] (b ∷ ys) x y h r = absurd h
 AllZip-push R (a ∷ xs) [] x y h r = absurd h
@@ -104,7 +111,8 @@ module _ {V T : Type 0} (g : V → Data) (checks : ℕ → Data → List Check) 
   pub one_more : (i : ℕ) (v : V) (x : T) (found : List T) → i < length vs → v ≡ get_or vs i v → first_failure (checks i (g v)) ≡ None → means (g v) x
       → SoFar checks means (map g vs) i found → SoFar checks means (map g vs) (i + 1) (found ++ x ∷ [])
   one_more i v x found lt is passes m so_far = record {
-    reported = sym (ap (λ ds. first_failure (each_from checks i ds)) (front g vs i v lt is) ∙ failure_after (checks i (g v)) (each_from checks (i + 1) (drop (i + 1) (map g vs))) passes) ∙ so_far.reported;
+    reported = sym (ap (λ ds. first_failure (each_from checks i ds)) (front g vs i v lt is) ∙
+        failure_after (checks i (g v)) (each_from checks (i + 1) (drop (i + 1) (map g vs))) passes) ∙ so_far.reported;
     read = let P : List Data → Type 0 = λ ds. AllZip means ds (found ++ x ∷ []) in
         subst P (sym (last g vs i v lt is)) (AllZip-push means (take i (map g vs)) found (g v) x so_far.read m);
   }
@@ -112,11 +120,16 @@ module _ {V T : Type 0} (g : V → Data) (checks : ℕ → Data → List Check) 
   pub refused_at : (i : ℕ) (v : V) (f : Failure DocFault) (found : List T) → i < length vs → v ≡ get_or vs i v → first_failure (checks i (g v)) ≡ Some f
       → SoFar checks means (map g vs) i found → first_failure (each_from checks 0 (map g vs)) ≡ Some f
   refused_at i v f found lt is stops so_far =
-      sym so_far.reported ∙ ap (λ ds. first_failure (each_from checks i ds)) (front g vs i v lt is) ∙ failure_before (checks i (g v)) (each_from checks (i + 1) (drop (i + 1) (map g vs))) f stops
+      sym so_far.reported ∙ ap (λ ds. first_failure (each_from checks i ds)) (front g vs i v lt is) ∙
+      failure_before (checks i (g v)) (each_from checks (i + 1) (drop (i + 1) (map g vs))) f stops
 
-  pub all_read : (i : ℕ) (found : List T) → length vs ≤ i → SoFar checks means (map g vs) i found → (first_failure (each_from checks 0 (map g vs)) ≡ None) × AllZip means (map g vs) found
-  all_read i found le so_far = let all : length (map g vs) ≤ i = rw length-map le in
-      (sym so_far.reported ∙ at_drop_all (λ ds. first_failure (each_from checks i ds)) (map g vs) i all, subst (λ ds. AllZip means ds found) (take_all i (map g vs) all) so_far.read)
+  pub all_read : (i : ℕ) (found : List T) → length vs ≤ i → SoFar checks means (map g vs) i found →
+      (first_failure (each_from checks 0 (map g vs)) ≡ None) × AllZip means (map g vs) found
+  all_read i found le so_far = let all : length (map g vs) ≤ i = rw length-map le in (
+    sym so_far.reported ∙
+        at_drop_all (λ ds. first_failure (each_from checks i ds)) (map g vs) i all,
+    subst (λ ds. AllZip means ds found) (take_all i (map g vs) all) so_far.read,
+  )
 
 -- ---- texts that are looked at one after another, up to the first that fails a test
 
@@ -144,7 +157,8 @@ elements_items_of [] = refl
 elements_items_of (d ∷ ds) = ap (λ r. d ∷ r) (elements_items_of ds)
 
 -- what holds of the first i, and of the next one, holds of the first i + 1
-pub All-grow : {A : Type 0} (P : A → Type 0) (xs : List A) (i : ℕ) (x : A) → i < length xs → x ≡ get_or xs i x → P x → All P (take i xs) → All P (take (i + 1) xs)
+pub All-grow : {A : Type 0} (P : A → Type 0) (xs : List A) (i : ℕ) (x : A) → i < length xs → x ≡ get_or xs i x → P x → All P (take i xs) →
+    All P (take (i + 1) xs)
 All-grow P xs i x lt is p h = All-more P xs i x lt h (subst P is p)
 
 -- what holds of the first i holds of all if there are no more
@@ -166,25 +180,33 @@ module _ (found : List (List ℕ)) (vs : List Value) (i : ℕ) (v : Value) where
       → onto found (option_and_then (λ t. option_map (λ ts. t ∷ ts) (all_texts (drop (i + 1) (map view vs)))) (as_str (view v))) ≡ all_texts (map view vs)
   text_opened lt is h = sym (ap (λ ds. onto found (all_texts ds)) (front view vs i v lt is)) ∙ h
 
-  pub copy_refused : i < length vs → v ≡ get_or vs i v → as_str (view v) ≡ None → onto found (all_texts (drop i (map view vs))) ≡ all_texts (map view vs) → None ≡ all_texts (map view vs)
-  copy_refused lt is none h = sym (ap (λ o. onto found (option_and_then (λ t. option_map (λ ts. t ∷ ts) (all_texts (drop (i + 1) (map view vs)))) o)) none) ∙ text_opened lt is h
+  pub copy_refused : i < length vs → v ≡ get_or vs i v → as_str (view v) ≡ None → onto found (all_texts (drop i (map view vs))) ≡ all_texts (map view vs) →
+      None ≡ all_texts (map view vs)
+  copy_refused lt is none h = sym (ap (λ o. onto found (option_and_then (λ t. option_map (λ ts. t ∷ ts) (all_texts (drop (i + 1) (map view vs)))) o)) none) ∙
+      text_opened lt is h
 
-  pub copy_more : (t : List ℕ) → i < length vs → v ≡ get_or vs i v → as_str (view v) ≡ Some t → onto found (all_texts (drop i (map view vs))) ≡ all_texts (map view vs)
+  pub copy_more : (t : List ℕ) → i < length vs → v ≡ get_or vs i v → as_str (view v) ≡ Some t →
+      onto found (all_texts (drop i (map view vs))) ≡ all_texts (map view vs)
       → onto (found ++ t ∷ []) (all_texts (drop (i + 1) (map view vs))) ≡ all_texts (map view vs)
-  copy_more t lt is some h = sym (onto_cons found t (all_texts (drop (i + 1) (map view vs)))) ∙ sym (ap (λ o. onto found (option_and_then (λ t. option_map (λ ts. t ∷ ts) (all_texts (drop (i + 1) (map view vs)))) o)) some) ∙ text_opened lt is h
+  copy_more t lt is some h = sym (onto_cons found t (all_texts (drop (i + 1) (map view vs)))) ∙
+      sym (ap (λ o. onto found (option_and_then (λ t. option_map (λ ts. t ∷ ts) (all_texts (drop (i + 1) (map view vs)))) o)) some) ∙ text_opened lt is h
 
 -- ---- what a document's reader returns, from what the reader of its tree returns
 
-module _ {T V : Type 0} (see : T → V) (checks : Data → List Check) (means : Data → V → Type 0) (bytes : List ℕ) (tree : Data) (read : (length bytes ≤ document_limit) × IsTree bytes tree) where
+module _ {T V : Type 0} (see : T → V) (checks : Data → List Check) (means : Data → V → Type 0) (bytes : List ℕ) (tree : Data)
+    (read : (length bytes ≤ document_limit) × IsTree bytes tree) where
   -- what follows from an accepted value holds of the result
-  pub holds : (P : V → Type 0) → ((v : V) → IsAccepted checks means bytes v → P v) → (result : Result T (Failure DocFault)) → Answers (checks tree) (λ x. means tree (see x)) result → IfOk result (λ x. P (see x))
+  pub holds : (P : V → Type 0) → ((v : V) → IsAccepted checks means bytes v → P v) → (result : Result T (Failure DocFault)) →
+      Answers (checks tree) (λ x. means tree (see x)) result → IfOk result (λ x. P (see x))
   holds P k (Ok x) h = k (see x) (record { small = read.0; tree = tree; reads = read.1; passes = none_refused (checks tree) h.0; meaning = h.1 })
   holds P k (Err e) h = tt
 
-  pub accepted : (result : Result T (Failure DocFault)) → Answers (checks tree) (λ x. means tree (see x)) result → IfOk result (λ x. IsAccepted checks means bytes (see x))
+  pub accepted : (result : Result T (Failure DocFault)) → Answers (checks tree) (λ x. means tree (see x)) result →
+      IfOk result (λ x. IsAccepted checks means bytes (see x))
   accepted result h = holds (IsAccepted checks means bytes) (λ v a. a) result h
 
-  pub refused : (result : Result T (Failure DocFault)) → Answers (checks tree) (λ x. means tree (see x)) result → IfErr result (ForFault (IsRefused checks bytes))
+  pub refused : (result : Result T (Failure DocFault)) → Answers (checks tree) (λ x. means tree (see x)) result →
+      IfErr result (ForFault (IsRefused checks bytes))
   refused (Ok x) h = tt
   refused (Err Memory) h = tt
   refused (Err (Fault f)) h = false_check read.0 tree read.1 (some_refused (checks tree) f (h (λ e. cc)))

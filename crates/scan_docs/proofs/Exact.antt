@@ -56,9 +56,11 @@ module _ (s : SettingValue) where
   rule_is : (d : Data) (rule : RuleValue) → IsRule s d rule → rule ≡ rule_in s d
   rule_is d rule h =
       let object = path_is (object_of s d) rule.object h.object in
-      let provided = zip_is_map (IsProvidedModule s (text m.WorkDirectory d)) (provided_in s (text m.WorkDirectory d)) (provided_is (text m.WorkDirectory d)) (entries_of m.Provides d) rule.provided h.provided in
+      let provided = zip_is_map (IsProvidedModule s (text m.WorkDirectory d)) (provided_in s (text m.WorkDirectory d)) (provided_is (text m.WorkDirectory d))
+      (entries_of m.Provides d) rule.provided h.provided in
       let required = zip_is_map IsRequired (text_of m.LogicalName) required_is (entries_of m.Requires d) rule.required h.required in
-      ap₂ (λ a (r : List (List ℕ × List ℕ) × List (List ℕ)). record { object = a; provided = r.0; required = r.1 }) object (ap₂ (λ b c. (b, c)) provided required)
+      ap₂ (λ a (r : List (List ℕ × List ℕ) × List (List ℕ)). record { object = a; provided = r.0; required = r.1 }) object
+      (ap₂ (λ b c. (b, c)) provided required)
 
   pub rules_are : (d : Data) (rules : List RuleValue) → AreRules s d rules → rules ≡ rules_in s d
   rules_are d rules h = zip_is_map (IsRule s) (rule_in s) rule_is (entries_of m.Rules d) rules h
@@ -74,7 +76,8 @@ module_is with_visibility d entry h =
     let file = path_is (path_of (text_of m.Bmi d)) entry.file h.file in
     let required = zip_is_map IsRequirement requirement_in requirement_is (entries_of m.Requires d) entry.required h.required in
     let visibility = some_is (privacy with_visibility d) entry.is_private false h.visibility in
-    ap₂ (λ (p : List ℕ × List ℕ) (r : List (List ℕ × List ℕ) × Bool). record { name = p.0; file = p.1; required = r.0; is_private = r.1 }) (ap₂ (λ a b. (a, b)) name file) (ap₂ (λ a b. (a, b)) required visibility)
+    ap₂ (λ (p : List ℕ × List ℕ) (r : List (List ℕ × List ℕ) × Bool). record { name = p.0; file = p.1; required = r.0; is_private = r.1 })
+    (ap₂ (λ a b. (a, b)) name file) (ap₂ (λ a b. (a, b)) required visibility)
 
 pub info_is : (d : Data) (info : InfoValue) → IsInfo d info → info ≡ info_in d
 info_is d info h =
@@ -83,14 +86,16 @@ info_is d info h =
 
 -- ---- target documents
 
-together : (f : List ℕ → SettingValue → List (List ℕ) → List (List ℕ) → List (List ℕ) → List ℕ → List ℕ → List ℕ → Option MapForm → Option (List ℕ) → Bool → TargetDocumentValue) (x y : TargetDocumentValue)
+together : (f : List ℕ → SettingValue → List (List ℕ) → List (List ℕ) → List (List ℕ) → List ℕ → List ℕ → List ℕ → Option MapForm → Option (List ℕ) → Bool →
+    TargetDocumentValue) (x y : TargetDocumentValue)
     → x.target ≡ y.target → x.setting ≡ y.setting → x.scans ≡ y.scans → x.linked ≡ y.linked → x.kept ≡ y.kept
     → x.dyndep ≡ y.dyndep → x.dyndep_path ≡ y.dyndep_path → x.info ≡ y.info → x.map_form ≡ y.map_form → x.edges ≡ y.edges → x.restat ≡ y.restat
     → f x.target x.setting x.scans x.linked x.kept x.dyndep x.dyndep_path x.info x.map_form x.edges x.restat
     ≡ f y.target y.setting y.scans y.linked y.kept y.dyndep y.dyndep_path y.info y.map_form y.edges y.restat
 together f x y target setting scans linked kept dyndep dyndep_path info map_form edges restat = cc
 
-setting_is : (d : Data) (s : SettingValue) → text m.ModuleDir d ≡ Some s.module_dir → text m.ModuleExt d ≡ Some s.module_ext → build_dir d ≡ s.build_dir → s ≡ target_setting d
+setting_is : (d : Data) (s : SettingValue) → text m.ModuleDir d ≡ Some s.module_dir → text m.ModuleExt d ≡ Some s.module_ext → build_dir d ≡ s.build_dir →
+    s ≡ target_setting d
 setting_is d s module_dir module_ext directory =
     ap₂ (λ (a : List ℕ × List ℕ) b. record { module_dir = a.0; module_ext = a.1; build_dir = b })
     (ap₂ (λ a b. (a, b)) (some_is (text m.ModuleDir d) s.module_dir [] module_dir) (some_is (text m.ModuleExt d) s.module_ext [] module_ext))
@@ -100,7 +105,9 @@ pub target_is : (d : Data) (t : TargetDocumentValue) → IsTarget d t → t ≡ 
 target_is d t h =
     let dyndep = some_is (text m.Dyndep d) t.dyndep [] h.dyndep in
     let placed_at = path_is (placed None t.setting.build_dir t.dyndep) t.dyndep_path h.dyndep_path in
-    together (λ a b c d e f g h i j k. record { target = a; setting = b; scans = c; linked = d; kept = e; dyndep = f; dyndep_path = g; info = h; map_form = i; edges = j; restat = k }) t (target_in d)
+    together (λ a b c d e f g h i j k.
+    record { target = a; setting = b; scans = c; linked = d; kept = e; dyndep = f; dyndep_path = g; info = h; map_form = i; edges = j; restat = k }) t
+    (target_in d)
     (some_is (text m.Target d) t.target [] h.target)
     (setting_is d t.setting h.module_dir h.module_ext h.directory)
     (sym h.scans) (sym h.linked) (sym h.kept) dyndep
@@ -115,7 +122,8 @@ project_is d p h = ap (λ a. record { targets = a }) (some_is (texts m.Targets d
 
 -- ---- bytes have one result at most, and the value of an accepted document is that of the function of its bytes
 
-module _ {V : Type 0} (checks : Data → List Check) (means : Data → V → Type 0) (value : Data → V) (is : (d : Data) (v : V) → means d v → v ≡ value d) (bytes : List ℕ) where
+module _ {V : Type 0} (checks : Data → List Check) (means : Data → V → Type 0) (value : Data → V) (is : (d : Data) (v : V) → means d v → v ≡ value d)
+    (bytes : List ℕ) where
   value_is : (v : V) → IsAccepted checks means bytes v → v ≡ value (tree_of bytes)
   value_is v h = is h.tree v h.meaning ∙ ap value (tree_is bytes h.tree h.reads)
 
@@ -176,7 +184,8 @@ module _ (bytes : List ℕ) where
 
 -- ---- the paths of what a document means are text, and the names of its rules are accepted
 
-AllZip-second : {A B : Type 0} → (R : A → B → Type 0) (P : B → Type 0) → ((a : A) (b : B) → R a b → P b) → (xs : List A) (ys : List B) → AllZip R xs ys → AllByRecursion P ys
+AllZip-second : {A B : Type 0} → (R : A → B → Type 0) (P : B → Type 0) → ((a : A) (b : B) → R a b → P b) → (xs : List A) (ys : List B) → AllZip R xs ys →
+    AllByRecursion P ys
 AllZip-second R P k [] [] h = tt
 AllZip-second R P k [] (y ∷ ys) h = absurd h
 AllZip-second R P k (x ∷ xs) [] h = absurd h
@@ -189,8 +198,10 @@ module _ (s : SettingValue) where
   rule_text : (d : Data) (rule : RuleValue) → IsRule s d rule → IsRuleText rule
   rule_text d rule h = record {
     object = h.is_text;
-    names = second (IsProvidedModule s (text m.WorkDirectory d)) (λ pair. IsName pair.0) (λ entry pair k. k.is_name) (entries_of m.Provides d) rule.provided h.provided;
-    provided = second (IsProvidedModule s (text m.WorkDirectory d)) (λ pair. IsText pair.1) (λ entry pair k. k.is_text) (entries_of m.Provides d) rule.provided h.provided;
+    names = second (IsProvidedModule s (text m.WorkDirectory d)) (λ pair. IsName pair.0) (λ entry pair k. k.is_name) (entries_of m.Provides d) rule.provided
+        h.provided;
+    provided = second (IsProvidedModule s (text m.WorkDirectory d)) (λ pair. IsText pair.1) (λ entry pair k. k.is_text) (entries_of m.Provides d) rule.provided
+        h.provided;
     required = second IsRequired IsName (λ entry name k. k.is_name) (entries_of m.Requires d) rule.required h.required;
   }
 
@@ -229,23 +240,40 @@ target_versions (Some (suc (suc n))) = grind (arith, nat_tests)
 
 -- what is checked of a scan document's head after its version
 abbrev pub rules_checks : Data → List Check
-rules_checks d = shape_check place.Document m.Rules (is_some (entries m.Rules d)) ∷ (scan.is_short (entries_of m.Rules d) otherwise TooLarge place.Document) ∷ []
+rules_checks d = shape_check place.Document m.Rules (is_some (entries m.Rules d)) ∷ (scan.is_short (entries_of m.Rules d) otherwise TooLarge place.Document) ∷
+    []
 
 pub scan_head : (d : Data) → first_failure (scan.head_checks d) ≡ option_or (first_failure (version_checks (0 ∷ 1 ∷ []) d)) (first_failure (rules_checks d))
 unfolding scan.head_checks version_checks
 scan_head d =
-    ap (λ holds. first_failure (shape_check place.Document m.Document (is_object d) ∷ (holds otherwise BadVersion) ∷ rules_checks d)) (sym (scan_versions (whole_number m.Version d)))
+    ap (λ holds. first_failure (shape_check place.Document m.Document (is_object d) ∷ (holds otherwise BadVersion) ∷ rules_checks d))
+    (sym (scan_versions (whole_number m.Version d)))
     ∙ failure_of_both (version_checks (0 ∷ 1 ∷ []) d) (rules_checks d)
 
 pub info_head : (d : Data) → first_failure (info.head_checks d) ≡ first_failure (version_checks (1 ∷ 2 ∷ []) d)
 unfolding info.head_checks version_checks
-info_head d = ap (λ holds. first_failure (shape_check place.Document m.Document (is_object d) ∷ (holds otherwise BadVersion) ∷ [])) (sym (info_versions (whole_number m.Version d)))
+info_head d = ap (λ holds. first_failure (shape_check place.Document m.Document (is_object d) ∷ (holds otherwise BadVersion) ∷ []))
+    (sym (info_versions (whole_number m.Version d)))
 
 pub target_head : (d : Data) → first_failure (target.head_checks d) ≡ first_failure (version_checks (1 ∷ []) d)
 unfolding target.head_checks version_checks
-target_head d = ap (λ holds. first_failure (shape_check place.Document m.Document (is_object d) ∷ (holds otherwise BadVersion) ∷ [])) (sym (target_versions (whole_number m.Version d)))
+target_head d = ap (λ holds. first_failure (shape_check place.Document m.Document (is_object d) ∷ (holds otherwise BadVersion) ∷ []))
+    (sym (target_versions (whole_number m.Version d)))
 
 -- all checks of a target document
-pub target_parts : (d : Data) → first_failure (target_checks d) ≡ option_or (first_failure (version_checks (1 ∷ []) d)) (option_or (first_failure (target.name_checks d)) (option_or (first_failure (target.directory_checks d)) (option_or (first_failure (shape_check place.Document m.Scans (fits texts m.Scans d) ∷ shape_check place.Document m.Linked (fits texts m.Linked d) ∷ [])) (option_or (first_failure (target.kept_checks d)) (option_or (first_failure (target.dyndep_checks d)) (first_failure (target.file_checks d)))))))
+pub target_parts : (d : Data) →
+    first_failure (target_checks d) ≡
+    option_or (first_failure (version_checks (1 ∷ []) d))
+    (option_or (first_failure (target.name_checks d))
+    (option_or (first_failure (target.directory_checks d))
+    (option_or (first_failure (shape_check place.Document m.Scans (fits texts m.Scans d) ∷ shape_check place.Document m.Linked (fits texts m.Linked d) ∷ []))
+    (option_or (first_failure (target.kept_checks d)) (option_or (first_failure (target.dyndep_checks d)) (first_failure (target.file_checks d)))))))
 unfolding target_checks target.list_checks
 target_parts d = rw (failure_of_both, target_head, failure_of_both, failure_of_both, failure_of_both, failure_of_both, failure_of_both) refl
+
+-- what `using` names: the laws of one result, and how the checks of a document begin
+pub ruleset one_answer_of_each = (scan_one_answer, info_one_answer, target_one_answer, project_one_answer)
+
+pub ruleset scan_parts = (failure_of_both, scan_head)
+
+pub ruleset project_parts = (failure_of_both, target_head)

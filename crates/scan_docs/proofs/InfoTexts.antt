@@ -53,12 +53,14 @@ module _ {X : Type 0} (tree : X → Data) (written : X → List Token → List T
   later_entries : (xs : List X) (r : List ℕ) → tokens_after (items_text true (items_of (map tree xs)) ++ r) ≡ list_tokens written xs (tokens_after r)
   unfolding serde_json_on_literals
   later_entries [] r = refl
-  later_entries (x ∷ xs) r = ap tokens_next (append_assoc (compact_text (tree x)) (items_text true (items_of (map tree xs))) r) ∙ next x _ ∙ first x _ ∙ ap (written x) (later_entries xs r)
+  later_entries (x ∷ xs) r = ap tokens_next (append_assoc (compact_text (tree x)) (items_text true (items_of (map tree xs))) r) ∙ next x _ ∙ first x _ ∙
+      ap (written x) (later_entries xs r)
 
   entries : (xs : List X) (r : List ℕ) → tokens (items_text false (items_of (map tree xs)) ++ r) ≡ list_tokens written xs (tokens_after r)
   unfolding serde_json_on_literals
   entries [] r = refl
-  entries (x ∷ xs) r = ap tokens (append_assoc (compact_text (tree x)) (items_text true (items_of (map tree xs))) r) ∙ first x _ ∙ ap (written x) (later_entries xs r)
+  entries (x ∷ xs) r = ap tokens (append_assoc (compact_text (tree x)) (items_text true (items_of (map tree xs))) r) ∙ first x _ ∙
+      ap (written x) (later_entries xs r)
 
 -- ---- the parts of an info
 
@@ -69,7 +71,8 @@ requirement_tokens p ts = begin_object ∷ key_token (codes "bmi") ∷ string_to
 abbrev pub member_text : List ℕ → List ℕ → List ℕ → List ℕ
 member_text key s r = 34 ∷ key ++ 34 ∷ 58 ∷ 34 ∷ (flat_map escaped s ++ 34 ∷ r)
 
-pub requirement_text : (p : List ℕ × List ℕ) (r : List ℕ) → compact_text (requirement_tree p) ++ r ≡ 123 ∷ member_text (codes "bmi") p.1 (44 ∷ member_text (codes "name") p.0 (125 ∷ r))
+pub requirement_text : (p : List ℕ × List ℕ) (r : List ℕ) →
+    compact_text (requirement_tree p) ++ r ≡ 123 ∷ member_text (codes "bmi") p.1 (44 ∷ member_text (codes "name") p.0 (125 ∷ r))
 unfolding requirement_tree serde_json_on_literals
 requirement_text p r = simp append_assoc
 
@@ -90,13 +93,21 @@ module_tokens v ts =
     ∷ key_token (codes "requires") ∷ begin_array ∷ list_tokens requirement_tokens v.required
     (key_token (codes "visibility") ∷ string_token (visibility_text v.is_private) ∷ end_object ∷ ts)
 
-requirements_first : (ps : List (List ℕ × List ℕ)) (r : List ℕ) → tokens (items_text false (items_of (map requirement_tree ps)) ++ r) ≡ list_tokens requirement_tokens ps (tokens_after r)
+requirements_first : (ps : List (List ℕ × List ℕ)) (r : List ℕ) →
+    tokens (items_text false (items_of (map requirement_tree ps)) ++ r) ≡ list_tokens requirement_tokens ps (tokens_after r)
 requirements_first = entries requirement_tree requirement_tokens requirement_first requirement_next
 
-module_ends : (list visibility r : List ℕ) → (list ++ 44 ∷ member_text (codes "visibility") visibility (125 ∷ [])) ++ r ≡ list ++ 44 ∷ member_text (codes "visibility") visibility (125 ∷ r)
-module_ends list visibility r = append_assoc list _ r ∙ ap (λ l. list ++ (44 ∷ 34 ∷ (codes "visibility" ++ 34 ∷ 58 ∷ 34 ∷ l))) (append_assoc (flat_map escaped visibility) (34 ∷ 125 ∷ []) r)
+module_ends : (list visibility r : List ℕ) →
+    (list ++ 44 ∷ member_text (codes "visibility") visibility (125 ∷ [])) ++ r ≡ list ++ 44 ∷ member_text (codes "visibility") visibility (125 ∷ r)
+module_ends list visibility r = append_assoc list _ r ∙
+    ap (λ l. list ++ (44 ∷ 34 ∷ (codes "visibility" ++ 34 ∷ 58 ∷ 34 ∷ l))) (append_assoc (flat_map escaped visibility) (34 ∷ 125 ∷ []) r)
 
-pub module_text : (v : ModuleValue) (r : List ℕ) → compact_text (module_tree v) ++ r ≡ 123 ∷ member_text (codes "bmi") v.file (44 ∷ member_text (codes "name") v.name (44 ∷ 34 ∷ codes "requires" ++ 34 ∷ 58 ∷ 91 ∷ (items_text false (items_of (map requirement_tree v.required)) ++ 44 ∷ member_text (codes "visibility") (visibility_text v.is_private) (125 ∷ r))))
+pub module_text : (v : ModuleValue) (r : List ℕ) →
+    compact_text (module_tree v) ++ r ≡
+    123 ∷ member_text (codes "bmi") v.file
+    (44 ∷ member_text (codes "name") v.name
+    (44 ∷ 34 ∷ codes "requires" ++ 34 ∷ 58 ∷ 91 ∷
+    (items_text false (items_of (map requirement_tree v.required)) ++ 44 ∷ member_text (codes "visibility") (visibility_text v.is_private) (125 ∷ r))))
 unfolding module_tree requirements_tree serde_json_on_literals
 module_text v r =
     simp append_assoc
@@ -121,10 +132,14 @@ info_tokens info =
     begin_object ∷ key_token (codes "modules") ∷ begin_array ∷ list_tokens module_tokens info.modules
     (key_token (codes "target") ∷ string_token info.target ∷ key_token (codes "version") ∷ number_token false (decimal 2) ∷ end_object ∷ [])
 
-modules_first : (vs : List ModuleValue) (r : List ℕ) → tokens (items_text false (items_of (map module_tree vs)) ++ r) ≡ list_tokens module_tokens vs (tokens_after r)
+modules_first : (vs : List ModuleValue) (r : List ℕ) →
+    tokens (items_text false (items_of (map module_tree vs)) ++ r) ≡ list_tokens module_tokens vs (tokens_after r)
 modules_first = entries module_tree module_tokens module_first module_next
 
-pub info_text_is : (info : InfoValue) → info_text info ≡ 123 ∷ 34 ∷ codes "modules" ++ 34 ∷ 58 ∷ 91 ∷ (items_text false (items_of (map module_tree info.modules)) ++ 44 ∷ member_text (codes "target") info.target (44 ∷ 34 ∷ codes "version" ++ 34 ∷ 58 ∷ 50 ∷ 125 ∷ []))
+pub info_text_is : (info : InfoValue) →
+    info_text info ≡ 123 ∷ 34 ∷ codes "modules" ++ 34 ∷ 58 ∷ 91 ∷
+    (items_text false (items_of (map module_tree info.modules)) ++ 44 ∷ member_text (codes "target") info.target
+    (44 ∷ 34 ∷ codes "version" ++ 34 ∷ 58 ∷ 50 ∷ 125 ∷ []))
 unfolding info_text info_tree digits serde_json_on_literals
 info_text_is info = simp append_assoc
 
@@ -138,46 +153,59 @@ tokens_of_info info =
 -- ---- what the tokens of an info are parsed as
 
 -- a list has a token for each entry, and one more, before those that come after
-longer : {X : Type 0} (written : X → List Token → List Token) → ((x : X) (ts : List Token) → length ts < length (written x ts)) → (xs : List X) (ts : List Token) → length xs + length ts < length (list_tokens written xs ts)
+longer : {X : Type 0} (written : X → List Token → List Token) → ((x : X) (ts : List Token) → length ts < length (written x ts)) →
+    (xs : List X) (ts : List Token) → length xs + length ts < length (list_tokens written xs ts)
 longer written more [] ts = omega arith
 longer written more (x ∷ xs) ts = omega (arith, longer written more xs ts, more x (list_tokens written xs ts))
 
 module _ {X : Type 0} (tree : X → Data) (written : X → List Token → List Token) (m : ℕ)
-    (one : (x : X) (ds : Items) (n : ℕ) (ts rest : List Token) → items m n ts ≡ Some (items_outline ds, rest) → items m (suc n) (written x ts) ≡ Some (items_outline (item (tree x) ds), rest))
+    (one : (x : X) (ds : Items) (n : ℕ) (ts rest : List Token) → items m n ts ≡ Some (items_outline ds, rest) →
+    items m (suc n) (written x ts) ≡ Some (items_outline (item (tree x) ds), rest))
     (more : (x : X) (ts : List Token) → length ts < length (written x ts)) where
-  parsed_within : (xs : List X) (n : ℕ) (ts : List Token) → length xs < n → items m n (list_tokens written xs ts) ≡ Some (items_outline (items_of (map tree xs)), ts)
+  parsed_within : (xs : List X) (n : ℕ) (ts : List Token) → length xs < n →
+      items m n (list_tokens written xs ts) ≡ Some (items_outline (items_of (map tree xs)), ts)
   unfolding serde_json_on_literals
   parsed_within xs zero ts lt = absurd (omega arith)
   parsed_within [] (suc n) ts lt = refl
   parsed_within (x ∷ xs) (suc n) ts lt = one x _ n _ ts (parsed_within xs n ts (omega arith))
 
-  pub list_parsed : (xs : List X) (ts : List Token) → let us : List Token = list_tokens written xs ts in items m (length us) us ≡ Some (items_outline (items_of (map tree xs)), ts)
+  pub list_parsed : (xs : List X) (ts : List Token) → let us : List Token = list_tokens written xs ts in
+      items m (length us) us ≡ Some (items_outline (items_of (map tree xs)), ts)
   list_parsed xs ts = parsed_within xs _ ts (omega (arith, longer written more xs ts))
 
 requirement_more : (p : List ℕ × List ℕ) (ts : List Token) → length ts < length (requirement_tokens p ts)
 requirement_more p ts = omega arith
 
-one_requirement : (m : ℕ) (p : List ℕ × List ℕ) (ds : Items) (n : ℕ) (ts rest : List Token) → items (suc (suc m)) n ts ≡ Some (items_outline ds, rest) → items (suc (suc m)) (suc n) (requirement_tokens p ts) ≡ Some (items_outline (item (requirement_tree p) ds), rest)
+one_requirement : (m : ℕ) (p : List ℕ × List ℕ) (ds : Items) (n : ℕ) (ts rest : List Token) → items (suc (suc m)) n ts ≡ Some (items_outline ds, rest) →
+    items (suc (suc m)) (suc n) (requirement_tokens p ts) ≡ Some (items_outline (item (requirement_tree p) ds), rest)
 unfolding requirement_tree serde_json_on_literals
 one_requirement m p ds n ts rest h = rw h
 
-requirements_parsed : (m : ℕ) (ps : List (List ℕ × List ℕ)) (ts : List Token) → let us : List Token = list_tokens requirement_tokens ps ts in items (suc (suc m)) (length us) us ≡ Some (items_outline (items_of (map requirement_tree ps)), ts)
+requirements_parsed : (m : ℕ) (ps : List (List ℕ × List ℕ)) (ts : List Token) → let us : List Token = list_tokens requirement_tokens ps ts in
+    items (suc (suc m)) (length us) us ≡ Some (items_outline (items_of (map requirement_tree ps)), ts)
 requirements_parsed m = list_parsed requirement_tree requirement_tokens (suc (suc m)) (one_requirement m) requirement_more
 
 module_more : (v : ModuleValue) (ts : List Token) → length ts < length (module_tokens v ts)
-module_more v ts = omega (arith, longer requirement_tokens requirement_more v.required (key_token (codes "visibility") ∷ string_token (visibility_text v.is_private) ∷ end_object ∷ ts))
+module_more v ts = omega (
+  arith,
+  longer requirement_tokens requirement_more v.required
+      (key_token (codes "visibility") ∷ string_token (visibility_text v.is_private) ∷ end_object ∷ ts),
+)
 
-one_module : (m : ℕ) (v : ModuleValue) (ds : Items) (n : ℕ) (ts rest : List Token) → items (suc (suc (suc (suc m)))) n ts ≡ Some (items_outline ds, rest) → items (suc (suc (suc (suc m)))) (suc n) (module_tokens v ts) ≡ Some (items_outline (item (module_tree v) ds), rest)
+one_module : (m : ℕ) (v : ModuleValue) (ds : Items) (n : ℕ) (ts rest : List Token) → items (suc (suc (suc (suc m)))) n ts ≡ Some (items_outline ds, rest) →
+    items (suc (suc (suc (suc m)))) (suc n) (module_tokens v ts) ≡ Some (items_outline (item (module_tree v) ds), rest)
 unfolding module_tree requirements_tree serde_json_on_literals
 one_module m v ds n ts rest h = rw (requirements_parsed m v.required, h)
 
-modules_parsed : (m : ℕ) (vs : List ModuleValue) (ts : List Token) → let us : List Token = list_tokens module_tokens vs ts in items (suc (suc (suc (suc m)))) (length us) us ≡ Some (items_outline (items_of (map module_tree vs)), ts)
+modules_parsed : (m : ℕ) (vs : List ModuleValue) (ts : List Token) → let us : List Token = list_tokens module_tokens vs ts in
+    items (suc (suc (suc (suc m)))) (length us) us ≡ Some (items_outline (items_of (map module_tree vs)), ts)
 modules_parsed m = list_parsed module_tree module_tokens (suc (suc (suc (suc m)))) (one_module m) module_more
 
 pub info_parsed : (m : ℕ) (info : InfoValue) → value (suc (suc (suc (suc (suc (suc m)))))) (info_tokens info) ≡ Some (outline (info_tree info), [])
 unfolding info_tree serde_json_on_literals
 info_parsed m info =
-    let ts : List Token = key_token (codes "target") ∷ string_token info.target ∷ key_token (codes "version") ∷ number_token false (decimal 2) ∷ end_object ∷ [] in
+    let ts : List Token = key_token (codes "target") ∷ string_token info.target ∷ key_token (codes "version") ∷ number_token false (decimal 2) ∷ end_object ∷
+    [] in
     let n = length (list_tokens module_tokens info.modules ts) in
     let some : n ≡ suc (suc (suc (n - 3))) = omega (arith, longer module_tokens module_more info.modules ts) in
     rw (modules_parsed m info.modules ts, some)
@@ -210,9 +238,13 @@ requirement_means : (p : List ℕ × List ℕ) → IsSoundPair p.0 p.1 → IsReq
 unfolding requirement_tree key
 requirement_means p h = record { name = refl; file = h.canonical; is_text = h.is_text }
 
-requirements_pass : (ps : List (List ℕ × List ℕ)) (j k : ℕ) → AllByRecursion (λ p. IsSoundPair p.0 p.1) ps → first_refusal (each_from (λ k d. requirement_checks (place.ModuleRequires j k) d) k (map requirement_tree ps)) ≡ None
+requirements_pass : (ps : List (List ℕ × List ℕ)) (j k : ℕ) → AllByRecursion (λ p. IsSoundPair p.0 p.1) ps →
+    first_refusal (each_from (λ k d. requirement_checks (place.ModuleRequires j k) d) k (map requirement_tree ps)) ≡ None
 requirements_pass [] j k h = refl
-requirements_pass (p ∷ ps) j k h = refusal_after (requirement_checks (place.ModuleRequires j k) (requirement_tree p)) (each_from (λ k d. requirement_checks (place.ModuleRequires j k) d) (k + 1) (map requirement_tree ps)) (requirement_passes p (place.ModuleRequires j k) h.0) ∙ requirements_pass ps j (k + 1) h.1
+requirements_pass (p ∷ ps) j k h =
+    refusal_after (requirement_checks (place.ModuleRequires j k) (requirement_tree p))
+    (each_from (λ k d. requirement_checks (place.ModuleRequires j k) d) (k + 1) (map requirement_tree ps))
+    (requirement_passes p (place.ModuleRequires j k) h.0) ∙ requirements_pass ps j (k + 1) h.1
 
 requirements_mean : (ps : List (List ℕ × List ℕ)) → AllByRecursion (λ p. IsSoundPair p.0 p.1) ps → AllZip IsRequirement (map requirement_tree ps) ps
 requirements_mean [] h = tt
@@ -234,13 +266,16 @@ module_means v h = record {
   name = refl;
   file = h.named.canonical;
   is_text = h.named.is_text;
-  required = rw (elements_items_of (map requirement_tree v.required)) (requirements_mean v.required (recursion_from_All (λ p. IsSoundPair p.0 p.1) v.required h.required));
+  required = rw (elements_items_of (map requirement_tree v.required))
+      (requirements_mean v.required (recursion_from_All (λ p. IsSoundPair p.0 p.1) v.required h.required));
   visibility = visibility_reads v.is_private;
 }
 
 modules_pass : (vs : List ModuleValue) (j : ℕ) → AllByRecursion IsSoundModule vs → first_refusal (each_from (module_checks true) j (map module_tree vs)) ≡ None
 modules_pass [] j h = refl
-modules_pass (v ∷ vs) j h = refusal_after (module_checks true j (module_tree v)) (each_from (module_checks true) (j + 1) (map module_tree vs)) (module_passes v j h.0) ∙ modules_pass vs (j + 1) h.1
+modules_pass (v ∷ vs) j h =
+    refusal_after (module_checks true j (module_tree v)) (each_from (module_checks true) (j + 1) (map module_tree vs)) (module_passes v j h.0) ∙
+    modules_pass vs (j + 1) h.1
 
 modules_mean : (vs : List ModuleValue) → AllByRecursion IsSoundModule vs → AllZip (IsModule true) (map module_tree vs) vs
 modules_mean [] h = tt
@@ -248,7 +283,8 @@ modules_mean (v ∷ vs) h = (module_means v h.0, modules_mean vs h.1)
 
 info_passes : (info : InfoValue) → IsSoundInfo info → first_refusal (info_checks (info_tree info)) ≡ None
 unfolding info_checks head_checks name_checks modules_check all_module_checks info_tree key
-info_passes info h = rw (h.target.accepted, elements_items_of (map module_tree info.modules)) (modules_pass info.modules 0 (recursion_from_All IsSoundModule info.modules h.modules))
+info_passes info h = rw (h.target.accepted, elements_items_of (map module_tree info.modules))
+    (modules_pass info.modules 0 (recursion_from_All IsSoundModule info.modules h.modules))
 
 info_means : (info : InfoValue) → IsSoundInfo info → IsInfo (info_tree info) info
 unfolding info_tree key
@@ -283,8 +319,10 @@ sides : (p s : List ℕ) (x : ℕ) → x < 128 → IsUtf8 (p ++ x ∷ s) → IsU
 sides p s x small u =
     let total : length (p ++ x ∷ s) ≡ length p + (1 + length s) = length-append p (x ∷ s) ∙ omega arith in
     let at : get_or (p ++ x ∷ s) (length p) 0 ≡ x = ap (λ n. get_or (p ++ x ∷ s) n 0) (omega arith) ∙ get_or-append-add p (x ∷ s) 0 0 in (
-      subst IsUtf8 (take-append_seam p (x ∷ s)) (IsUtf8-take (p ++ x ∷ s) (length p) u (IsCharBoundary-before_ascii (p ++ x ∷ s) (length p) (omega arith) (omega arith))),
-      subst IsUtf8 (drop-append-add p (x ∷ s) 1) (IsUtf8-drop (p ++ x ∷ s) (length p + 1) u (IsCharBoundary-after_ascii (p ++ x ∷ s) (length p) u (omega arith) (omega arith))),
+      subst IsUtf8 (take-append_seam p (x ∷ s))
+          (IsUtf8-take (p ++ x ∷ s) (length p) u (IsCharBoundary-before_ascii (p ++ x ∷ s) (length p) (omega arith) (omega arith))),
+      subst IsUtf8 (drop-append-add p (x ∷ s) 1)
+          (IsUtf8-drop (p ++ x ∷ s) (length p + 1) u (IsCharBoundary-after_ascii (p ++ x ∷ s) (length p) u (omega arith) (omega arith))),
     )
 
 abbrev escapes_are_ascii : ℕ → Bool
@@ -304,7 +342,8 @@ all_ascii = refl
 string_utf8 : (p s : List ℕ) → IsUtf8 (p ++ s) → IsUtf8 (p ++ flat_map escaped s)
 string_utf8 p [] u = u
 string_utf8 p (x ∷ s) u = elim (cases_lt x 128) [
-  | inl small ↦ let uu = sides p s x small u in IsUtf8-append p _ uu.0 (ascii_before (escaped x) _ (escape_is_ascii 128 x all_ascii small) (string_utf8 [] s uu.1))
+  | inl small ↦ let uu = sides p s x small u in
+      IsUtf8-append p _ uu.0 (ascii_before (escaped x) _ (escape_is_ascii 128 x all_ascii small) (string_utf8 [] s uu.1))
   | inr big ↦
       rw (as_it_is x (λ e. omega arith) (λ e. omega arith) (omega arith))
       (subst IsUtf8 (append_assoc p (x ∷ []) (flat_map escaped s)) (string_utf8 (p ++ x ∷ []) s (subst IsUtf8 (sym (append_assoc p (x ∷ []) s)) u)))
@@ -312,7 +351,8 @@ string_utf8 p (x ∷ s) u = elim (cases_lt x 128) [
 
 member_utf8 : (key s r : List ℕ) → are_ascii key ≡ true → IsUtf8 s → IsUtf8 r → IsUtf8 (member_text key s r)
 member_utf8 key s r e u v =
-    ascii_before (34 ∷ key) _ e (ascii_before (34 ∷ 58 ∷ 34 ∷ []) _ refl (IsUtf8-append (flat_map escaped s) (34 ∷ r) (string_utf8 [] s u) (ascii_before (34 ∷ []) r refl v)))
+    ascii_before (34 ∷ key) _ e
+    (ascii_before (34 ∷ 58 ∷ 34 ∷ []) _ refl (IsUtf8-append (flat_map escaped s) (34 ∷ r) (string_utf8 [] s u) (ascii_before (34 ∷ []) r refl v)))
 
 comma_before : (later : Bool) (r : List ℕ) → IsUtf8 r → IsUtf8 (comma_if later ++ r)
 comma_before true r u = ascii_before (44 ∷ []) r refl u
@@ -323,12 +363,15 @@ module _ {X : Type 0} (tree : X → Data) (Good : X → Type 0) (one : (x : X) (
   list_utf8 later [] r h u = ascii_before (93 ∷ []) r refl u
   list_utf8 later (x ∷ xs) r h u =
       let rest = one x _ h.0 (list_utf8 true xs r h.1 u) in
-      subst IsUtf8 (sym (append_assoc (comma_if later) _ r)) (comma_before later _ (subst IsUtf8 (sym (append_assoc (compact_text (tree x)) (items_text true (items_of (map tree xs))) r)) rest))
+      subst IsUtf8 (sym (append_assoc (comma_if later) _ r))
+      (comma_before later _ (subst IsUtf8 (sym (append_assoc (compact_text (tree x)) (items_text true (items_of (map tree xs))) r)) rest))
 
 requirement_utf8 : (p : List ℕ × List ℕ) (r : List ℕ) → IsSoundPair p.0 p.1 → IsUtf8 r → IsUtf8 (compact_text (requirement_tree p) ++ r)
 requirement_utf8 p r h u =
     rw (requirement_text p r)
-    (ascii_before (123 ∷ []) _ refl (member_utf8 (codes "bmi") p.1 _ refl h.is_text.utf8 (ascii_before (44 ∷ []) _ refl (member_utf8 (codes "name") p.0 _ refl h.named.utf8 (ascii_before (125 ∷ []) r refl u)))))
+    (ascii_before (123 ∷ []) _ refl
+    (member_utf8 (codes "bmi") p.1 _ refl h.is_text.utf8
+    (ascii_before (44 ∷ []) _ refl (member_utf8 (codes "name") p.0 _ refl h.named.utf8 (ascii_before (125 ∷ []) r refl u)))))
 
 visibility_utf8 : (b : Bool) → IsUtf8 (visibility_text b)
 visibility_utf8 true = ascii_before (codes "private") [] refl IsUtf8-nil
@@ -336,17 +379,24 @@ visibility_utf8 false = ascii_before (codes "public") [] refl IsUtf8-nil
 
 module_utf8 : (v : ModuleValue) (r : List ℕ) → IsSoundModule v → IsUtf8 r → IsUtf8 (compact_text (module_tree v) ++ r)
 module_utf8 v r h u =
-    let required = list_utf8 requirement_tree (λ p. IsSoundPair p.0 p.1) requirement_utf8 false v.required _ (recursion_from_All (λ p. IsSoundPair p.0 p.1) v.required h.required)
-    (ascii_before (44 ∷ []) _ refl (member_utf8 (codes "visibility") (visibility_text v.is_private) _ refl (visibility_utf8 v.is_private) (ascii_before (125 ∷ []) r refl u))) in
+    let required = list_utf8 requirement_tree (λ p. IsSoundPair p.0 p.1) requirement_utf8 false v.required _
+    (recursion_from_All (λ p. IsSoundPair p.0 p.1) v.required h.required)
+    (ascii_before (44 ∷ []) _ refl
+    (member_utf8 (codes "visibility") (visibility_text v.is_private) _ refl (visibility_utf8 v.is_private) (ascii_before (125 ∷ []) r refl u))) in
     rw (module_text v r)
-    (ascii_before (123 ∷ []) _ refl (member_utf8 (codes "bmi") v.file _ refl h.named.is_text.utf8 (ascii_before (44 ∷ []) _ refl (member_utf8 (codes "name") v.name _ refl h.named.named.utf8
+    (ascii_before (123 ∷ []) _ refl
+    (member_utf8 (codes "bmi") v.file _ refl h.named.is_text.utf8
+    (ascii_before (44 ∷ []) _ refl (member_utf8 (codes "name") v.name _ refl h.named.named.utf8
     (ascii_before (44 ∷ 34 ∷ codes "requires" ++ 34 ∷ 58 ∷ 91 ∷ []) _ refl required)))))
 
 pub info_utf8 : (info : InfoValue) → IsSoundInfo info → IsUtf8 (info_text info)
 info_utf8 info h =
     rw (info_text_is info)
-    (ascii_before (123 ∷ 34 ∷ codes "modules" ++ 34 ∷ 58 ∷ 91 ∷ []) _ refl (list_utf8 module_tree IsSoundModule module_utf8 false info.modules _ (recursion_from_All IsSoundModule info.modules h.modules)
-    (ascii_before (44 ∷ []) _ refl (member_utf8 (codes "target") info.target _ refl h.target.utf8 (ascii_before (44 ∷ 34 ∷ codes "version" ++ 34 ∷ 58 ∷ 50 ∷ 125 ∷ []) [] refl IsUtf8-nil)))))
+    (ascii_before (123 ∷ 34 ∷ codes "modules" ++ 34 ∷ 58 ∷ 91 ∷ []) _ refl
+    (list_utf8 module_tree IsSoundModule module_utf8 false info.modules _ (recursion_from_All IsSoundModule info.modules h.modules)
+    (ascii_before (44 ∷ []) _ refl
+    (member_utf8 (codes "target") info.target _ refl h.target.utf8
+    (ascii_before (44 ∷ 34 ∷ codes "version" ++ 34 ∷ 58 ∷ 50 ∷ 125 ∷ []) [] refl IsUtf8-nil)))))
 
 -- ---- the text of an info is read as that info
 

@@ -96,7 +96,8 @@ ParsedItems = result_of items_outline × List Token
 
 -- a value, whose arrays and objects nest no deeper than the number
 abbrev pub value : ℕ → List Token → Option Parsed
-value = the (λ f. (text : List ℕ) (ts : List Token) (m : ℕ) → tokens text ≡ ts → 127 ≡ m → (h : Json → Option Data) × (k : Parsed → Option Json) × (d : Option Data) × (then h (then k (f m ts)) ≡ d)) _
+value = the (λ f. (text : List ℕ) (ts : List Token) (m : ℕ) → tokens text ≡ ts → 127 ≡ m →
+    (h : Json → Option Data) × (k : Parsed → Option Json) × (d : Option Data) × (then h (then k (f m ts)) ≡ d)) _
     (λ text ts m e l. (_, _, _, rw (e, l, is_then {A = Parsed}, is_then {A = Json}) at (same {A = Option Data} (read text))))
 
 -- the values of an array, in that many turns at most
@@ -174,6 +175,7 @@ passes x = elim (cases_lt x 32) [
 ]
 
 -- a string is read back if what follows makes it a value and not a key
-pub string_read : (s r : List ℕ) (ts : List Token) → tokens (34 ∷ 34 ∷ r) ≡ text_token false [] ∷ ts → tokens (34 ∷ (flat_map escaped s ++ 34 ∷ r)) ≡ text_token false s ∷ ts
+pub string_read : (s r : List ℕ) (ts : List Token) → tokens (34 ∷ 34 ∷ r) ≡ text_token false [] ∷ ts →
+    tokens (34 ∷ (flat_map escaped s ++ 34 ∷ r)) ≡ text_token false s ∷ ts
 string_read [] r ts h = h
 string_read (x ∷ s) r ts h = ap (λ l. tokens (34 ∷ l)) (append_assoc (escaped x) (flat_map escaped s) (34 ∷ r)) ∙ passes x s _ ts (string_read s r ts h)

@@ -60,7 +60,8 @@ dashed_text bs h = (map dashed h.0, (all_scalar h.0 h.1.0, sym (all_encoded h.0)
 -- the first byte of a name separates nothing
 first_part : (b : ℕ) (bs : List ℕ) → list_all is_not_empty (slice_split is_separator (b ∷ bs)) ≡ true → is_separator b ≡ false
 first_part b bs h = elim (cases_Bool (is_separator b)) [
-  | inl s ↦ let k : list_all is_not_empty ([] ∷ slice_split is_separator bs) ≡ true = ap (list_all is_not_empty) (sym (slice_split-cons_yes is_separator b bs s)) ∙ h in cc
+  | inl s ↦ let k : list_all is_not_empty ([] ∷ slice_split is_separator bs) ≡ true =
+      ap (list_all is_not_empty) (sym (slice_split-cons_yes is_separator b bs s)) ∙ h in cc
   | inr n ↦ n
 ]
 
@@ -83,8 +84,10 @@ name_tests : (name : List ℕ) → is_name name ≡ true
     → (list_all is_not_empty (slice_split is_separator name) ≡ true) × (list_all is_name_byte name ≡ true)
 unfolding is_name
 name_tests name h =
-    let both = both_true (nat_le 1 (length name) && nat_le (length name) 1024 && nat_le (count_by (λ b. b == 58) name) 1 && list_all is_not_empty (slice_split is_separator name)) (list_all is_name_byte name) h in
-    let parts = both_true (nat_le 1 (length name) && nat_le (length name) 1024 && nat_le (count_by (λ b. b == 58) name) 1) (list_all is_not_empty (slice_split is_separator name)) both.0 in
+    let both = both_true (nat_le 1 (length name) && nat_le (length name) 1024 && nat_le (count_by (λ b. b == 58) name) 1 && list_all is_not_empty
+    (slice_split is_separator name)) (list_all is_name_byte name) h in
+    let parts = both_true (nat_le 1 (length name) && nat_le (length name) 1024 && nat_le (count_by (λ b. b == 58) name) 1)
+    (list_all is_not_empty (slice_split is_separator name)) both.0 in
     (parts.1, both.1)
 
 -- no name is empty
@@ -114,7 +117,10 @@ made_in build dir [] ext h = absurd (no_name h)
 made_in build [] (b ∷ bs) ext h = refl
 made_in build (d ∷ ds) (b ∷ bs) ext h =
     let path = map dashed (b ∷ bs) ++ ext in
-    let rooted : is_rooted path ≡ false = (or_parts (dashed b == 47) (is_unwritable (dashed b)) (or_parts (dashed b == 47 || is_unwritable (dashed b)) (list_any (λ b. b == 47 || is_unwritable b) (map dashed bs)) (plain_bytes (b ∷ bs) (name_tests (b ∷ bs) h).1)).0).0 in
+    let rooted : is_rooted path ≡ false =
+    (or_parts (dashed b == 47) (is_unwritable (dashed b))
+    (or_parts (dashed b == 47 || is_unwritable (dashed b)) (list_any (λ b. b == 47 || is_unwritable b) (map dashed bs))
+    (plain_bytes (b ∷ bs) (name_tests (b ∷ bs) h).1)).0).0 in
     ap (λ t. canonical_of build (if t then path else (d ∷ ds) ++ 47 ∷ path)) (relative false (is_rooted path) rooted refl)
     ∙ ap (canonical_of build) (sym (append_assoc (d ∷ ds) (47 ∷ []) path) ∙ sym (append_assoc ((d ∷ ds) ++ 47 ∷ []) (map dashed (b ∷ bs)) ext))
     ∙ ap (λ t. placed None build (((if t then [] else (d ∷ ds) ++ 47 ∷ []) ++ map dashed (b ∷ bs)) ++ ext)) (sym (some_length (length ds)))

@@ -27,8 +27,11 @@ pub array_sent : {A : Type 0} (f : A → Data) (xs : List A) (i : ℕ) (old firs
     → length xs ≤ i → Logs old first (seq_begins (Some (length xs)))
     → ((end : Log) → SendsItems (items_of (map f (drop i xs))) last end → SendsItems (items_of (map f xs)) first end)
     → Logs last new seq_ends → SendsValue (array (items_of (map f xs))) old new
-array_sent f xs i old first last new le begun more ended =
-    (first, subst (λ n. Logs old first (seq_begins (Some n))) (entries_count f xs) begun, more new (subst (λ ys. SendsItems (items_of (map f ys)) last new) (sym (drop_all i xs le)) ended))
+array_sent f xs i old first last new le begun more ended = (
+  first,
+  subst (λ n. Logs old first (seq_begins (Some n))) (entries_count f xs) begun,
+  more new (subst (λ ys. SendsItems (items_of (map f ys)) last new) (sym (drop_all i xs le)) ended),
+)
 
 -- ---- no float
 

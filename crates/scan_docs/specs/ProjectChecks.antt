@@ -8,9 +8,9 @@ use Rattle.scan_docs.specs.Shape.{texts}
 use Rattle.scan_docs.specs.TargetChecks.{head_checks}
 
 -- the list of target documents, all of whose elements are texts
-unfoldable pub targets_check : Data → List Check
+abbrev pub targets_check : Data → List Check
 targets_check d = shape_check place.Document m.Targets (is_some (texts m.Targets d)) ∷ []
 
 -- all checks of a project document's tree
-unfoldable pub project_checks : Data → List Check
+abbrev pub project_checks : Data → List Check
 project_checks d = head_checks d ++ targets_check d

@@ -38,7 +38,7 @@ head_checks d =
     ∷ []
 
 -- a rule's members, by their shapes
-unfoldable pub rule_shape_checks : Place → Data → List Check
+abbrev pub rule_shape_checks : Place → Data → List Check
 rule_shape_checks place d =
     shape_check place m.Rule (is_object d)
     ∷ shape_check place m.PrimaryOutput (fits text m.PrimaryOutput d)
@@ -48,7 +48,7 @@ rule_shape_checks place d =
     ∷ []
 
 -- a rule's object file
-unfoldable pub object_checks : SettingValue → Place → Data → List Check
+abbrev pub object_checks : SettingValue → Place → Data → List Check
 object_checks s place d =
     (is_some (text m.PrimaryOutput d) otherwise NoPrimaryOutput place)
     ∷ path_checks place (object_of s d)

@@ -135,7 +135,7 @@ fn read_visibility(
     }
 }
 
-#[tactic(auto, unfolding(crate::specs::InfoChecks::requirement_checks), using(crate::proofs::Each::failure_of_both))]
+#[tactic(auto, unfolding(crate::specs::InfoChecks::requirement_checks), using(crate::proofs::Each::both))]
 fn read_requirement(
     alloc: Global,
     names: &mut SharedNames,

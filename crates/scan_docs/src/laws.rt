@@ -21,7 +21,7 @@ use document_values::TargetName;
 
 /// All bytes, read as a document of one kind, have at most one result: one value or one fault, and
 /// never both.
-#[tactic(auto, using(crate::proofs::Exact::scan_one_answer, crate::proofs::Exact::info_one_answer, crate::proofs::Exact::target_one_answer, crate::proofs::Exact::project_one_answer))]
+#[tactic(auto, using(crate::proofs::Exact::one_answer_of_each))]
 pub fn one_answer()
     ensures scan { (setting : SettingValue) (bytes : Bytes)
         → HasOneAnswer (scan_checks setting) (AreRules setting) bytes }

@@ -70,7 +70,7 @@ pub fn scan_with(
     read_rules(alloc, setting, &tree)
 }
 
-#[tactic(auto, unfolding(crate::specs::ScanChecks::scan_checks), using(crate::proofs::Each::failure_of_both, crate::proofs::Exact::scan_head))]
+#[tactic(auto, unfolding(crate::specs::ScanChecks::scan_checks), using(crate::proofs::Exact::scan_parts))]
 fn read_rules(
     alloc: Global,
     setting: &ReducedSetting,
@@ -104,7 +104,7 @@ fn names_of_rules(alloc: Global, rules: &[Value]) -> Result<Vec<u8>, AllocError>
     Ok(names)
 }
 
-#[tactic(auto, unfolding(crate::specs::ScanChecks::rule_checks, crate::specs::ScanChecks::rule_shape_checks, crate::specs::ScanChecks::object_checks), using(crate::proofs::Each::failure_of_both))]
+#[tactic(auto, unfolding(crate::specs::ScanChecks::rule_checks), using(crate::proofs::Each::both))]
 fn read_rule(
     alloc: Global,
     names: &mut SharedNames,

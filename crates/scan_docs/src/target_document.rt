@@ -137,7 +137,12 @@ fn read_spec(alloc: Global, tree: &Value) -> Result<TargetSpec, Failure<DocFault
     let linked = shape::texts(alloc, tree, Member::Linked, Place::Document)?;
     let kept = read_kept(alloc, tree)?;
     let (dyndep, dyndep_path) = read_dyndep(alloc, &setting, tree)?;
-    let (info, map, edges, restat) = read_outputs(alloc, tree)?;
+    let OtherFiles {
+        info,
+        map,
+        edges,
+        restat,
+    } = read_other_files(alloc, tree)?;
     Ok(TargetSpec {
         target,
         setting,
@@ -226,17 +231,23 @@ fn read_dyndep(
     Ok((dyndep, path))
 }
 
+/// The files besides the dyndep file, the form of the maps, and whether statements have `restat`.
+#[derive(Drop)]
+struct OtherFiles {
+    info: String,
+    map: Option<MapForm>,
+    edges: Option<String>,
+    restat: bool,
+}
+
 /// Returns the members `info`, `map`, `edges` and `restat`.
 #[tactic(auto, unfolding(crate::specs::TargetChecks::file_checks))]
-fn read_outputs(
-    alloc: Global,
-    tree: &Value,
-) -> Result<(String, Option<MapForm>, Option<String>, bool), Failure<DocFault>>
+fn read_other_files(alloc: Global, tree: &Value) -> Result<OtherFiles, Failure<DocFault>>
     ensures { Answers (file_checks (view tree.now))
-        (λ found. (text m.Info (view tree.now) ≡ Some (string_bytes found.0))
-        × (map_form (view tree.now) ≡ found.1)
-        × (text m.Edges (view tree.now) ≡ option_map string_bytes found.2)
-        × (restat (view tree.now) ≡ found.3)) result }
+        (λ files. (text m.Info (view tree.now) ≡ Some (string_bytes files.info))
+        × (map_form (view tree.now) ≡ files.map)
+        × (text m.Edges (view tree.now) ≡ option_map string_bytes files.edges)
+        × (restat (view tree.now) ≡ files.restat)) result }
 {
     let info = shape::owned_text(alloc, tree, Member::Info, Place::Document)?;
     if info.is_empty() {
@@ -255,7 +266,12 @@ fn read_outputs(
         None => None,
     };
     let restat = shape::is_true(tree, Member::Restat);
-    Ok((info, map, edges, restat))
+    Ok(OtherFiles {
+        info,
+        map,
+        edges,
+        restat,
+    })
 }
 
 /// The member of a project document. Strings are as in the document.
@@ -292,7 +308,7 @@ pub fn project_read(alloc: Global, bytes: &[u8]) -> Result<ProjectSpec, Failure<
     read_project(alloc, &tree)
 }
 
-#[tactic(auto, unfolding(crate::specs::ProjectChecks::project_checks, crate::specs::ProjectChecks::targets_check), using(crate::proofs::Each::failure_of_both, crate::proofs::Exact::target_head))]
+#[tactic(auto, using(crate::proofs::Exact::project_parts))]
 fn read_project(alloc: Global, tree: &Value) -> Result<ProjectSpec, Failure<DocFault>>
     ensures { Answers (project_checks (view tree.now))
         (λ project. IsProject (view tree.now) project) result }

@@ -24,8 +24,10 @@ returns-clause-one_answer c = info_one_answer c.args.bytes.now
 
 pub returns-clause-text : goal.returns-clause-text
 returns-clause-text c =
-    holds (λ x. x) info_checks IsInfo c.args.bytes.now (view c.in_ok-tree.tree) c.in_ok-tree.ensures.read IsInfoText (λ info h. info_text h.tree info h.meaning) c.read_info.result c.read_info.ensures
+    holds (λ x. x) info_checks IsInfo c.args.bytes.now (view c.in_ok-tree.tree) c.in_ok-tree.ensures.read IsInfoText (λ info h. info_text h.tree info h.meaning)
+    c.read_info.result c.read_info.ensures
 
 pub returns-clause-value : goal.returns-clause-value
 returns-clause-value c =
-    holds (λ x. x) info_checks IsInfo c.args.bytes.now (view c.in_ok-tree.tree) c.in_ok-tree.ensures.read (λ info. info ≡ info_of c.args.bytes.now) (info_value c.args.bytes.now) c.read_info.result c.read_info.ensures
+    holds (λ x. x) info_checks IsInfo c.args.bytes.now (view c.in_ok-tree.tree) c.in_ok-tree.ensures.read (λ info. info ≡ info_of c.args.bytes.now)
+    (info_value c.args.bytes.now) c.read_info.result c.read_info.ensures

@@ -7,4 +7,5 @@ use Rattle.scan_docs.proofs.Each.{SoFar}
 use Rattle.scan_docs.proofs.info.read_module.Given as goal
 
 abbrev pub invariant-loop-entry : goal.invariant-loop-entry
-invariant-loop-entry l = SoFar (λ entry d. requirement_checks (place.ModuleRequires l.index entry) d) IsRequirement (map view l.requirements) l.entry l.required.items
+invariant-loop-entry l =
+    SoFar (λ entry d. requirement_checks (place.ModuleRequires l.index entry) d) IsRequirement (map view l.requirements) l.entry l.required.items

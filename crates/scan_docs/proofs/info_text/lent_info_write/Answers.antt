@@ -25,4 +25,5 @@ pub returns-clause-reads_back : goal.returns-clause-reads_back
 returns-clause-reads_back c =
     let info = c.args.info.now in
     with_other_error _ _ c.to_vec.result c.map_err.result c.map_err.ensures.cases c.map_err.ensures.variant
-    (IfOk-weaker c.to_vec.result _ _ (λ text h. subst (ReadsBack info) (sym (text_of_info info h.0 text.items h.1.0 h.2)) (text_again info h.1.1)) c.to_vec.ensures.events)
+    (IfOk-weaker c.to_vec.result _ _ (λ text h. subst (ReadsBack info) (sym (text_of_info info h.0 text.items h.1.0 h.2)) (text_again info h.1.1))
+    c.to_vec.ensures.events)

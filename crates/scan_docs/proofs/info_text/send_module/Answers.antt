@@ -13,7 +13,8 @@ use Rattle.scan_docs.proofs.Sending.{entry_sent, array_sent}
 use Rattle.scan_docs.proofs.info_text.send_module.Goals as goal
 use Rattle.scan_docs.proofs.info_text.send_module.Goals.{then-entry, else-entry}
 
-requirement_sent : (pair : List ℕ × List ℕ) (old mid new : Log) → BeginsNamedFile 2 pair.0 pair.1 old mid → Logs mid new map_ends → SendsValue (requirement_tree pair) old new
+requirement_sent : (pair : List ℕ × List ℕ) (old mid new : Log) → BeginsNamedFile 2 pair.0 pair.1 old mid → Logs mid new map_ends →
+    SendsValue (requirement_tree pair) old new
 unfolding requirement_tree
 requirement_sent pair old mid new begun end =
     let named = begun.2 in
@@ -28,8 +29,11 @@ begin_named_file-requires-in-loop-pair g c =
 pub loop-pair-preserved : goal.loop-pair-preserved
 loop-pair-preserved g c =
     let l = c.loop-pair in record {
-      sent = λ end rest. l.invariant.sent end (entry_sent requirement_tree c.entry.inside.required.now l.pair-index c.pair-item.result _ _ end c.loop-pair-test.true c.pair-item.is (requirement_sent c.pair-item.result _ _ _ c.in_ok-begin_named_file-2.ensures.sent c.in_ok-end_map.ensures) rest);
-      sound = All-grow (λ p. IsSoundPair p.0 p.1) c.entry.inside.required.now l.pair-index c.pair-item.result c.loop-pair-test.true c.pair-item.is c.in_ok-begin_named_file-2.ensures.sound l.invariant.sound;
+      sent = λ end rest. l.invariant.sent end
+          (entry_sent requirement_tree c.entry.inside.required.now l.pair-index c.pair-item.result _ _ end c.loop-pair-test.true c.pair-item.is
+          (requirement_sent c.pair-item.result _ _ _ c.in_ok-begin_named_file-2.ensures.sent c.in_ok-end_map.ensures) rest);
+      sound = All-grow (λ p. IsSoundPair p.0 p.1) c.entry.inside.required.now l.pair-index c.pair-item.result c.loop-pair-test.true c.pair-item.is
+          c.in_ok-begin_named_file-2.ensures.sound l.invariant.sound;
     }
 
 pub returns-clause-sent : goal.returns-clause-sent
@@ -39,10 +43,13 @@ returns-clause-sent g c =
     let pair = begun.2 in
     let last = c.in_ok-send_text.ensures in
     let l = c.loop-pair in
-    let required = array_sent requirement_tree c.entry.inside.required.now l.pair-index _ _ _ _ c.loop-pair-test.false c.in_ok-begin_seq.ensures l.invariant.sent c.in_ok-end_seq.ensures in
-    let same : c.if-entry.visibility.now ≡ visibility_text c.entry.inside.is_private = elim c.if-entry.branch [ then-entry w ↦ grind (arith, common_steps) | else-entry w ↦ grind (arith, common_steps) ] in
+    let required = array_sent requirement_tree c.entry.inside.required.now l.pair-index _ _ _ _ c.loop-pair-test.false c.in_ok-begin_seq.ensures
+    l.invariant.sent c.in_ok-end_seq.ensures in
+    let same : c.if-entry.visibility.now ≡ visibility_text c.entry.inside.is_private = elim c.if-entry.branch
+    [ then-entry w ↦ grind (arith, common_steps) | else-entry w ↦ grind (arith, common_steps) ] in
     let visibility = subst (λ t. Logs last.0 (g.S.Serializer.written c.send_text.new.out) (text t)) same last.2 in
-    subst (λ v. OnOk c.end_map-2.result (SendsValue (module_tree v) (g.S.Serializer.written c.args.out.now) (g.S.Serializer.written c.end_map-2.new.self))) c.entry.view_is
+    subst (λ v. OnOk c.end_map-2.result (SendsValue (module_tree v) (g.S.Serializer.written c.args.out.now) (g.S.Serializer.written c.end_map-2.new.self)))
+    c.entry.view_is
     (on_ok_weaker c.end_map-2.result
     (λ end. (
       begun.0,

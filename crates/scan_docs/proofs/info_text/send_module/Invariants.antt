@@ -10,6 +10,7 @@ use Rattle.scan_docs.proofs.info_text.send_module.Given as goal
 -- whatever ends it well from here ends it well from the start
 abbrev pub invariant-loop-pair : goal.invariant-loop-pair
 invariant-loop-pair g l = record {
-  sent : (end : Log) → SendsItems (items_of (map requirement_tree (drop l.pair-index l.required))) (g.S.Serializer.written l.out) end → SendsItems (items_of (map requirement_tree l.required)) (g.S.Serializer.written l.initial.out) end;
+  sent : (end : Log) → SendsItems (items_of (map requirement_tree (drop l.pair-index l.required))) (g.S.Serializer.written l.out) end →
+      SendsItems (items_of (map requirement_tree l.required)) (g.S.Serializer.written l.initial.out) end;
   sound : All (λ p. IsSoundPair p.0 p.1) (take l.pair-index l.required);
 }

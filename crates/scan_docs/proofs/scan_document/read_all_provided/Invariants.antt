@@ -7,4 +7,6 @@ use Rattle.scan_docs.proofs.Each.{SoFar}
 use Rattle.scan_docs.proofs.scan_document.read_all_provided.Given as goal
 
 abbrev pub invariant-loop-entry : goal.invariant-loop-entry
-invariant-loop-entry l = SoFar (λ entry d. provided_checks l.setting l.work (place.Provides l.rule entry) d) (IsProvidedModule l.setting l.work) (map view l.entries) l.entry l.found.items
+invariant-loop-entry l =
+    SoFar (λ entry d. provided_checks l.setting l.work (place.Provides l.rule entry) d) (IsProvidedModule l.setting l.work) (map view l.entries) l.entry
+    l.found.items

@@ -20,12 +20,12 @@ use Rattle.scan_docs.proofs.scan_document.read_rule.Goals as goal
 use Rattle.scan_docs.proofs.scan_document.read_rule.Goals.{In_ok-object, then-provides-gt-COUNT_LIMIT-via-then-provides-gt-COUNT_LIMIT, then-provides-gt-COUNT_LIMIT-via-else-provides-gt-COUNT_LIMIT+then-requirements-gt-COUNT_LIMIT}
 
 -- the object file of a rule that has an output
-module _ (s : SettingValue) (p : Place) (d : Data) (output : List ℕ) (work : Option (List ℕ)) (has : Some output ≡ text m.PrimaryOutput d) (at : work ≡ text m.WorkDirectory d) where
+module _ (s : SettingValue) (p : Place) (d : Data) (output : List ℕ) (work : Option (List ℕ)) (has : Some output ≡ text m.PrimaryOutput d)
+    (at : work ≡ text m.WorkDirectory d) where
   object_is : object_of s d ≡ placed work s.build_dir output
   object_is = rw (← has, ← at) refl
 
   object_checked : first_failure (object_checks s p d) ≡ first_failure (path_checks p (placed work s.build_dir output))
-  unfolding object_checks
   object_checked = rw (← has, ← at) refl
 
 -- lists that are short enough, and one that is not
@@ -42,40 +42,99 @@ unfolding count_checks
 second_long p ps rs h = grind (arith, nat_tests)
 
 -- the checks of a rule, part by part
-parts : (s : SettingValue) (i : ℕ) (d : Data) → first_failure (rule_checks s i d) ≡ option_or (first_failure (shape_check (place.Rule i) m.Rule (is_object d) ∷ shape_check (place.Rule i) m.PrimaryOutput (fits text m.PrimaryOutput d) ∷ shape_check (place.Rule i) m.WorkDirectory (fits text m.WorkDirectory d) ∷ shape_check (place.Rule i) m.Provides (fits entries m.Provides d) ∷ shape_check (place.Rule i) m.Requires (fits entries m.Requires d) ∷ [])) (option_or (first_failure (object_checks s (place.Rule i) d)) (option_or (first_failure (count_checks (place.Rule i) (entries_of m.Provides d) (entries_of m.Requires d))) (option_or (first_failure (all_provided_checks s (text m.WorkDirectory d) i (entries_of m.Provides d))) (first_failure (all_required_checks i (entries_of m.Requires d))))))
-unfolding rule_checks rule_shape_checks
+parts : (s : SettingValue) (i : ℕ) (d : Data) →
+    first_failure (rule_checks s i d) ≡
+    option_or (first_failure
+    (shape_check (place.Rule i) m.Rule (is_object d) ∷ shape_check (place.Rule i) m.PrimaryOutput (fits text m.PrimaryOutput d) ∷ shape_check (place.Rule i)
+    m.WorkDirectory (fits text m.WorkDirectory d) ∷ shape_check (place.Rule i) m.Provides (fits entries m.Provides d) ∷ shape_check (place.Rule i) m.Requires
+    (fits entries m.Requires d) ∷ []))
+    (option_or (first_failure (object_checks s (place.Rule i) d))
+    (option_or (first_failure (count_checks (place.Rule i) (entries_of m.Provides d) (entries_of m.Requires d)))
+    (option_or (first_failure (all_provided_checks s (text m.WorkDirectory d) i (entries_of m.Provides d)))
+    (first_failure (all_required_checks i (entries_of m.Requires d))))))
+unfolding rule_checks
 parts s i d = rw (failure_of_both, failure_of_both, failure_of_both, failure_of_both) refl
 
 -- what is left to check once the object file is accepted
-left : (c : In_ok-object) → first_failure (rule_checks c.args.setting.now c.args.index (view c.args.rule.now)) ≡ option_or (first_failure (count_checks (place.Rule c.args.index) (map view c.in_ok-provides.provides.now) (map view c.in_ok-requirements.requirements.now))) (option_or (first_failure (all_provided_checks c.args.setting.now c.in_ok-directory.directory c.args.index (map view c.in_ok-provides.provides.now))) (first_failure (all_required_checks c.args.index (map view c.in_ok-requirements.requirements.now))))
-left c = rw (parts, c.in_ok-check_object.ensures.0, c.in_ok-primary_output.ensures.0, c.in_ok-work.ensures.0, c.in_ok-provides.ensures.0, c.in_ok-requirements.ensures.0, object_checked c.args.setting.now (place.Rule c.args.index) (view c.args.rule.now) c.in-Some.output.now c.in_ok-directory.directory (ap option_copied (sym c.in-Some.is) ∙ c.in_ok-primary_output.ensures.1) (c.in_ok-directory.ensures ∙ c.in_ok-work.ensures.1) ∙ c.in_ok-object.ensures.0, ← c.in_ok-provides.ensures.1, ← c.in_ok-requirements.ensures.1, ← (c.in_ok-directory.ensures ∙ c.in_ok-work.ensures.1)) refl
+left : (c : In_ok-object) →
+    first_failure (rule_checks c.args.setting.now c.args.index (view c.args.rule.now)) ≡
+    option_or (first_failure (count_checks (place.Rule c.args.index) (map view c.in_ok-provides.provides.now) (map view c.in_ok-requirements.requirements.now)))
+    (option_or (first_failure (all_provided_checks c.args.setting.now c.in_ok-directory.directory c.args.index (map view c.in_ok-provides.provides.now)))
+    (first_failure (all_required_checks c.args.index (map view c.in_ok-requirements.requirements.now))))
+left c = rw (
+  parts,
+  c.in_ok-check_object.ensures.0,
+  c.in_ok-primary_output.ensures.0,
+  c.in_ok-work.ensures.0,
+  c.in_ok-provides.ensures.0,
+  c.in_ok-requirements.ensures.0,
+  object_checked c.args.setting.now (place.Rule c.args.index) (view c.args.rule.now) c.in-Some.output.now c.in_ok-directory.directory
+      (ap option_copied (sym c.in-Some.is) ∙ c.in_ok-primary_output.ensures.1) (c.in_ok-directory.ensures ∙ c.in_ok-work.ensures.1) ∙
+      c.in_ok-object.ensures.0,
+  ← c.in_ok-provides.ensures.1,
+  ← c.in_ok-requirements.ensures.1,
+  ← (c.in_ok-directory.ensures ∙ c.in_ok-work.ensures.1),
+) refl
 
 pub returns-in_err-object : goal.returns-in_err-object
 returns-in_err-object c =
-    stopped (rule_checks c.args.setting.now c.args.index (view c.args.rule.now)) _ c.from_residual-in_err-object.result _ c.from_residual-in_err-object.ensures.1 (λ ne. rw (parts, c.in_ok-check_object.ensures.0, c.in_ok-primary_output.ensures.0, c.in_ok-work.ensures.0, c.in_ok-provides.ensures.0, c.in_ok-requirements.ensures.0, object_checked c.args.setting.now (place.Rule c.args.index) (view c.args.rule.now) c.in-Some.output.now c.in_ok-directory.directory (ap option_copied (sym c.in-Some.is) ∙ c.in_ok-primary_output.ensures.1) (c.in_ok-directory.ensures ∙ c.in_ok-work.ensures.1), c.in_err-object.ensures ne) refl)
+    stopped (rule_checks c.args.setting.now c.args.index (view c.args.rule.now)) _ c.from_residual-in_err-object.result _
+    c.from_residual-in_err-object.ensures.1
+    (λ ne. rw (
+      parts,
+      c.in_ok-check_object.ensures.0,
+      c.in_ok-primary_output.ensures.0,
+      c.in_ok-work.ensures.0,
+      c.in_ok-provides.ensures.0,
+      c.in_ok-requirements.ensures.0,
+      object_checked c.args.setting.now (place.Rule c.args.index) (view c.args.rule.now) c.in-Some.output.now c.in_ok-directory.directory
+          (ap option_copied (sym c.in-Some.is) ∙ c.in_ok-primary_output.ensures.1) (c.in_ok-directory.ensures ∙ c.in_ok-work.ensures.1),
+      c.in_err-object.ensures ne,
+    ) refl)
 
 pub returns-then-provides-gt-COUNT_LIMIT : goal.returns-then-provides-gt-COUNT_LIMIT
 returns-then-provides-gt-COUNT_LIMIT c = λ ne.
     rw (left (goal.at.returns-then-provides-gt-COUNT_LIMIT c).In_ok-object) (elim c.then-provides-gt-COUNT_LIMIT.branch [
-      | then-provides-gt-COUNT_LIMIT-via-then-provides-gt-COUNT_LIMIT w ↦ rw (first_long (place.Rule c.args.index) (map view c.in_ok-provides.provides.now) (map view c.in_ok-requirements.requirements.now) (rw length-map w.if-provides-gt-COUNT_LIMIT.true)) refl
-      | then-provides-gt-COUNT_LIMIT-via-else-provides-gt-COUNT_LIMIT+then-requirements-gt-COUNT_LIMIT w ↦ rw (second_long (place.Rule c.args.index) (map view c.in_ok-provides.provides.now) (map view c.in_ok-requirements.requirements.now) (rw length-map w.if-requirements-gt-COUNT_LIMIT.true)) refl
+      | then-provides-gt-COUNT_LIMIT-via-then-provides-gt-COUNT_LIMIT w ↦
+          rw (first_long (place.Rule c.args.index) (map view c.in_ok-provides.provides.now) (map view c.in_ok-requirements.requirements.now)
+          (rw length-map w.if-provides-gt-COUNT_LIMIT.true)) refl
+      | then-provides-gt-COUNT_LIMIT-via-else-provides-gt-COUNT_LIMIT+then-requirements-gt-COUNT_LIMIT w ↦
+          rw (second_long (place.Rule c.args.index) (map view c.in_ok-provides.provides.now) (map view c.in_ok-requirements.requirements.now)
+          (rw length-map w.if-requirements-gt-COUNT_LIMIT.true)) refl
     ])
 
 pub returns-in_err-provided : goal.returns-in_err-provided
 returns-in_err-provided c =
-    stopped (rule_checks c.args.setting.now c.args.index (view c.args.rule.now)) _ c.from_residual-in_err-provided.result _ c.from_residual-in_err-provided.ensures.1 (λ ne. rw (left (goal.at.returns-in_err-provided c).In_ok-object, count_passes (place.Rule c.args.index) (map view c.in_ok-provides.provides.now) (map view c.in_ok-requirements.requirements.now) (rw length-map c.if-provides-gt-COUNT_LIMIT.false) (rw length-map c.if-requirements-gt-COUNT_LIMIT.false), c.in_err-provided.ensures ne) refl)
+    stopped (rule_checks c.args.setting.now c.args.index (view c.args.rule.now)) _ c.from_residual-in_err-provided.result _
+    c.from_residual-in_err-provided.ensures.1
+    (λ ne. rw (
+      left (goal.at.returns-in_err-provided c).In_ok-object,
+      count_passes (place.Rule c.args.index) (map view c.in_ok-provides.provides.now) (map view c.in_ok-requirements.requirements.now)
+          (rw length-map c.if-provides-gt-COUNT_LIMIT.false) (rw length-map c.if-requirements-gt-COUNT_LIMIT.false),
+      c.in_err-provided.ensures ne,
+    ) refl)
 
 pub returns-in_err-required : goal.returns-in_err-required
 returns-in_err-required c =
-    stopped (rule_checks c.args.setting.now c.args.index (view c.args.rule.now)) _ c.from_residual-in_err-required.result _ c.from_residual-in_err-required.ensures.1 (λ ne. rw (left (goal.at.returns-in_err-required c).In_ok-object, count_passes (place.Rule c.args.index) (map view c.in_ok-provides.provides.now) (map view c.in_ok-requirements.requirements.now) (rw length-map c.if-provides-gt-COUNT_LIMIT.false) (rw length-map c.if-requirements-gt-COUNT_LIMIT.false), c.in_ok-provided.ensures.0, c.in_err-required.ensures ne) refl)
+    stopped (rule_checks c.args.setting.now c.args.index (view c.args.rule.now)) _ c.from_residual-in_err-required.result _
+    c.from_residual-in_err-required.ensures.1
+    (λ ne. rw (
+      left (goal.at.returns-in_err-required c).In_ok-object,
+      count_passes (place.Rule c.args.index) (map view c.in_ok-provides.provides.now) (map view c.in_ok-requirements.requirements.now)
+          (rw length-map c.if-provides-gt-COUNT_LIMIT.false) (rw length-map c.if-requirements-gt-COUNT_LIMIT.false),
+      c.in_ok-provided.ensures.0,
+      c.in_err-required.ensures ne,
+    ) refl)
 
 pub returns : goal.returns
 returns c =
     let has = ap option_copied (sym c.in-Some.is) ∙ c.in_ok-primary_output.ensures.1 in
-    let counts = count_passes (place.Rule c.args.index) (map view c.in_ok-provides.provides.now) (map view c.in_ok-requirements.requirements.now) (rw length-map c.if-provides-gt-COUNT_LIMIT.false) (rw length-map c.if-requirements-gt-COUNT_LIMIT.false) in (
+    let counts = count_passes (place.Rule c.args.index) (map view c.in_ok-provides.provides.now) (map view c.in_ok-requirements.requirements.now)
+    (rw length-map c.if-provides-gt-COUNT_LIMIT.false) (rw length-map c.if-requirements-gt-COUNT_LIMIT.false) in (
       rw (left (goal.at.returns c).In_ok-object, counts, c.in_ok-provided.ensures.0) c.in_ok-required.ensures.0,
       record {
-        object = object_is c.args.setting.now (place.Rule c.args.index) (view c.args.rule.now) c.in-Some.output.now c.in_ok-directory.directory has (c.in_ok-directory.ensures ∙ c.in_ok-work.ensures.1) ∙ c.in_ok-object.ensures.1.0;
+        object = object_is c.args.setting.now (place.Rule c.args.index) (view c.args.rule.now) c.in-Some.output.now c.in_ok-directory.directory has
+            (c.in_ok-directory.ensures ∙ c.in_ok-work.ensures.1) ∙ c.in_ok-object.ensures.1.0;
         is_text = c.in_ok-object.ensures.1.1;
         provided = rw (← c.in_ok-provides.ensures.1, ← (c.in_ok-directory.ensures ∙ c.in_ok-work.ensures.1)) c.in_ok-provided.ensures.1;
         required = rw (← c.in_ok-requirements.ensures.1) c.in_ok-required.ensures.1;

@@ -26,14 +26,22 @@ pub returns-in_err-rule : goal.returns-in_err-rule
 unfolding scan_checks all_rule_checks
 returns-in_err-rule c =
     let test = short (map view c.in_ok-rules.rules.now) (rw length-map c.if-rules-gt-COUNT_LIMIT.false) in
-    stopped (scan_checks c.args.setting.now (view c.args.tree.now)) _ c.from_residual-in_err-rule.result _ c.from_residual-in_err-rule.ensures.1 (λ ne. rw (failure_of_both, scan_head, c.in_ok-read_version.ensures.0, c.in_ok-rules.ensures.0, c.in_ok-rules.ensures.1, test) (refused_at view (rule_checks c.args.setting.now) (IsRule c.args.setting.now) c.in_ok-rules.rules.now c.loop-index.index c.index-rules-index.result _ c.loop-index.found.items c.loop-index-test.true c.index-rules-index.is (c.in_err-rule.ensures ne) c.loop-index.invariant))
+    stopped (scan_checks c.args.setting.now (view c.args.tree.now)) _ c.from_residual-in_err-rule.result _ c.from_residual-in_err-rule.ensures.1
+    (λ ne. rw (failure_of_both, scan_head, c.in_ok-read_version.ensures.0, c.in_ok-rules.ensures.0, c.in_ok-rules.ensures.1, test)
+    (refused_at view (rule_checks c.args.setting.now) (IsRule c.args.setting.now) c.in_ok-rules.rules.now c.loop-index.index c.index-rules-index.result _
+    c.loop-index.found.items c.loop-index-test.true c.index-rules-index.is (c.in_err-rule.ensures ne) c.loop-index.invariant))
 
 pub loop-index-preserved : goal.loop-index-preserved
 loop-index-preserved c =
-    rw c.in_ok-push.ensures.items (one_more view (rule_checks c.args.setting.now) (IsRule c.args.setting.now) c.in_ok-rules.rules.now c.loop-index.index c.index-rules-index.result c.in_ok-rule.rule c.loop-index.found.items c.loop-index-test.true c.index-rules-index.is c.in_ok-rule.ensures.0 c.in_ok-rule.ensures.1 c.loop-index.invariant)
+    rw c.in_ok-push.ensures.items
+    (one_more view (rule_checks c.args.setting.now) (IsRule c.args.setting.now) c.in_ok-rules.rules.now c.loop-index.index c.index-rules-index.result
+    c.in_ok-rule.rule c.loop-index.found.items c.loop-index-test.true c.index-rules-index.is c.in_ok-rule.ensures.0 c.in_ok-rule.ensures.1
+    c.loop-index.invariant)
 
 pub returns : goal.returns
 unfolding scan_checks all_rule_checks
 returns c =
     let test = short (map view c.in_ok-rules.rules.now) (rw length-map c.if-rules-gt-COUNT_LIMIT.false) in
-    rw (failure_of_both, scan_head, c.in_ok-read_version.ensures.0, c.in_ok-rules.ensures.0, c.in_ok-rules.ensures.1, test) (all_read view (rule_checks c.args.setting.now) (IsRule c.args.setting.now) c.in_ok-rules.rules.now c.loop-index.index c.loop-index.found.items c.loop-index-test.false c.loop-index.invariant)
+    rw (failure_of_both, scan_head, c.in_ok-read_version.ensures.0, c.in_ok-rules.ensures.0, c.in_ok-rules.ensures.1, test)
+    (all_read view (rule_checks c.args.setting.now) (IsRule c.args.setting.now) c.in_ok-rules.rules.now c.loop-index.index c.loop-index.found.items
+    c.loop-index-test.false c.loop-index.invariant)

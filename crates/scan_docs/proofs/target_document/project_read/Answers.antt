@@ -17,4 +17,5 @@ returns-clause-refused c =
 
 pub returns-clause-value : goal.returns-clause-value
 returns-clause-value c =
-    holds (λ x. x) project_checks IsProject c.args.bytes.now (view c.in_ok-tree.tree) c.in_ok-tree.ensures.read (λ project. project ≡ project_of c.args.bytes.now) (project_value c.args.bytes.now) c.read_project.result c.read_project.ensures
+    holds (λ x. x) project_checks IsProject c.args.bytes.now (view c.in_ok-tree.tree) c.in_ok-tree.ensures.read
+    (λ project. project ≡ project_of c.args.bytes.now) (project_value c.args.bytes.now) c.read_project.result c.read_project.ensures

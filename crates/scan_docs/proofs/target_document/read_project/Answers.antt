@@ -5,5 +5,4 @@ use Rattle.scan_docs.proofs.Exact.{target_head}
 use Rattle.scan_docs.proofs.target_document.read_project.Goals as goal
 
 pub returns : goal.returns
-unfolding project_checks targets_check
 returns c = search (rules, failure_of_both, target_head)

@@ -20,4 +20,5 @@ returns-clause-one_answer c = target_one_answer c.args.bytes.now
 
 pub returns-clause-value : goal.returns-clause-value
 returns-clause-value c =
-    holds (λ x. x) target_checks IsTarget c.args.bytes.now (view c.in_ok-tree.tree) c.in_ok-tree.ensures.read (λ spec. spec ≡ spec_of c.args.bytes.now) (target_value c.args.bytes.now) c.read_spec.result c.read_spec.ensures
+    holds (λ x. x) target_checks IsTarget c.args.bytes.now (view c.in_ok-tree.tree) c.in_ok-tree.ensures.read (λ spec. spec ≡ spec_of c.args.bytes.now)
+    (target_value c.args.bytes.now) c.read_spec.result c.read_spec.ensures

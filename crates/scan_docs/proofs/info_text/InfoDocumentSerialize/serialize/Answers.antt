@@ -18,16 +18,21 @@ send_module-requires g c =
 pub loop-entry-preserved : goal.loop-entry-preserved
 loop-entry-preserved g c =
     let l = c.loop-entry in record {
-      sent = λ end rest. l.invariant.sent end (entry_sent module_tree c.as_slice-modules.result.now l.entry-index c.entry-item.result _ _ end c.loop-entry-test.true c.entry-item.is c.in_ok-send_module.ensures.sent rest);
-      sound = All-grow IsSoundModule c.as_slice-modules.result.now l.entry-index c.entry-item.result c.loop-entry-test.true c.entry-item.is c.in_ok-send_module.ensures.sound l.invariant.sound;
+      sent = λ end rest. l.invariant.sent end
+          (entry_sent module_tree c.as_slice-modules.result.now l.entry-index c.entry-item.result _ _ end c.loop-entry-test.true c.entry-item.is
+          c.in_ok-send_module.ensures.sent rest);
+      sound = All-grow IsSoundModule c.as_slice-modules.result.now l.entry-index c.entry-item.result c.loop-entry-test.true c.entry-item.is
+          c.in_ok-send_module.ensures.sound l.invariant.sound;
     }
 
 pub returns : goal.returns
 unfolding info_tree
 returns g c =
-    let Sent : InfoValue → Type 0 = λ v. SendsValue (info_tree v) (g.S.Serializer.written c.args.out.now) (g.S.Serializer.written c.end_map.new.self) × IsSoundInfo v in
+    let Sent : InfoValue →
+    Type 0 = λ v. SendsValue (info_tree v) (g.S.Serializer.written c.args.out.now) (g.S.Serializer.written c.end_map.new.self) × IsSoundInfo v in
     let l = c.loop-entry in
-    let modules = array_sent module_tree c.as_slice-modules.result.now l.entry-index _ _ _ _ c.loop-entry-test.false c.in_ok-begin_seq.ensures l.invariant.sent c.in_ok-end_seq.ensures in
+    let modules = array_sent module_tree c.as_slice-modules.result.now l.entry-index _ _ _ _ c.loop-entry-test.false c.in_ok-begin_seq.ensures l.invariant.sent
+    c.in_ok-end_seq.ensures in
     let target = c.in_ok-send_text.ensures in
     subst (λ v. OnOk c.end_map.result (Sent v)) (c.info.view_is ∙ c.self.view_is)
     (rw (← c.as_slice-modules.ensures.value, ← c.text.ensures.text)

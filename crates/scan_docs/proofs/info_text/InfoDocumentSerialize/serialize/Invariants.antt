@@ -10,6 +10,7 @@ use Rattle.scan_docs.proofs.info_text.InfoDocumentSerialize.serialize.Given as g
 -- whatever ends it well from here ends it well from the start
 abbrev pub invariant-loop-entry : goal.invariant-loop-entry
 invariant-loop-entry g l = record {
-  sent : (end : Log) → SendsItems (items_of (map module_tree (drop l.entry-index l.modules))) (g.S.Serializer.written l.out) end → SendsItems (items_of (map module_tree l.modules)) (g.S.Serializer.written l.initial.out) end;
+  sent : (end : Log) → SendsItems (items_of (map module_tree (drop l.entry-index l.modules))) (g.S.Serializer.written l.out) end →
+      SendsItems (items_of (map module_tree l.modules)) (g.S.Serializer.written l.initial.out) end;
   sound : All IsSoundModule (take l.entry-index l.modules);
 }

@@ -1,6 +1,6 @@
 use Rattle.std.proofs.Common.{rules}
 use Rattle.scan_docs.specs.TargetChecks.{file_checks}
-use Rattle.scan_docs.proofs.target_document.read_outputs.Goals as goal
+use Rattle.scan_docs.proofs.target_document.read_other_files.Goals as goal
 
 pub returns-in_default : goal.returns-in_default
 unfolding file_checks
