@@ -9,21 +9,16 @@ use Rattle.info_pool.specs.declared.rows.ModuleAt.{ModuleAt}
 use Rattle.info_pool.specs.declared.rows.Row.{Row}
 use Rattle.info_pool.specs.declared.rows.Shared.{Shared}
 use Rattle.info_pool.specs.declared.rows.Listed.{Listed}
-use Rattle.info_pool.specs.inner.Pools.{Has, By, by_name, by_file, key_of, Rows, rows_of, module_at, InRow, IsSameRow, IsPut, StillListed, AreListed, Below, IsRowUnlinked, IsUnlinked, IsKnownModule, IsSource, IsRelated, HasSource, HasShared, IsPool, AreIndexes, AreFit, IsFitAt, IsApart, IsCopied, IsPicked, IsPickedOf}
-use Rattle.ninja_text.proofs.ForCallers.{same_some, in_first, in_second, from_push, three_ways, same_cons, to_map, from_map}
-use Rattle.ninja_text.proofs.ForCallers.{placed as index_of}
+use Rattle.info_pool.specs.inner.Pools.{Has, By, by_name, by_file, key_of, Rows, rows_of, module_at, InRow, IsSameRow, IsPut, StillListed, AreListed, Below, IsRowUnlinked, IsUnlinked, IsKnownModule, IsSource, IsRelated, HasSource, HasShared, IsPool, AreIndexes, AreFit, IsFitAt, IsAlone, IsApart, IsCopied, IsPicked, IsPickedOf}
+use Rattle.ninja_text.proofs.ForCallers.{same_some, in_first, in_second, from_push, three_ways, same_cons, to_map, from_map, placed as index_of}
 use Rattle.document_values.specs.Rule.{RuleValue}
 use Rattle.document_values.specs.Parts.{HasModule, IsAlike, IsPartOf, KeepsRequired, InfosApart, OwnApart, AreClosed, IsEnough}
 use Rattle.info_pool.specs.Pool.{AreLinked}
 use Rattle.info_pool.specs.declared.related.Related.{Related}
 
--- ---- a list with another element
-
-pub has_pushed : {X : Type 0} (xs : List X) (y x : X) → Has xs x → Has (xs ++ y ∷ []) x
-has_pushed xs y x h = (h.0, in_first xs (y ∷ []) h.0 x h.1)
-
-pub has_last : {X : Type 0} (xs : List X) (y : X) → Has (xs ++ y ∷ []) y
-has_last xs y = (length xs + 0, in_second xs (y ∷ []) 0 y refl)
+-- a name and a file
+abbrev pub Pair : Type 0
+Pair = List ℕ × List ℕ
 
 -- ---- the first few elements of a list
 
@@ -60,11 +55,6 @@ pub all_true : {X : Type 0} (P : X → Type 0) (Q : Type 0) (xs : List X) (r : B
 all_true P Q xs true h e = each_within P xs h
 all_true P Q xs false h e = absurd (true≢false (sym e))
 
-pub any_false : {X : Type 0} (P : X → Type 0) (Q : Type 0) (xs : List X) (r : Bool) → MatchBool r Q (AllWithin P xs 0 (length xs)) → r ≡ false → (x : X)
-    → Has xs x → P x
-any_false P Q xs true h e = absurd (true≢false e)
-any_false P Q xs false h e = each_within P xs h
-
 pub all_pushed : {X : Type 0} (P : X → Type 0) (xs new : List X) (y : X) → new ≡ xs ++ y ∷ [] → ((x : X) → Has xs x → P x) → P y → (x : X) → Has new x → P x
 all_pushed P xs new y pushed before here x h =
     elim (from_push xs y h.0 x (ap (λ ys. slice_get ys h.0) (sym pushed) ∙ h.1)) [ inl old ↦ before x (h.0, old) | inr last ↦ subst P last.1 here ]
@@ -93,15 +83,24 @@ some_weaker P Q weaker (Some x) h = weaker x h
 -- ---- what is read and what is pushed
 
 pub has_grown : {X : Type 0} (xs new : List X) (y x : X) → new ≡ xs ++ y ∷ [] → Has xs x → Has new x
-has_grown xs new y x pushed h = subst (λ ys. Has ys x) (sym pushed) (has_pushed xs y x h)
+has_grown xs new y x pushed h = (h.0, ap (λ ys. slice_get ys h.0) pushed ∙ in_first xs (y ∷ []) h.0 x h.1)
 
 pub has_new : {X : Type 0} (xs new : List X) (y : X) → new ≡ xs ++ y ∷ [] → Has new y
-has_new xs new y pushed = subst (λ ys. Has ys y) (sym pushed) (has_last xs y)
+has_new xs new y pushed = (length xs + 0, ap (λ ys. slice_get ys (length xs + 0)) pushed ∙ in_second xs (y ∷ []) 0 y refl)
 
 pub last_at : {X : Type 0} (xs : List X) (y : X) (n : ℕ) → n ≡ length xs → slice_get (xs ++ y ∷ []) n ≡ Some y
 last_at xs y n same = let at : n ≡ length xs + 0 = omega (arith, same) in ap (slice_get (xs ++ y ∷ [])) at ∙ in_second xs (y ∷ []) 0 y refl
 
 -- ---- rows
+
+abbrev pub first_of : Row → ModuleAt
+first_of row = row.first
+
+abbrev pub number_of : Row → Option ℕ
+number_of row = row.number
+
+abbrev info_at : ModuleAt → ℕ
+info_at m = m.info
 
 pub same_row : (r : Row) → IsSameRow r r
 same_row r = (refl, λ x h. h)
@@ -118,7 +117,7 @@ in_row_still P Q old new at more kept h =
       k.1,
       elim h.2 [
         | inl first ↦ inl (k.2.0 ∙ first)
-        | inr shared ↦ inr (shared.0, more shared.0 shared.1, k.2.1 shared.0.number shared.2, shared.3, shared.4 ∙ ap (λ (m : ModuleAt). m.info) (sym k.2.0))
+        | inr shared ↦ inr (shared.0, more shared.0 shared.1, k.2.1 shared.0.number shared.2, shared.3, shared.4 ∙ ap info_at (sym k.2.0))
       ],
     )
 
@@ -175,16 +174,17 @@ unlinked linked stamps rows key (Some r) same all row e = subst (IsRowUnlinked l
 
 -- ---- what is looked at
 
-pub all_fit : (linked : List ℕ) (related : List (Option Related)) (stamps : List ModuleAt) → ((n : ℕ) → Has linked n → IsFitAt linked related stamps n)
-    → AreFit linked related stamps
-all_fit linked related stamps fit = record {
-  closed = λ n k h source. let f = fit n h in f.2 k (subst (λ (r : Related). Has r.sources.items k)
-      (same_some _ _ (same_some _ _ (sym source.1 ∙ f.1))) source.2);
-  first = λ n s h shared. let f = fit n h in (f.3 s (subst (λ (r : Related). Has r.shared.items s)
-      (same_some _ _ (same_some _ _ (sym shared.1 ∙ f.1))) shared.2)).0;
-  stamped = λ n s h shared. let f = fit n h in (f.3 s (subst (λ (r : Related). Has r.shared.items s)
-      (same_some _ _ (same_some _ _ (sym shared.1 ∙ f.1))) shared.2)).1;
-}
+module _ (linked : List ℕ) (related : List (Option Related)) (stamps : List ModuleAt) (fit : (n : ℕ) → Has linked n → IsFitAt linked related stamps n) where
+  alone : (n : ℕ) (s : Shared) → Has linked n → HasShared related n s → IsAlone linked stamps n s
+  alone n s h (r, at, shared) = let f = fit n h in let same : r ≡ f.0 = cc in f.3 s (subst (λ (r : Related). Has r.shared.items s) same shared)
+
+  pub all_fit : AreFit linked related stamps
+  all_fit = record {
+    closed = λ n k h source. let f = fit n h in let same : source.0 ≡ f.0 = same_some _ _ (same_some _ _ (sym source.1 ∙ f.1)) in
+        f.2 k (subst (λ (r : Related). Has r.sources.items k) same source.2);
+    first = λ n s h shared. (alone n s h shared).0;
+    stamped = λ n s h shared. (alone n s h shared).1;
+  }
 
 pub known_there : (known : List (Option InfoValue)) (n : ℕ) (value : InfoValue) → get_or known n None ≡ Some value → slice_get known n ≡ Some (Some value)
 known_there [] n value e = cc
@@ -221,15 +221,15 @@ module _ (known : List (Option InfoValue)) (linked : List ℕ) (infos : List Inf
         let row : a.0 ≡ b.0 = same_some _ _ (sym a.1 ∙ b.1) in
         elim a.2 [
           | inl first_a ↦ elim b.2 [
-            | inl first_b ↦ sym first_a ∙ ap (λ (r : Row). r.first) row ∙ first_b
-            | inr s ↦ absurd (fit.first p s.0 has_p s.1 (subst (Has linked) (ap (λ (m : ModuleAt). m.info) (sym first_a ∙ ap (λ (r : Row). r.first) row)
+            | inl first_b ↦ sym first_a ∙ ap first_of row ∙ first_b
+            | inr s ↦ absurd (fit.first p s.0 has_p s.1 (subst (Has linked) (ap info_at (sym first_a ∙ ap first_of row)
                 ∙ sym s.4) has_n))
           ]
           | inr s ↦ elim b.2 [
             | inl first_b ↦ absurd (fit.first n s.0 has_n s.1
-                (subst (Has linked) (ap (λ (m : ModuleAt). m.info) (sym first_b ∙ ap (λ (r : Row). r.first) (sym row)) ∙ sym s.4) has_p))
+                (subst (Has linked) (ap info_at (sym first_b ∙ ap first_of (sym row)) ∙ sym s.4) has_p))
             | inr t ↦
-                let number : s.0.number ≡ t.0.number = same_some _ _ (sym s.2 ∙ ap (λ (r : Row). r.number) row ∙ t.2) in
+                let number : s.0.number ≡ t.0.number = same_some _ _ (sym s.2 ∙ ap number_of row ∙ t.2) in
                 ap (module_at n) (sym s.3) ∙ same_some _ _ (sym (fit.stamped n s.0 has_n s.1) ∙ ap (slice_get stamps) number ∙ fit.stamped p t.0 has_p t.1)
                 ∙ ap (module_at p) t.3
           ]
@@ -272,20 +272,17 @@ module _ (known : List (Option InfoValue)) (linked : List ℕ) (infos : List Inf
           | inr s ↦ row.stamped s.0.number (module_at n s.0.module) s.2 (fit.stamped n s.0 (i, linked_n) s.1) (i, linked_n)
         ]
 
+    -- so a key of an object is that of no linked module
+    key_apart : (by : By) (key : List ℕ) (i k : ℕ) (m : ModuleValue) → HasModule infos i k m → IsUnlinked linked stamps (rows_of listed by) key → key ≡ key_of by m → ⊥
+    key_apart by key i k m has none same = let x = known_at i k m has in
+        none_in_row (rows_of listed by) key i x.0 k x.1 none (rw same (pool.are_listed by x.0 k m x.2))
+
     module _ (objects : List RuleValue) (rules : (o : ℕ) (rule : RuleValue) → slice_get objects o ≡ Some rule → IsApart linked stamps listed rule) where
       own_apart : OwnApart objects infos
       own_apart = record {
-        names = λ o j i k rule name file m here provides has same.
-            let x = known_at i k m has in
-            none_in_row (rows_of listed by_name) name i x.0 k x.1 ((rules o rule here).provided (name, file) (j, provides)).0
-            (rw same (pool.are_listed by_name x.0 k m x.2));
-        files = λ o j i k rule name file m here provides has same.
-            let x = known_at i k m has in
-            none_in_row (rows_of listed by_file) file i x.0 k x.1 ((rules o rule here).provided (name, file) (j, provides)).1
-            (rw same (pool.are_listed by_file x.0 k m x.2));
-        paths = λ o i k rule m here has same.
-            let x = known_at i k m has in
-            none_in_row (rows_of listed by_file) rule.object i x.0 k x.1 (rules o rule here).path (rw same (pool.are_listed by_file x.0 k m x.2));
+        names = λ o j i k rule name file m here provides has. key_apart by_name name i k m has ((rules o rule here).provided (name, file) (j, provides)).0;
+        files = λ o j i k rule name file m here provides has. key_apart by_file file i k m has ((rules o rule here).provided (name, file) (j, provides)).1;
+        paths = λ o i k rule m here has. key_apart by_file rule.object i k m has (rules o rule here).path;
       }
 
       -- the part that was copied is enough
@@ -357,7 +354,11 @@ module _ (keeps : Type 0) where
 
 -- ---- how info files are related
 
-pub is_source : (known : List (Option InfoValue)) (i k l : ℕ) (m : ModuleValue) (pair : List ℕ × List ℕ) → IsKnownModule known k l m
+-- these info files have what a module of the info file that is added requires
+abbrev pub IsSourced : List (Option InfoValue) → InfoValue → List ℕ → Pair → Type 0
+IsSourced infos info sources pair = (k : ℕ) × Has sources k × IsSource (infos ++ Some info ∷ []) (length infos) pair k
+
+pub is_source : (known : List (Option InfoValue)) (i k l : ℕ) (m : ModuleValue) (pair : Pair) → IsKnownModule known k l m
     → bytes_eq m.name pair.0 ≡ true → bytes_eq m.file pair.1 ≡ true → (m.is_private ≡ true → k ≡ i) → IsSource known i pair k
 is_source known i k l m pair has name file private = (l, m, has, (bytes_decides m.name pair.0).0 name, (bytes_decides m.file pair.1).0 file, private)
 
@@ -399,7 +400,7 @@ module _ (known : List (Option InfoValue)) (listed new : Listed) (related : List
         (subst (λ n. InRow (Has s.0.shared.items) (rows_of new by (key_of by m)) (module_at n j)) (sym own.0) here)
   ]
 
-  sources : (i j : ℕ) (m : ModuleValue) (pair : List ℕ × List ℕ) → IsKnownModule all_known i j m → Has m.required pair
+  sources : (i j : ℕ) (m : ModuleValue) (pair : Pair) → IsKnownModule all_known i j m → Has m.required pair
       → (k : ℕ) × HasSource all_related i k × IsSource all_known i pair k
   sources i j m pair has needs =
       elim (from_grown known x i j m has) [

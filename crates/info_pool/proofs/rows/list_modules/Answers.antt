@@ -3,8 +3,7 @@ use Rattle.std.proofs.lemmas.Option.{slice_get_read}
 use Rattle.std.proofs.lemmas.List.{take_all, length-take-le}
 use Rattle.indexmap.specs.IndexMap.{get}
 use Rattle.document_values.specs.Info.{InfoValue, ModuleValue}
-use Rattle.info_pool.specs.declared.rows.Listed.{Listed}
-use Rattle.info_pool.specs.inner.Pools.{by_name, key_of, rows_of, module_at, IsPut, AreListed}
+use Rattle.info_pool.specs.inner.Pools.{by_name, key_of, rows_of, module_at, AreListed}
 use Rattle.info_pool.proofs.PoolLemmas.{row_kept, row_of_row, module_listed, put_more, each_put}
 use Rattle.ninja_text.proofs.ForCallers.{take_next}
 use Rattle.info_pool.proofs.rows.list_modules.Goals as goal
@@ -26,23 +25,17 @@ loop-index-preserved c =
     let before = c.loop-index.shared.items in
     let between = c.add.new.shared.items in
     let shared = c.add-in-loop-index.new.shared.items in
-    let names : new.names ≡ c.add.new.rows = elim c.if-is_shared.branch [
-      | then-is_shared+then-not-module+in_ok-copy+in_ok-copy-2+in_ok-insert w ↦ ap (λ (l : Listed). l.names) w.listed-is
-      | else-is_shared w ↦ ap (λ (l : Listed). l.names) w.listed-is
-    ] in
-    let files : new.files ≡ c.add-in-loop-index.new.rows = elim c.if-is_shared.branch [
-      | then-is_shared+then-not-module+in_ok-copy+in_ok-copy-2+in_ok-insert w ↦ ap (λ (l : Listed). l.files) w.listed-is
-      | else-is_shared w ↦ ap (λ (l : Listed). l.files) w.listed-is
+    let same : (new.names ≡ c.add.new.rows) × (new.files ≡ c.add-in-loop-index.new.rows) = elim c.if-is_shared.branch [
+      | then-is_shared+then-not-module+in_ok-copy+in_ok-copy-2+in_ok-insert w ↦ rw w.listed-is (refl, refl)
+      | else-is_shared w ↦ rw w.listed-is (refl, refl)
     ] in
     let name = c.in_ok-name.ensures ∙ ap (λ (m : ModuleValue). m.name) c.module.view_is in
     let file = c.in_ok-file.ensures ∙ ap (λ (m : ModuleValue). m.file) c.module.view_is in
-    let named : IsPut bytes_eq (get bytes_eq old.names) (get bytes_eq c.add.new.rows) m.name at between =
-    subst (λ q. IsPut bytes_eq (get bytes_eq old.names) (get bytes_eq c.add.new.rows) q at between) name c.in_ok-add.ensures.put in
-    let filed : IsPut bytes_eq (get bytes_eq old.files) (get bytes_eq c.add-in-loop-index.new.rows) m.file at shared =
-    subst (λ q. IsPut bytes_eq (get bytes_eq old.files) (get bytes_eq c.add-in-loop-index.new.rows) q at shared) file c.in_ok-is_shared.ensures.put in
+    let named = rw name at c.in_ok-add.ensures.put in
+    let filed = rw file at c.in_ok-is_shared.ensures.put in
     let put = each_put old new m at shared
-    (rw names (put_more (rows_of old by_name) (get bytes_eq c.add.new.rows) m.name at between shared c.in_ok-is_shared.ensures.still named))
-    (rw files filed) in
+    (rw same.0 (put_more (rows_of old by_name) (get bytes_eq c.add.new.rows) m.name at between shared c.in_ok-is_shared.ensures.still named))
+    (rw same.1 filed) in
     record {
       still = λ by key r h.
           let kept = c.loop-index.invariant.still by key r h in
