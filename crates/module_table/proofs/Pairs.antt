@@ -6,11 +6,9 @@ use Rattle.std.specs.declared.cmp.Ordering.TheVariants.{Less, Greater, Equal}
 use Rattle.std.specs.Cmp.Lexicographic.{nat_list_cmp_total, bytes_decides, slice_cmp, on_texts}
 use Rattle.std.proofs.lemmas.Option.{slice_get_within, get_or_from_slice_get, slice_get-get_or}
 use Rattle.module_table.specs.Needed.{ArePairs, lent}
-use Rattle.ninja_text.specs.Bytes.{Precedes}
+use Rattle.ninja_text.specs.Bytes.{Precedes, Name}
 use Rattle.module_table.proofs.Places.{Has, has_more, from_option_map, provision_by, neither_less}
-use Rattle.ninja_text.proofs.ForCallers.{contained}
-use Rattle.ninja_text.proofs.ForCallers.{placed}
-use Rattle.ninja_text.proofs.ForCallers.{same_some, from_push, to_map, from_map, element_at, in_filter_map}
+use Rattle.ninja_text.proofs.ForCallers.{contained, placed, same_some, from_push, to_map, from_map, element_at, in_filter_map}
 use Rattle.std.specs.Option.{option_map}
 use Rattle.module_table.specs.Modules.{Provision, provisions}
 use Rattle.module_table.specs.Added.{first_mentions, pair_of, required_of, AllRequired}
@@ -27,12 +25,14 @@ use Rattle.module_table.specs.TableValue.{TableValue}
 use Rattle.module_table.specs.inner.Indexed.{pair_at}
 use Rattle.module_table.specs.Sound.{IsSound}
 use Rattle.module_table.specs.inner.Ranks.{Numbered, AreListed, AreByName, AreNumbers, AreRanks, AreRanked}
+use Rattle.module_table.proofs.Words.{bmi_of, Pair, At}
+use Rattle.module_table.proofs.Lists.{same_reads}
 
 -- ---- at most one list has exactly the pairs of which something holds, in byte order of names
 
 -- each element comes before all that are after it
 abbrev Rises : {X : Type 0} → (X → X → Type 0) → List X → Type 0
-Rises {X} Before xs = (i j : ℕ) (a b : X) → i < j → slice_get xs i ≡ Some a → slice_get xs j ≡ Some b → Before a b
+Rises {X} Before xs = (i j : ℕ) (a b : X) → i < j → At xs i a → At xs j b → Before a b
 
 first_or_behind : {X : Type 0} (y : X) (ys : List X) (x : X) → Has (y ∷ ys) x → (y ≡ x) ⊎ Has ys x
 first_or_behind y ys x (zero, e) = inl (same_some _ _ e)
@@ -59,9 +59,8 @@ module _ {X : Type 0} (Before : X → X → Type 0) (one_way : (a b : X) → Bef
   -- what the other list has after the same first element
   behind_first : (x y : X) (xs ys : List X) → x ≡ y → Rises Before (x ∷ xs) → ((z : X) → Has (x ∷ xs) z → Has (y ∷ ys) z) → (z : X) → Has xs z → Has ys z
   behind_first x y xs ys e rx to z h =
-      let x_before : Before x z = before_rest x xs rx z h in
       ⊎_elim
-      (λ y_is. let itself : Before x x = subst (Before x) (sym (e ∙ y_is)) x_before in absurd (one_way x x itself itself))
+      (λ y_is. let itself : Before x x = subst (Before x) (sym (e ∙ y_is)) (before_rest x xs rx z h) in absurd (one_way x x itself itself))
       (λ behind. behind)
       (first_or_behind y ys z (to z (suc h.0, h.1)))
 
@@ -79,12 +78,12 @@ by_places Before xs all i j a b lt at_i at_j =
     subst (λ x. Before x b) (get_or_from_slice_get xs i a a at_i)
     (subst (Before (get_or xs i a)) (get_or_from_slice_get xs j b a at_j) (all i j a lt (slice_get_within xs j b at_j)))
 
-pub precedes_one_way : (a b : List ℕ) → Precedes a b → Precedes b a → ⊥
+precedes_one_way : (a b : List ℕ) → Precedes a b → Precedes b a → ⊥
 precedes_one_way a b h k = let both : Less ≡ Greater = sym k ∙ nat_list_cmp_total.antisymm b a ∙ ap ordering_reverse h in cc
 
-pub one_list_of_pairs : (P : List ℕ → List ℕ → Type 0) (xs ys : List (List ℕ × List ℕ)) → ArePairs P xs → ArePairs P ys → xs ≡ ys
+pub one_list_of_pairs : (P : List ℕ → List ℕ → Type 0) (xs ys : List (Pair)) → ArePairs P xs → ArePairs P ys → xs ≡ ys
 one_list_of_pairs P xs ys p q =
-    let Before = λ (x y : List ℕ × List ℕ). Precedes x.0 y.0 in
+    let Before = λ (x y : Pair). Precedes x.0 y.0 in
     same_lists Before (λ a b. precedes_one_way a.0 b.0) xs ys (by_places Before xs p.rising) (by_places Before ys q.rising)
     (λ x h. placed ys x ((q.each x.0 x.1).1 ((p.each x.0 x.1).0 (contained xs x h))))
     (λ x h. placed xs x ((p.each x.0 x.1).1 ((q.each x.0 x.1).0 (contained ys x h))))
@@ -101,7 +100,7 @@ in_front : {X : Type 0} (y : X) (ys : List X) (b : Bool) → b ≡ true → Has 
 in_front y ys true e = (0, refl)
 in_front y ys false e = cc
 
-in_filter : {X : Type 0} (test : X → Bool) (xs : List X) (k : ℕ) (x : X) → slice_get xs k ≡ Some x → test x ≡ true → Has (filter test xs) x
+in_filter : {X : Type 0} (test : X → Bool) (xs : List X) (k : ℕ) (x : X) → At xs k x → test x ≡ true → Has (filter test xs) x
 in_filter test [] k x at passes = cc
 in_filter test (y ∷ xs) zero x at passes =
     let same : y ≡ x = same_some _ _ at in
@@ -110,12 +109,12 @@ in_filter test (y ∷ xs) (suc k) x at passes = in_rest y (filter test xs) x (te
 
 -- ---- each name is mentioned
 
-behind_mention : (first : List ℕ) (mentions : List (List ℕ)) (name : List ℕ) → Has mentions name → (b : Bool) → bytes_eq first name ≡ b → Has (first ∷ filter (λ other. not (bytes_eq first other)) mentions) name
+behind_mention : (first : Name) (mentions : List (List ℕ)) (name : Name) → Has mentions name → (b : Bool) → bytes_eq first name ≡ b → Has (first ∷ filter (λ other. not (bytes_eq first other)) mentions) name
 behind_mention first mentions name h true e = (0, ap Some ((bytes_decides first name).0 e))
 behind_mention first mentions name h false e =
     has_more first (filter (λ other. not (bytes_eq first other)) mentions) name (in_filter (λ other. not (bytes_eq first other)) mentions h.0 name h.1 (ap not e))
 
-in_mentions : (names : List (List ℕ)) (k : ℕ) (name : List ℕ) → slice_get names k ≡ Some name → Has (first_mentions names) name
+in_mentions : (names : List Name) (k : ℕ) (name : Name) → At names k name → Has (first_mentions names) name
 in_mentions [] k name at = cc
 in_mentions (first ∷ names) zero name at = (0, at)
 in_mentions (first ∷ names) (suc k) name at = behind_mention first (first_mentions names) name (in_mentions names k name at) (bytes_eq first name) refl
@@ -130,7 +129,7 @@ found_first : {X : Type 0} (test : X → Bool) (y : X) (xs : List X) (b : Bool) 
 found_first test y xs true e = (y, refl)
 found_first test y xs false e = cc
 
-found : {X : Type 0} (test : X → Bool) (xs : List X) (k : ℕ) (x : X) → slice_get xs k ≡ Some x → test x ≡ true → (y : X) × (find test xs ≡ Some y)
+found : {X : Type 0} (test : X → Bool) (xs : List X) (k : ℕ) (x : X) → At xs k x → test x ≡ true → (y : X) × (find test xs ≡ Some y)
 found test [] k x at passes = cc
 found test (y ∷ xs) zero x at passes = let same : y ≡ x = same_some _ _ at in found_first test y xs (test y) (ap test same ∙ passes)
 found test (y ∷ xs) (suc k) x at passes = found_or_behind test y xs (found test xs k x at passes) (test y)
@@ -143,13 +142,10 @@ all_required t sound o rule name at has =
     let entry = found (λ (p : Provision). bytes_eq name p.name) (provisions t) provided.0 provided.1 provided.2 ((bytes_decides name provided.1.name).1 (sym provided.3)) in
     let there = placed rule.required name has in
     let mention = in_mentions rule.required there.0 name there.1 in
-    let pair : pair_of (provisions t) name ≡ Some (name, entry.0.file) = ap (λ o. option_map (λ (file : List ℕ). let p : List ℕ × List ℕ = (name, file) in p) (option_map (λ (p : Provision). p.file) o)) entry.1 in
+    let pair : pair_of (provisions t) name ≡ Some (name, entry.0.file) = ap (λ o. option_map (λ (file : Name). let p : Pair = (name, file) in p) (option_map bmi_of o)) entry.1 in
     (entry.0.file, contained (required_of t rule) (name, entry.0.file) (in_filter_map (pair_of (provisions t)) (first_mentions rule.required) mention.0 name (name, entry.0.file) mention.1 pair))
 
 -- ---- modules sorted by name, and their ranks
-
-abbrev Pair : Type 0
-Pair = List ℕ × List ℕ
 
 -- ---- all modules, by number
 
@@ -203,8 +199,7 @@ precedes a b not_below differ = by (slice_cmp nat_cmp (name a) (name b)) refl
     by Less e = e
     by Equal e = absurd (differ (same_if_equal (name a) (name b) e))
     by Greater e =
-        let back : slice_cmp nat_cmp (name b) (name a) ≡ Less = nat_list_cmp_total.antisymm (name b) (name a) ∙ ap ordering_reverse e in
-        absurd (true≢false (sym (ap (λ o. is_lt (ordering_then (ordering_then o (slice_cmp nat_cmp b.0.1.now a.0.1.now)) (nat_cmp b.1 a.1))) back) ∙ not_below))
+        absurd (true≢false (sym (ap (λ o. is_lt (ordering_then (ordering_then o (slice_cmp nat_cmp b.0.1.now a.0.1.now)) (nat_cmp b.1 a.1))) (nat_list_cmp_total.antisymm (name b) (name a) ∙ ap ordering_reverse e)) ∙ not_below))
 
 -- modules whose names differ, sorted
 rising : (made sorted : List Numbered) → IsPermutation made sorted → IsSorted module_cmp sorted → AllPairs (λ a b. name a ≢ name b) made → AllPairs (λ a b. Precedes (name a) (name b)) sorted
@@ -215,7 +210,7 @@ rising made sorted permuted in_order apart i j d lt in_j =
     (differ_from (get_or sorted i d) (get_or sorted j d) (apart_from_distinct same_name sorted i j d still lt in_j))
 
 module _ (t : TableValue) (sound : IsSound t) where
-  module_of : (k : ℕ) (x : Pair) → pair_at (provisions t) k ≡ Some x → (p : Provision) × (slice_get (provisions t) k ≡ Some p) × ((p.name, p.file) ≡ x)
+  module_of : (k : ℕ) (x : Pair) → pair_at (provisions t) k ≡ Some x → (p : Provision) × (At (provisions t) k p) × ((p.name, p.file) ≡ x)
   module_of k x e = from_option_map (λ (p : Provision). let q : Pair = (p.name, p.file) in q) (slice_get (provisions t) k) x e
 
   module _ (made : List Numbered) (l : AreListed (provisions t) (length (provisions t)) made) where
@@ -242,7 +237,7 @@ module _ (t : TableValue) (sound : IsSound t) where
 -- ---- ranks
 
 module _ (provided : List Provision) (modules : List Numbered) (h : AreByName provided modules) where
-  never_twice : (r s : ℕ) (m n : Numbered) → slice_get modules r ≡ Some m → slice_get modules s ≡ Some n → r < s → m.1 ≡ n.1 → ⊥
+  never_twice : (r s : ℕ) (m n : Numbered) → At modules r m → At modules s n → r < s → m.1 ≡ n.1 → ⊥
   never_twice r s m n at_r at_s lt same =
       let pair : lent m.0 ≡ lent n.0 = same_some _ _ (sym (h.pairs r m at_r) ∙ ap (pair_at provided) same ∙ h.pairs s n at_s) in
       let up = h.rising r s m lt (slice_get_within modules s n at_s) in
@@ -260,11 +255,11 @@ module _ (provided : List Provision) (modules : List Numbered) (h : AreByName pr
   }
 
   module _ (ranks : List ℕ) (is : AreRanks modules (length modules) ranks) (pairs : List Pair) (made : pairs ≡ map (λ (m : Numbered). lent m.0) modules) where
-    pair_there : (r : ℕ) (m : Numbered) → slice_get modules r ≡ Some m → slice_get pairs r ≡ Some (lent m.0)
-    pair_there r m at = ap (λ xs. slice_get xs r) made ∙ to_map (λ (m : Numbered). lent m.0) modules r m at
+    pair_there : (r : ℕ) (m : Numbered) → At modules r m → At pairs r (lent m.0)
+    pair_there r m at = same_reads r made ∙ to_map (λ (m : Numbered). lent m.0) modules r m at
 
-    module_there : (r : ℕ) (x : Pair) → slice_get pairs r ≡ Some x → (m : Numbered) × (slice_get modules r ≡ Some m) × (lent m.0 ≡ x)
-    module_there r x at = from_map (λ (m : Numbered). lent m.0) modules r x (ap (λ xs. slice_get xs r) (sym made) ∙ at)
+    module_there : (r : ℕ) (x : Pair) → At pairs r x → (m : Numbered) × (At modules r m) × (lent m.0 ≡ x)
+    module_there r x at = from_map (λ (m : Numbered). lent m.0) modules r x (same_reads r (sym made) ∙ at)
 
     pub are_ranked : AreRanked provided ranks pairs
     are_ranked = record {
@@ -274,7 +269,7 @@ module _ (provided : List Provision) (modules : List Numbered) (h : AreByName pr
           let m = h.all k lt in
           let rank : slice_index ranks k ≡ m.0 = ap (slice_index ranks) (sym m.3) ∙ is.each m.0 m.1 (slice_get_within modules m.0 m.1 m.2) m.2 in
           let pair : lent m.1.0 ≡ (p.name, p.file) = same_some _ _ (sym (h.pairs m.0 m.1 m.2) ∙ ap (pair_at provided) m.3 ∙ ap (option_map (λ (p : Provision). let q : Pair = (p.name, p.file) in q)) at) in
-          (m.0, slice_get-get_or ranks k 0 (omega (arith, lt, is.as_many, h.as_many)) ∙ ap (λ n. Some n) rank, pair_there m.0 m.1 m.2 ∙ ap (λ x. Some x) pair);
+          (m.0, slice_get-get_or ranks k 0 (omega (arith, lt, is.as_many, h.as_many)) ∙ ap Some rank, pair_there m.0 m.1 m.2 ∙ ap Some pair);
       rising = λ i j d lt in_j.
           let a = module_there i (get_or pairs i d) (slice_get-get_or pairs i d (omega (arith, lt, in_j))) in
           let b = module_there j (get_or pairs j d) (slice_get-get_or pairs j d in_j) in
@@ -283,7 +278,7 @@ module _ (provided : List Provision) (modules : List Numbered) (h : AreByName pr
           subst (λ (x : Pair). Precedes x.0 (get_or pairs j d).0) a.2 (subst (λ (y : Pair). Precedes (name a.0) y.0) b.2 here);
     }
 
-pub ranks_more : (modules : List Numbered) (i : ℕ) (ranks : List ℕ) (m : Numbered) → AreNumbers modules → slice_get modules i ≡ Some m → AreRanks modules i ranks → AreRanks modules (i + 1) (set ranks m.1 i)
+pub ranks_more : (modules : List Numbered) (i : ℕ) (ranks : List ℕ) (m : Numbered) → AreNumbers modules → At modules i m → AreRanks modules i ranks → AreRanks modules (i + 1) (set ranks m.1 i)
 ranks_more modules i ranks m numbers at h = record {
   as_many = length-set ranks m.1 i ∙ h.as_many;
   each = λ r n lt at_r. ⊎_elim

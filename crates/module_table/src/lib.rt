@@ -3,9 +3,10 @@
 //! [`Table::build`] makes a table of a target's rules and of the info files of the targets that it
 //! links. It succeeds if and only if none of the faults M1 to M10 is present (`specs/Faults.antt`,
 //! `IsFault`). Otherwise it reports a fault that is present, with its data and the lowest code
-//! (`IsReported`). `specs/Sound.antt` states what holds of a table without faults. The law
-//! [`sound_tables`] says that this holds exactly if no fault is present, and the law [`one_fault`]
-//! that no other fault is reported (`specs/Outcomes.antt`).
+//! (`IsReported`). `specs/Building.antt` says this for both calls that build tables, and
+//! `specs/Sound.antt` what holds of a table without faults. By the law [`laws::sound_is_faultless`]
+//! this holds exactly if no fault is present, and by the law [`laws::one_fault_is_reported`] no
+//! other fault is reported (`specs/Outcomes.antt`).
 //!
 //! Names, paths and targets are looked up in hash tables. Their key is the digest of all of them
 //! (`specs/Entries.antt`, `table_entries`), so nobody can choose names that all hash alike. One key
@@ -16,12 +17,13 @@
 //! return what an object provides and requires. [`Table::needed`] returns the modules that an
 //! object requires directly or through others (`specs/Needed.antt`), and [`Table::needs`] does this
 //! for one object after another. [`Resolved`] has the objects and what each requires, without
-//! look-ups. The law [`added_files`] says what a sound table means for the files that are added to
-//! a build (`specs/Added.antt`). All these definitions are relations over rules and info files
-//! (`specs/Modules.antt`). Definitions that only private clauses use are in `specs/inner/`.
+//! look-ups. The law [`laws::added_files_can_be_ordered`] says what a sound table means for the
+//! files that are added to a build (`specs/Added.antt`). All these definitions are relations over
+//! rules and info files (`specs/Modules.antt`). Definitions that only private clauses use are in
+//! `specs/inner/`.
 //!
-//! The law [`parts`] says what a table tells that has only a part of the linked modules
-//! (`specs/Parts.antt`). The crate `info_pool` picks such parts.
+//! The law [`laws::sound_part_is_enough`] says what holds of a table that has only a part of the
+//! linked modules (`specs/Parts.antt`). The crate `info_pool` picks such parts.
 //!
 //! [`TableFault::name`] returns the code and the name of a fault (`specs/FaultNames.antt`).
 //!
@@ -63,7 +65,7 @@
 mod checks;
 mod fault;
 mod keys;
-mod laws;
+pub mod laws;
 mod modules;
 mod needed;
 mod requirements;
@@ -71,6 +73,5 @@ mod table;
 
 pub use fault::{Maker, RefusedTable, TableFault};
 pub use keys::add_objects;
-pub use laws::{added_files, one_fault, parts, sound_tables};
 pub use needed::Needs;
 pub use table::{Resolved, Table};

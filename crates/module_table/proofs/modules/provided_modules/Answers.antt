@@ -1,4 +1,4 @@
-use Rattle.std.proofs.Common.{◌≡◌, ◌∙◌, ◌+◌, ◌++◌, [], ap, map, refl, take, slice_get, Some, List, ℕ, false}
+use Rattle.std.proofs.Common.{◌≡◌, ◌∙◌, ◌+◌, ◌++◌, [], ap, map, refl, take, ℕ}
 use Rattle.std.specs.List.{enumerate_from}
 use Rattle.std.proofs.lemmas.Option.{slice_get_read}
 use Rattle.document_values.specs.Rule.{RuleValue}
@@ -11,6 +11,7 @@ use Rattle.module_table.proofs.IndexRows.{take_all}
 use Rattle.module_table.proofs.Lists.{numbered_next, gathers_next, pushes_next}
 use Rattle.module_table.proofs.modules.provided_modules.Goals as goal
 use Rattle.ninja_text.proofs.ForCallers.{take_next}
+use Rattle.module_table.proofs.Words.{Pair, own_module, At}
 
 pub loop-index-preserved : goal.loop-index-preserved
 loop-index-preserved c =
@@ -18,11 +19,11 @@ loop-index-preserved c =
     let o = c.loop-object.object in
     let pairs = c.deref-pair-items.result.now in
     let pair = c.pair-item.result in
-    let at : slice_get pairs i ≡ Some pair = slice_get_read pairs _ i pair refl c.loop-index-test.true c.pair-item.is in
+    let at : At pairs i pair = slice_get_read pairs _ i pair refl c.loop-index-test.true c.pair-item.is in
     let pushed = c.in_ok-push.ensures.items in
     record {
-      provisions = pushes_next provision_of (λ (q : List ℕ × List ℕ). let p : Provision = record { maker = Object o; name = q.0; file = q.1; is_private = false } in p) (take i pairs) (take (i + 1) pairs) pair _ _ _ _ (take_next pairs i pair at) c.loop-index.invariant.provisions pushed refl;
-      origins = pushes_next origin_of (λ (q : ℕ × (List ℕ × List ℕ)). let origin : Origin = (Object o, q.0) in origin) (enumerate_from 0 (take i pairs)) (enumerate_from 0 (take (i + 1) pairs)) (i, pair) _ _ _ _ (numbered_next pairs i pair at) c.loop-index.invariant.origins pushed refl;
+      provisions = pushes_next provision_of (own_module o) (take i pairs) (take (i + 1) pairs) pair _ _ _ _ (take_next pairs i pair at) c.loop-index.invariant.provisions pushed refl;
+      origins = pushes_next origin_of (λ (q : ℕ × (Pair)). let origin : Origin = (Object o, q.0) in origin) (enumerate_from 0 (take i pairs)) (enumerate_from 0 (take (i + 1) pairs)) (i, pair) _ _ _ _ (numbered_next pairs i pair at) c.loop-index.invariant.origins pushed refl;
     }
 
 pub loop-object-preserved : goal.loop-object-preserved
@@ -44,7 +45,7 @@ loop-index-2-preserved c =
     let k = c.loop-info.info in
     let modules = c.deref-module-items.result.now in
     let entry = c.module-item.result in
-    let at : slice_get modules i ≡ Some entry = slice_get_read modules _ i entry refl c.loop-index-2-test.true c.module-item.is in
+    let at : At modules i entry = slice_get_read modules _ i entry refl c.loop-index-2-test.true c.module-item.is in
     let pushed = c.in_ok-push-2.ensures.items in
     let made = λ (m : ModuleValue). let p : Provision = record { maker = Info k; name = m.name; file = m.file; is_private = m.is_private } in p in
     record {

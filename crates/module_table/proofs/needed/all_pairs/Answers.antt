@@ -1,5 +1,4 @@
-use Rattle.std.proofs.Common.{◌≡◌, ◌<◌, ◌+◌, ◌∙◌, ◌++◌, ◌∷◌, [], ap, arith, get_or, length, map, refl, set, slice_get, subst, sym, take, List, Some, Vec, ℕ}
-use Rattle.std.specs.declared.alloc.Global.{Global}
+use Rattle.std.proofs.Common.{◌≡◌, ◌<◌, ◌+◌, ◌∙◌, ◌++◌, ◌∷◌, [], ap, arith, get_or, length, map, refl, set, subst, sym, take, Some, ℕ}
 use Rattle.std.specs.List.{filter_map}
 use Rattle.std.specs.Option.{option_map}
 use Rattle.std.proofs.lemmas.List.{get_or-replicate, length-replicate, length-set, map-append}
@@ -15,11 +14,10 @@ use Rattle.module_table.proofs.Mentions.{row_names, pairs_found, no_pairs, pairs
 use Rattle.module_table.proofs.needed.all_pairs.Goals as goal
 use Rattle.module_table.proofs.needed.all_pairs.Goals.{then-index-object+in_ok-copy_pair+in_ok-push, else-index-object}
 use Rattle.ninja_text.proofs.ForCallers.{take_next, to_map}
+use Rattle.module_table.proofs.Words.{Pair, name_of, items_of}
+use Rattle.module_table.proofs.Lists.{same_reads}
 
-abbrev items_of : Vec ℕ Global → List ℕ
-items_of row = row.items
-
-abbrev pair : Provision → List ℕ × List ℕ
+abbrev pair : Provision → Pair
 pair p = (p.name, p.file)
 
 pub loop-index-init : goal.loop-index-init
@@ -27,9 +25,8 @@ loop-index-init c = record {
   as_many = c.loop-object.invariant.as_many;
   within = λ k lt.
       let row = c.index-required-object.result in
-      let at = slice_get_read c.args.required.now _ c.loop-object.object row refl c.loop-object-test.true c.index-required-object.is in
       let indexes = c.deref-index-items.result.now in
-      index_within c.args.modules.now c.args.required.now c.requires c.loop-object.object row at k (get_or indexes k 0) (ap (λ xs. slice_get xs k) (sym c.deref-index-items.ensures.value) ∙ slice_get-get_or indexes k 0 lt);
+      index_within c.args.modules.now c.args.required.now c.requires c.loop-object.object row (slice_get_read c.args.required.now _ c.loop-object.object row refl c.loop-object-test.true c.index-required-object.is) k (get_or indexes k 0) (same_reads k (sym c.deref-index-items.ensures.value) ∙ slice_get-get_or indexes k 0 lt);
   so_far = no_pairs (provisions c.args.modules.now) (c.loop-object.object + 1) c.loop-object.marks.items c.deref-index-items.result.now _ (λ k d lt. let h = c.loop-object.invariant.at_most k d lt in omega (arith, h)) c.in_ok-pairs.ensures.items;
 }
 
@@ -60,10 +57,9 @@ loop-index-preserved c =
       | then-index-object+in_ok-copy_pair+in_ok-push w ↦
           let marks_now : c.if-index-object.marks.items ≡ set marks v mark = ap (λ u. u.items) w.marks-is in
           let copied = w.in_ok-copy_pair.field-0 in
-          let module_now = w.module_at-module.result.now in
-          let found = ap (λ xs. slice_get xs v) (sym c.provided-provided.ensures.provisions) ∙ to_map provision_of c.provided-provided.result.now v _ w.module_at-module.ensures in
+          let found = same_reads v (sym c.provided-provided.ensures.provisions) ∙ to_map provision_of c.provided-provided.result.now v _ w.module_at-module.ensures in
           let same : Some copied ≡ pair_at ps v =
-          ap (λ n. Some (n, copied.1)) w.in_ok-copy_pair.ensures.name ∙ ap (λ x. Some (module_now.name.now, x)) w.in_ok-copy_pair.ensures.file ∙ sym (ap (option_map pair) found) in
+          ap (λ n. Some (n, copied.1)) w.in_ok-copy_pair.ensures.name ∙ ap (λ x. Some (w.module_at-module.result.now.name.now, x)) w.in_ok-copy_pair.ensures.file ∙ sym (ap (option_map pair) found) in
           record {
             as_many = ap length marks_now ∙ length-set marks v mark ∙ h.as_many;
             within = h.within;
@@ -90,12 +86,10 @@ loop-object-preserved c =
     let differ = c.provided-provided.ensures.differ in
     let i = c.loop-object.object in
     let row = c.index-required-object.result in
-    let at = slice_get_read c.args.required.now _ i row refl c.loop-object-test.true c.index-required-object.is in
-    let rule = rule_of t (rows c.args.required.now) c.requires i row.items (to_map items_of c.args.required.now i row at) in
+    let rule = rule_of t (rows c.args.required.now) c.requires i row.items (to_map items_of c.args.required.now i row (slice_get_read c.args.required.now _ i row refl c.loop-object-test.true c.index-required-object.is)) in
     let so_far = c.loop-index.invariant.so_far in
     let pairs = c.loop-index.pairs.items in
-    let whole = take_all c.deref-index-items.result.now c.loop-index.index-index c.loop-index-test.false ∙ c.deref-index-items.ensures.value in
-    let firsts = so_far.firsts names differ (length_mapped (λ (p : Provision). p.name) ps ∙ sym c.loop-index.invariant.as_many) ∙ ap (λ xs. first_mentions (map (name_in names) xs)) whole ∙ ap first_mentions (row_names names row.items rule.0.required rule.2) in
+    let firsts = so_far.firsts names differ (length_mapped name_of ps ∙ sym c.loop-index.invariant.as_many) ∙ ap (λ xs. first_mentions (map (name_in names) xs)) (take_all c.deref-index-items.result.now c.loop-index.index-index c.loop-index-test.false ∙ c.deref-index-items.ensures.value) ∙ ap first_mentions (row_names names row.items rule.0.required rule.2) in
     let same : pairs ≡ required_of t rule.0 = sym (pairs_found ps differ so_far.mentioned pairs so_far.found) ∙ ap (filter_map (pair_of ps)) firsts in
     record {
       as_many = c.loop-index.invariant.as_many;

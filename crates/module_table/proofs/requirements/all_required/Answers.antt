@@ -1,4 +1,4 @@
-use Rattle.std.proofs.Common.{◌∙◌, ◌+◌, ◌++◌, ap, map, sym, refl, take, [], ℕ, Vec, Global}
+use Rattle.std.proofs.Common.{◌∙◌, ◌+◌, ◌++◌, ap, map, sym, refl, take, [], ℕ}
 use Rattle.std.specs.List.{flat_map, enumerate_from}
 use Rattle.std.proofs.lemmas.Option.{slice_get_read}
 use Rattle.document_values.specs.Info.{InfoValue, ModuleValue}
@@ -12,18 +12,18 @@ use Rattle.module_table.proofs.Places.{lookups}
 use Rattle.module_table.proofs.Lists.{pushes_next, gathers_more, gathers_next}
 use Rattle.module_table.proofs.requirements.all_required.Goals as goal
 use Rattle.ninja_text.proofs.ForCallers.{take_next}
+use Rattle.module_table.proofs.Words.{items_of}
 
 pub loop-entry-preserved : goal.loop-entry-preserved
 loop-entry-preserved c =
     let ps = provisions c.args.modules.now in
-    let k = c.loop-info.info in
     let i = c.loop-entry.entry-index in
     let modules = c.deref-entry-items.result.now in
     let entry = c.entry-item.result in
     let at = slice_get_read modules _ i entry refl c.loop-entry-test.true c.entry-item.is in
     record {
-      required = gathers_more (lookups_of ps k c.value.inside.target) modules i entry _ _ _ at c.loop-entry.invariant.required c.in_ok-row.ensures.required;
-      needs = pushes_next (λ (row : Vec ℕ Global). row.items) (λ (m : ModuleValue). indexes_in (names_of ps) m.required) (take i modules) (take (i + 1) modules) entry _ _ _ _ (take_next modules i entry at) c.loop-entry.invariant.needs c.in_ok-push.ensures.items c.in_ok-row.ensures.row;
+      required = gathers_more (lookups_of ps c.loop-info.info c.value.inside.target) modules i entry _ _ _ at c.loop-entry.invariant.required c.in_ok-row.ensures.required;
+      needs = pushes_next items_of (λ (m : ModuleValue). indexes_in (names_of ps) m.required) (take i modules) (take (i + 1) modules) entry _ _ _ _ (take_next modules i entry at) c.loop-entry.invariant.needs c.in_ok-push.ensures.items c.in_ok-row.ensures.row;
     }
 
 pub loop-info-preserved : goal.loop-info-preserved
@@ -53,5 +53,4 @@ returns-clause-required c = record {
 
 pub returns-clause-needs : goal.returns-clause-needs
 returns-clause-needs c =
-    let whole = take_all c.infos-infos.result.now c.loop-info.info c.loop-info-test.false ∙ c.infos-infos.ensures.infos in
-    c.loop-info.invariant.needs ∙ ap (λ infos. rows c.args.needs.now.items ++ flat_map (info_rows (names_of (provisions c.args.modules.now))) (enumerate_from 0 infos)) whole
+    c.loop-info.invariant.needs ∙ ap (λ infos. rows c.args.needs.now.items ++ flat_map (info_rows (names_of (provisions c.args.modules.now))) (enumerate_from 0 infos)) (take_all c.infos-infos.result.now c.loop-info.info c.loop-info-test.false ∙ c.infos-infos.ensures.infos)

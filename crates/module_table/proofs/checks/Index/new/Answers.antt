@@ -8,9 +8,10 @@ use Rattle.dep_order.specs.Rows.{rows}
 use Rattle.module_table.specs.inner.Origins.{origin_of}
 use Rattle.module_table.proofs.Graph.{are_nodes, is_graph}
 use Rattle.module_table.proofs.checks.Index.new.Goals as goal
+use Rattle.module_table.proofs.Words.{items_of}
 
 rows_of_append : (needs more all : List (Vec ℕ Global)) → all ≡ needs ++ more → rows all ≡ rows needs ++ rows more
-rows_of_append needs more all is = ap rows is ∙ map-append (λ (row : Vec ℕ Global). row.items) needs more
+rows_of_append needs more all is = ap rows is ∙ map-append items_of needs more
 
 pub new-requires : goal.new-requires
 new-requires c =

@@ -10,12 +10,11 @@ use Rattle.module_table.specs.inner.Reported.{Reports}
 use Rattle.module_table.specs.TableValue.{TableValue}
 use Rattle.module_table.proofs.checks.repeated.check_infos.Goals as goal
 use Rattle.ninja_text.proofs.ForCallers.{to_map}
+use Rattle.ninja_text.specs.Bytes.{Name}
+use Rattle.module_table.proofs.Words.{target_of}
 
 abbrev text_of : Bor (List ℕ) → List ℕ
 text_of target = target.now
-
-abbrev target_of : InfoValue → List ℕ
-target_of info = info.target
 
 pub returns-then-not-is_new-clause-fault : goal.returns-then-not-is_new-clause-fault
 returns-then-not-is_new-clause-fault c =
@@ -27,9 +26,8 @@ returns-then-not-is_new-clause-fault c =
     let h = c.in_ok-is_new.ensures in
     let stored = h.stored in
     let repeated = repeats_if_found text_of (map target_of infos) i _ c.loop-info.targets.keys c.insert_full.new.self.keys at c.loop-info.invariant.same c.loop-info.invariant.differ h.keys first (sym c.if-not-is_new.true ∙ h.added) stored.0 stored.1 stored.2 in
-    let is = text_repetition (map target_of infos) first i target repeated at in
-    for_boxed (λ fault. (t : TableValue) (kept : List (List ℕ)) → infos ≡ t.infos → Reports 2 t kept fault) _ _
-    (λ t kept same. reports_same 2 t kept _ _ (ap InfoTwice c.in_ok-target.ensures) (record { present = (first, i, subst (λ xs. IsFirstRepetition (λ a b. a ≡ b) (map target_of xs) first i target target) same is); coded = refl }))
+    for_boxed (λ fault. (t : TableValue) (kept : List Name) → infos ≡ t.infos → Reports 2 t kept fault) _ _
+    (λ t kept same. reports_same 2 t kept _ _ (ap InfoTwice c.in_ok-target.ensures) (record { present = (first, i, subst (λ xs. IsFirstRepetition (λ a b. a ≡ b) (map target_of xs) first i target target) same (text_repetition (map target_of infos) first i target repeated at)); coded = refl }))
     c.failure_of.ensures
 
 pub loop-info-preserved : goal.loop-info-preserved
