@@ -17,7 +17,7 @@ use Rattle.module_table.specs.declared.fault.Maker.TheVariants.{Object, Info}
 use Rattle.module_table.specs.declared.fault.TableFault.{TableFault}
 use Rattle.module_table.specs.declared.fault.TableFault.TheVariants.{ProvidedTwice, BmiTwice, ModuleUnknown}
 use Rattle.module_table.proofs.Places.{either, numbered, object_provision, info_provision, from_provisions, neither_less, from_find, map_map}
-use Rattle.module_table.proofs.Lists.{repetition_of, one_there, same_reads}
+use Rattle.module_table.proofs.Lists.{repetition_of, one_there, same_reads, one_value}
 use Rattle.ninja_text.proofs.ForCallers.{in_take, same_some, to_map, in_first, in_second, from_map, in_append}
 use Rattle.std.specs.Cmp.Lexicographic.{bytes_decides}
 use Rattle.std.proofs.lemmas.Bool.{eq-eqb, eqb-true, not-true, not-false}
@@ -28,17 +28,20 @@ use Rattle.module_table.proofs.Words.{name_of, maker_of, path_of, claimed, claim
 use Rattle.ninja_text.specs.Bytes.{Name}
 use Rattle.std.proofs.lemmas.List.FromFn.{length-enumerate_from}
 
-pub for_fault : (P Q : Box TableFault Global → Type 0) (failure : Failure (Box TableFault Global)) → ((fault : Box TableFault Global) → P fault → Q fault) → ForFault P failure → ForFault Q failure
+pub for_fault : (P Q : Box TableFault Global → Type 0) (failure : Failure (Box TableFault Global)) → ((fault : Box TableFault Global) → P fault → Q fault) →
+    ForFault P failure → ForFault Q failure
 for_fault P Q Memory to h = h
 for_fault P Q (Fault fault) to h = to fault h
 
 -- what is known of a fault is known of the failure that it makes
-pub for_boxed : (P : TableFault → Type 0) (fault : TableFault) (failure : Failure (Box TableFault Global)) → P fault → ForFault (λ boxed. boxed.value ≡ fault) failure → ForFault (λ boxed. P boxed.value) failure
+pub for_boxed : (P : TableFault → Type 0) (fault : TableFault) (failure : Failure (Box TableFault Global)) → P fault →
+    ForFault (λ boxed. boxed.value ≡ fault) failure → ForFault (λ boxed. P boxed.value) failure
 for_boxed P fault Memory is same = tt
 for_boxed P fault (Fault boxed) is same = subst P (sym same) is
 
 -- a fault that is another one in other words
-pub reports_same : (code : ℕ) (t : TableValue) (kept : List Name) (fault other : TableFault) → fault ≡ other → Reports code t kept other → Reports code t kept fault
+pub reports_same : (code : ℕ) (t : TableValue) (kept : List Name) (fault other : TableFault) → fault ≡ other → Reports code t kept other →
+    Reports code t kept fault
 reports_same code t kept fault other e h = subst (Reports code t kept) (sym e) h
 
 -- ---- M3
@@ -54,8 +57,10 @@ module _ (t : TableValue) (kept : List Name) (i j : ℕ) (fault : TableFault) wh
         coded = refl;
       })
 
-  pub reports_provided_twice : (list : List Provision) → list ≡ provisions t → RepeatsFirst (names_of list) i j → IsProvidedTwice list i j fault → Reports 3 t kept fault
-  reports_provided_twice list same repeated is = reported_twice (subst (λ ps. RepeatsFirst (names_of ps) i j) same repeated) (subst (λ ps. IsProvidedTwice ps i j fault) same is)
+  pub reports_provided_twice : (list : List Provision) → list ≡ provisions t → RepeatsFirst (names_of list) i j → IsProvidedTwice list i j fault →
+      Reports 3 t kept fault
+  reports_provided_twice list same repeated is =
+      reported_twice (subst (λ ps. RepeatsFirst (names_of ps) i j) same repeated) (subst (λ ps. IsProvidedTwice ps i j fault) same is)
 
 -- ---- M4
 
@@ -64,14 +69,16 @@ module _ (objects : List RuleValue) (provided : List Provision) where
   length_own = length-map (enumerate_from 0 objects) own_claim_of ∙ length-enumerate_from 0 objects
 
   -- the claim of an object's own path
-  pub own_claim_at : (o : ℕ) (rule : RuleValue) → At objects o rule → At (claims_of objects provided) o (record { maker = Object o; file = rule.object; is_module = false })
+  pub own_claim_at : (o : ℕ) (rule : RuleValue) → At objects o rule →
+      At (claims_of objects provided) o (record { maker = Object o; file = rule.object; is_module = false })
   own_claim_at o rule at =
       let zero_plus : 0 + o ≡ o = omega arith in
       in_first (own_claims objects) (module_claims provided) o _
       (to_map own_claim_of (enumerate_from 0 objects) o (o, rule) (numbered 0 objects o rule at ∙ ap (λ n. Some (n, rule)) zero_plus))
 
   -- the claim of a module's file
-  pub module_claim_at : (k : ℕ) (p : Provision) → At provided k p → At (claims_of objects provided) (length objects + k) (record { maker = p.maker; file = p.file; is_module = true })
+  pub module_claim_at : (k : ℕ) (p : Provision) → At provided k p →
+      At (claims_of objects provided) (length objects + k) (record { maker = p.maker; file = p.file; is_module = true })
   module_claim_at k p at =
       subst (λ n. At (claims_of objects provided) (n + k) (record { maker = p.maker; file = p.file; is_module = true })) length_own
       (in_second (own_claims objects) (module_claims provided) k _ (to_map module_claim provided k p at))
@@ -81,7 +88,8 @@ module _ (objects : List RuleValue) (provided : List Provision) where
   own_files n (rule ∷ rules) = ap (λ ys. rule.object ∷ ys) (own_files (n + 1) rules)
 
   pub claimed_files : map claimed (claims_of objects provided) ≡ map path_of objects ++ files_of provided
-  claimed_files = map-append claimed (own_claims objects) (module_claims provided) ∙ ap (λ ys. ys ++ map claimed (module_claims provided)) (own_files 0 objects) ∙ ap (λ ys. map path_of objects ++ ys) (map_map claimed module_claim provided)
+  claimed_files = map-append claimed (own_claims objects) (module_claims provided) ∙
+      ap (λ ys. ys ++ map claimed (module_claims provided)) (own_files 0 objects) ∙ ap (λ ys. map path_of objects ++ ys) (map_map claimed module_claim provided)
 
 -- if texts differ in a first list, what is repeated is repeated after it
 behind_first : (xs ys : List (List ℕ)) (i j : ℕ) → AllDiffer xs → RepeatsFirst (xs ++ ys) i j → length xs ≤ j
@@ -95,7 +103,8 @@ behind_first xs ys i j all r =
     (in_append xs ys j r.repeated r.again)
 
 module _ (t : TableValue) (kept : List Name) (i j : ℕ) (fault : TableFault) (all : AllDiffer (map path_of t.objects)) where
-  pub reported_made : RepeatsFirst (map path_of t.objects ++ files_of (provisions t)) i j → IsMadeTwice t.objects (provisions t) i j fault → Reports 4 t kept fault
+  pub reported_made : RepeatsFirst (map path_of t.objects ++ files_of (provisions t)) i j → IsMadeTwice t.objects (provisions t) i j fault →
+      Reports 4 t kept fault
   reported_made repeated is =
       let found = repetition_of claimed (claims t) i j (subst (λ xs. RepeatsFirst xs i j) (sym (claimed_files t.objects (provisions t))) repeated) in
       let far = behind_first (map path_of t.objects) (files_of (provisions t)) i j all repeated in
@@ -103,7 +112,8 @@ module _ (t : TableValue) (kept : List Name) (i j : ℕ) (fault : TableFault) (a
       let b : found.1 ≡ is.1 = one_there found.2.y_here is.3 in
       let is_module : found.1.is_module ≡ true =
       ⊎_elim
-      (λ own. let within : j < length (own_claims t.objects) = slice_get_within (own_claims t.objects) j found.1 own in absurd (omega (arith, far, within, length_own t.objects (provisions t), length-map t.objects path_of)))
+      (λ own. let within : j < length (own_claims t.objects) = slice_get_within (own_claims t.objects) j found.1 own in
+      absurd (omega (arith, far, within, length_own t.objects (provisions t), length-map t.objects path_of)))
       (λ out. let from = from_map module_claim (provisions t) out.0 found.1 out.2 in ap (λ (c : Claim). c.is_module) (sym from.2))
       (in_append (own_claims t.objects) (module_claims (provisions t)) j found.1 found.2.y_here) in
       reports_same 4 t kept fault (BmiTwice is.1.file is.0.maker is.1.maker) is.4
@@ -149,9 +159,11 @@ module _ (t : TableValue) where
 
   -- the names of the objects before are all known
   abbrev KnownBefore : ℕ → Type 0
-  KnownBefore object = (k : ℕ) (rule : RuleValue) (place : ℕ) (name : Name) → k < object → At t.objects k rule → At rule.required place name → IsAbsent (names_of (provisions t)) name → ⊥
+  KnownBefore object = (k : ℕ) (rule : RuleValue) (index : ℕ) (name : Name) → k < object → At t.objects k rule → At rule.required index name →
+      IsAbsent (names_of (provisions t)) name → ⊥
 
-  reported_unknown : (kept : List Name) (object : ℕ) (rule : RuleValue) (place : ℕ) (name : Name) (fault : TableFault) → At t.objects object rule → KnownBefore object → IsFirst (IsAbsent (names_of (provisions t))) rule.required place name → fault ≡ ModuleUnknown name object → Reports 5 t kept fault
+  reported_unknown : (kept : List Name) (object : ℕ) (rule : RuleValue) (place : ℕ) (name : Name) (fault : TableFault) → At t.objects object rule →
+      KnownBefore object → IsFirst (IsAbsent (names_of (provisions t))) rule.required place name → fault ≡ ModuleUnknown name object → Reports 5 t kept fault
   reported_unknown kept object rule place name fault at known first same =
       reports_same 5 t kept fault (ModuleUnknown name object) same
       (record {
@@ -173,24 +185,30 @@ module _ (t : TableValue) where
       })
 
 -- each name has a number, by its row
-pub in_row : (keys : List Name) (row : List ℕ) (names : List Name) (place : ℕ) (name : Name) → map (slice_get keys) row ≡ map Some names → At names place name → (number : ℕ) × (At row place number) × (At keys number name)
-in_row keys row names place name same at =
-    let here : At (map (slice_get keys) row) place (Some name) = same_reads place same ∙ to_map Some names place name at in
-    from_map (slice_get keys) row place (Some name) here
+pub in_row : (keys : List Name) (row : List ℕ) (names : List Name) (index : ℕ) (name : Name) → map (slice_get keys) row ≡ map Some names → At names index name →
+    (number : ℕ) × (At row index number) × (At keys number name)
+in_row keys row names index name same at =
+    let here = same_reads index same ∙ to_map Some names index name at in
+    from_map (slice_get keys) row index (Some name) here
 
-rows_known : {R : Type 0} (numbers : R → List ℕ) (t : TableValue) (rows : List R) (object : ℕ) → map (λ row. map (slice_get (names_of (provisions t))) (numbers row)) rows ≡ map names_wanted (take object t.objects) → KnownBefore t object
-rows_known numbers t rows object same k rule place name lt at at_name absent =
-    let here : slice_get (map (λ row. map (slice_get (names_of (provisions t))) (numbers row)) rows) k ≡ Some (map Some rule.required) = same_reads k same ∙ to_map names_wanted (take object t.objects) k rule (in_take object t.objects k rule lt at) in
+rows_known : {R : Type 0} (numbers : R → List ℕ) (t : TableValue) (rows : List R) (object : ℕ) →
+    map (λ row. map (slice_get (names_of (provisions t))) (numbers row)) rows ≡ map names_wanted (take object t.objects) → KnownBefore t object
+rows_known numbers t rows object same k rule index name lt at at_name absent =
+    let here = same_reads k same ∙ to_map names_wanted (take object t.objects) k rule (in_take object t.objects k rule lt at) in
     let row = from_map (λ row. map (slice_get (names_of (provisions t))) (numbers row)) rows k (map Some rule.required) here in
-    let number = in_row (names_of (provisions t)) (numbers row.0) rule.required place name row.2 at_name in
+    let number = in_row (names_of (provisions t)) (numbers row.0) rule.required index name row.2 at_name in
     absent number.0 number.2
 
 -- the fault of an object's row
 abbrev IsRowFault : List (List ℕ) → RuleValue → ℕ → TableFault → Type 0
-IsRowFault keys rule object fault = (place : ℕ) × (name : Name) × IsFirst (IsAbsent keys) rule.required place name × (fault ≡ ModuleUnknown name object)
+IsRowFault keys rule object fault = (index : ℕ) × (name : Name) × IsFirst (IsAbsent keys) rule.required index name × (fault ≡ ModuleUnknown name object)
 
-pub reports_unknown : {R : Type 0} (numbers : R → List ℕ) (t : TableValue) (kept : List Name) (rows : List R) (object : ℕ) (rule : RuleValue) (fault : TableFault) → At t.objects object rule → map (λ row. map (slice_get (names_of (provisions t))) (numbers row)) rows ≡ map names_wanted (take object t.objects) → IsRowFault (names_of (provisions t)) rule object fault → Reports 5 t kept fault
-reports_unknown numbers t kept rows object rule fault at same is = reported_unknown t kept object rule is.0 is.1 fault at (rows_known numbers t rows object same) is.2 is.3
+pub reports_unknown :
+    {R : Type 0} (numbers : R → List ℕ) (t : TableValue) (kept : List Name) (rows : List R) (object : ℕ) (rule : RuleValue) (fault : TableFault) →
+    At t.objects object rule → map (λ row. map (slice_get (names_of (provisions t))) (numbers row)) rows ≡ map names_wanted (take object t.objects) →
+    IsRowFault (names_of (provisions t)) rule object fault → Reports 5 t kept fault
+reports_unknown numbers t kept rows object rule fault at same is =
+    reported_unknown t kept object rule is.0 is.1 fault at (rows_known numbers t rows object same) is.2 is.3
 
 -- ---- What is found by a name, and what the checks ask of it
 
@@ -200,7 +218,7 @@ find_none test (q ∷ ps) k p e at passes = by (test q) refl e (λ k rest at. fi
   where
     by : (b : Bool) → test q ≡ b → cond b (Some q) (find test ps) ≡ None → ((k : ℕ) → find test ps ≡ None → At ps k p → ⊥) → (k : ℕ) → At (q ∷ ps) k p → ⊥
     by true t e rest k at = cc
-    by false t e rest zero at = true≢false (sym passes ∙ ap test (sym (same_some _ _ at)) ∙ t)
+    by false t e rest zero at = true≢false (sym passes ∙ ap test (sym (one_value at)) ∙ t)
     by false t e rest (suc k) at = rest k e at
 
 module _ (ps : List Provision) (name : Name) where
@@ -229,10 +247,11 @@ module _ (ps : List Provision) (name : Name) where
   module _ (differ : AllDiffer (names_of ps)) where
     pub one_index : (k l : ℕ) (p q : Provision) → IsNamed ps name k p → IsNamed ps name l q → k ≡ l
     one_index k l p q a b =
-        neither_less k l (λ lt. differ.differ k l name lt (name_there k p a) (name_there l q b)) (λ gt. differ.differ l k name gt (name_there l q b) (name_there k p a))
+        neither_less k l (λ lt. differ.differ k l name lt (name_there k p a) (name_there l q b))
+        (λ gt. differ.differ l k name gt (name_there l q b) (name_there k p a))
 
     pub one_module : (k l : ℕ) (p q : Provision) → IsNamed ps name k p → IsNamed ps name l q → p ≡ q
-    one_module k l p q a b = same_some _ _ (sym a.0 ∙ ap (slice_get ps) (one_index k l p q a b) ∙ b.0)
+    one_module k l p q a b = one_value (sym a.0 ∙ ap (slice_get ps) (one_index k l p q a b) ∙ b.0)
 
     pub named_found : (k : ℕ) (p : Provision) → IsNamed ps name k p → found ps name ≡ Some p
     named_found k p named = by (found ps name) refl
@@ -358,7 +377,8 @@ module _ (ps : List Provision) (differ : AllDiffer (names_of ps)) where
         same_some _ _ (sym (to_map (slice_get (names_of ps)) row k index at) ∙ same_reads k same ∙ to_map Some names k name at_name)
 
     pub row_public : AcceptsAll IsPublicAt row → AcceptsAll (IsPublic ps) names
-    row_public all = record { each = λ k name at_name. let n = in_row (names_of ps) row names k name same at_name in public_of n.0 name n.2 (all.each k n.0 n.1) }
+    row_public all = record
+        { each = λ k name at_name. let n = in_row (names_of ps) row names k name same at_name in public_of n.0 name n.2 (all.each k n.0 n.1) }
 
     pub row_private : (k : ℕ) → RefusesAt IsPublicAt IsPrivateAt row k → (name : Name) → At names k name → RefusesAt (IsPublic ps) (IsPrivate ps) names k
     row_private k found name at_name = record {
@@ -381,5 +401,6 @@ module _ (ps : List Provision) (differ : AllDiffer (names_of ps)) where
   allowed r =
       turned (is_allowed (with_module ps r)) _ _ (IsAllowed ps r) (IsNotAllowed ps r)
       (λ h k p named private. info_at_by p.maker r.info (private_is p.is_private (is_info_at p.maker r.info) (h k p named) private))
-      (λ h. let n = private_not h.1.is_private (is_info_at h.1.maker r.info) h.3 in (h.0, h.1, h.2, n.0, λ same. true≢false (sym (info_at_of h.1.maker r.info same) ∙ n.1)))
+      (λ h. let n = private_not h.1.is_private (is_info_at h.1.maker r.info) h.3 in
+      (h.0, h.1, h.2, n.0, λ same. true≢false (sym (info_at_of h.1.maker r.info same) ∙ n.1)))
       (all_decides ps differ r.name (λ p. not p.is_private || is_info_at p.maker r.info))

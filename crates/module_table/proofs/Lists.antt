@@ -4,7 +4,7 @@ use Rattle.std.proofs.lemmas.List.{map-append, length-take-le}
 use Rattle.ninja_text.proofs.ForCallers.{take_next, same_some, from_push, in_take, to_map, from_map, from_take, differ_push, not_among, found_if, new_if}
 use Rattle.std.specs.List.{flat_map, enumerate_from, AllZip, list_any}
 use Rattle.std.proofs.lemmas.Grind.{flat_map-append}
-use Rattle.std.proofs.lemmas.Option.{slice_get-get_or, slice_get_within}
+use Rattle.std.proofs.lemmas.Option.{slice_get-get_or, slice_get_within, slice_get_read}
 use Rattle.std.proofs.lemmas.List.Quantifiers.{position-Some}
 use Rattle.module_table.specs.inner.Finds.{AcceptsAll, RefusesAt}
 use Rattle.std.specs.Cmp.Lexicographic.{bytes_decides}
@@ -13,9 +13,16 @@ use Rattle.ninja_text.specs.Bytes.{Name}
 use Rattle.std.proofs.lemmas.Slice.Zip.{AllZip-long}
 use Rattle.module_table.proofs.Words.{At}
 
+-- what a loop reads at an index
+pub read_at : {X : Type 0} (xs : List X) (i : ℕ) (x : X) → i < length xs → x ≡ get_or xs i x → At xs i x
+read_at xs i x lt is = slice_get_read xs (length xs) i x refl lt is
+
+pub one_value : {X : Type 0} {x y : X} → Some x ≡ Some y → x ≡ y
+one_value e = same_some _ _ e
+
 -- what is read once is one value
 pub one_there : {X : Type 0} {o : Option X} {x y : X} → o ≡ Some x → o ≡ Some y → x ≡ y
-one_there a b = same_some _ _ (sym a ∙ b)
+one_there a b = one_value (sym a ∙ b)
 
 -- the same lists have the same elements
 pub same_reads : {X : Type 0} {xs ys : List X} (k : ℕ) → xs ≡ ys → slice_get xs k ≡ slice_get ys k
@@ -24,15 +31,18 @@ same_reads k same = ap (λ zs. slice_get zs k) same
 -- ---- loops that push
 
 -- a loop that pushes what each element becomes
-pub pushes_next : {A B Y : Type 0} (g : A → B) (f : Y → B) (ys longer : List Y) (y : Y) (old : List B) (now new : List A) (a : A) → longer ≡ ys ++ y ∷ [] → map g now ≡ old ++ map f ys → new ≡ now ++ a ∷ [] → g a ≡ f y → map g new ≡ old ++ map f longer
+pub pushes_next : {A B Y : Type 0} (g : A → B) (f : Y → B) (ys longer : List Y) (y : Y) (old : List B) (now new : List A) (a : A) → longer ≡ ys ++ y ∷ [] →
+    map g now ≡ old ++ map f ys → new ≡ now ++ a ∷ [] → g a ≡ f y → map g new ≡ old ++ map f longer
 pushes_next g f ys longer y old now new a next before pushed is =
     ap (map g) pushed ∙ map-append g now (a ∷ []) ∙ ap (λ zs. zs ++ g a ∷ []) before ∙ append_assoc old (map f ys) (g a ∷ [])
     ∙ ap (λ zs. old ++ zs) (ap (λ z. map f ys ++ z ∷ []) is ∙ sym (ap (map f) next ∙ map-append f ys (y ∷ [])))
 
 -- a loop that makes something of each element of a list
-pub maps_next : {X Y : Type 0} (f : X → Y) (xs : List X) (i : ℕ) (x : X) (y : Y) (now new : List Y) → At xs i x → now ≡ map f (take i xs) → new ≡ now ++ y ∷ [] → y ≡ f x → new ≡ map f (take (i + 1) xs)
+pub maps_next : {X Y : Type 0} (f : X → Y) (xs : List X) (i : ℕ) (x : X) (y : Y) (now new : List Y) → At xs i x → now ≡ map f (take i xs) →
+    new ≡ now ++ y ∷ [] → y ≡ f x → new ≡ map f (take (i + 1) xs)
 maps_next f xs i x y now new at before pushed is =
-    pushed ∙ ap (λ ys. ys ++ y ∷ []) before ∙ ap (λ z. map f (take i xs) ++ z ∷ []) is ∙ sym (ap (map f) (take_next xs i x at) ∙ map-append f (take i xs) (x ∷ []))
+    pushed ∙ ap (λ ys. ys ++ y ∷ []) before ∙ ap (λ z. map f (take i xs) ++ z ∷ []) is ∙
+    sym (ap (map f) (take_next xs i x at) ∙ map-append f (take i xs) (x ∷ []))
 
 -- ---- lists whose elements have the same indexes as those of the other
 
@@ -43,12 +53,14 @@ zip_append R (x ∷ xs) us [] vs h g = absurd h
 zip_append R (x ∷ xs) us (y ∷ ys) vs h g = (h.0, zip_append R xs us ys vs h.1 g)
 
 -- the parts of each element
-pub zip_flat_map : {A B C : Type 0} (R : B → C → Type 0) (f : A → List B) (g : A → List C) (xs : List A) → ((k : ℕ) (x : A) → At xs k x → AllZip R (f x) (g x)) → AllZip R (flat_map f xs) (flat_map g xs)
+pub zip_flat_map : {A B C : Type 0} (R : B → C → Type 0) (f : A → List B) (g : A → List C) (xs : List A) →
+    ((k : ℕ) (x : A) → At xs k x → AllZip R (f x) (g x)) → AllZip R (flat_map f xs) (flat_map g xs)
 zip_flat_map R f g [] h = tt
 zip_flat_map R f g (x ∷ xs) h = zip_append R (f x) (flat_map f xs) (g x) (flat_map g xs) (h 0 x refl) (zip_flat_map R f g xs (λ k y at. h (suc k) y at))
 
 -- what is made of the elements, and of their numbers
-pub zip_numbered : {A B C : Type 0} (R : B → C → Type 0) (f : A → B) (g : ℕ × A → C) (n : ℕ) (xs : List A) → ((k : ℕ) (x : A) → At xs k x → R (f x) (g (n + k, x))) → AllZip R (map f xs) (map g (enumerate_from n xs))
+pub zip_numbered : {A B C : Type 0} (R : B → C → Type 0) (f : A → B) (g : ℕ × A → C) (n : ℕ) (xs : List A) →
+    ((k : ℕ) (x : A) → At xs k x → R (f x) (g (n + k, x))) → AllZip R (map f xs) (map g (enumerate_from n xs))
 zip_numbered R f g n [] h = tt
 zip_numbered R f g n (x ∷ xs) h =
     let here : n + 0 ≡ n = omega arith in (
@@ -67,13 +79,13 @@ zip_flip R (x ∷ xs) (y ∷ ys) h = (h.0, zip_flip R xs ys h.1)
 pub zip_there : {A B : Type 0} (R : A → B → Type 0) (xs : List A) (ys : List B) (k : ℕ) (x : A) → AllZip R xs ys → At xs k x → (y : B) × (At ys k y) × R x y
 zip_there R [] ys k x h at = cc
 zip_there R (z ∷ xs) [] k x h at = absurd h
-zip_there R (z ∷ xs) (y ∷ ys) zero x h at = (y, refl, subst (λ w. R w y) (same_some _ _ at) h.0)
+zip_there R (z ∷ xs) (y ∷ ys) zero x h at = (y, refl, subst (λ w. R w y) (one_value at) h.0)
 zip_there R (z ∷ xs) (y ∷ ys) (suc k) x h at = zip_there R xs ys k x h.1 at
 
 pub zip_back : {A B : Type 0} (R : A → B → Type 0) (xs : List A) (ys : List B) (k : ℕ) (y : B) → AllZip R xs ys → At ys k y → (x : A) × (At xs k x) × R x y
 zip_back R xs [] k y h at = cc
 zip_back R [] (z ∷ ys) k y h at = absurd h
-zip_back R (x ∷ xs) (z ∷ ys) zero y h at = (x, refl, subst (R x) (same_some _ _ at) h.0)
+zip_back R (x ∷ xs) (z ∷ ys) zero y h at = (x, refl, subst (R x) (one_value at) h.0)
 zip_back R (x ∷ xs) (z ∷ ys) (suc k) y h at = zip_back R xs ys k y h.1 at
 
 pub zip_length : {A B : Type 0} (R : A → B → Type 0) (xs : List A) (ys : List B) → AllZip R xs ys → length xs ≡ length ys
@@ -91,7 +103,8 @@ module _ {X : Type 0} (Accepted Refused : X → Type 0) (xs : List X) (k : ℕ) 
   first_rejected false bad = record { x = x; here = at; refused = bad; accepted = λ i y lt at_i. before.each i y (in_take k xs i y lt at_i) }
 
 -- the first that is rejected is the first of which P holds
-pub first_of_rejected : {X : Type 0} (Accepted Refused P : X → Type 0) (xs : List X) (k : ℕ) (x : X) → At xs k x → RefusesAt Accepted Refused xs k → (Refused x → P x) → ((y : X) → Accepted y → P y → ⊥) → IsFirst P xs k x
+pub first_of_rejected : {X : Type 0} (Accepted Refused P : X → Type 0) (xs : List X) (k : ℕ) (x : X) → At xs k x → RefusesAt Accepted Refused xs k →
+    (Refused x → P x) → ((y : X) → Accepted y → P y → ⊥) → IsFirst P xs k x
 first_of_rejected Accepted Refused P xs k x at rejected holds fails = record {
   here = at;
   holds = holds (subst Refused (one_there rejected.here at) rejected.refused);
@@ -99,10 +112,12 @@ first_of_rejected Accepted Refused P xs k x at rejected holds fails = record {
 }
 
 -- the parts of one more element, without its number
-pub gathers_more : {X A : Type 0} (f : X → List A) (xs : List X) (i : ℕ) (x : X) (old now new : List A) → At xs i x → now ≡ old ++ flat_map f (take i xs) → new ≡ now ++ f x → new ≡ old ++ flat_map f (take (i + 1) xs)
+pub gathers_more : {X A : Type 0} (f : X → List A) (xs : List X) (i : ℕ) (x : X) (old now new : List A) → At xs i x → now ≡ old ++ flat_map f (take i xs) →
+    new ≡ now ++ f x → new ≡ old ++ flat_map f (take (i + 1) xs)
 gathers_more f xs i x old now new at before more =
     more ∙ ap (λ ys. ys ++ f x) before ∙ append_assoc old (flat_map f (take i xs)) (f x)
-    ∙ ap (λ ys. old ++ ys) (sym (ap (flat_map f) (take_next xs i x at) ∙ flat_map-append f (take i xs) (x ∷ []) ∙ ap (λ ys. flat_map f (take i xs) ++ ys) (append-nil (f x))))
+    ∙ ap (λ ys. old ++ ys)
+    (sym (ap (flat_map f) (take_next xs i x at) ∙ flat_map-append f (take i xs) (x ∷ []) ∙ ap (λ ys. flat_map f (take i xs) ++ ys) (append-nil (f x))))
 
 -- ---- lists in which all differ, and the first repetition in a list
 
@@ -125,21 +140,26 @@ numbered_next xs i x at =
     ap (enumerate_from 0) (take_next xs i x at) ∙ numbered_push 0 (take i xs) x ∙ ap (λ n. enumerate_from 0 (take i xs) ++ (n, x) ∷ []) e
 
 -- the parts of one more element
-parts_next : {X A : Type 0} (f : ℕ × X → List A) (xs : List X) (i : ℕ) (x : X) → At xs i x → flat_map f (enumerate_from 0 (take (i + 1) xs)) ≡ flat_map f (enumerate_from 0 (take i xs)) ++ f (i, x)
+parts_next : {X A : Type 0} (f : ℕ × X → List A) (xs : List X) (i : ℕ) (x : X) → At xs i x →
+    flat_map f (enumerate_from 0 (take (i + 1) xs)) ≡ flat_map f (enumerate_from 0 (take i xs)) ++ f (i, x)
 parts_next f xs i x at =
-    ap (flat_map f) (numbered_next xs i x at) ∙ flat_map-append f (enumerate_from 0 (take i xs)) ((i, x) ∷ []) ∙ ap (λ ys. flat_map f (enumerate_from 0 (take i xs)) ++ ys) (append-nil (f (i, x)))
+    ap (flat_map f) (numbered_next xs i x at) ∙ flat_map-append f (enumerate_from 0 (take i xs)) ((i, x) ∷ []) ∙
+    ap (λ ys. flat_map f (enumerate_from 0 (take i xs)) ++ ys) (append-nil (f (i, x)))
 
 -- a loop that gathers the parts of each element
-pub gathers_next : {X A : Type 0} (f : ℕ × X → List A) (xs : List X) (i : ℕ) (x : X) (old now new : List A) → At xs i x → now ≡ old ++ flat_map f (enumerate_from 0 (take i xs)) → new ≡ now ++ f (i, x) → new ≡ old ++ flat_map f (enumerate_from 0 (take (i + 1) xs))
+pub gathers_next : {X A : Type 0} (f : ℕ × X → List A) (xs : List X) (i : ℕ) (x : X) (old now new : List A) → At xs i x →
+    now ≡ old ++ flat_map f (enumerate_from 0 (take i xs)) → new ≡ now ++ f (i, x) → new ≡ old ++ flat_map f (enumerate_from 0 (take (i + 1) xs))
 gathers_next f xs i x old now new at before more =
-    more ∙ ap (λ ys. ys ++ f (i, x)) before ∙ append_assoc old (flat_map f (enumerate_from 0 (take i xs))) (f (i, x)) ∙ ap (λ ys. old ++ ys) (sym (parts_next f xs i x at))
+    more ∙ ap (λ ys. ys ++ f (i, x)) before ∙ append_assoc old (flat_map f (enumerate_from 0 (take i xs))) (f (i, x)) ∙
+    ap (λ ys. old ++ ys) (sym (parts_next f xs i x at))
 
 -- a text is put into a table of the texts before it
 module _ {X : Type 0} (f : X → List ℕ) (texts : List Name) (j : ℕ) (x : X) (keys new : List X) (at : At texts j (f x))
     (same : map f keys ≡ take j texts) (all : AllDiffer (take j texts))
     (put : new ≡ cond (list_any (λ k. bytes_eq (f x) (f k)) keys) keys (keys ++ x ∷ [])) where
   -- it was there
-  pub repeats_if_found : (i : ℕ) → false ≡ not (list_any (λ k. bytes_eq (f x) (f k)) keys) → (y : X) → At new i y → bytes_eq (f x) (f y) ≡ true → RepeatsFirst texts i j
+  pub repeats_if_found : (i : ℕ) → false ≡ not (list_any (λ k. bytes_eq (f x) (f k)) keys) → (y : X) → At new i y → bytes_eq (f x) (f y) ≡ true →
+      RepeatsFirst texts i j
   repeats_if_found i old y stored alike =
       let kept : new ≡ keys = put ∙ ap (λ b. cond b keys (keys ++ x ∷ [])) (found_if _ old) in
       let here = same_reads i (sym same) ∙ to_map f keys i y (same_reads i (sym kept) ∙ stored) in
@@ -155,7 +175,8 @@ module _ {X : Type 0} (f : X → List ℕ) (texts : List Name) (j : ℕ) (x : X)
   -- it was not
   pub keys_if_new : true ≡ not (list_any (λ k. bytes_eq (f x) (f k)) keys) → map f new ≡ take (j + 1) texts
   keys_if_new fresh =
-      ap (map f) (put ∙ ap (λ b. cond b keys (keys ++ x ∷ [])) (new_if _ fresh)) ∙ map-append f keys (x ∷ []) ∙ ap (λ ts. ts ++ f x ∷ []) same ∙ sym (take_next texts j (f x) at)
+      ap (map f) (put ∙ ap (λ b. cond b keys (keys ++ x ∷ [])) (new_if _ fresh)) ∙ map-append f keys (x ∷ []) ∙ ap (λ ts. ts ++ f x ∷ []) same ∙
+      sym (take_next texts j (f x) at)
 
   pub differ_if_new : true ≡ not (list_any (λ k. bytes_eq (f x) (f k)) keys) → AllDiffer (take (j + 1) texts)
   differ_if_new fresh =
@@ -169,7 +190,8 @@ differ_by f xs apart = record {
 }
 
 -- the first repetition of what is seen of elements
-pub repetition_of : {X : Type 0} (g : X → List ℕ) (xs : List X) (i j : ℕ) → RepeatsFirst (map g xs) i j → (x : X) × (y : X) × IsFirstRepetition (λ a b. g a ≡ g b) xs i j x y
+pub repetition_of : {X : Type 0} (g : X → List ℕ) (xs : List X) (i j : ℕ) → RepeatsFirst (map g xs) i j →
+    (x : X) × (y : X) × IsFirstRepetition (λ a b. g a ≡ g b) xs i j x y
 repetition_of {X} g xs i j r =
     let at_i = from_map g xs i r.repeated r.here in
     let at_j = from_map g xs j r.repeated r.again in (
@@ -181,14 +203,17 @@ repetition_of {X} g xs i j r =
         y_here = at_j.1;
         alike = at_i.2 ∙ sym at_j.2;
         y_first = λ k l v w kl lj at_k at_l same.
-            r.before.differ k l (g v) kl (in_take j (map g xs) k (g v) (omega (arith, kl, lj)) (to_map g xs k v at_k)) (in_take j (map g xs) l (g v) lj (to_map g xs l w at_l ∙ ap Some (sym same)));
+            r.before.differ k l (g v) kl (in_take j (map g xs) k (g v) (omega (arith, kl, lj)) (to_map g xs k v at_k))
+            (in_take j (map g xs) l (g v) lj (to_map g xs l w at_l ∙ ap Some (sym same)));
         x_first = λ k v ki at_k same.
-            r.before.differ k i (g v) ki (in_take j (map g xs) k (g v) (let e = r.earlier in omega (arith, ki, e)) (to_map g xs k v at_k)) (in_take j (map g xs) i (g v) r.earlier (r.here ∙ ap Some (sym at_j.2 ∙ sym same)));
+            r.before.differ k i (g v) ki (in_take j (map g xs) k (g v) (let e = r.earlier in omega (arith, ki, e)) (to_map g xs k v at_k))
+            (in_take j (map g xs) i (g v) r.earlier (r.here ∙ ap Some (sym at_j.2 ∙ sym same)));
       },
     )
 
 -- rows that are made of elements
-pub row_is : {X R Y : Type 0} (f : X → Y) (g : R → Y) (xs : List X) (rows : List R) (k : ℕ) (x : X) (row : R) → map g rows ≡ map f xs → At xs k x → row ≡ get_or rows k row → g row ≡ f x
+pub row_is : {X R Y : Type 0} (f : X → Y) (g : R → Y) (xs : List X) (rows : List R) (k : ℕ) (x : X) (row : R) → map g rows ≡ map f xs → At xs k x →
+    row ≡ get_or rows k row → g row ≡ f x
 row_is f g [] rows k x row same at here = cc
 row_is f g (y ∷ xs) [] k x row same at here = cc
 row_is f g (y ∷ xs) (r ∷ rows) zero x row same at here = cc
@@ -197,7 +222,7 @@ row_is f g (y ∷ xs) (r ∷ rows) (suc k) x row same at here = let rest : map g
 -- the first repetition in a list of texts
 pub text_repetition : (xs : List (List ℕ)) (i j : ℕ) (x : List ℕ) → RepeatsFirst xs i j → At xs j x → IsFirstRepetition (λ a b. a ≡ b) xs i j x x
 text_repetition xs i j x r at =
-    let same : r.repeated ≡ x = one_there r.again at in
+    let same = one_there r.again at in
     record {
       earlier = r.earlier;
       x_here = r.here ∙ ap Some same;
@@ -206,7 +231,8 @@ text_repetition xs i j x r at =
       y_first = λ k l v w kl lj at_k at_l e.
           r.before.differ k l v kl (in_take j xs k v (omega (arith, kl, lj)) at_k) (in_take j xs l v lj (at_l ∙ ap Some (sym e)));
       x_first = λ k v ki at_k e.
-          r.before.differ k i v ki (in_take j xs k v (let lt = r.earlier in omega (arith, ki, lt)) at_k) (in_take j xs i v r.earlier (r.here ∙ ap Some (same ∙ sym e)));
+          r.before.differ k i v ki (in_take j xs k v (let lt = r.earlier in omega (arith, ki, lt)) at_k)
+          (in_take j xs i v r.earlier (r.here ∙ ap Some (same ∙ sym e)));
     }
 
 -- what a look-up finds, and what it means that it finds none

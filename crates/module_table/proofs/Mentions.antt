@@ -3,7 +3,7 @@ use Rattle.std.proofs.Common.{◌≡◌, ℕ, ◌+◌, Bool, true, false, cond, 
 use Rattle.std.specs.List.{list_any, All, cons_option, flat_map}
 use Rattle.std.specs.Cmp.Lexicographic.{bytes_decides}
 use Rattle.module_table.specs.Added.{first_mentions, pair_of}
-use Rattle.ninja_text.proofs.ForCallers.{take_next, found_if, new_if, from_push, map_take, same_some, to_map, in_first, in_second, from_map, in_append, contained, from_flat_map}
+use Rattle.ninja_text.proofs.ForCallers.{take_next, found_if, new_if, from_push, map_take, to_map, in_first, in_second, from_map, in_append, contained, from_flat_map}
 use Rattle.std.specs.Option.{option_map}
 use Rattle.std.proofs.lemmas.Bool.{cases_eq}
 use Rattle.std.proofs.lemmas.List.{get_or-set_same, get_or-set_other, length-set}
@@ -15,13 +15,13 @@ use Rattle.module_table.specs.inner.Indexed.{pair_at}
 use Rattle.module_table.specs.inner.Mentioned.{name_in, AreMarked, ArePairsSoFar, mentioned_names, info_names}
 use Rattle.module_table.proofs.Places.{neither_less, sound_names}
 use Rattle.std.proofs.lemmas.List.Elements.{filter-append}
-use Rattle.module_table.proofs.Lists.{pushes_next, same_reads}
+use Rattle.module_table.proofs.Lists.{pushes_next, same_reads, one_value}
 use Rattle.module_table.proofs.Found.{named_found, numbered_provided}
 use Rattle.document_values.specs.Info.{ModuleValue}
 use Rattle.module_table.specs.TableValue.{TableValue}
 use Rattle.module_table.specs.Sound.{IsSound}
 use Rattle.module_table.specs.declared.fault.Maker.TheVariants.{Info}
-use Rattle.module_table.proofs.Words.{Pair, name_of, bmi_of, required_by, At}
+use Rattle.module_table.proofs.Words.{Pair, name_of, bmi_of, required_by, At, name_in_pair}
 use Rattle.ninja_text.specs.Bytes.{Name}
 
 -- ---- names in order of first mention
@@ -47,7 +47,8 @@ among_filter : (x y : List ℕ) (xs : List (List ℕ)) → bytes_eq x y ≡ fals
 among_filter x y [] e = refl
 among_filter x y (z ∷ xs) e = by (bytes_eq y z) refl (among_filter x y xs e)
   where
-    by : (b : Bool) → bytes_eq y z ≡ b → among x (filter (other_than y) xs) ≡ among x xs → among x (cond (not b) (z ∷ filter (other_than y) xs) (filter (other_than y) xs)) ≡ (bytes_eq x z || among x xs)
+    by : (b : Bool) → bytes_eq y z ≡ b → among x (filter (other_than y) xs) ≡ among x xs →
+        among x (cond (not b) (z ∷ filter (other_than y) xs) (filter (other_than y) xs)) ≡ (bytes_eq x z || among x xs)
     by true h rest = rest ∙ sym (ap (λ b. b || among x xs) (subst (λ w. bytes_eq x w ≡ false) ((bytes_decides y z).0 h) e))
     by false h rest = ap (λ b. bytes_eq x z || b) rest
 
@@ -59,24 +60,34 @@ mention_step : (x : List ℕ) (xs : List (List ℕ)) → Step x xs
 mention_step x [] = refl
 mention_step x (y ∷ xs) = by (bytes_eq x y) refl (mention_step x xs)
   where
-    by : (b : Bool) → bytes_eq x y ≡ b → Step x xs → y ∷ filter (other_than y) (first_mentions (xs ++ x ∷ [])) ≡ cond (b || among x (filter (other_than y) (first_mentions xs))) (y ∷ filter (other_than y) (first_mentions xs)) (y ∷ filter (other_than y) (first_mentions xs) ++ x ∷ [])
+    by : (b : Bool) → bytes_eq x y ≡ b → Step x xs →
+        y ∷ filter (other_than y) (first_mentions (xs ++ x ∷ [])) ≡
+        cond (b || among x (filter (other_than y) (first_mentions xs))) (y ∷ filter (other_than y) (first_mentions xs))
+        (y ∷ filter (other_than y) (first_mentions xs) ++ x ∷ [])
     by true e step =
         ap (λ ys. y ∷ ys) (by_known (among x (first_mentions xs)) step)
       where
         hidden : cond (other_than y x) (x ∷ []) [] ≡ []
         hidden = ap (λ b. cond (not b) (x ∷ []) []) ((bytes_decides y x).1 (sym ((bytes_decides x y).0 e)))
 
-        by_known : (b : Bool) → first_mentions (xs ++ x ∷ []) ≡ cond b (first_mentions xs) (first_mentions xs ++ x ∷ []) → filter (other_than y) (first_mentions (xs ++ x ∷ [])) ≡ filter (other_than y) (first_mentions xs)
+        by_known : (b : Bool) → first_mentions (xs ++ x ∷ []) ≡ cond b (first_mentions xs) (first_mentions xs ++ x ∷ []) →
+            filter (other_than y) (first_mentions (xs ++ x ∷ [])) ≡ filter (other_than y) (first_mentions xs)
         by_known true h = ap (filter (other_than y)) h
-        by_known false h = ap (filter (other_than y)) h ∙ filter_push (other_than y) (first_mentions xs) x ∙ ap (λ ys. filter (other_than y) (first_mentions xs) ++ ys) hidden ∙ append-nil (filter (other_than y) (first_mentions xs))
-    by false e step = by_known (among x (first_mentions xs)) step ∙ ap (λ b. cond b (y ∷ filter (other_than y) (first_mentions xs)) (y ∷ filter (other_than y) (first_mentions xs) ++ x ∷ [])) (sym (among_filter x y (first_mentions xs) e))
+        by_known false h = ap (filter (other_than y)) h ∙ filter_push (other_than y) (first_mentions xs) x ∙
+            ap (λ ys. filter (other_than y) (first_mentions xs) ++ ys) hidden ∙ append-nil (filter (other_than y) (first_mentions xs))
+    by false e step = by_known (among x (first_mentions xs)) step ∙
+        ap (λ b. cond b (y ∷ filter (other_than y) (first_mentions xs)) (y ∷ filter (other_than y) (first_mentions xs) ++ x ∷ []))
+        (sym (among_filter x y (first_mentions xs) e))
       where
         alone : cond (other_than y x) (x ∷ []) [] ≡ x ∷ []
         alone = ap (λ b. cond (not b) (x ∷ []) []) (differ_back x y e)
 
-        by_known : (b : Bool) → first_mentions (xs ++ x ∷ []) ≡ cond b (first_mentions xs) (first_mentions xs ++ x ∷ []) → y ∷ filter (other_than y) (first_mentions (xs ++ x ∷ [])) ≡ cond b (y ∷ filter (other_than y) (first_mentions xs)) (y ∷ filter (other_than y) (first_mentions xs) ++ x ∷ [])
+        by_known : (b : Bool) → first_mentions (xs ++ x ∷ []) ≡ cond b (first_mentions xs) (first_mentions xs ++ x ∷ []) →
+            y ∷ filter (other_than y) (first_mentions (xs ++ x ∷ [])) ≡
+            cond b (y ∷ filter (other_than y) (first_mentions xs)) (y ∷ filter (other_than y) (first_mentions xs) ++ x ∷ [])
         by_known true h = ap (λ ys. y ∷ filter (other_than y) ys) h
-        by_known false h = ap (λ ys. y ∷ filter (other_than y) ys) h ∙ ap (λ ys. y ∷ ys) (filter_push (other_than y) (first_mentions xs) x ∙ ap (λ ys. filter (other_than y) (first_mentions xs) ++ ys) alone)
+        by_known false h = ap (λ ys. y ∷ filter (other_than y) ys) h ∙
+            ap (λ ys. y ∷ ys) (filter_push (other_than y) (first_mentions xs) x ∙ ap (λ ys. filter (other_than y) (first_mentions xs) ++ ys) alone)
 
 any_map : {K : Type 0} (f : K → List ℕ) (x : List ℕ) (keys : List K) → among x (map f keys) ≡ list_any (λ k. bytes_eq x (f k)) keys
 any_map f x [] = refl
@@ -87,7 +98,8 @@ map_push f [] v = refl
 map_push f (k ∷ keys) v = ap (λ ys. f k ∷ ys) (map_push f keys v)
 
 -- one more name, after those of the names before it
-module _ {K : Type 0} (f : K → List ℕ) (xs : List (List ℕ)) (i : ℕ) (keys : List K) (v : K) (at : At xs i (f v)) (found : map f keys ≡ first_mentions (take i xs)) where
+module _ {K : Type 0} (f : K → List ℕ) (xs : List (List ℕ)) (i : ℕ) (keys : List K) (v : K) (at : At xs i (f v))
+    (found : map f keys ≡ first_mentions (take i xs)) where
   abbrev was : Bool
   was = list_any (λ k. bytes_eq (f v) (f k)) keys
 
@@ -98,7 +110,8 @@ module _ {K : Type 0} (f : K → List ℕ) (xs : List (List ℕ)) (i : ℕ) (key
       ∙ ap (λ b. cond b (map f keys) (map f keys ++ f v ∷ [])) (any_map f (f v) keys)
 
   mention_new : (names : List Name) → names ≡ first_mentions (take i xs) → true ≡ not was → names ++ f v ∷ [] ≡ first_mentions (take (i + 1) xs)
-  mention_new names same fresh = ap (λ ys. ys ++ f v ∷ []) (same ∙ sym found) ∙ sym (step ∙ ap (λ b. cond b (map f keys) (map f keys ++ f v ∷ [])) (new_if was fresh))
+  mention_new names same fresh = ap (λ ys. ys ++ f v ∷ []) (same ∙ sym found) ∙
+      sym (step ∙ ap (λ b. cond b (map f keys) (map f keys ++ f v ∷ [])) (new_if was fresh))
 
   mention_old : (names : List Name) → names ≡ first_mentions (take i xs) → false ≡ not was → names ≡ first_mentions (take (i + 1) xs)
   mention_old names same old = same ∙ sym found ∙ sym (step ∙ ap (λ b. cond b (map f keys) (map f keys ++ f v ∷ [])) (found_if was old))
@@ -111,7 +124,7 @@ or_true false = refl
 
 any_true : {X : Type 0} (q : X → Bool) (xs : List X) (k : ℕ) (x : X) → At xs k x → q x ≡ true → list_any q xs ≡ true
 any_true q [] k x at e = cc
-any_true q (y ∷ xs) zero x at e = ap (λ b. b || list_any q xs) (ap q (same_some _ _ at) ∙ e)
+any_true q (y ∷ xs) zero x at e = ap (λ b. b || list_any q xs) (ap q (one_value at) ∙ e)
 any_true q (y ∷ xs) (suc k) x at e = ap (λ b. q y || b) (any_true q xs k x at e) ∙ or_true (q y)
 
 any_false : {X : Type 0} (q : X → Bool) (xs : List X) → ((k : ℕ) (x : X) → At xs k x → q x ≡ false) → list_any q xs ≡ false
@@ -126,7 +139,8 @@ module _ (mark : ℕ) (marks mentioned : List ℕ) (m : AreMarked mark marks men
   mark_new = record {
     at_most = λ k d within. ⊎_elim
         (λ same. let e = ap (λ n. get_or now n d) same ∙ get_or-set_same marks v mark d lt in omega (arith, e))
-        (λ other. let e = get_or-set_other marks v k mark d other in let old = m.at_most k d (omega (arith, within, length-set marks v mark)) in omega (arith, e, old))
+        (λ other. let e = get_or-set_other marks v k mark d other in let old = m.at_most k d (omega (arith, within, length-set marks v mark)) in
+        omega (arith, e, old))
         (cases_eq k v);
     met = λ i within is. ⊎_elim
         (λ same. (length mentioned + 0, in_second mentioned (v ∷ []) 0 v refl ∙ ap Some (sym same)))
@@ -165,7 +179,8 @@ module _ (mark : ℕ) (marks mentioned : List ℕ) (m : AreMarked mark marks men
         by j within marked true e =
             let same = (bytes_decides (f v) (f j)).0 e in
             let here = there j within ∙ ap Some (sym same) in
-            let one : v ≡ j = neither_less v j (λ less. differ.differ v j (f v) less (there v lt) here) (λ more. differ.differ j v (f v) more here (there v lt)) in
+            let one : v ≡ j = neither_less v j (λ less. differ.differ v j (f v) less (there v lt) here) (λ more. differ.differ j v (f v) more here (there v lt))
+            in
             absurd (fresh (ap (λ n. get_or marks n 0) one ∙ marked))
 
     module _ (indexes : List ℕ) (i : ℕ) (at : At indexes i v) (firsts : map f mentioned ≡ first_mentions (map f (take i indexes))) where
@@ -195,7 +210,8 @@ row_names names [] [] same = refl
 row_names names [] (n ∷ ns) same = cc
 row_names names (i ∷ row) [] same = cc
 row_names names (i ∷ row) (n ∷ ns) same =
-    ap (λ x. x ∷ map (name_in names) row) (get_or_from_slice_get names i n [] (same_some _ _ (same_reads zero same))) ∙ ap (λ xs. n ∷ xs) (row_names names row ns (ap drop_first same))
+    ap (λ x. x ∷ map (name_in names) row) (get_or_from_slice_get names i n [] (one_value (same_reads zero same))) ∙
+    ap (λ xs. n ∷ xs) (row_names names row ns (ap drop_first same))
 
 module _ (ps : List Provision) (differ : AllDiffer (names_of ps)) where
   -- a module of this index is the one that is found by its name
@@ -207,21 +223,25 @@ module _ (ps : List Provision) (differ : AllDiffer (names_of ps)) where
   one_pair : (i : ℕ) (pair : Pair) → Some pair ≡ pair_at ps i → pair_of ps (name_in (names_of ps) i) ≡ Some pair
   one_pair i pair is = by (slice_get ps i) refl is
     where
-      by : (o : Option Provision) → slice_get ps i ≡ o → Some pair ≡ option_map (λ (p : Provision). (p.name, p.file)) o → pair_of ps (name_in (names_of ps) i) ≡ Some pair
+      by : (o : Option Provision) → slice_get ps i ≡ o → Some pair ≡ option_map (λ (p : Provision). (p.name, p.file)) o →
+          pair_of ps (name_in (names_of ps) i) ≡ Some pair
       by None e h = cc
       by (Some p) e h = found_at i p e ∙ sym h
 
-  pub pairs_found : (indexes : List ℕ) (pairs : List (Pair)) → map Some pairs ≡ map (pair_at ps) indexes → filter_map (pair_of ps) (map (name_in (names_of ps)) indexes) ≡ pairs
+  pub pairs_found : (indexes : List ℕ) (pairs : List (Pair)) → map Some pairs ≡ map (pair_at ps) indexes →
+      filter_map (pair_of ps) (map (name_in (names_of ps)) indexes) ≡ pairs
   pairs_found [] [] same = refl
   pairs_found [] (pair ∷ pairs) same = cc
   pairs_found (i ∷ indexes) [] same = cc
   pairs_found (i ∷ indexes) (pair ∷ pairs) same =
-      ap (λ o. cons_option o (filter_map (pair_of ps) (map (name_in (names_of ps)) indexes))) (one_pair i pair (same_some _ _ (same_reads zero same))) ∙ ap (λ xs. pair ∷ xs) (pairs_found indexes pairs (ap drop_first same))
+      ap (λ o. cons_option o (filter_map (pair_of ps) (map (name_in (names_of ps)) indexes))) (one_pair i pair (one_value (same_reads zero same))) ∙
+      ap (λ xs. pair ∷ xs) (pairs_found indexes pairs (ap drop_first same))
 
 -- ---- the pairs, with the marks
 
 -- before the loop nothing has the mark, and nothing is mentioned
-pub no_pairs : (ps : List Provision) (mark : ℕ) (marks indexes : List ℕ) (pairs : List (Pair)) → All (λ old. old < mark) marks → pairs ≡ [] → ArePairsSoFar ps mark marks (take 0 indexes) pairs
+pub no_pairs : (ps : List Provision) (mark : ℕ) (marks indexes : List ℕ) (pairs : List (Pair)) → All (λ old. old < mark) marks → pairs ≡ [] →
+    ArePairsSoFar ps mark marks (take 0 indexes) pairs
 no_pairs ps mark marks indexes pairs fresh none = record {
   mentioned = [];
   marked = record {
@@ -238,8 +258,10 @@ no_pairs ps mark marks indexes pairs fresh none = record {
     none_taken [] = refl
     none_taken (x ∷ xs) = refl
 
-module _ (ps : List Provision) (mark : ℕ) (marks indexes : List ℕ) (i v : ℕ) (at : At indexes i v) (lt : v < length marks) (pairs : List (Pair)) (h : ArePairsSoFar ps mark marks (take i indexes) pairs) where
-  pub pairs_new : (get_or marks v 0 ≡ mark → ⊥) → (more : List (Pair)) (pair : Pair) → more ≡ pairs ++ pair ∷ [] → Some pair ≡ pair_at ps v → ArePairsSoFar ps mark (set marks v mark) (take (i + 1) indexes) more
+module _ (ps : List Provision) (mark : ℕ) (marks indexes : List ℕ) (i v : ℕ) (at : At indexes i v) (lt : v < length marks) (pairs : List (Pair))
+    (h : ArePairsSoFar ps mark marks (take i indexes) pairs) where
+  pub pairs_new : (get_or marks v 0 ≡ mark → ⊥) → (more : List (Pair)) (pair : Pair) → more ≡ pairs ++ pair ∷ [] → Some pair ≡ pair_at ps v →
+      ArePairsSoFar ps mark (set marks v mark) (take (i + 1) indexes) more
   pairs_new fresh more pair pushed same = record {
     mentioned = h.mentioned ++ v ∷ [];
     marked = mark_new mark marks h.mentioned h.marked v lt;
@@ -279,7 +301,7 @@ each_once (x ∷ xs) differ =
 known_rest : (xs ys : List (List ℕ)) → ((k : ℕ) (y : List ℕ) → At ys k y → among y (first_mentions xs) ≡ true) → first_mentions (xs ++ ys) ≡ first_mentions xs
 known_rest xs [] all = ap first_mentions (append-nil xs)
 known_rest xs (y ∷ ys) all =
-    let one : first_mentions (xs ++ y ∷ []) ≡ first_mentions xs = mention_step y xs ∙ ap (λ b. cond b (first_mentions xs) (first_mentions xs ++ y ∷ [])) (all zero y refl) in
+    let one = mention_step y xs ∙ ap (λ b. cond b (first_mentions xs) (first_mentions xs ++ y ∷ [])) (all zero y refl) in
     ap first_mentions (sym (append_assoc xs (y ∷ []) ys)) ∙ known_rest (xs ++ y ∷ []) ys (λ k z at. ap (among z) one ∙ all (suc k) z at) ∙ one
 
 module _ (t : TableValue) (sound : IsSound t) where
@@ -293,8 +315,8 @@ module _ (t : TableValue) (sound : IsSound t) where
             numbered_provided t y known.0 known.1
         | inr h ↦
             let r = from_flat_map info_names t.infos h.0 y h.2 in
-            let m = from_flat_map (λ (entry : ModuleValue). map (λ (pair : Pair). pair.0) entry.required) r.2.0.modules r.1 y r.2.2 in
-            let pair = from_map (λ (pair : Pair). pair.0) m.2.0.required m.1 y m.2.2 in
+            let m = from_flat_map (λ (entry : ModuleValue). map name_in_pair entry.required) r.2.0.modules r.1 y r.2.2 in
+            let pair = from_map name_in_pair m.2.0.required m.1 y m.2.2 in
             let known = sound.infos_known r.0 m.0 m.2.0 pair.0.0 pair.0.1 ((r.2.0, r.2.1, m.2.1), contained m.2.0.required pair.0 (m.1, pair.1)) in
             let found = numbered_provided t pair.0.0 pair.0.1 (Info known.0, known.1) in
             (found.0, found.1 ∙ ap Some pair.2)
@@ -305,4 +327,5 @@ module _ (t : TableValue) (sound : IsSound t) where
   all_names =
       let names = names_of (provisions t) in
       let once = each_once names (sound_names t sound) in
-      sym (known_rest names (flat_map required_by t.objects ++ flat_map info_names t.infos) (λ k y at. let n = required k y at in ap (among y) once ∙ any_true (λ o. bytes_eq y o) names n.0 y n.1 ((bytes_decides y y).1 refl)) ∙ once)
+      sym (known_rest names (flat_map required_by t.objects ++ flat_map info_names t.infos)
+      (λ k y at. let n = required k y at in ap (among y) once ∙ any_true (λ o. bytes_eq y o) names n.0 y n.1 ((bytes_decides y y).1 refl)) ∙ once)

@@ -9,14 +9,13 @@ use Rattle.module_table.specs.Modules.{Provides, Requires, InfoProvides, IsProvi
 use Rattle.module_table.specs.Needed.{LeadsTo, Leads, IsNeeded, ArePairs, lent}
 use Rattle.module_table.specs.Sound.{IsSound}
 use Rattle.module_table.specs.inner.Views.{names_of}
-use Rattle.module_table.specs.inner.Origins.{origins_of}
+use Rattle.module_table.specs.inner.Origins.{origins_of, Origin}
 use Rattle.module_table.specs.inner.Graph.{IsModuleGraph, IsModuleRow, indexes_in}
-use Rattle.module_table.specs.declared.fault.Maker.{Maker}
 use Rattle.module_table.specs.declared.fault.Maker.TheVariants.{Object, Info}
 use Rattle.module_table.proofs.Places.{object_provision, info_provision, Has, from_provisions, provision_by, sound_names}
-use Rattle.ninja_text.proofs.ForCallers.{contained, placed, same_some, to_map, in_first, in_second, from_map, element_at, from_filter_map, in_filter_map}
+use Rattle.ninja_text.proofs.ForCallers.{contained, placed, to_map, in_first, in_second, from_map, element_at, from_filter_map, in_filter_map}
 use Rattle.module_table.proofs.Found.{in_row, numbered_provided}
-use Rattle.module_table.proofs.Lists.{zip_there, zip_length, one_there, same_reads}
+use Rattle.module_table.proofs.Lists.{zip_there, zip_length, one_there, same_reads, one_value}
 use Rattle.module_table.proofs.Graph.{IsPlaceOf, module_places, one_entry, all_from}
 use Rattle.module_table.proofs.IndexRows.{different, all_made, strictly, only_one, one_number, to_numbers, from_numbers, length_mapped}
 use Rattle.std.specs.Borrow.{Bor}
@@ -27,7 +26,7 @@ use Rattle.std.proofs.lemmas.List.Kept.{AllPairs-from_increasing}
 use Rattle.std.proofs.lemmas.List.Sorted.{Contains-permutation, IsPermutation-sym}
 use Rattle.ninja_text.specs.Bytes.{Precedes, Name}
 use Rattle.module_table.specs.inner.Ranks.{AreRanked}
-use Rattle.module_table.proofs.Words.{name_of, maker_of, names_wanted, Pair, At}
+use Rattle.module_table.proofs.Words.{name_of, maker_of, names_wanted, Pair, At, name_in_pair}
 
 -- one step, and then the rest
 reaches_next : (Needs : ℕ → ℕ → Type 0) (from next to : ℕ) → Needs from next → Reaches Needs next to → Reaches Needs from to
@@ -53,8 +52,8 @@ module _ (t : TableValue) (sound : IsSound t) where
   -- the modules of one name are one
   one_provision : (k l : ℕ) (p q : Provision) → At (provisions t) k p → At (provisions t) l q → p.name ≡ q.name → (k ≡ l) × (p ≡ q)
   one_provision k l p q at_k at_l same =
-      let place = sound.names_differ k l p q at_k at_l same in
-      (place, one_there (ap (slice_get (provisions t)) (sym place) ∙ at_k) at_l)
+      let index = sound.names_differ k l p q at_k at_l same in
+      (index, one_there (ap (slice_get (provisions t)) (sym index) ∙ at_k) at_l)
 
   module _ (graph : List (List ℕ)) (g : IsModuleGraph t graph) where
     abbrev count : ℕ
@@ -76,9 +75,11 @@ module _ (t : TableValue) (sound : IsSound t) where
 
     -- a module of an info
     abbrev IsInfoNode : ℕ → List ℕ → Type 0
-    IsInfoNode k name = (i : ℕ) × (j : ℕ) × (entry : ModuleValue) × InfoProvides t i j entry × (entry.name ≡ name) × (At graph k (indexes_in names entry.required))
+    IsInfoNode k name = (i : ℕ) × (j : ℕ) × (entry : ModuleValue) × InfoProvides t i j entry × (entry.name ≡ name) ×
+        (At graph k (indexes_in names entry.required))
 
-    node_by : (k : ℕ) (p : Provision) (place : Maker × ℕ) (row : List ℕ) → IsPlaceOf t p place → At graph k row → IsModuleRow names t.infos place row → IsOwnNode k p.name ⊎ IsInfoNode k p.name
+    node_by : (k : ℕ) (p : Provision) (index : Origin) (row : List ℕ) → IsPlaceOf t p index → At graph k row → IsModuleRow names t.infos index row →
+        IsOwnNode k p.name ⊎ IsInfoNode k p.name
     node_by k p (Object o, j) row is at row_is = inl (o, j, p.file, is.1, at ∙ ap Some row_is)
     node_by k p (Info i, j) row is at row_is =
         inr (i, j, row_is.0, row_is.1, ap (λ (m : ModuleValue). m.name) (one_entry t.infos i j row_is.0 is.1.0 row_is.1 is.1.1) ∙ is.1.2, at ∙ ap Some row_is.2)
@@ -86,14 +87,16 @@ module _ (t : TableValue) (sound : IsSound t) where
     node_of : (k : ℕ) (name : Name) → IsNumberOf k name → IsOwnNode k name ⊎ IsInfoNode k name
     node_of k name at =
         let p = named k name at in
-        let place = zip_there (IsPlaceOf t) (provisions t) (origins_of t) k p.0 (module_places t) p.1 in
-        let row = zip_there (IsModuleRow names t.infos) (origins_of t) g.modules k place.0 g.of_modules place.1 in
+        let index = zip_there (IsPlaceOf t) (provisions t) (origins_of t) k p.0 (module_places t) p.1 in
+        let row = zip_there (IsModuleRow names t.infos) (origins_of t) g.modules k index.0 g.of_modules index.1 in
         let here : At graph k row.0 = same_reads k g.all ∙ in_first g.modules g.objects k row.0 row.1 in
-        subst (λ n. IsOwnNode k n ⊎ IsInfoNode k n) p.2 (node_by k p.0 place.0 row.0 place.2 here row.2)
+        subst (λ n. IsOwnNode k n ⊎ IsInfoNode k n) p.2 (node_by k p.0 index.0 row.0 index.2 here row.2)
 
-    object_row : (o : ℕ) (rule : RuleValue) → At t.objects o rule → (row : List ℕ) × (At graph (count + o) row) × (map (slice_get names) row ≡ map Some rule.required)
+    object_row : (o : ℕ) (rule : RuleValue) → At t.objects o rule →
+        (row : List ℕ) × (At graph (count + o) row) × (map (slice_get names) row ≡ map Some rule.required)
     object_row o rule at =
-        let row = from_map (λ row. map (slice_get names) row) g.objects o (map Some rule.required) (same_reads o g.of_objects ∙ to_map names_wanted t.objects o rule at) in
+        let row = from_map (λ row. map (slice_get names) row) g.objects o (map Some rule.required)
+        (same_reads o g.of_objects ∙ to_map names_wanted t.objects o rule at) in
         let here = same_reads (length g.modules + o) g.all ∙ in_second g.modules g.objects o row.0 row.1 in
         (row.0, ap (λ n. slice_get graph (n + o)) (sym many_modules) ∙ here, row.2)
 
@@ -183,7 +186,8 @@ module _ (t : TableValue) (sound : IsSound t) where
     from_chain (next ∷ things) node to last is chain at = step_on node next last is chain.0 (λ is_next. from_chain things next to last is_next chain.1 at)
 
     -- what the graph leads to is needed
-    needed_if_reached : (object : ℕ) (rule : RuleValue) (k : ℕ) (p : Provision) → At t.objects object rule → At (provisions t) k p → Reaches Needs (count + object) k → IsNeeded t object p.name p.file
+    needed_if_reached : (object : ℕ) (rule : RuleValue) (k : ℕ) (p : Provision) → At t.objects object rule → At (provisions t) k p →
+        Reaches Needs (count + object) k → IsNeeded t object p.name p.file
     needed_if_reached object rule k p at at_k (inl same) =
         absurd (omega (arith, same, (below k p.name (number_at k p at_k))))
     needed_if_reached object rule k p at at_k (inr chain) =
@@ -228,19 +232,23 @@ module _ (t : TableValue) (sound : IsSound t) where
     number_of : (name file : Name) → IsProvided t name file → (k : ℕ) × IsNumberOf k name
     number_of name file provided = numbered_provided t name file provided
 
-    lead_on : (k : ℕ) (first second : Name) (to : ℕ) → IsNumberOf k first → LeadsTo t first second → ((n : ℕ) → IsNumberOf n second → Reaches Needs n to) → Reaches Needs k to
+    lead_on : (k : ℕ) (first second : Name) (to : ℕ) → IsNumberOf k first → LeadsTo t first second → ((n : ℕ) → IsNumberOf n second → Reaches Needs n to) →
+        Reaches Needs k to
     lead_on k first second to at (inl h) rest =
         let needs = to_object h.0 second h.4 in
-        reaches_next Needs k (count + h.0) to (to_need k (count + h.0) _ (own_is k h.0 h.1 first h.2 at h.3) (0, refl)) (reaches_next Needs (count + h.0) needs.0 to needs.2 (rest needs.0 needs.1))
+        reaches_next Needs k (count + h.0) to (to_need k (count + h.0) _ (own_is k h.0 h.1 first h.2 at h.3) (0, refl))
+        (reaches_next Needs (count + h.0) needs.0 to needs.2 (rest needs.0 needs.1))
     lead_on k first second to at (inr h) rest =
         let row = info_is k h.0 h.1 h.2 (at ∙ ap Some (sym h.4)) h.5.0 in
         let known = sound.infos_known h.0 h.1 h.2 second h.3 h.5 in
         let number = number_of second h.3 (Info known.0, known.1) in
-        reaches_next Needs k number.0 to (to_need k number.0 _ row (to_numbers names (sound_names t sound) h.2.required second h.3 number.0 h.5.1 number.1)) (rest number.0 number.1)
+        reaches_next Needs k number.0 to (to_need k number.0 _ row (to_numbers names (sound_names t sound) h.2.required second h.3 number.0 h.5.1 number.1))
+        (rest number.0 number.1)
 
     to_chain : (rest : List Name) (first last : Name) (k to : ℕ) → IsNumberOf k first → Leads t first rest last → IsNumberOf to last → Reaches Needs k to
     to_chain [] first last k to at same at_last = inl (one_number_of last k to (at ∙ ap Some same) at_last)
-    to_chain (second ∷ rest) first last k to at leads at_last = lead_on k first second to at leads.0 (λ n at_n. to_chain rest second last n to at_n leads.1 at_last)
+    to_chain (second ∷ rest) first last k to at leads at_last =
+        lead_on k first second to at leads.0 (λ n at_n. to_chain rest second last n to at_n leads.1 at_last)
 
     -- what is needed is what the graph leads to
     reached_if_needed : (object : ℕ) (name file : Name) → IsNeeded t object name file → (k : ℕ) → IsNumberOf k name → Reaches Needs (count + object) k
@@ -252,7 +260,8 @@ module _ (t : TableValue) (sound : IsSound t) where
 
 -- ---- what an object needs
 
-module _ (t : TableValue) (sound : IsSound t) (graph : List (List ℕ)) (g : IsModuleGraph t graph) (ranks : List ℕ) (pairs : List Pair) (r : AreRanked (provisions t) ranks pairs) where
+module _ (t : TableValue) (sound : IsSound t) (graph : List (List ℕ)) (g : IsModuleGraph t graph) (ranks : List ℕ) (pairs : List Pair)
+    (r : AreRanked (provisions t) ranks pairs) where
   many : length ranks ≡ length (names_of (provisions t))
   many = r.as_many ∙ sym (length_mapped name_of (provisions t))
 
@@ -262,8 +271,9 @@ module _ (t : TableValue) (sound : IsSound t) (graph : List (List ℕ)) (g : IsM
       let q = element_at (provisions t) l (omega (arith, slice_get_within ranks l x at_l, r.as_many)) in
       let a = r.each k p.0 p.1 in
       let b = r.each l q.0 q.1 in
-      let same : (p.0.name, p.0.file) ≡ (q.0.name, q.0.file) = same_some _ _ (sym a.2 ∙ ap (slice_get pairs) ((one_there a.1 at_k) ∙ sym (one_there b.1 at_l)) ∙ b.2) in
-      sound.names_differ k l p.0 q.0 p.1 q.1 (ap (λ (z : Pair). z.0) same)
+      let same : (p.0.name, p.0.file) ≡ (q.0.name, q.0.file) =
+      one_value (sym a.2 ∙ ap (slice_get pairs) ((one_there a.1 at_k) ∙ sym (one_there b.1 at_l)) ∙ b.2) in
+      sound.names_differ k l p.0 q.0 p.1 q.1 (ap name_in_pair same)
 
   module _ (object : ℕ) (within : object < length t.objects) (nodes : List ℕ) (reach : AreReached (NodeNeeds graph) (length ranks + object) nodes)
       (sorted : List ℕ) (permuted : IsPermutation (filter_map (slice_get ranks) nodes) sorted) (in_order : IsSorted nat_cmp sorted) where
@@ -312,7 +322,8 @@ module _ (t : TableValue) (sound : IsSound t) (graph : List (List ℕ)) (g : IsM
           let a = r.each p.0 p.1 p.2 in
           let rank = contained found a.0 (in_filter_map (slice_get ranks) nodes node.0 p.0 a.0 node.1 a.1) in
           let there = placed sorted a.0 (Contains-permutation found sorted a.0 permuted rank) in
-          contained out (name, file) (there.0, pair_there there.0 a.0 (name, file) there.1 (a.2 ∙ ap (λ n. Some (n, p.1.file)) p.3 ∙ ap (λ f. Some (name, f)) p.4))
+          contained out (name, file)
+          (there.0, pair_there there.0 a.0 (name, file) there.1 (a.2 ∙ ap (λ n. Some (n, p.1.file)) p.3 ∙ ap (λ f. Some (name, f)) p.4))
 
       rising : AllPairs (λ a b. Precedes a.0 b.0) out
       rising i j d lt in_j =
@@ -320,10 +331,13 @@ module _ (t : TableValue) (sound : IsSound t) (graph : List (List ℕ)) (g : IsM
           let y = get_or out j d in
           let s = rank_there i x (slice_get-get_or out i d (omega (arith, lt, in_j))) in
           let u = rank_there j y (slice_get-get_or out j d in_j) in
-          let up = AllPairs-from_increasing sorted (strictly found sorted (all_made (slice_get ranks) one_rank nodes (different nodes reach.once)) permuted in_order) i j 0 lt (slice_get_within sorted j u.0 u.1) in
+          let up = AllPairs-from_increasing sorted
+          (strictly found sorted (all_made (slice_get ranks) one_rank nodes (different nodes reach.once)) permuted in_order) i j 0 lt
+          (slice_get_within sorted j u.0 u.1) in
           let below : s.0 < u.0 = omega (arith, up, get_or_from_slice_get sorted i s.0 0 s.1, get_or_from_slice_get sorted j u.0 0 u.1) in
           let names = r.rising s.0 u.0 d below (slice_get_within pairs u.0 y u.2) in
-          subst (λ (z : Pair). Precedes x.0 z.0) (get_or_from_slice_get pairs u.0 y d u.2) (subst (λ (z : Pair). Precedes z.0 (get_or pairs u.0 d).0) (get_or_from_slice_get pairs s.0 x d s.2) names)
+          subst (λ (z : Pair). Precedes x.0 z.0) (get_or_from_slice_get pairs u.0 y d u.2)
+          (subst (λ (z : Pair). Precedes z.0 (get_or pairs u.0 d).0) (get_or_from_slice_get pairs s.0 x d s.2) names)
 
       needed_pairs : ArePairs (IsNeeded t object) out
       needed_pairs = record {
@@ -336,7 +350,8 @@ module _ (t : TableValue) (sound : IsSound t) (graph : List (List ℕ)) (g : IsM
 abbrev Lent : Type 0
 Lent = Bor (List ℕ) × Bor (List ℕ)
 
-lent_out : (pairs out : List Lent) (ranks : List ℕ) → map (λ (p : Lent). Some p) out ≡ map (slice_get pairs) ranks → map (λ (p : Pair). Some p) (map lent out) ≡ map (slice_get (map lent pairs)) ranks
+lent_out : (pairs out : List Lent) (ranks : List ℕ) → map (λ (p : Lent). Some p) out ≡ map (slice_get pairs) ranks →
+    map (λ (p : Pair). Some p) (map lent out) ≡ map (slice_get (map lent pairs)) ranks
 lent_out pairs [] [] e = refl
 lent_out pairs [] (rank ∷ ranks) e = cc
 lent_out pairs (x ∷ out) [] e = cc
@@ -345,11 +360,15 @@ lent_out pairs (x ∷ out) (rank ∷ ranks) e =
     let rest : map (λ (p : Lent). Some p) out ≡ map (slice_get pairs) ranks = cc in
     ap₂ (λ (p : Option Pair) (ps : List (Option Pair)). p ∷ ps) (sym (to_map lent pairs rank x (sym first))) (lent_out pairs out ranks rest)
 
-module _ (t : TableValue) (sound : IsSound t) (graph : List (List ℕ)) (g : IsModuleGraph t graph) (ranks : List ℕ) (pairs : List Lent) (r : AreRanked (provisions t) ranks (map lent pairs))
+module _ (t : TableValue) (sound : IsSound t) (graph : List (List ℕ)) (g : IsModuleGraph t graph) (ranks : List ℕ) (pairs : List Lent)
+    (r : AreRanked (provisions t) ranks (map lent pairs))
     (object : ℕ) (within : object < length t.objects) (nodes : List ℕ) (reach : AreReached (NodeNeeds graph) (length ranks + object) nodes)
     (sorted : List ℕ) (permuted : IsPermutation (filter_map (slice_get ranks) nodes) sorted) (in_order : IsSorted nat_cmp sorted) where
   pub all_in_range : All (λ rank. rank < length pairs) sorted
-  all_in_range = all_from (λ rank. rank < length pairs) sorted (λ x has. let lt = in_range t sound graph g ranks (map lent pairs) r object within nodes reach sorted permuted in_order x (contained sorted x has) in omega (arith, lt, length_mapped lent pairs))
+  all_in_range = all_from (λ rank. rank < length pairs) sorted
+      (λ x has. let lt = in_range t sound graph g ranks (map lent pairs) r object within nodes reach sorted permuted in_order x (contained sorted x has) in
+      omega (arith, lt, length_mapped lent pairs))
 
   pub needed_lent : (out : List Lent) → map (λ (p : Lent). Some p) out ≡ map (slice_get pairs) sorted → ArePairs (IsNeeded t object) (map lent out)
-  needed_lent out is = needed_pairs t sound graph g ranks (map lent pairs) r object within nodes reach sorted permuted in_order (map lent out) (lent_out pairs out sorted is)
+  needed_lent out is = needed_pairs t sound graph g ranks (map lent pairs) r object within nodes reach sorted permuted in_order (map lent out)
+      (lent_out pairs out sorted is)

@@ -18,7 +18,7 @@ use Rattle.module_table.proofs.Places.{one_file, provision_by, from_numbered, fr
 use Rattle.ninja_text.proofs.ForCallers.{contained, to_map, from_map, in_first, in_second, in_append, offset}
 use Rattle.module_table.proofs.Graph.{one_entry}
 use Rattle.module_table.proofs.Found.{named_found}
-use Rattle.module_table.proofs.Words.{Pair, name_of, bmi_of, target_of, claimed, own_claim_of, own_modules, At, module_claim}
+use Rattle.module_table.proofs.Words.{name_of, bmi_of, target_of, claimed, own_claim_of, own_modules, At, module_claim, with_file}
 use Rattle.ninja_text.specs.Bytes.{Name}
 use Rattle.module_table.proofs.Lists.{same_reads}
 
@@ -40,7 +40,8 @@ module _ (t : TableValue) where
   IsOwnAt k p = (o : ℕ) × (j : ℕ) × (rule : RuleValue) × (At t.objects o rule) × (At rule.provided j (p.name, p.file)) × (At (own_modules t) k p)
 
   abbrev IsInfosAt : ℕ → Provision → Type 0
-  IsInfosAt k p = (i : ℕ) × (j : ℕ) × (m : ModuleValue) × HasModule t.infos i j m × (m.name ≡ p.name) × (m.file ≡ p.file) × (k ≡ length (own_modules t) + (offset info_provisions (enumerate_from 0 t.infos) i + j))
+  IsInfosAt k p = (i : ℕ) × (j : ℕ) × (m : ModuleValue) × HasModule t.infos i j m × (m.name ≡ p.name) × (m.file ≡ p.file) ×
+      (k ≡ length (own_modules t) + (offset info_provisions (enumerate_from 0 t.infos) i + j))
 
   module_at : (k : ℕ) (p : Provision) → At (provisions t) k p → IsOwnAt k p ⊎ IsInfosAt k p
   module_at k p e =
@@ -77,14 +78,15 @@ module _ (objects : List RuleValue) (part infos : List InfoValue) (is : IsEnough
   names_differ i j a b at_i at_j same =
       elim (module_at t i a at_i) [
         | inl own ↦ elim (module_at t j b at_j) [
-          | inl other ↦ sound.names_differ i j a b (in_first (own_modules t) (flat_map info_provisions (enumerate_from 0 part)) i a own.5) (in_first (own_modules t) (flat_map info_provisions (enumerate_from 0 part)) j b other.5) same
+          | inl other ↦ sound.names_differ i j a b (in_first (own_modules t) (flat_map info_provisions (enumerate_from 0 part)) i a own.5)
+              (in_first (own_modules t) (flat_map info_provisions (enumerate_from 0 part)) j b other.5) same
           | inr other ↦ absurd (is.own_apart.names own.0 own.1 other.0 other.1 own.2 a.name a.file other.2 own.3 own.4 other.3 (same ∙ sym other.4))
         ]
         | inr mine ↦ elim (module_at t j b at_j) [
           | inl other ↦ absurd (is.own_apart.names other.0 other.1 mine.0 mine.1 other.2 b.name b.file mine.2 other.3 other.4 mine.3 (sym same ∙ sym mine.4))
           | inr other ↦
-              let place = is.infos_apart mine.0 mine.1 other.0 other.1 mine.2 other.2 mine.3 other.3 (inl (mine.4 ∙ same ∙ sym other.4)) in
-              mine.6 ∙ ap₂ (λ x y. length (own_modules t) + (offset info_provisions (enumerate_from 0 infos) x + y)) place.0 place.1 ∙ sym other.6
+              let index = is.infos_apart mine.0 mine.1 other.0 other.1 mine.2 other.2 mine.3 other.3 (inl (mine.4 ∙ same ∙ sym other.4)) in
+              mine.6 ∙ ap₂ (λ x y. length (own_modules t) + (offset info_provisions (enumerate_from 0 infos) x + y)) index.0 index.1 ∙ sym other.6
         ]
       ]
 
@@ -118,8 +120,14 @@ module _ (objects : List RuleValue) (part infos : List InfoValue) (is : IsEnough
             let p = from_map module_claim (provisions t) h.0 c h.2 in
             elim (module_at t h.0 p.0 p.1) [
               | inl own ↦
-                  let there = in_second (own_claims objects) (map module_claim (provisions u)) h.0 (module_claim p.0) (to_map module_claim (provisions u) h.0 p.0 (in_first (own_modules t) (flat_map info_provisions (enumerate_from 0 part)) h.0 p.0 own.5)) in
-                  inl (ap (slice_get (claims u)) h.1 ∙ there ∙ ap Some p.2, inr (own.0, own.1, own.2, p.0.name, own.3, subst (λ (x : Claim). At own.2.provided own.1 (p.0.name, x.file)) p.2 own.4))
+                  let there = in_second (own_claims objects) (map module_claim (provisions u)) h.0 (module_claim p.0)
+                  (to_map module_claim (provisions u) h.0 p.0 (in_first (own_modules t) (flat_map info_provisions (enumerate_from 0 part)) h.0 p.0 own.5))
+                  in
+                  inl (
+                    ap (slice_get (claims u)) h.1 ∙ there ∙
+                        ap Some p.2,
+                    inr (own.0, own.1, own.2, p.0.name, own.3, subst (λ (x : Claim). At own.2.provided own.1 (p.0.name, x.file)) p.2 own.4),
+                  )
               | inr mine ↦ inr (mine.0, mine.1, mine.2, mine.3, mine.5 ∙ ap claimed p.2, omega (arith, h.1, mine.6))
             ]
       ]
@@ -141,8 +149,8 @@ module _ (objects : List RuleValue) (part infos : List InfoValue) (is : IsEnough
         | inr mine ↦ elim (claim_from j b at_j) [
           | inl other ↦ own_file j b other mine.0 mine.1 mine.2 mine.3 (sym collides.0 ∙ sym mine.4)
           | inr other ↦
-              let place = is.infos_apart mine.0 mine.1 other.0 other.1 mine.2 other.2 mine.3 other.3 (inr (mine.4 ∙ collides.0 ∙ sym other.4)) in
-              let same : i ≡ j = mine.5 ∙ ap₂ info_place place.0 place.1 ∙ sym other.5 in
+              let index = is.infos_apart mine.0 mine.1 other.0 other.1 mine.2 other.2 mine.3 other.3 (inr (mine.4 ∙ collides.0 ∙ sym other.4)) in
+              let same : i ≡ j = mine.5 ∙ ap₂ info_place index.0 index.1 ∙ sym other.5 in
               omega (arith, lt, same)
         ]
       ]
@@ -158,9 +166,11 @@ module _ (objects : List RuleValue) (part infos : List InfoValue) (is : IsEnough
   infos_allowed : (i j info : ℕ) (m : ModuleValue) (name file : Name) → InfoRequires t i j m name file → HasPrivate t info name → info ≡ i
   infos_allowed i j info m name file h keeps =
       let c = is.closed i j m name file h.0 h.1 in
-      let place = is.infos_apart c.0 c.1 info keeps.0 c.2 keeps.1 c.3 keeps.2 (inl (c.4 ∙ sym keeps.3)) in
-      let one : c.2 ≡ keeps.1 = one_entry infos info keeps.0 c.2 keeps.1 (subst (λ n. HasModule infos n keeps.0 c.2) place.0 (subst (λ n. HasModule infos c.0 n c.2) place.1 c.3)) keeps.2 in
-      sym place.0 ∙ c.6 (ap (λ (m : ModuleValue). m.is_private) one ∙ keeps.4)
+      let index = is.infos_apart c.0 c.1 info keeps.0 c.2 keeps.1 c.3 keeps.2 (inl (c.4 ∙ sym keeps.3)) in
+      let one : c.2 ≡ keeps.1 =
+      one_entry infos info keeps.0 c.2 keeps.1 (subst (λ n. HasModule infos n keeps.0 c.2) index.0 (subst (λ n. HasModule infos c.0 n c.2) index.1 c.3))
+      keeps.2 in
+      sym index.0 ∙ c.6 (ap (λ (m : ModuleValue). m.is_private) one ∙ keeps.4)
 
   -- an object's module is not one of an info
   not_both : (o j i k : ℕ) (name file : Name) (m : ModuleValue) → Provides t o j name file → HasModule infos i k m → m.name ≡ name → ⊥
@@ -170,8 +180,10 @@ module _ (objects : List RuleValue) (part infos : List InfoValue) (is : IsEnough
   allowed_by o info name file (Object p) needs by keeps = not_both p by.0 info keeps.0 name file keeps.1 by.1 keeps.2 keeps.3
   allowed_by o info name file (Info i) needs by keeps =
       let w = is.is_part.modules i by.0 by.1 by.2 in
-      let place = is.infos_apart i w.0 info keeps.0 w.1 keeps.1 w.2 keeps.2 (inl (sym w.3.name ∙ by.3 ∙ sym keeps.3)) in
-      let one : w.1 ≡ keeps.1 = one_entry infos info keeps.0 w.1 keeps.1 (subst (λ n. HasModule infos n keeps.0 w.1) place.0 (subst (λ n. HasModule infos i n w.1) place.1 w.2)) keeps.2 in
+      let index = is.infos_apart i w.0 info keeps.0 w.1 keeps.1 w.2 keeps.2 (inl (sym w.3.name ∙ by.3 ∙ sym keeps.3)) in
+      let one : w.1 ≡ keeps.1 =
+      one_entry infos info keeps.0 w.1 keeps.1 (subst (λ n. HasModule infos n keeps.0 w.1) index.0 (subst (λ n. HasModule infos i n w.1) index.1 w.2))
+      keeps.2 in
       sound.objects_allowed o i name needs (by.0, by.1, by.2, by.3, w.3.is_private ∙ ap (λ (m : ModuleValue). m.is_private) one ∙ keeps.4)
 
   objects_allowed : (o info : ℕ) (name : Name) → Requires t o name → HasPrivate t info name → ⊥
@@ -193,18 +205,22 @@ module _ (objects : List RuleValue) (part infos : List InfoValue) (is : IsEnough
 
   -- ---- what objects require
 
-  same_pair : (o : ℕ) (rule : RuleValue) (name : Name) → At objects o rule → Contains rule.required name → pair_of (provisions u) name ≡ pair_of (provisions t) name
+  same_pair : (o : ℕ) (rule : RuleValue) (name : Name) → At objects o rule → Contains rule.required name →
+      pair_of (provisions u) name ≡ pair_of (provisions t) name
   same_pair o rule name at has =
       let k = sound.known o name (rule, at, has) in
-      ap (option_map (λ (file : Name). let p : Pair = (name, file) in p)) (file_found u sound name k.0 k.1 ∙ sym (file_found t whole name k.0 (provided name k.0 k.1)))
+      ap (option_map (with_file name))
+      (file_found u sound name k.0 k.1 ∙ sym (file_found t whole name k.0 (provided name k.0 k.1)))
 
   same_required : (o : ℕ) (rule : RuleValue) → At objects o rule → required_of u rule ≡ required_of t rule
   unfolding required_of
   same_required o rule at =
-      filter_map_on (pair_of (provisions u)) (pair_of (provisions t)) (first_mentions rule.required) (λ k name here. same_pair o rule name at (contained rule.required name (from_mentions rule.required name (k, here))))
+      filter_map_on (pair_of (provisions u)) (pair_of (provisions t)) (first_mentions rule.required)
+      (λ k name here. same_pair o rule name at (contained rule.required name (from_mentions rule.required name (k, here))))
 
   same_tasks : tasks_of u ≡ tasks_of t
-  same_tasks = map_on (λ (rule : RuleValue). (rule, required_of u rule)) (λ (rule : RuleValue). (rule, required_of t rule)) objects (λ o rule at. ap (λ pairs. (rule, pairs)) (same_required o rule at))
+  same_tasks = map_on (λ (rule : RuleValue). (rule, required_of u rule)) (λ (rule : RuleValue). (rule, required_of t rule)) objects
+      (λ o rule at. ap (λ pairs. (rule, pairs)) (same_required o rule at))
 
   -- ---- what objects need
 
@@ -223,15 +239,17 @@ module _ (objects : List RuleValue) (part infos : List InfoValue) (is : IsEnough
     step_down first second file (Object p) by (inr h) = absurd (not_both p by.0 h.0 h.1 first file h.2 by.1 h.5.0 h.4)
     step_down first second file (Info i) by (inr h) =
         let k = keeps i by.0 by.1 by.2 in
-        let place = is.infos_apart i k.0 h.0 h.1 by.1 h.2 k.1 h.5.0 (inl (by.3 ∙ sym h.4)) in
-        let one : by.1 ≡ h.2 = one_entry infos h.0 h.1 by.1 h.2 (subst (λ n. HasModule infos n h.1 by.1) place.0 (subst (λ n. HasModule infos i n by.1) place.1 k.1)) h.5.0 in
+        let index = is.infos_apart i k.0 h.0 h.1 by.1 h.2 k.1 h.5.0 (inl (by.3 ∙ sym h.4)) in
+        let one : by.1 ≡ h.2 =
+        one_entry infos h.0 h.1 by.1 h.2 (subst (λ n. HasModule infos n h.1 by.1) index.0 (subst (λ n. HasModule infos i n by.1) index.1 k.1)) h.5.0 in
         inr (i, by.0, by.1, h.3, by.3, (by.2, subst (λ (m : ModuleValue). Contains m.required (second, h.3)) (sym one) h.5.1))
 
     next_provided : (first second : Name) → LeadsTo u first second → (file : Name) × IsProvided u second file
     next_provided first second (inl h) = sound.known h.0 second h.4
     next_provided first second (inr h) = let p = sound.infos_known h.0 h.1 h.2 second h.3 h.5 in (h.3, (Info p.0, p.1))
 
-    down : (names : List Name) (first file last : Name) → IsProvided u first file → Leads t first names last → Leads u first names last × ((f : List ℕ) × IsProvided u last f)
+    down : (names : List Name) (first file last : Name) → IsProvided u first file → Leads t first names last →
+        Leads u first names last × ((f : List ℕ) × IsProvided u last f)
     down [] first file last p h = (h, (file, subst (λ n. IsProvided u n file) h p))
     down (second ∷ names) first file last p h =
         let step = step_down first second file p.0 p.1 h.0 in

@@ -30,11 +30,13 @@ use Rattle.module_table.proofs.Lists.{first_of_rejected, one_there, same_reads}
 
 module _ (t : TableValue) where
   -- the position of the module that an info provides
-  by_info : (name file : Name) → IsInfoProvided t name file → (k : ℕ) × (p : Provision) × IsNamed (provisions t) name k p × (p.file ≡ file) × ((i : ℕ) × (p.maker ≡ Info i))
+  by_info : (name file : Name) → IsInfoProvided t name file →
+      (k : ℕ) × (p : Provision) × IsNamed (provisions t) name k p × (p.file ≡ file) × ((i : ℕ) × (p.maker ≡ Info i))
   by_info name file (i, h) = (_, _, (info_provision t i h.0 h.1 h.2, h.3), h.4, (i, refl))
 
   pub from_info : (name : Name) (k i : ℕ) (p : Provision) → IsNamed (provisions t) name k p → p.maker ≡ Info i → IsInfoProvided t name p.file
-  from_info name k i p named is = (i, subst (λ n. IsProvidedBy t (Info i) n p.file) named.1 (subst (λ m. IsProvidedBy t m p.name p.file) is (from_provisions t k p named.0)))
+  from_info name k i p named is =
+      (i, subst (λ n. IsProvidedBy t (Info i) n p.file) named.1 (subst (λ m. IsProvidedBy t m p.name p.file) is (from_provisions t k p named.0)))
 
   pub unknown_by : (r : InfoRequirement) → IsNotByInfo (provisions t) r → IsInfoUnknown t r
   unknown_by r none file h = let b = by_info r.name file h in none (b.0, b.1, b.4.0, b.2, b.4.1)
@@ -63,19 +65,26 @@ abbrev IsOf : InfoRequirement → (List ℕ → List ℕ → List ℕ → TableF
 IsOf r make fault = fault ≡ make r.target r.module_name r.name
 
 module _ (t : TableValue) (kept : List Name) where
-  pub reports_info_unknown : (index : ℕ) (r : InfoRequirement) (fault : TableFault) → RefusesAt (IsByInfo (provisions t)) (IsNotByInfo (provisions t)) (info_requirements t) index → At (info_requirements t) index r → IsOf r InfoUnknown fault → Reports 6 t kept fault
+  pub reports_info_unknown : (index : ℕ) (r : InfoRequirement) (fault : TableFault) →
+      RefusesAt (IsByInfo (provisions t)) (IsNotByInfo (provisions t)) (info_requirements t) index → At (info_requirements t) index r →
+      IsOf r InfoUnknown fault → Reports 6 t kept fault
   reports_info_unknown index r fault rejected at is =
       let first = first_of_rejected _ _ (IsInfoUnknown t) _ index r at rejected (unknown_by t r) (λ y by unknown. let h = known_by t y by in unknown h.0 h.1) in
       reports_same 6 t kept fault _ is (record { present = (index, r, first, refl, refl, refl); coded = refl })
 
-  pub reports_info_disagrees : (index : ℕ) (r : InfoRequirement) (fault : TableFault) → AllDiffer (names_of (provisions t)) → AcceptsAll (IsByInfo (provisions t)) (info_requirements t) → RefusesAt (Agrees (provisions t)) (Differs (provisions t)) (info_requirements t) index → At (info_requirements t) index r → IsOf r InfoDisagrees fault → Reports 7 t kept fault
+  pub reports_info_disagrees : (index : ℕ) (r : InfoRequirement) (fault : TableFault) → AllDiffer (names_of (provisions t)) →
+      AcceptsAll (IsByInfo (provisions t)) (info_requirements t) → RefusesAt (Agrees (provisions t)) (Differs (provisions t)) (info_requirements t) index →
+      At (info_requirements t) index r → IsOf r InfoDisagrees fault → Reports 7 t kept fault
   reports_info_disagrees index r fault differ known rejected at is =
       let first = first_of_rejected _ _ (Disagrees t) _ index r at rejected (differs_by t differ r (known.each index r at)) (agrees_not t) in
       reports_same 7 t kept fault _ is (record { present = (index, r, first, refl, refl, refl); coded = refl })
 
-  pub reports_private_unknown : (index : ℕ) (name : Name) (fault : TableFault) → RefusesAt (IsByObject (provisions t)) (IsNotByObject (provisions t)) kept index → At kept index name → fault ≡ PrivateUnknown name → Reports 10 t kept fault
+  pub reports_private_unknown : (index : ℕ) (name : Name) (fault : TableFault) →
+      RefusesAt (IsByObject (provisions t)) (IsNotByObject (provisions t)) kept index → At kept index name → fault ≡ PrivateUnknown name →
+      Reports 10 t kept fault
   reports_private_unknown index name fault rejected at is =
-      let first = first_of_rejected _ _ (IsUnprovided t) kept index name at rejected (unprovided_by t name) (λ y by foreign. let h = provided_by t y by in foreign h.0 h.1 h.2 h.3) in
+      let first = first_of_rejected _ _ (IsUnprovided t) kept index name at rejected (unprovided_by t name)
+      (λ y by foreign. let h = provided_by t y by in foreign h.0 h.1 h.2 h.3) in
       reports_same 10 t kept fault _ is (record { present = (index, first); coded = refl })
 
 -- ---- modules that info files keep to themselves
@@ -118,14 +127,17 @@ module _ (t : TableValue) where
       public_not_private name ((all.each object rule at).each has.0 name (slice_get-get_or rule.required has.0 name has.1 ∙ ap Some has.2)) kept
 
 -- a private module is made by an info
-pub info_of_private : (ps : List Provision) → AllDiffer (names_of ps) → ArePrivateByInfos ps → (name : Name) → IsPrivate ps name → (k : ℕ) (q : Provision) → IsNamed ps name k q → (i : ℕ) × (q.maker ≡ Info i) × (q.is_private ≡ true)
+pub info_of_private : (ps : List Provision) → AllDiffer (names_of ps) → ArePrivateByInfos ps → (name : Name) → IsPrivate ps name → (k : ℕ) (q : Provision) →
+    IsNamed ps name k q → (i : ℕ) × (q.maker ≡ Info i) × (q.is_private ≡ true)
 info_of_private ps differ sealed name (l, p, there, private) k q named =
     let same = one_module ps name differ l k p q there named in
     let by = sealed l p there.0 private in
     (by.0, ap maker_of (sym same) ∙ by.1, ap privacy_of (sym same) ∙ private)
 
 module _ (t : TableValue) (kept : List Name) where
-  pub reports_private_object : (object : ℕ) (rule : RuleValue) (index : ℕ) (name : Name) (info : ℕ) (fault : TableFault) → At t.objects object rule → AcceptsAll (RequiresPublic (provisions t)) (take object t.objects) → RefusesAt (IsPublic (provisions t)) (IsPrivate (provisions t)) rule.required index → At rule.required index name → IsPrivateTo (provisions t) name info → fault ≡ ModulePrivate name info (Object object) → Reports 9 t kept fault
+  pub reports_private_object : (object : ℕ) (rule : RuleValue) (index : ℕ) (name : Name) (info : ℕ) (fault : TableFault) → At t.objects object rule →
+      AcceptsAll (RequiresPublic (provisions t)) (take object t.objects) → RefusesAt (IsPublic (provisions t)) (IsPrivate (provisions t)) rule.required index →
+      At rule.required index name → IsPrivateTo (provisions t) name info → fault ≡ ModulePrivate name info (Object object) → Reports 9 t kept fault
   reports_private_object object rule index name info fault at before rejected at_name by same =
       let keeps = private_to t info name by in
       let first : IsFirstRequired (IsPrivateName t) t.objects object name = record {
@@ -140,12 +152,24 @@ module _ (t : TableValue) (kept : List Name) where
       } in
       reports_same 9 t kept fault _ same (record { present = (first, keeps); coded = refl })
 
-  pub reports_private_info : (index : ℕ) (r : InfoRequirement) (info : ℕ) (fault : TableFault) → AllDiffer (names_of (provisions t)) → RefusesAt (IsAllowed (provisions t)) (IsNotAllowed (provisions t)) (info_requirements t) index → At (info_requirements t) index r → IsPrivateTo (provisions t) r.name info → fault ≡ ModulePrivate r.name info (Info r.info) → AcceptsAll (RequiresPublic (provisions t)) t.objects → Reports 9 t kept fault
+  pub reports_private_info : (index : ℕ) (r : InfoRequirement) (info : ℕ) (fault : TableFault) → AllDiffer (names_of (provisions t)) →
+      RefusesAt (IsAllowed (provisions t)) (IsNotAllowed (provisions t)) (info_requirements t) index → At (info_requirements t) index r →
+      IsPrivateTo (provisions t) r.name info → fault ≡ ModulePrivate r.name info (Info r.info) → AcceptsAll (RequiresPublic (provisions t)) t.objects →
+      Reports 9 t kept fault
   reports_private_info index r info fault differ rejected at by same all =
       let keeps = private_to t info r.name by in
-      let elsewhere : IsNotAllowed (provisions t) r → IsPrivateElsewhere t r = λ bad. (info, keeps, λ e. bad.4 (ap maker_of (one_module (provisions t) r.name differ bad.0 by.0 bad.1 by.1 bad.2 by.2) ∙ by.4 ∙ ap Info e)) in
+      let elsewhere : IsNotAllowed (provisions t) r →
+      IsPrivateElsewhere t r = λ bad.
+      (info, keeps, λ e. bad.4 (ap maker_of (one_module (provisions t) r.name differ bad.0 by.0 bad.1 by.1 bad.2 by.2) ∙ by.4 ∙ ap Info e)) in
       let first = first_of_rejected _ _ (IsPrivateElsewhere t) _ index r at rejected elsewhere (allowed_not_private t) in
-      reports_same 9 t kept fault _ same (record { present = (public_rows t all, (index, r, first, refl, refl, keeps, (elsewhere (subst (IsNotAllowed (provisions t)) (one_there rejected.here at) rejected.refused)).2)); coded = refl })
+      reports_same 9 t kept fault _ same
+      (record {
+        present = (
+          public_rows t all,
+          (index, r, first, refl, refl, keeps, (elsewhere (subst (IsNotAllowed (provisions t)) (one_there rejected.here at) rejected.refused)).2),
+        );
+        coded = refl;
+      })
 
 -- ---- what has passed after each check, and which fault is reported by then
 
@@ -167,7 +191,8 @@ module _ (t : TableValue) (kept : List Name) where
   pub reported : (n : ℕ) (fault : TableFault) → Reports n t kept fault → Passed n t kept → IsReported t kept fault
   reported n fault is passed = record { present = is.present; lowest = λ other h. subst (λ m. m ≤ code_number other) (sym is.coded) (passed other h) }
 
-  pub fails : (n : ℕ) (failure : Failure (Box TableFault Global)) → Passed n t kept → ForFault (λ fault. (kept : List Name) → Reports n t kept fault.value) failure → ForFault (λ fault. IsReported t kept fault.value) failure
+  pub fails : (n : ℕ) (failure : Failure (Box TableFault Global)) → Passed n t kept →
+      ForFault (λ fault. (kept : List Name) → Reports n t kept fault.value) failure → ForFault (λ fault. IsReported t kept fault.value) failure
   fails n failure passed h = for_fault _ _ failure (λ fault is. reported n fault.value (is kept) passed) h
 
   -- ---- what each check excludes
@@ -181,7 +206,9 @@ module _ (t : TableValue) (kept : List Name) where
   infos_lack differ fault e h = absurd (omega (arith, e))
 
   names_lack : AllDiffer (names_of (provisions t)) → Lacks 3 t kept
-  names_lack differ (ProvidedTwice name first second) e h = differ.differ h.0 h.1 h.3.name h.4.earlier (to_map name_of (provisions t) h.0 h.2 h.4.x_here ∙ ap Some h.4.alike) (to_map name_of (provisions t) h.1 h.3 h.4.y_here)
+  names_lack differ (ProvidedTwice name first second) e h =
+      differ.differ h.0 h.1 h.3.name h.4.earlier (to_map name_of (provisions t) h.0 h.2 h.4.x_here ∙ ap Some h.4.alike)
+      (to_map name_of (provisions t) h.1 h.3 h.4.y_here)
   names_lack differ fault e h = absurd (omega (arith, e))
 
   files_lack : AllDiffer (map path_of t.objects ++ files_of (provisions t)) → Lacks 4 t kept
@@ -209,7 +236,8 @@ module _ (t : TableValue) (kept : List Name) where
   rings_lack orderable fault e h = absurd (omega (arith, e))
 
   private_lacks : AcceptsAll (RequiresPublic (provisions t)) t.objects → AcceptsAll (IsAllowed (provisions t)) (info_requirements t) → Lacks 9 t kept
-  private_lacks public allowed (ModulePrivate name info (Object object)) e h = public_rows t public object name (h.0.rule, h.0.first_object.here, contained h.0.rule.required name (h.0.index, h.0.first_name.here)) (info, h.1)
+  private_lacks public allowed (ModulePrivate name info (Object object)) e h =
+      public_rows t public object name (h.0.rule, h.0.first_object.here, contained h.0.rule.required name (h.0.index, h.0.first_name.here)) (info, h.1)
   private_lacks public allowed (ModulePrivate name info (Info user)) e h = allowed_not_private t h.1.1 (allowed.each h.1.0 h.1.1 h.1.2.here) h.1.2.holds
   private_lacks public allowed fault e h = absurd (omega (arith, e))
 
@@ -251,14 +279,16 @@ module _ (t : TableValue) (kept : List Name) where
   after_rings : IsOrderable (length t.objects) (DependsOn t) → Passed 8 t kept → Passed 9 t kept
   after_rings orderable passed = next_passed 8 passed (rings_lack orderable)
 
-  pub after_allowed : AcceptsAll (RequiresPublic (provisions t)) t.objects → AcceptsAll (IsAllowed (provisions t)) (info_requirements t) → Passed 9 t kept → Passed 10 t kept
+  pub after_allowed : AcceptsAll (RequiresPublic (provisions t)) t.objects → AcceptsAll (IsAllowed (provisions t)) (info_requirements t) → Passed 9 t kept →
+      Passed 10 t kept
   after_allowed public allowed passed = next_passed 9 passed (private_lacks public allowed)
 
   pub after_kept : AcceptsAll (IsByObject (provisions t)) kept → Passed 10 t kept → Passed 11 t kept
   after_kept own passed = next_passed 10 passed (kept_lack own)
 
   -- what has passed by some of the checks M5 to M9
-  module _ (rows : List (List ℕ)) (indexes : AreIndexes t rows) (by_infos : AcceptsAll (IsByInfo (provisions t)) (info_requirements t)) (before : Passed 5 t kept) where
+  module _ (rows : List (List ℕ)) (indexes : AreIndexes t rows) (by_infos : AcceptsAll (IsByInfo (provisions t)) (info_requirements t))
+      (before : Passed 5 t kept) where
     pub seven_passed : Passed 7 t kept
     seven_passed = after_infos_known by_infos (after_known rows indexes before)
 

@@ -18,6 +18,15 @@ At xs k x = slice_get xs k ≡ Some x
 abbrev pub Pair : Type 0
 Pair = Name × PathText
 
+abbrev pub with_file : Name → PathText → Pair
+with_file name file = (name, file)
+
+abbrev pub name_in_pair : Pair → Name
+name_in_pair pair = pair.0
+
+abbrev pub pair_of_module : Provision → Pair
+pair_of_module p = (p.name, p.file)
+
 abbrev pub name_of : Provision → Name
 name_of p = p.name
 

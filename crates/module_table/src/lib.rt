@@ -33,8 +33,8 @@
 //!   name in a table of names. This is the invariant of `Modules`.
 //! - `checks.rt` makes the checks in the order of the codes and reports the fault of the first that
 //!   fails. `checks/repeated.rt` has M1 to M4, `checks/required.rt` M5 to M8, and
-//!   `checks/privacy.rt` M9 and M10. M8 calls `order` of `dep_order`. `requirements.rt` looks up once
-//!   what the modules of info files require. M6, M7 and M9 use what it finds.
+//!   `checks/privacy.rt` M9 and M10. M8 calls `order` of `dep_order`. `requirements.rt` looks up
+//!   once what the modules of info files require. M6, M7 and M9 use what it finds.
 //! - `keys.rt` makes the key of a table's hash tables.
 //! - `table.rt`: a table has the objects and what each requires with the files ([`Resolved`]).
 //!   Names and paths have numbers, which are their indexes in two hash tables. Names are numbered
@@ -43,15 +43,15 @@
 //!   graph an object needs the modules that it requires, a module of an object needs the object,
 //!   and a module of an info file needs the modules that it requires.
 //! - `needed.rt` lists the modules that each object requires, with their files. [`Needs`] calls
-//!   `Reaching` of `dep_order` in the graph, and sorts what it finds by the ranks of the names, which
-//!   are computed once.
+//!   `Reaching` of `dep_order` in the graph, and sorts what it finds by the ranks of the names,
+//!   which are computed once.
 //!
 //! Other crates cite only one file of the proofs: `proofs/ForCallers.antt` shows that at most one
 //! list has exactly the pairs of a relation.
 //!
-//! The crate uses `document_values` for rules, info files and names, `ninja_text` for paths, `dep_order`
-//! for cycles and for what a module leads to, `indexmap` and `table_keys` for look-ups, and
-//! `thiserror` for its fault.
+//! The crate uses `document_values` for rules, info files and names, `ninja_text` for paths,
+//! `dep_order` for cycles and for what a module leads to, `indexmap` and `table_keys` for look-ups,
+//! and `thiserror` for its fault.
 //!
 //! `must-fail/` has wrong bodies for each public function and for the key of a table, with these
 //! exceptions. Laws have no body.

@@ -25,43 +25,53 @@ returns-in_err-check_infos-clause-fault c =
     let t = table_with c.args.objects.now c.args.infos.now in
     let kept = c.args.kept.now in
     let p = err_from_is_err_and c.from_residual-in_err-check_infos.result c.from_residual-in_err-check_infos.ensures.1 in
-    rw (p.1, p.2) (for_fault _ _ _ (λ fault is. reported t kept 2 fault.value (is t kept refl) (after_objects t kept c.in_ok-check_objects.ensures.differ)) c.in_err-check_infos.ensures.fault)
+    rw (p.1, p.2) (for_fault _ _ _ (λ fault is. reported t kept 2 fault.value (is t kept refl) (after_objects t kept c.in_ok-check_objects.ensures.differ))
+    c.in_err-check_infos.ensures.fault)
 
 pub returns-in_err-modules-clause-fault : goal.returns-in_err-modules-clause-fault
 returns-in_err-modules-clause-fault c =
     let t = table_with c.args.objects.now c.args.infos.now in
     let kept = c.args.kept.now in
     let p = err_from_is_err_and c.from_residual-in_err-modules.result c.from_residual-in_err-modules.ensures.1 in
-    rw (p.1, p.2) (fails t kept 3 _ (after_infos t kept c.in_ok-check_infos.ensures.ok (after_objects t kept c.in_ok-check_objects.ensures.differ)) c.in_err-modules.ensures.fault)
+    rw (p.1, p.2) (fails t kept 3 _ (after_infos t kept c.in_ok-check_infos.ensures.ok (after_objects t kept c.in_ok-check_objects.ensures.differ))
+    c.in_err-modules.ensures.fault)
 
 pub check_files-requires-clause-differ : goal.check_files-requires-clause-differ
 check_files-requires-clause-differ c =
     subst (λ (t : TableValue). AllDiffer (map path_of t.objects)) (sym c.in_ok-modules.ensures.modules) c.in_ok-check_objects.ensures.differ
 
 -- the checks of objects, info files and names have passed for what the modules are
-three_passed : (t u : TableValue) (kept : List Name) → u ≡ t → AllDiffer (map path_of t.objects) → AllDiffer (map (λ info. info.target) t.infos) → AllDiffer (names_of (provisions u)) → Passed 4 u kept
+three_passed : (t u : TableValue) (kept : List Name) → u ≡ t → AllDiffer (map path_of t.objects) → AllDiffer (map (λ info. info.target) t.infos) →
+    AllDiffer (names_of (provisions u)) → Passed 4 u kept
 three_passed t u kept same objects infos names =
     subst (λ v. Passed 4 v kept) (sym same)
     (after_names t kept (subst (λ v. AllDiffer (names_of (provisions v))) same names) (after_infos t kept infos (after_objects t kept objects)))
 
 pub returns-in_err-check_files-clause-fault : goal.returns-in_err-check_files-clause-fault
 returns-in_err-check_files-clause-fault c =
-    let u : TableValue = c.in_ok-modules.modules in
+    let u = c.in_ok-modules.modules in
     let kept = c.args.kept.now in
     let same = c.in_ok-modules.ensures.modules in
     let p = err_from_is_err_and c.from_residual-in_err-check_files.result c.from_residual-in_err-check_files.ensures.1 in
-    rw (p.1, p.2) (for_fault _ _ _ (λ fault is. subst (λ v. IsReported v kept fault.value) same (reported u kept 4 fault.value (is kept) (three_passed (table_with c.args.objects.now c.args.infos.now) u kept same c.in_ok-check_objects.ensures.differ c.in_ok-check_infos.ensures.ok c.in_ok-modules.ensures.differ))) c.in_err-check_files.ensures.fault)
+    rw (p.1, p.2) (for_fault _ _ _
+    (λ fault is. subst (λ v. IsReported v kept fault.value) same
+    (reported u kept 4 fault.value (is kept)
+    (three_passed (table_with c.args.objects.now c.args.infos.now) u kept same c.in_ok-check_objects.ensures.differ c.in_ok-check_infos.ensures.ok
+    c.in_ok-modules.ensures.differ))) c.in_err-check_files.ensures.fault)
 
 pub check_requirements-requires : goal.check_requirements-requires
 check_requirements-requires c =
-    let u : TableValue = c.in_ok-modules.modules in
+    let u = c.in_ok-modules.modules in
     let kept = c.args.kept.now in
-    after_files u kept c.in_ok-check_files.ensures.ok (three_passed (table_with c.args.objects.now c.args.infos.now) u kept c.in_ok-modules.ensures.modules c.in_ok-check_objects.ensures.differ c.in_ok-check_infos.ensures.ok c.in_ok-modules.ensures.differ)
+    after_files u kept c.in_ok-check_files.ensures.ok
+    (three_passed (table_with c.args.objects.now c.args.infos.now) u kept c.in_ok-modules.ensures.modules c.in_ok-check_objects.ensures.differ
+    c.in_ok-check_infos.ensures.ok c.in_ok-modules.ensures.differ)
 
 pub returns-in_err-needs-clause-fault : goal.returns-in_err-needs-clause-fault
 returns-in_err-needs-clause-fault c =
     let p = err_from_is_err_and c.from_residual-in_err-needs.result c.from_residual-in_err-needs.ensures.1 in
-    rw (p.1, p.2) (for_fault _ _ _ (λ fault is. subst (λ t. IsReported t c.args.kept.now fault.value) c.in_ok-modules.ensures.modules is) c.in_err-needs.ensures.fault)
+    rw (p.1, p.2) (for_fault _ _ _ (λ fault is. subst (λ t. IsReported t c.args.kept.now fault.value) c.in_ok-modules.ensures.modules is)
+    c.in_err-needs.ensures.fault)
 
 pub returns-clause-no_fault : goal.returns-clause-no_fault
 returns-clause-no_fault c = λ fault is.
@@ -71,4 +81,5 @@ returns-clause-no_fault c = λ fault is.
 pub returns-clause-index : goal.returns-clause-index
 returns-clause-index c =
     let index = c.in_ok-index.index in
-    subst (λ (t : TableValue). AreLookUps t index.names.keys index.origins.items index.graph (map (λ row. row.items) index.required.items)) c.in_ok-modules.ensures.modules c.in_ok-index.ensures
+    subst (λ (t : TableValue). AreLookUps t index.names.keys index.origins.items index.graph (map (λ row. row.items) index.required.items))
+    c.in_ok-modules.ensures.modules c.in_ok-index.ensures

@@ -7,24 +7,32 @@ use Rattle.module_table.specs.inner.Views.{provision_of, IsAbsent}
 use Rattle.module_table.proofs.IndexRows.{length_mapped}
 use Rattle.module_table.proofs.Found.{named_found, absent_found}
 use Rattle.module_table.proofs.modules.Modules.find.Goals as goal
-use Rattle.ninja_text.proofs.ForCallers.{same_some, to_map}
+use Rattle.ninja_text.proofs.ForCallers.{to_map}
 use Rattle.module_table.proofs.Words.{name_of}
-use Rattle.module_table.proofs.Lists.{same_reads}
+use Rattle.module_table.proofs.Lists.{same_reads, one_value}
 
 pub module_at-requires : goal.module_at-requires
 module_at-requires c =
-    omega (arith, (slice_get_within c.self.inside.names.keys c.in-Some.index c.args.name.now c.in-Some.ensures.found), (ap length c.self.invariant.2 ∙ length_mapped name_of (provisions (table_with c.self.inside.objects.now c.self.inside.infos.now))), (length_mapped provision_of c.as_slice.result.now), (ap length (ap (map provision_of) c.as_slice.ensures.value ∙ c.self.invariant.0)))
+    omega (
+      arith,
+      (slice_get_within c.self.inside.names.keys c.in-Some.index c.args.name.now c.in-Some.ensures.found),
+      (ap length c.self.invariant.2 ∙ length_mapped name_of (provisions (table_with c.self.inside.objects.now c.self.inside.infos.now))),
+      (length_mapped provision_of c.as_slice.result.now),
+      (ap length (ap (map provision_of) c.as_slice.ensures.value ∙ c.self.invariant.0)),
+    )
 
 pub returns-in-Some-clause-module : goal.returns-in-Some-clause-module
 returns-in-Some-clause-module c =
     let ps = provisions (table_with c.self.inside.objects.now c.self.inside.infos.now) in
     let k = c.in-Some.index in
-    let at = same_reads k (sym (ap (map provision_of) c.as_slice.ensures.value ∙ c.self.invariant.0)) ∙ to_map provision_of c.as_slice.result.now k _ c.module_at.ensures in
-    let named_so = same_some _ _ (sym (to_map name_of ps k _ at) ∙ same_reads k (sym c.self.invariant.2) ∙ c.in-Some.ensures.found) in
+    let at = same_reads k (sym (ap (map provision_of) c.as_slice.ensures.value ∙ c.self.invariant.0)) ∙
+    to_map provision_of c.as_slice.result.now k _ c.module_at.ensures in
+    let named_so = one_value (sym (to_map name_of ps k _ at) ∙ same_reads k (sym c.self.invariant.2) ∙ c.in-Some.ensures.found) in
     subst (λ (u : TableValue). Some (provision_of c.module_at.result.now) ≡ found (provisions u) c.args.name.now) c.self.view_is
     (sym (named_found ps c.args.name.now c.self.invariant.3 k _ (at, named_so)))
 
 pub returns-in-None-clause-module : goal.returns-in-None-clause-module
 returns-in-None-clause-module c =
     subst (λ (u : TableValue). None ≡ found (provisions u) c.args.name.now) c.self.view_is
-    (sym (absent_found (provisions (table_with c.self.inside.objects.now c.self.inside.infos.now)) c.args.name.now (subst (λ keys. IsAbsent keys c.args.name.now) c.self.invariant.2 c.in-None.ensures.none)))
+    (sym (absent_found (provisions (table_with c.self.inside.objects.now c.self.inside.infos.now)) c.args.name.now
+    (subst (λ keys. IsAbsent keys c.args.name.now) c.self.invariant.2 c.in-None.ensures.none)))
