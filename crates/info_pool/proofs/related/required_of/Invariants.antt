@@ -5,7 +5,8 @@ use Rattle.info_pool.proofs.PoolLemmas.{Pair, IsSourced}
 use Rattle.info_pool.proofs.related.required_of.Given as goal
 
 abbrev pub invariant-loop-module : goal.invariant-loop-module
-invariant-loop-module l = Below (λ (m : ModuleValue). (pair : Pair) → Has m.required pair → IsSourced l.infos l.info l.sources.items pair) l.info.modules l.module-index
+invariant-loop-module l =
+    Below (λ (m : ModuleValue). (pair : Pair) → Has m.required pair → IsSourced l.infos l.info l.sources.items pair) l.info.modules l.module-index
 
 abbrev pub invariant-loop-pair : goal.invariant-loop-pair
 invariant-loop-pair l = record {

@@ -28,12 +28,13 @@ loop-rule-preserved c =
     let listed = c.args.listed.now in
     let i = c.loop-rule.rule-index in
     let rule = c.rule-item.result in
-    let at = slice_get_read c.args.objects.now _ i rule refl c.loop-rule-test.true c.rule-item.is in
     let Unlinked = IsUnlinked c.args.self.now.linked.now c.args.self.now.stamps.now in
     let Apart : Pair → Type 0 = λ pair. Unlinked (rows_of listed by_name) pair.0 × Unlinked (rows_of listed by_file) pair.1 in
-    below_next (IsApart links.linked.now links.stamps.now listed) c.args.objects.now i rule at c.loop-rule.invariant (record {
+    below_next (IsApart links.linked.now links.stamps.now listed) c.args.objects.now i rule
+    (slice_get_read c.args.objects.now _ i rule refl c.loop-rule-test.true c.rule-item.is) c.loop-rule.invariant (record {
       path = unlinked links.linked.now links.stamps.now (rows_of listed by_file) rule.object _
-          (rw (sym (ap (λ (r : RuleValue). r.object) c.rule.view_is)) c.get.ensures.value) (if_none _ _ (sym c.is_some.ensures ∙ c.if-is_some.false) c.module_of.ensures);
+          (rw (sym (ap (λ (r : RuleValue). r.object) c.rule.view_is)) c.get.ensures.value)
+          (if_none _ _ (sym c.is_some.ensures ∙ c.if-is_some.false) c.module_of.ensures);
       provided =
           let list : c.deref-pair-items.result.now ≡ rule.provided = c.deref-pair-items.ensures.value ∙ ap (λ (r : RuleValue). r.provided) c.rule.view_is in
           subst (λ (pairs : List Pair). (pair : Pair) → Has pairs pair → Apart pair) list

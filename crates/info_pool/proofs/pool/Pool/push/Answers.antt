@@ -35,4 +35,8 @@ invariant_of-result c =
 pub returns : goal.returns
 returns c =
     let added = c.in_ok-push.ensures.items ∙ ap (λ (known : List (Option InfoValue)). known ++ c.if-is_some.push ∷ []) c.self.view_is in
-    elim c.if-is_some.branch [ then-is_some w ↦ inl (added ∙ ap (λ (x : Option InfoValue). c.args.self ++ x ∷ []) w.push-is) | else-is_some w ↦ inr (added ∙ ap (λ (x : Option InfoValue). c.args.self ++ x ∷ []) w.push-is) ]
+    elim c.if-is_some.branch [
+      | then-is_some w ↦ inl (added ∙ ap (λ (x : Option InfoValue). c.args.self ++ x ∷ []) w.push-is)
+      | else-is_some w ↦
+          inr (added ∙ ap (λ (x : Option InfoValue). c.args.self ++ x ∷ []) w.push-is)
+    ]
