@@ -19,7 +19,7 @@ use crate::statements::dyndep_text;
 use crate::table::table_of;
 use document_values::{Name, TargetName};
 use module_maps::MapStyle;
-use module_table::{Table, added_files};
+use module_table::{Table, laws};
 use ninja_text::{Failure, Path};
 use scan_docs::laws::{info_again, target_names};
 use scan_docs::{Setting, lent_info_write};
@@ -125,7 +125,7 @@ pub(crate) fn written_of<M: MapStyle>(
     ensures refused { IfErr result (ForFault (IsTextsRefusal table.now
         (option_map M.written (option_copied style.entry)))) }
 {
-    added_files();
+    laws::added_files_can_be_ordered();
     let text = dyndep_text(alloc, table.resolved())?;
     let maps = maps_of(alloc, table, style)?;
     let info = lent_info(alloc, target.name, target.kept, table)?;
@@ -165,7 +165,7 @@ pub fn collate_dyndep_or_refused(
         (table_with refused.objects.items refused.infos.items))) }
 {
     headline();
-    added_files();
+    laws::added_files_can_be_ordered();
     // The contract is also about the info file, which is not written.
     info_again();
     target_names(target.name);

@@ -10,7 +10,7 @@ ghost use Rattle.collate_core.specs.inner.ReadInfos.{IsReadAs};
 
 use document_values::{Info, Name, Rule, TargetName};
 use indexmap::IndexSet;
-use module_table::{Table, added_files};
+use module_table::{Table, laws};
 use ninja_text::Path;
 use scan_docs::laws::value_of_bytes;
 use scan_docs::{DOCUMENT_LIMIT, LentInfo, LentModule};
@@ -32,7 +32,7 @@ pub(crate) fn info_again(
     ensures { IfOk result (λ info. IfSome info
         (λ info. IsTrue is_read × IsReadAs text.now info)) }
 {
-    added_files();
+    laws::added_files_can_be_ordered();
     value_of_bytes();
     if !is_read {
         return Ok(None);

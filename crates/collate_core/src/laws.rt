@@ -4,7 +4,7 @@ ghost use Rattle.collate_core.specs.BuildLaws.{TargetHasNoRace, ProjectHasNoRace
 ghost use Rattle.collate_core.specs.Laws.{HeadlineHolds, CollatedIsNotRefused, OneRefusal, ProjectIsNotRefused, OneProjectRefusal, ProjectOrders, ProjectNumbered, ProjectEndOrderable, ProjectNeeds, ProjectMaps};
 
 use build_effect::laws::{any_order, files_order, one_effect};
-use module_table::{added_files, one_fault};
+use module_table::laws;
 use scan_docs::laws::{one_answer, value_of_bytes};
 
 /// Whatever a target collates to has the headline.
@@ -12,7 +12,7 @@ pub fn headline()
     ensures { HeadlineHolds }
 {
     one_effect();
-    added_files();
+    laws::added_files_can_be_ordered();
 }
 
 /// The dyndep files of a project may be applied in any order. All objects can be numbered so that
@@ -25,7 +25,7 @@ pub fn project_orders()
 {
     any_order();
     files_order();
-    added_files();
+    laws::added_files_can_be_ordered();
     value_of_bytes();
 }
 
@@ -35,7 +35,7 @@ pub fn project_maps()
     ensures needs { ProjectNeeds }
     ensures maps { ProjectMaps }
 {
-    added_files();
+    laws::added_files_can_be_ordered();
     value_of_bytes();
 }
 
@@ -49,7 +49,7 @@ pub fn one_outcome()
     ensures one_of_project { OneProjectRefusal }
 {
     one_answer();
-    one_fault();
+    laws::one_fault_is_reported();
 }
 
 /// No race: take any order of the edges after the effect in which each edge comes after the edges
@@ -66,7 +66,7 @@ pub fn no_race()
     ensures all_made { ProjectMakesAll }
     ensures order { LeastOrderRuns }
 {
-    added_files();
+    laws::added_files_can_be_ordered();
     project_orders();
 }
 
@@ -78,7 +78,7 @@ pub fn no_false_wait()
     ensures target { TargetHasNoFalseWait }
     ensures project { ProjectHasNoFalseWait }
 {
-    added_files();
+    laws::added_files_can_be_ordered();
     project_orders();
 }
 
@@ -94,7 +94,7 @@ pub fn no_false_rebuild()
     ensures target { TargetHasNoFalseRebuild }
     ensures project { ProjectHasNoFalseRebuild }
 {
-    added_files();
+    laws::added_files_can_be_ordered();
     project_orders();
 }
 
@@ -105,6 +105,6 @@ pub fn no_false_cycle()
     ensures target { TargetHasNoFalseCycle }
     ensures project { ProjectHasNoFalseCycle }
 {
-    added_files();
+    laws::added_files_can_be_ordered();
     project_orders();
 }

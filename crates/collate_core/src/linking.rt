@@ -19,7 +19,7 @@ use crate::projects::ProjectTarget;
 use document_values::{Info, Rule};
 use info_pool::{Pool, Requirements, Scratch};
 use module_maps::MapStyle;
-use module_table::{Table, parts, sound_tables};
+use module_table::{Table, laws};
 use ninja_text::Failure;
 use scan_docs::info_read;
 use std::alloc::{AllocError, Global};
@@ -172,8 +172,8 @@ fn part_collated<M: MapStyle>(
     ensures { IfOk result (λ found. IfSome found
         (CollatesAndReads target.now (option_map M.written (option_copied style.entry)) is_read)) }
 {
-    sound_tables();
-    parts();
+    laws::sound_is_faultless();
+    laws::sound_part_is_enough();
     let Some(out) = unless_faulty(written_of(alloc, target, table, style))? else {
         return Ok(None);
     };

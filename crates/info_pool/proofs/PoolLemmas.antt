@@ -9,26 +9,31 @@ use Rattle.info_pool.specs.declared.rows.ModuleAt.{ModuleAt}
 use Rattle.info_pool.specs.declared.rows.Row.{Row}
 use Rattle.info_pool.specs.declared.rows.Shared.{Shared}
 use Rattle.info_pool.specs.declared.rows.Listed.{Listed}
-use Rattle.info_pool.specs.inner.Pools.{Has, By, by_name, by_file, key_of, Rows, rows_of, module_at, InRow, IsSameRow, IsPut, StillListed, AreListed, Below, IsRowUnlinked, IsUnlinked, IsKnownModule, IsSource, IsRelated, HasSource, HasShared, IsPool, AreIndexes, AreFit, IsFitAt, IsApart, IsCopied, IsPicked, IsPickedOf}
-use Rattle.ninja_text.proofs.ForCallers.{same_some, in_first, in_second, from_push, three_ways, same_cons, to_map, from_map}
-use Rattle.ninja_text.proofs.ForCallers.{placed as index_of}
+use Rattle.info_pool.specs.inner.Pools.{Has, By, by_name, by_file, key_of, Rows, rows_of, module_at, InRow, IsSameRow, IsPut, StillListed, AreListed, Below, IsRowUnlinked, IsUnlinked, IsKnownModule, IsSource, IsRelated, HasSource, HasShared, IsPool, AreIndexes, AreFit, IsFitAt, IsAlone, IsApart, IsCopied, IsPicked, IsPickedOf}
+use Rattle.ninja_text.proofs.ForCallers.{same_some, in_first, in_second, from_push, three_ways, same_cons, to_map, from_map, placed as index_of}
 use Rattle.document_values.specs.Rule.{RuleValue}
 use Rattle.document_values.specs.Parts.{HasModule, IsAlike, IsPartOf, KeepsRequired, InfosApart, OwnApart, AreClosed, IsEnough}
 use Rattle.info_pool.specs.Pool.{AreLinked}
 use Rattle.info_pool.specs.declared.related.Related.{Related}
 
--- ---- a list with another element
+-- x is at index k of the list
+abbrev pub At : {X : Type 0} → List X → ℕ → X → Type 0
+At xs k x = slice_get xs k ≡ Some x
 
-pub has_pushed : {X : Type 0} (xs : List X) (y x : X) → Has xs x → Has (xs ++ y ∷ []) x
-has_pushed xs y x h = (h.0, in_first xs (y ∷ []) h.0 x h.1)
+abbrev pub modules_of : InfoValue → List ModuleValue
+modules_of info = info.modules
 
-pub has_last : {X : Type 0} (xs : List X) (y : X) → Has (xs ++ y ∷ []) y
-has_last xs y = (length xs + 0, in_second xs (y ∷ []) 0 y refl)
+abbrev pub target_of : InfoValue → List ℕ
+target_of info = info.target
+
+-- a name and a file
+abbrev pub Pair : Type 0
+Pair = List ℕ × List ℕ
 
 -- ---- the first few elements of a list
 
-pub each_next : {X : Type 0} (P : ℕ → X → Type 0) (xs : List X) (i : ℕ) (x : X) → slice_get xs i ≡ Some x
-    → ((k : ℕ) (y : X) → k < i → slice_get xs k ≡ Some y → P k y) → P i x → (k : ℕ) (y : X) → k < i + 1 → slice_get xs k ≡ Some y → P k y
+pub each_next : {X : Type 0} (P : ℕ → X → Type 0) (xs : List X) (i : ℕ) (x : X) → At xs i x
+    → ((k : ℕ) (y : X) → k < i → At xs k y → P k y) → P i x → (k : ℕ) (y : X) → k < i + 1 → At xs k y → P k y
 each_next P xs i x at before here k y lt at_k =
     elim (three_ways k i) [
       | inl less ↦ before k y less at_k
@@ -38,11 +43,11 @@ each_next P xs i x at before here k y lt at_k =
       ]
     ]
 
-pub each_all : {X : Type 0} (P : ℕ → X → Type 0) (xs : List X) (i : ℕ) → length xs ≤ i → ((k : ℕ) (y : X) → k < i → slice_get xs k ≡ Some y → P k y)
-    → (k : ℕ) (y : X) → slice_get xs k ≡ Some y → P k y
+pub each_all : {X : Type 0} (P : ℕ → X → Type 0) (xs : List X) (i : ℕ) → length xs ≤ i → ((k : ℕ) (y : X) → k < i → At xs k y → P k y)
+    → (k : ℕ) (y : X) → At xs k y → P k y
 each_all P xs i past before k y at = let within = slice_get_within xs k y at in before k y (omega (arith, within, past)) at
 
-pub below_next : {X : Type 0} (P : X → Type 0) (xs : List X) (i : ℕ) (x : X) → slice_get xs i ≡ Some x → Below P xs i → P x → Below P xs (i + 1)
+pub below_next : {X : Type 0} (P : X → Type 0) (xs : List X) (i : ℕ) (x : X) → At xs i x → Below P xs i → P x → Below P xs (i + 1)
 below_next P xs i x at before here = each_next (λ k. P) xs i x at before here
 
 pub below_map : {X : Type 0} (P Q : X → Type 0) (xs : List X) (i : ℕ) → ((x : X) → P x → Q x) → Below P xs i → Below Q xs i
@@ -60,19 +65,14 @@ pub all_true : {X : Type 0} (P : X → Type 0) (Q : Type 0) (xs : List X) (r : B
 all_true P Q xs true h e = each_within P xs h
 all_true P Q xs false h e = absurd (true≢false (sym e))
 
-pub any_false : {X : Type 0} (P : X → Type 0) (Q : Type 0) (xs : List X) (r : Bool) → MatchBool r Q (AllWithin P xs 0 (length xs)) → r ≡ false → (x : X)
-    → Has xs x → P x
-any_false P Q xs true h e = absurd (true≢false e)
-any_false P Q xs false h e = each_within P xs h
-
-pub all_pushed : {X : Type 0} (P : X → Type 0) (xs new : List X) (y : X) → new ≡ xs ++ y ∷ [] → ((x : X) → Has xs x → P x) → P y → (x : X) → Has new x → P x
+all_pushed : {X : Type 0} (P : X → Type 0) (xs new : List X) (y : X) → new ≡ xs ++ y ∷ [] → ((x : X) → Has xs x → P x) → P y → (x : X) → Has new x → P x
 all_pushed P xs new y pushed before here x h =
     elim (from_push xs y h.0 x (ap (λ ys. slice_get ys h.0) (sym pushed) ∙ h.1)) [ inl old ↦ before x (h.0, old) | inr last ↦ subst P last.1 here ]
 
 -- the element at an index is equal to b
 pub same_at : {X : Type 0} (eq : X → X → Bool) → ((x y : X) → eq x y ≡ true → x ≡ y) → (xs : List X) (i : ℕ) (r : Option (Bor X)) (b : Bor X)
     → MatchOption r (length xs ≤ i) (λ x. (i < length xs) × HoldsAt (λ y. x.now ≡ y) xs i) → option_eq (λ x y. eq x.now y.now) r (Some b) ≡ true
-    → slice_get xs i ≡ Some b.now
+    → At xs i b.now
 same_at eq means xs i None b at e = absurd (true≢false (sym e))
 same_at eq means xs i (Some x) b at e = slice_get_read xs _ i x.now refl at.0 (at.1 x.now) ∙ ap Some (means x.now b.now e)
 
@@ -93,15 +93,24 @@ some_weaker P Q weaker (Some x) h = weaker x h
 -- ---- what is read and what is pushed
 
 pub has_grown : {X : Type 0} (xs new : List X) (y x : X) → new ≡ xs ++ y ∷ [] → Has xs x → Has new x
-has_grown xs new y x pushed h = subst (λ ys. Has ys x) (sym pushed) (has_pushed xs y x h)
+has_grown xs new y x pushed h = (h.0, ap (λ ys. slice_get ys h.0) pushed ∙ in_first xs (y ∷ []) h.0 x h.1)
 
 pub has_new : {X : Type 0} (xs new : List X) (y : X) → new ≡ xs ++ y ∷ [] → Has new y
-has_new xs new y pushed = subst (λ ys. Has ys y) (sym pushed) (has_last xs y)
+has_new xs new y pushed = (length xs + 0, ap (λ ys. slice_get ys (length xs + 0)) pushed ∙ in_second xs (y ∷ []) 0 y refl)
 
-pub last_at : {X : Type 0} (xs : List X) (y : X) (n : ℕ) → n ≡ length xs → slice_get (xs ++ y ∷ []) n ≡ Some y
+pub last_at : {X : Type 0} (xs : List X) (y : X) (n : ℕ) → n ≡ length xs → At (xs ++ y ∷ []) n y
 last_at xs y n same = let at : n ≡ length xs + 0 = omega (arith, same) in ap (slice_get (xs ++ y ∷ [])) at ∙ in_second xs (y ∷ []) 0 y refl
 
 -- ---- rows
+
+abbrev pub first_of : Row → ModuleAt
+first_of row = row.first
+
+abbrev pub number_of : Row → Option ℕ
+number_of row = row.number
+
+abbrev info_at : ModuleAt → ℕ
+info_at m = m.info
 
 pub same_row : (r : Row) → IsSameRow r r
 same_row r = (refl, λ x h. h)
@@ -110,7 +119,7 @@ pub row_of_row : (a b c : Row) → IsSameRow a b → IsSameRow b c → IsSameRow
 row_of_row a b c h k = (k.0 ∙ h.0, λ x e. k.1 x (h.1 x e))
 
 -- a module stays listed in a row that stays, by all that its info shares
-pub in_row_still : (P Q : Shared → Type 0) (old new : Option Row) (at : ModuleAt) → ((s : Shared) → P s → Q s)
+in_row_still : (P Q : Shared → Type 0) (old new : Option Row) (at : ModuleAt) → ((s : Shared) → P s → Q s)
     → ((r : Row) → old ≡ Some r → (row : Row) × (new ≡ Some row) × IsSameRow r row) → InRow P old at → InRow Q new at
 in_row_still P Q old new at more kept h =
     let k = kept h.0 h.1 in (
@@ -118,7 +127,7 @@ in_row_still P Q old new at more kept h =
       k.1,
       elim h.2 [
         | inl first ↦ inl (k.2.0 ∙ first)
-        | inr shared ↦ inr (shared.0, more shared.0 shared.1, k.2.1 shared.0.number shared.2, shared.3, shared.4 ∙ ap (λ (m : ModuleAt). m.info) (sym k.2.0))
+        | inr shared ↦ inr (shared.0, more shared.0 shared.1, k.2.1 shared.0.number shared.2, shared.3, shared.4 ∙ ap info_at (sym k.2.0))
       ],
     )
 
@@ -136,7 +145,7 @@ module _ (old new : Rows) (key : List ℕ) (at : ModuleAt) (shared : List Shared
   pub row_kept : (q : List ℕ) (r : Row) → old q ≡ Some r → (row : Row) × (new q ≡ Some row) × IsSameRow r row
   row_kept q r h = elim (cases q) [ inl same ↦ (put.row, there q same, put.kept r (ap old (sym same) ∙ h)) | inr other ↦ (r, other ∙ h, same_row r) ]
 
-  pub now_in_row : (q : List ℕ) → q ≡ key → InRow (Has shared) (new q) at
+  now_in_row : (q : List ℕ) → q ≡ key → InRow (Has shared) (new q) at
   now_in_row q same = subst (λ o. InRow (Has shared) o at) (sym (there q same)) put.listed
 
   -- one more module of the info is listed
@@ -175,42 +184,43 @@ unlinked linked stamps rows key (Some r) same all row e = subst (IsRowUnlinked l
 
 -- ---- what is looked at
 
-pub all_fit : (linked : List ℕ) (related : List (Option Related)) (stamps : List ModuleAt) → ((n : ℕ) → Has linked n → IsFitAt linked related stamps n)
-    → AreFit linked related stamps
-all_fit linked related stamps fit = record {
-  closed = λ n k h source. let f = fit n h in f.2 k (subst (λ (r : Related). Has r.sources.items k)
-      (same_some _ _ (same_some _ _ (sym source.1 ∙ f.1))) source.2);
-  first = λ n s h shared. let f = fit n h in (f.3 s (subst (λ (r : Related). Has r.shared.items s)
-      (same_some _ _ (same_some _ _ (sym shared.1 ∙ f.1))) shared.2)).0;
-  stamped = λ n s h shared. let f = fit n h in (f.3 s (subst (λ (r : Related). Has r.shared.items s)
-      (same_some _ _ (same_some _ _ (sym shared.1 ∙ f.1))) shared.2)).1;
-}
+module _ (linked : List ℕ) (related : List (Option Related)) (stamps : List ModuleAt) (fit : (n : ℕ) → Has linked n → IsFitAt linked related stamps n) where
+  alone : (n : ℕ) (s : Shared) → Has linked n → HasShared related n s → IsAlone linked stamps n s
+  alone n s h (r, at, shared) = let f = fit n h in let same : r ≡ f.0 = cc in f.3 s (subst (λ (r : Related). Has r.shared.items s) same shared)
 
-pub known_there : (known : List (Option InfoValue)) (n : ℕ) (value : InfoValue) → get_or known n None ≡ Some value → slice_get known n ≡ Some (Some value)
+  pub all_fit : AreFit linked related stamps
+  all_fit = record {
+    closed = λ n k h source. let f = fit n h in let same : source.0 ≡ f.0 = same_some _ _ (same_some _ _ (sym source.1 ∙ f.1)) in
+        f.2 k (subst (λ (r : Related). Has r.sources.items k) same source.2);
+    first = λ n s h shared. (alone n s h shared).0;
+    stamped = λ n s h shared. (alone n s h shared).1;
+  }
+
+pub known_there : (known : List (Option InfoValue)) (n : ℕ) (value : InfoValue) → get_or known n None ≡ Some value → At known n (Some value)
 known_there [] n value e = cc
 known_there (x ∷ xs) zero value e = ap Some e
 known_there (x ∷ xs) (suc n) value e = known_there xs n value e
 
 module _ (known : List (Option InfoValue)) (linked : List ℕ) (infos : List InfoValue) (are : AreLinked known linked infos) where
   -- a module of the info files is one that is known
-  known_at : (i j : ℕ) (m : ModuleValue) → HasModule infos i j m → (n : ℕ) × (slice_get linked i ≡ Some n) × IsKnownModule known n j m
+  known_at : (i j : ℕ) (m : ModuleValue) → HasModule infos i j m → (n : ℕ) × (At linked i n) × IsKnownModule known n j m
   known_at i j m has =
-      let at = ap (λ xs. slice_get xs i) (sym are) ∙ to_map (λ (info : InfoValue). Some info) infos i has.0 has.1 in
+      let at = ap (λ xs. slice_get xs i) (sym are) ∙ to_map Some infos i has.0 has.1 in
       let n = from_map (λ k. get_or known k None) linked i (Some has.0) at in
       (n.0, n.1, (has.0, known_there known n.0 has.0 n.2, has.2))
 
   -- and a module that is known of a linked info is one of the info files
-  linked_at : (i n j : ℕ) (m : ModuleValue) → slice_get linked i ≡ Some n → IsKnownModule known n j m → HasModule infos i j m
+  linked_at : (i n j : ℕ) (m : ModuleValue) → At linked i n → IsKnownModule known n j m → HasModule infos i j m
   linked_at i n j m here has =
-      let value : get_or known n None ≡ Some has.0 = get_or_from_slice_get known n (Some has.0) None has.1 in
-      let at = ap (λ xs. slice_get xs i) are ∙ to_map (λ k. get_or known k None) linked i n here ∙ ap Some value in
-      let info = from_map (λ (info : InfoValue). Some info) infos i (Some has.0) at in
+      let at = ap (λ xs. slice_get xs i) are ∙ to_map (λ k. get_or known k None) linked i n here ∙
+      ap Some (get_or_from_slice_get known n (Some has.0) None has.1) in
+      let info = from_map Some infos i (Some has.0) at in
       (info.0, info.1, ap (λ (v : InfoValue). slice_get v.modules j) (same_some _ _ info.2) ∙ has.2)
 
   module _ (listed : Listed) (related : List (Option Related)) (pool : IsPool known listed related) (indexes : List ℕ) (at : AreIndexes linked indexes)
       (stamps : List ModuleAt) (fit : AreFit linked related stamps) where
     -- no info is linked twice
-    once : (i k n : ℕ) → slice_get linked i ≡ Some n → slice_get linked k ≡ Some n → i ≡ k
+    once : (i k n : ℕ) → At linked i n → At linked k n → i ≡ k
     once i k n a b = same_some _ _ (sym (at i n a) ∙ at k n b)
 
     -- two linked modules in one row are one
@@ -221,15 +231,15 @@ module _ (known : List (Option InfoValue)) (linked : List ℕ) (infos : List Inf
         let row : a.0 ≡ b.0 = same_some _ _ (sym a.1 ∙ b.1) in
         elim a.2 [
           | inl first_a ↦ elim b.2 [
-            | inl first_b ↦ sym first_a ∙ ap (λ (r : Row). r.first) row ∙ first_b
-            | inr s ↦ absurd (fit.first p s.0 has_p s.1 (subst (Has linked) (ap (λ (m : ModuleAt). m.info) (sym first_a ∙ ap (λ (r : Row). r.first) row)
+            | inl first_b ↦ sym first_a ∙ ap first_of row ∙ first_b
+            | inr s ↦ absurd (fit.first p s.0 has_p s.1 (subst (Has linked) (ap info_at (sym first_a ∙ ap first_of row)
                 ∙ sym s.4) has_n))
           ]
           | inr s ↦ elim b.2 [
             | inl first_b ↦ absurd (fit.first n s.0 has_n s.1
-                (subst (Has linked) (ap (λ (m : ModuleAt). m.info) (sym first_b ∙ ap (λ (r : Row). r.first) (sym row)) ∙ sym s.4) has_p))
+                (subst (Has linked) (ap info_at (sym first_b ∙ ap first_of (sym row)) ∙ sym s.4) has_p))
             | inr t ↦
-                let number : s.0.number ≡ t.0.number = same_some _ _ (sym s.2 ∙ ap (λ (r : Row). r.number) row ∙ t.2) in
+                let number : s.0.number ≡ t.0.number = same_some _ _ (sym s.2 ∙ ap number_of row ∙ t.2) in
                 ap (module_at n) (sym s.3) ∙ same_some _ _ (sym (fit.stamped n s.0 has_n s.1) ∙ ap (slice_get stamps) number ∙ fit.stamped p t.0 has_p t.1)
                 ∙ ap (module_at p) t.3
           ]
@@ -263,7 +273,7 @@ module _ (known : List (Option InfoValue)) (linked : List ℕ) (infos : List Inf
         )
 
     -- a linked module is not in a row of which nothing is linked
-    none_in_row : (rows : Rows) (key : List ℕ) (i n j : ℕ) → slice_get linked i ≡ Some n → IsUnlinked linked stamps rows key
+    none_in_row : (rows : Rows) (key : List ℕ) (i n j : ℕ) → At linked i n → IsUnlinked linked stamps rows key
         → InRow (HasShared related n) (rows key) (module_at n j) → ⊥
     none_in_row rows key i n j linked_n none h =
         let row = none h.0 h.1 in
@@ -272,20 +282,18 @@ module _ (known : List (Option InfoValue)) (linked : List ℕ) (infos : List Inf
           | inr s ↦ row.stamped s.0.number (module_at n s.0.module) s.2 (fit.stamped n s.0 (i, linked_n) s.1) (i, linked_n)
         ]
 
-    module _ (objects : List RuleValue) (rules : (o : ℕ) (rule : RuleValue) → slice_get objects o ≡ Some rule → IsApart linked stamps listed rule) where
+    -- so a key of an object is that of no linked module
+    key_apart : (by : By) (key : List ℕ) (i k : ℕ) (m : ModuleValue) → HasModule infos i k m → IsUnlinked linked stamps (rows_of listed by) key →
+        key ≡ key_of by m → ⊥
+    key_apart by key i k m has none same = let x = known_at i k m has in
+        none_in_row (rows_of listed by) key i x.0 k x.1 none (rw same (pool.are_listed by x.0 k m x.2))
+
+    module _ (objects : List RuleValue) (rules : (o : ℕ) (rule : RuleValue) → At objects o rule → IsApart linked stamps listed rule) where
       own_apart : OwnApart objects infos
       own_apart = record {
-        names = λ o j i k rule name file m here provides has same.
-            let x = known_at i k m has in
-            none_in_row (rows_of listed by_name) name i x.0 k x.1 ((rules o rule here).provided (name, file) (j, provides)).0
-            (rw same (pool.are_listed by_name x.0 k m x.2));
-        files = λ o j i k rule name file m here provides has same.
-            let x = known_at i k m has in
-            none_in_row (rows_of listed by_file) file i x.0 k x.1 ((rules o rule here).provided (name, file) (j, provides)).1
-            (rw same (pool.are_listed by_file x.0 k m x.2));
-        paths = λ o i k rule m here has same.
-            let x = known_at i k m has in
-            none_in_row (rows_of listed by_file) rule.object i x.0 k x.1 (rules o rule here).path (rw same (pool.are_listed by_file x.0 k m x.2));
+        names = λ o j i k rule name file m here provides has. key_apart by_name name i k m has ((rules o rule here).provided (name, file) (j, provides)).0;
+        files = λ o j i k rule name file m here provides has. key_apart by_file file i k m has ((rules o rule here).provided (name, file) (j, provides)).1;
+        paths = λ o i k rule m here has. key_apart by_file rule.object i k m has (rules o rule here).path;
       }
 
       -- the part that was copied is enough
@@ -302,8 +310,8 @@ zip_pushed R (a ∷ xs) [] x y h here = absurd h
 zip_pushed R (a ∷ xs) (b ∷ ys) x y h here = (h.0, zip_pushed R xs ys x y h.1 here)
 
 -- the pair at an index, and what holds of each pair once the second of this pair is another
-pub zip_at : {X Y : Type 0} (R : X → Y → Type 0) (xs : List X) (ys : List Y) (i : ℕ) (x : X) → AllZip R xs ys → slice_get xs i ≡ Some x
-    → (y : Y) × (slice_get ys i ≡ Some y) × R x y × ((z : Y) → R x z → AllZip R xs (slice_set ys i z))
+pub zip_at : {X Y : Type 0} (R : X → Y → Type 0) (xs : List X) (ys : List Y) (i : ℕ) (x : X) → AllZip R xs ys → At xs i x
+    → (y : Y) × (At ys i y) × R x y × ((z : Y) → R x z → AllZip R xs (slice_set ys i z))
 zip_at R [] ys i x h at = let none = at in cc
 zip_at R (a ∷ xs) [] i x h at = absurd h
 zip_at R (a ∷ xs) (b ∷ ys) zero x h at = let same = same_some _ _ at in
@@ -330,14 +338,13 @@ module _ (keeps : Type 0) where
 
   one_copied : (info p : InfoValue) (infos part : List InfoValue) → IsPicked keeps info p → AreCopied part infos → AreCopied (p ∷ part) (info ∷ infos)
   one_copied info p infos part picked others zero j m has =
-      let same : has.0 ≡ p = same_some _ _ (sym has.1) in
-      let copy = picked.1 m (j, ap (λ (v : InfoValue). slice_get v.modules j) (sym same) ∙ has.2) in
+      let copy = picked.1 m (j, ap (λ (v : InfoValue). slice_get v.modules j) (sym (same_some _ _ (sym has.1))) ∙ has.2) in
       (copy.0, copy.1, (info, refl, copy.2), copy.3, copy.4)
   one_copied info p infos part picked others (suc i) j m has = others i j m has
 
   all_copied : (known : List (Option InfoValue)) (linked : List ℕ) (part : List InfoValue) → AllZip (IsPickedOf keeps known) linked part
       → (infos : List InfoValue) × AreLinked known linked infos ×
-      (map (λ (info : InfoValue). info.target) part ≡ map (λ (info : InfoValue). info.target) infos) × AreCopied part infos
+      (map target_of part ≡ map target_of infos) × AreCopied part infos
   all_copied known [] [] h = ([], refl, refl, λ i j m has. let none = has.1 in cc)
   all_copied known [] (p ∷ part) h = absurd h
   all_copied known (n ∷ linked) [] h = absurd h
@@ -357,14 +364,18 @@ module _ (keeps : Type 0) where
 
 -- ---- how info files are related
 
-pub is_source : (known : List (Option InfoValue)) (i k l : ℕ) (m : ModuleValue) (pair : List ℕ × List ℕ) → IsKnownModule known k l m
+-- these info files have what a module of the info file that is added requires
+abbrev pub IsSourced : List (Option InfoValue) → InfoValue → List ℕ → Pair → Type 0
+IsSourced infos info sources pair = (k : ℕ) × Has sources k × IsSource (infos ++ Some info ∷ []) (length infos) pair k
+
+pub is_source : (known : List (Option InfoValue)) (i k l : ℕ) (m : ModuleValue) (pair : Pair) → IsKnownModule known k l m
     → bytes_eq m.name pair.0 ≡ true → bytes_eq m.file pair.1 ≡ true → (m.is_private ≡ true → k ≡ i) → IsSource known i pair k
 is_source known i k l m pair has name file private = (l, m, has, (bytes_decides m.name pair.0).0 name, (bytes_decides m.file pair.1).0 file, private)
 
 -- ---- a pool that grows by one
 
 from_grown : (known : List (Option InfoValue)) (x : Option InfoValue) (i j : ℕ) (m : ModuleValue) → IsKnownModule (known ++ x ∷ []) i j m
-    → IsKnownModule known i j m ⊎ ((i ≡ length known) × ((value : InfoValue) × (x ≡ Some value) × (slice_get value.modules j ≡ Some m)))
+    → IsKnownModule known i j m ⊎ ((i ≡ length known) × ((value : InfoValue) × (x ≡ Some value) × (At value.modules j m)))
 from_grown known x i j m has = elim (from_push known x i (Some has.0) has.1)
     [ inl old ↦ inl (has.0, old, has.2) | inr last ↦ inr (last.0, (has.0, last.1, has.2)) ]
 
@@ -383,7 +394,7 @@ module _ (known : List (Option InfoValue)) (listed new : Listed) (related : List
   shared_kept : (i : ℕ) (s : Shared) → HasShared related i s → HasShared all_related i s
   shared_kept i s h = (h.0, in_first related (r ∷ []) i (Some h.0) h.1, h.2)
 
-  relation_at : (i : ℕ) (s : Related) → i ≡ length known → r ≡ Some s → slice_get all_related i ≡ Some (Some s)
+  relation_at : (i : ℕ) (s : Related) → i ≡ length known → r ≡ Some s → At all_related i (Some s)
   relation_at i s same e = let many = pool.many in last_at related r i (omega (arith, same, many)) ∙ ap Some e
 
   now_listed : (by : By) (i j : ℕ) (m : ModuleValue) → IsKnownModule all_known i j m
@@ -393,13 +404,12 @@ module _ (known : List (Option InfoValue)) (listed new : Listed) (related : List
         (pool.are_listed by i j m old)
     | inr own ↦
         let s = is own.1.0 own.1.1 in
-        let here = s.2.are_listed by j m own.1.2 in
         in_row_still (Has s.0.shared.items) (HasShared all_related i) _ _ (module_at i j) (λ t h. (s.0, relation_at i s.0 own.0 s.1, h))
         (λ row e. (row, e, same_row row))
-        (subst (λ n. InRow (Has s.0.shared.items) (rows_of new by (key_of by m)) (module_at n j)) (sym own.0) here)
+        (subst (λ n. InRow (Has s.0.shared.items) (rows_of new by (key_of by m)) (module_at n j)) (sym own.0) (s.2.are_listed by j m own.1.2))
   ]
 
-  sources : (i j : ℕ) (m : ModuleValue) (pair : List ℕ × List ℕ) → IsKnownModule all_known i j m → Has m.required pair
+  sources : (i j : ℕ) (m : ModuleValue) (pair : Pair) → IsKnownModule all_known i j m → Has m.required pair
       → (k : ℕ) × HasSource all_related i k × IsSource all_known i pair k
   sources i j m pair has needs =
       elim (from_grown known x i j m has) [

@@ -1,3 +1,4 @@
 pub mod Indexes
 pub mod Pool
+pub mod Scratch
 pub mod inner

@@ -14,8 +14,8 @@
 //! linked modules is enough (`links.rt`). Then the pool picks the part (`picking.rt`) and copies it
 //! (`copies.rt`).
 //!
-//! `must-fail/` has a wrong body for each public function with these exceptions. [`Pool::new`] and
-//! [`Scratch::new`] return empty values, and [`Pool::key`] a value that no clause mentions.
+//! `must-fail/` has a wrong body for each public function with these exceptions: [`Pool::new`] and
+//! [`Scratch::new`] return empty values.
 #![tactic(auto)]
 
 mod copies;

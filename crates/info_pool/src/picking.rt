@@ -1,6 +1,9 @@
 //! Picks the linked modules that a target's table needs. Nothing is proved of the choice: if a part
 //! lacks a module, its table has an error, and the table of all linked modules is built instead.
 
+ghost use Rattle.std.specs.Prelude.{◌≡◌, []};
+ghost use Rattle.info_pool.specs.Scratch.{IsUnused};
+
 use crate::links::Links;
 use crate::related::Related;
 use crate::rows::{Listed, ModuleAt};
@@ -23,7 +26,9 @@ pub struct Scratch {
 
 impl Scratch {
     /// Returns an empty scratch.
-    pub fn new(alloc: Global) -> Scratch {
+    pub fn new(alloc: Global) -> Scratch
+        ensures { IsUnused result }
+    {
         Scratch {
             indexes: Vec::new(alloc),
             stamps: Vec::new(alloc),
@@ -42,7 +47,10 @@ pub(crate) struct Picked {
 
 impl Picked {
     /// Returns no modules.
-    fn new(alloc: Global) -> Picked {
+    fn new(alloc: Global) -> Picked
+        ensures modules { result.modules.items ≡ [] }
+        ensures indexes { result.indexes.items ≡ [] }
+    {
         Picked {
             modules: Vec::new(alloc),
             indexes: Vec::new(alloc),

@@ -27,7 +27,6 @@ pub struct Pool {
     listed: Listed,
     /// The relations of each known info file to those before it.
     related: Vec<Option<Related>>,
-    key: TableKey,
 }
 
 // Not derived, because the prover expands a derived `Drop` at every return.
@@ -37,7 +36,6 @@ impl Drop for Pool {
             infos: _,
             listed: _,
             related: _,
-            key: _,
         } = self;
     }
 }
@@ -63,7 +61,6 @@ impl Pool {
             infos: Vec::new(alloc),
             listed: Listed::new(alloc, key),
             related: Vec::new(alloc),
-            key,
         }
     }
 
@@ -76,7 +73,6 @@ impl Pool {
             mut infos,
             mut listed,
             mut related,
-            key,
         } = self;
         let relations = match &info {
             Some(info) => Related::of(alloc, &infos, info, &mut listed)?,
@@ -88,13 +84,7 @@ impl Pool {
             infos,
             listed,
             related,
-            key,
         })
-    }
-
-    /// Returns the key that names and files are hashed under.
-    pub fn key(&self) -> TableKey {
-        self.key
     }
 
     /// Returns the info file of that index, if it is known.

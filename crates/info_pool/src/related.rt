@@ -97,8 +97,8 @@ fn required_of(
     Ok(Some(Required { modules, sources }))
 }
 
-/// Returns the module of this name and this file that the info file may require: it is public, or of
-/// the info file itself, whose modules come last in their rows.
+/// Returns the module of this name and this file that the info file may require: it is public, or
+/// of the info file itself, whose modules come last in their rows.
 fn source_of(
     infos: &[Option<Info>],
     info: &Info,

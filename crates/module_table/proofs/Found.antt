@@ -1,7 +1,7 @@
 -- What the checks report.
 use Rattle.std.proofs.Common.{◌≡◌, ℕ, suc, ◌+◌, ◌<◌, ◌≤◌, true, false, List, [], ◌∷◌, ◌++◌, length, map, take, Some, refl, ap, subst, sym, ◌∙◌, ⊎_elim, arith, slice_get, Box, Global, zero, Bool, not, cond, ◌||◌, Option, None, find, MatchBool, bytes_eq, true≢false}
 use Rattle.std.specs.List.{enumerate_from}
-use Rattle.std.proofs.lemmas.List.{map-append}
+use Rattle.std.proofs.lemmas.List.{map-append, length-map}
 use Rattle.std.proofs.lemmas.Option.{slice_get_within}
 use Rattle.document_values.specs.Rule.{RuleValue}
 use Rattle.ninja_text.specs.Failure.{ForFault}
@@ -16,85 +16,83 @@ use Rattle.module_table.specs.inner.Reported.{Reports}
 use Rattle.module_table.specs.declared.fault.Maker.TheVariants.{Object, Info}
 use Rattle.module_table.specs.declared.fault.TableFault.{TableFault}
 use Rattle.module_table.specs.declared.fault.TableFault.TheVariants.{ProvidedTwice, BmiTwice, ModuleUnknown}
-use Rattle.module_table.proofs.Places.{either, numbered, object_provision, info_provision, from_provisions, neither_less, from_find}
-use Rattle.module_table.proofs.Lists.{repetition_of}
+use Rattle.module_table.proofs.Places.{either, numbered, object_provision, info_provision, from_provisions, neither_less, from_find, map_map}
+use Rattle.module_table.proofs.Lists.{repetition_of, one_there, same_reads, one_value}
 use Rattle.ninja_text.proofs.ForCallers.{in_take, same_some, to_map, in_first, in_second, from_map, in_append}
 use Rattle.std.specs.Cmp.Lexicographic.{bytes_decides}
 use Rattle.std.proofs.lemmas.Bool.{eq-eqb, eqb-true, not-true, not-false}
 use Rattle.module_table.specs.inner.Finds.{found, is_info, is_object, is_info_at, some_and, none_or, is_by_info, agrees, is_allowed, is_public_at, is_by_object, IsNamed, IsByInfo, IsNotByInfo, Agrees, Differs, IsAllowed, IsNotAllowed, IsPublic, IsPrivate, IsByObject, IsNotByObject, RefusesAt, AcceptsAll}
 use Rattle.module_table.specs.inner.Found.{with_module}
 use Rattle.module_table.specs.declared.fault.Maker.{Maker}
+use Rattle.module_table.proofs.Words.{name_of, maker_of, path_of, claimed, claimant, privacy_of, own_claim_of, module_claim, names_wanted, At}
+use Rattle.ninja_text.specs.Bytes.{Name}
+use Rattle.std.proofs.lemmas.List.FromFn.{length-enumerate_from}
 
-pub for_fault : (P Q : Box TableFault Global → Type 0) (failure : Failure (Box TableFault Global)) → ((fault : Box TableFault Global) → P fault → Q fault) → ForFault P failure → ForFault Q failure
+pub for_fault : (P Q : Box TableFault Global → Type 0) (failure : Failure (Box TableFault Global)) → ((fault : Box TableFault Global) → P fault → Q fault) →
+    ForFault P failure → ForFault Q failure
 for_fault P Q Memory to h = h
 for_fault P Q (Fault fault) to h = to fault h
 
 -- what is known of a fault is known of the failure that it makes
-pub for_boxed : (P : TableFault → Type 0) (fault : TableFault) (failure : Failure (Box TableFault Global)) → P fault → ForFault (λ boxed. boxed.value ≡ fault) failure → ForFault (λ boxed. P boxed.value) failure
+pub for_boxed : (P : TableFault → Type 0) (fault : TableFault) (failure : Failure (Box TableFault Global)) → P fault →
+    ForFault (λ boxed. boxed.value ≡ fault) failure → ForFault (λ boxed. P boxed.value) failure
 for_boxed P fault Memory is same = tt
 for_boxed P fault (Fault boxed) is same = subst P (sym same) is
 
 -- a fault that is another one in other words
-pub reports_same : (code : ℕ) (t : TableValue) (kept : List (List ℕ)) (fault other : TableFault) → fault ≡ other → Reports code t kept other → Reports code t kept fault
+pub reports_same : (code : ℕ) (t : TableValue) (kept : List Name) (fault other : TableFault) → fault ≡ other → Reports code t kept other →
+    Reports code t kept fault
 reports_same code t kept fault other e h = subst (Reports code t kept) (sym e) h
 
 -- ---- M3
 
-module _ (t : TableValue) (kept : List (List ℕ)) (i j : ℕ) (fault : TableFault) where
+module _ (t : TableValue) (kept : List Name) (i j : ℕ) (fault : TableFault) where
   reported_twice : RepeatsFirst (names_of (provisions t)) i j → IsProvidedTwice (provisions t) i j fault → Reports 3 t kept fault
   reported_twice repeated is =
-      let found = repetition_of (λ (p : Provision). p.name) (provisions t) i j repeated in
-      let a : found.0 ≡ is.0 = same_some _ _ (sym found.2.x_here ∙ is.2) in
-      let b : found.1 ≡ is.1 = same_some _ _ (sym found.2.y_here ∙ is.3) in
+      let found = repetition_of name_of (provisions t) i j repeated in
+      let b : found.1 ≡ is.1 = one_there found.2.y_here is.3 in
       reports_same 3 t kept fault (ProvidedTwice is.1.name is.0.maker is.1.maker) is.4
       (record {
-        present = (i, j, found.0, found.1, found.2, ap (λ (p : Provision). p.name) b, ap (λ (p : Provision). p.maker) a, ap (λ (p : Provision). p.maker) b);
+        present = (i, j, found.0, found.1, found.2, ap name_of b, ap maker_of (one_there found.2.x_here is.2), ap maker_of b);
         coded = refl;
       })
 
-  pub reports_provided_twice : (list : List Provision) → list ≡ provisions t → RepeatsFirst (names_of list) i j → IsProvidedTwice list i j fault → Reports 3 t kept fault
-  reports_provided_twice list same repeated is = reported_twice (subst (λ ps. RepeatsFirst (names_of ps) i j) same repeated) (subst (λ ps. IsProvidedTwice ps i j fault) same is)
+  pub reports_provided_twice : (list : List Provision) → list ≡ provisions t → RepeatsFirst (names_of list) i j → IsProvidedTwice list i j fault →
+      Reports 3 t kept fault
+  reports_provided_twice list same repeated is =
+      reported_twice (subst (λ ps. RepeatsFirst (names_of ps) i j) same repeated) (subst (λ ps. IsProvidedTwice ps i j fault) same is)
 
 -- ---- M4
 
 module _ (objects : List RuleValue) (provided : List Provision) where
-  own_length : (n : ℕ) (rules : List RuleValue) → length (map (λ (o : ℕ × RuleValue). let c : Claim = record { maker = Object o.0; file = o.1.object; is_module = false } in c) (enumerate_from n rules)) ≡ length rules
-  own_length n [] = refl
-  own_length n (rule ∷ rules) = ap suc (own_length (n + 1) rules)
-
   length_own : length (own_claims objects) ≡ length objects
-  length_own = own_length 0 objects
+  length_own = length-map (enumerate_from 0 objects) own_claim_of ∙ length-enumerate_from 0 objects
 
   -- the claim of an object's own path
-  pub own_claim_at : (o : ℕ) (rule : RuleValue) → slice_get objects o ≡ Some rule → slice_get (claims_of objects provided) o ≡ Some (record { maker = Object o; file = rule.object; is_module = false })
+  pub own_claim_at : (o : ℕ) (rule : RuleValue) → At objects o rule →
+      At (claims_of objects provided) o (record { maker = Object o; file = rule.object; is_module = false })
   own_claim_at o rule at =
       let zero_plus : 0 + o ≡ o = omega arith in
       in_first (own_claims objects) (module_claims provided) o _
-      (to_map (λ (x : ℕ × RuleValue). let c : Claim = record { maker = Object x.0; file = x.1.object; is_module = false } in c) (enumerate_from 0 objects) o (o, rule) (numbered 0 objects o rule at ∙ ap (λ n. Some (n, rule)) zero_plus))
+      (to_map own_claim_of (enumerate_from 0 objects) o (o, rule) (numbered 0 objects o rule at ∙ ap (λ n. Some (n, rule)) zero_plus))
 
   -- the claim of a module's file
-  pub module_claim_at : (k : ℕ) (p : Provision) → slice_get provided k ≡ Some p → slice_get (claims_of objects provided) (length objects + k) ≡ Some (record { maker = p.maker; file = p.file; is_module = true })
+  pub module_claim_at : (k : ℕ) (p : Provision) → At provided k p →
+      At (claims_of objects provided) (length objects + k) (record { maker = p.maker; file = p.file; is_module = true })
   module_claim_at k p at =
-      subst (λ n. slice_get (claims_of objects provided) (n + k) ≡ Some (record { maker = p.maker; file = p.file; is_module = true })) length_own
-      (in_second (own_claims objects) (module_claims provided) k _ (to_map (λ (p : Provision). let c : Claim = record { maker = p.maker; file = p.file; is_module = true } in c) provided k p at))
+      subst (λ n. At (claims_of objects provided) (n + k) (record { maker = p.maker; file = p.file; is_module = true })) length_own
+      (in_second (own_claims objects) (module_claims provided) k _ (to_map module_claim provided k p at))
 
-  own_files : (n : ℕ) (rules : List RuleValue) → map (λ (c : Claim). c.file) (map (λ (o : ℕ × RuleValue). let c : Claim = record { maker = Object o.0; file = o.1.object; is_module = false } in c) (enumerate_from n rules)) ≡ map (λ (rule : RuleValue). rule.object) rules
+  own_files : (n : ℕ) (rules : List RuleValue) → map claimed (map own_claim_of (enumerate_from n rules)) ≡ map path_of rules
   own_files n [] = refl
   own_files n (rule ∷ rules) = ap (λ ys. rule.object ∷ ys) (own_files (n + 1) rules)
 
-  module_files : (ps : List Provision) → map (λ (c : Claim). c.file) (module_claims ps) ≡ files_of ps
-  module_files [] = refl
-  module_files (p ∷ ps) = ap (λ ys. p.file ∷ ys) (module_files ps)
-
-  pub claimed_files : map (λ (c : Claim). c.file) (claims_of objects provided) ≡ map (λ (rule : RuleValue). rule.object) objects ++ files_of provided
-  claimed_files = map-append (λ (c : Claim). c.file) (own_claims objects) (module_claims provided) ∙ ap (λ ys. ys ++ map (λ (c : Claim). c.file) (module_claims provided)) (own_files 0 objects) ∙ ap (λ ys. map (λ (rule : RuleValue). rule.object) objects ++ ys) (module_files provided)
-
-length_paths : (rules : List RuleValue) → length (map (λ (rule : RuleValue). rule.object) rules) ≡ length rules
-length_paths [] = refl
-length_paths (rule ∷ rules) = ap suc (length_paths rules)
+  pub claimed_files : map claimed (claims_of objects provided) ≡ map path_of objects ++ files_of provided
+  claimed_files = map-append claimed (own_claims objects) (module_claims provided) ∙
+      ap (λ ys. ys ++ map claimed (module_claims provided)) (own_files 0 objects) ∙ ap (λ ys. map path_of objects ++ ys) (map_map claimed module_claim provided)
 
 -- if texts differ in a first list, what is repeated is repeated after it
-pub behind_first : (xs ys : List (List ℕ)) (i j : ℕ) → AllDiffer xs → RepeatsFirst (xs ++ ys) i j → length xs ≤ j
+behind_first : (xs ys : List (List ℕ)) (i j : ℕ) → AllDiffer xs → RepeatsFirst (xs ++ ys) i j → length xs ≤ j
 behind_first xs ys i j all r =
     ⊎_elim
     (λ in_j. ⊎_elim
@@ -104,17 +102,19 @@ behind_first xs ys i j all r =
     (λ out_j. let far = out_j.1 in omega arith)
     (in_append xs ys j r.repeated r.again)
 
-module _ (t : TableValue) (kept : List (List ℕ)) (i j : ℕ) (fault : TableFault) (all : AllDiffer (map (λ (rule : RuleValue). rule.object) t.objects)) where
-  pub reported_made : RepeatsFirst (map (λ (rule : RuleValue). rule.object) t.objects ++ files_of (provisions t)) i j → IsMadeTwice t.objects (provisions t) i j fault → Reports 4 t kept fault
+module _ (t : TableValue) (kept : List Name) (i j : ℕ) (fault : TableFault) (all : AllDiffer (map path_of t.objects)) where
+  pub reported_made : RepeatsFirst (map path_of t.objects ++ files_of (provisions t)) i j → IsMadeTwice t.objects (provisions t) i j fault →
+      Reports 4 t kept fault
   reported_made repeated is =
-      let found = repetition_of (λ (c : Claim). c.file) (claims t) i j (subst (λ xs. RepeatsFirst xs i j) (sym (claimed_files t.objects (provisions t))) repeated) in
-      let far = behind_first (map (λ (rule : RuleValue). rule.object) t.objects) (files_of (provisions t)) i j all repeated in
-      let a : found.0 ≡ is.0 = same_some _ _ (sym found.2.x_here ∙ is.2) in
-      let b : found.1 ≡ is.1 = same_some _ _ (sym found.2.y_here ∙ is.3) in
+      let found = repetition_of claimed (claims t) i j (subst (λ xs. RepeatsFirst xs i j) (sym (claimed_files t.objects (provisions t))) repeated) in
+      let far = behind_first (map path_of t.objects) (files_of (provisions t)) i j all repeated in
+      let a : found.0 ≡ is.0 = one_there found.2.x_here is.2 in
+      let b : found.1 ≡ is.1 = one_there found.2.y_here is.3 in
       let is_module : found.1.is_module ≡ true =
       ⊎_elim
-      (λ own. let within : j < length (own_claims t.objects) = slice_get_within (own_claims t.objects) j found.1 own in absurd (omega (arith, far, within, length_own t.objects (provisions t), length_paths t.objects)))
-      (λ out. let from = from_map (λ (p : Provision). let c : Claim = record { maker = p.maker; file = p.file; is_module = true } in c) (provisions t) out.0 found.1 out.2 in ap (λ (c : Claim). c.is_module) (sym from.2))
+      (λ own. let within : j < length (own_claims t.objects) = slice_get_within (own_claims t.objects) j found.1 own in
+      absurd (omega (arith, far, within, length_own t.objects (provisions t), length-map t.objects path_of)))
+      (λ out. let from = from_map module_claim (provisions t) out.0 found.1 out.2 in ap (λ (c : Claim). c.is_module) (sym from.2))
       (in_append (own_claims t.objects) (module_claims (provisions t)) j found.1 found.2.y_here) in
       reports_same 4 t kept fault (BmiTwice is.1.file is.0.maker is.1.maker) is.4
       (record {
@@ -131,9 +131,9 @@ module _ (t : TableValue) (kept : List (List ℕ)) (i j : ℕ) (fault : TableFau
             y_first = λ k l v w kl lj at_k at_l h. found.2.y_first k l v w kl lj at_k at_l h.0;
             x_first = λ k v ki at_k h. found.2.x_first k v ki at_k h.0;
           },
-          ap (λ (c : Claim). c.file) b,
-          ap (λ (c : Claim). c.maker) a,
-          ap (λ (c : Claim). c.maker) b,
+          ap claimed b,
+          ap claimant a,
+          ap claimant b,
         );
         coded = refl;
       })
@@ -142,26 +142,28 @@ module _ (t : TableValue) (kept : List (List ℕ)) (i j : ℕ) (fault : TableFau
 
 -- what is provided has a number, and what has a number is provided
 module _ (t : TableValue) where
-  pub numbered_provided : (name file : List ℕ) → IsProvided t name file → (k : ℕ) × (slice_get (names_of (provisions t)) k ≡ Some name)
-  numbered_provided name file (Object o, h) = (_, to_map (λ (p : Provision). p.name) (provisions t) _ _ (object_provision t o h.0 name file h.1))
-  numbered_provided name file (Info i, h) = (_, to_map (λ (p : Provision). p.name) (provisions t) _ _ (info_provision t i h.0 h.1 h.2) ∙ ap (λ n. Some n) h.3)
+  pub numbered_provided : (name file : Name) → IsProvided t name file → (k : ℕ) × (At (names_of (provisions t)) k name)
+  numbered_provided name file (Object o, h) = (_, to_map name_of (provisions t) _ _ (object_provision t o h.0 name file h.1))
+  numbered_provided name file (Info i, h) = (_, to_map name_of (provisions t) _ _ (info_provision t i h.0 h.1 h.2) ∙ ap Some h.3)
 
-  pub provided_numbered : (k : ℕ) (name : List ℕ) → slice_get (names_of (provisions t)) k ≡ Some name → (file : List ℕ) × IsProvided t name file
+  pub provided_numbered : (k : ℕ) (name : Name) → At (names_of (provisions t)) k name → (file : Name) × IsProvided t name file
   provided_numbered k name at =
-      let from = from_map (λ (p : Provision). p.name) (provisions t) k name at in
+      let from = from_map name_of (provisions t) k name at in
       (from.0.file, (from.0.maker, subst (λ n. IsProvidedBy t from.0.maker n from.0.file) from.2 (from_provisions t k from.0 from.1)))
 
-  pub absent_unknown : (name : List ℕ) → IsAbsent (names_of (provisions t)) name → IsUnknown t name
+  pub absent_unknown : (name : Name) → IsAbsent (names_of (provisions t)) name → IsUnknown t name
   absent_unknown name absent file h = let n = numbered_provided name file h in absent n.0 n.1
 
-  pub unknown_absent : (name : List ℕ) → IsUnknown t name → IsAbsent (names_of (provisions t)) name
+  unknown_absent : (name : Name) → IsUnknown t name → IsAbsent (names_of (provisions t)) name
   unknown_absent name unknown k at = let p = provided_numbered k name at in unknown p.0 p.1
 
   -- the names of the objects before are all known
-  abbrev pub KnownBefore : ℕ → Type 0
-  KnownBefore object = (k : ℕ) (rule : RuleValue) (place : ℕ) (name : List ℕ) → k < object → slice_get t.objects k ≡ Some rule → slice_get rule.required place ≡ Some name → IsAbsent (names_of (provisions t)) name → ⊥
+  abbrev KnownBefore : ℕ → Type 0
+  KnownBefore object = (k : ℕ) (rule : RuleValue) (index : ℕ) (name : Name) → k < object → At t.objects k rule → At rule.required index name →
+      IsAbsent (names_of (provisions t)) name → ⊥
 
-  pub reported_unknown : (kept : List (List ℕ)) (object : ℕ) (rule : RuleValue) (place : ℕ) (name : List ℕ) (fault : TableFault) → slice_get t.objects object ≡ Some rule → KnownBefore object → IsFirst (IsAbsent (names_of (provisions t))) rule.required place name → fault ≡ ModuleUnknown name object → Reports 5 t kept fault
+  reported_unknown : (kept : List Name) (object : ℕ) (rule : RuleValue) (place : ℕ) (name : Name) (fault : TableFault) → At t.objects object rule →
+      KnownBefore object → IsFirst (IsAbsent (names_of (provisions t))) rule.required place name → fault ≡ ModuleUnknown name object → Reports 5 t kept fault
   reported_unknown kept object rule place name fault at known first same =
       reports_same 5 t kept fault (ModuleUnknown name object) same
       (record {
@@ -183,41 +185,43 @@ module _ (t : TableValue) where
       })
 
 -- each name has a number, by its row
-pub in_row : (keys : List (List ℕ)) (row : List ℕ) (names : List (List ℕ)) (place : ℕ) (name : List ℕ) → map (slice_get keys) row ≡ map (λ n. Some n) names → slice_get names place ≡ Some name → (number : ℕ) × (slice_get row place ≡ Some number) × (slice_get keys number ≡ Some name)
-in_row keys row names place name same at =
-    let here : slice_get (map (slice_get keys) row) place ≡ Some (Some name) = ap (λ xs. slice_get xs place) same ∙ to_map (λ n. Some n) names place name at in
-    from_map (slice_get keys) row place (Some name) here
+pub in_row : (keys : List Name) (row : List ℕ) (names : List Name) (index : ℕ) (name : Name) → map (slice_get keys) row ≡ map Some names → At names index name →
+    (number : ℕ) × (At row index number) × (At keys number name)
+in_row keys row names index name same at =
+    let here = same_reads index same ∙ to_map Some names index name at in
+    from_map (slice_get keys) row index (Some name) here
 
-rows_known : {R : Type 0} (numbers : R → List ℕ) (t : TableValue) (rows : List R) (object : ℕ) → map (λ row. map (slice_get (names_of (provisions t))) (numbers row)) rows ≡ map (λ (rule : RuleValue). map (λ n. Some n) rule.required) (take object t.objects) → KnownBefore t object
-rows_known numbers t rows object same k rule place name lt at at_name absent =
-    let here : slice_get (map (λ row. map (slice_get (names_of (provisions t))) (numbers row)) rows) k ≡ Some (map (λ n. Some n) rule.required) = ap (λ xs. slice_get xs k) same ∙ to_map (λ (rule : RuleValue). map (λ n. Some n) rule.required) (take object t.objects) k rule (in_take object t.objects k rule lt at) in
-    let row = from_map (λ row. map (slice_get (names_of (provisions t))) (numbers row)) rows k (map (λ n. Some n) rule.required) here in
-    let number = in_row (names_of (provisions t)) (numbers row.0) rule.required place name row.2 at_name in
+rows_known : {R : Type 0} (numbers : R → List ℕ) (t : TableValue) (rows : List R) (object : ℕ) →
+    map (λ row. map (slice_get (names_of (provisions t))) (numbers row)) rows ≡ map names_wanted (take object t.objects) → KnownBefore t object
+rows_known numbers t rows object same k rule index name lt at at_name absent =
+    let here = same_reads k same ∙ to_map names_wanted (take object t.objects) k rule (in_take object t.objects k rule lt at) in
+    let row = from_map (λ row. map (slice_get (names_of (provisions t))) (numbers row)) rows k (map Some rule.required) here in
+    let number = in_row (names_of (provisions t)) (numbers row.0) rule.required index name row.2 at_name in
     absent number.0 number.2
 
 -- the fault of an object's row
-abbrev pub IsRowFault : List (List ℕ) → RuleValue → ℕ → TableFault → Type 0
-IsRowFault keys rule object fault = (place : ℕ) × (name : List ℕ) × IsFirst (IsAbsent keys) rule.required place name × (fault ≡ ModuleUnknown name object)
+abbrev IsRowFault : List (List ℕ) → RuleValue → ℕ → TableFault → Type 0
+IsRowFault keys rule object fault = (index : ℕ) × (name : Name) × IsFirst (IsAbsent keys) rule.required index name × (fault ≡ ModuleUnknown name object)
 
-pub reports_unknown : {R : Type 0} (numbers : R → List ℕ) (keys : List (List ℕ)) (objects : List RuleValue) (rows : List R) (object : ℕ) (rule : RuleValue) (fault : TableFault) → slice_get objects object ≡ Some rule → map (λ row. map (slice_get keys) (numbers row)) rows ≡ map (λ (rule : RuleValue). map (λ n. Some n) rule.required) (take object objects) → IsRowFault keys rule object fault → (t : TableValue) (kept : List (List ℕ)) → objects ≡ t.objects → keys ≡ names_of (provisions t) → Reports 5 t kept fault
-reports_unknown numbers keys objects rows object rule fault at same is t kept eo ek =
-    let at' = subst (λ os. slice_get os object ≡ Some rule) eo at in
-    let same' = subst (λ ks. map (λ row. map (slice_get ks) (numbers row)) rows ≡ map (λ (rule : RuleValue). map (λ n. Some n) rule.required) (take object t.objects)) ek (subst (λ os. map (λ row. map (slice_get keys) (numbers row)) rows ≡ map (λ (rule : RuleValue). map (λ n. Some n) rule.required) (take object os)) eo same) in
-    let is' = subst (λ ks. IsRowFault ks rule object fault) ek is in
-    reported_unknown t kept object rule is'.0 is'.1 fault at' (rows_known numbers t rows object same') is'.2 is'.3
+pub reports_unknown :
+    {R : Type 0} (numbers : R → List ℕ) (t : TableValue) (kept : List Name) (rows : List R) (object : ℕ) (rule : RuleValue) (fault : TableFault) →
+    At t.objects object rule → map (λ row. map (slice_get (names_of (provisions t))) (numbers row)) rows ≡ map names_wanted (take object t.objects) →
+    IsRowFault (names_of (provisions t)) rule object fault → Reports 5 t kept fault
+reports_unknown numbers t kept rows object rule fault at same is =
+    reported_unknown t kept object rule is.0 is.1 fault at (rows_known numbers t rows object same) is.2 is.3
 
 -- ---- What is found by a name, and what the checks ask of it
 
-find_none : (test : Provision → Bool) (ps : List Provision) (k : ℕ) (p : Provision) → find test ps ≡ None → slice_get ps k ≡ Some p → test p ≡ true → ⊥
+find_none : (test : Provision → Bool) (ps : List Provision) (k : ℕ) (p : Provision) → find test ps ≡ None → At ps k p → test p ≡ true → ⊥
 find_none test [] k p e at passes = cc
 find_none test (q ∷ ps) k p e at passes = by (test q) refl e (λ k rest at. find_none test ps k p rest at passes) k at
   where
-    by : (b : Bool) → test q ≡ b → cond b (Some q) (find test ps) ≡ None → ((k : ℕ) → find test ps ≡ None → slice_get ps k ≡ Some p → ⊥) → (k : ℕ) → slice_get (q ∷ ps) k ≡ Some p → ⊥
+    by : (b : Bool) → test q ≡ b → cond b (Some q) (find test ps) ≡ None → ((k : ℕ) → find test ps ≡ None → At ps k p → ⊥) → (k : ℕ) → At (q ∷ ps) k p → ⊥
     by true t e rest k at = cc
-    by false t e rest zero at = true≢false (sym passes ∙ ap test (sym (same_some _ _ at)) ∙ t)
+    by false t e rest zero at = true≢false (sym passes ∙ ap test (sym (one_value at)) ∙ t)
     by false t e rest (suc k) at = rest k e at
 
-module _ (ps : List Provision) (name : List ℕ) where
+module _ (ps : List Provision) (name : Name) where
   abbrev called : Provision → Bool
   called p = bytes_eq name p.name
 
@@ -227,8 +231,8 @@ module _ (ps : List Provision) (name : List ℕ) where
   pub none_named : found ps name ≡ None → (k : ℕ) (p : Provision) → IsNamed ps name k p → ⊥
   none_named e k p named = find_none called ps k p e named.0 ((bytes_decides name p.name).1 (sym named.1))
 
-  name_there : (k : ℕ) (p : Provision) → IsNamed ps name k p → slice_get (names_of ps) k ≡ Some name
-  name_there k p h = to_map (λ (p : Provision). p.name) ps k p h.0 ∙ ap (λ n. Some n) h.1
+  name_there : (k : ℕ) (p : Provision) → IsNamed ps name k p → At (names_of ps) k name
+  name_there k p h = to_map name_of ps k p h.0 ∙ ap Some h.1
 
   pub nothing_named : IsAbsent (names_of ps) name → (k : ℕ) (p : Provision) → IsNamed ps name k p → ⊥
   nothing_named absent k p h = absent k (name_there k p h)
@@ -243,17 +247,18 @@ module _ (ps : List Provision) (name : List ℕ) where
   module _ (differ : AllDiffer (names_of ps)) where
     pub one_index : (k l : ℕ) (p q : Provision) → IsNamed ps name k p → IsNamed ps name l q → k ≡ l
     one_index k l p q a b =
-        neither_less k l (λ lt. differ.differ k l name lt (name_there k p a) (name_there l q b)) (λ gt. differ.differ l k name gt (name_there l q b) (name_there k p a))
+        neither_less k l (λ lt. differ.differ k l name lt (name_there k p a) (name_there l q b))
+        (λ gt. differ.differ l k name gt (name_there l q b) (name_there k p a))
 
     pub one_module : (k l : ℕ) (p q : Provision) → IsNamed ps name k p → IsNamed ps name l q → p ≡ q
-    one_module k l p q a b = same_some _ _ (sym a.0 ∙ ap (slice_get ps) (one_index k l p q a b) ∙ b.0)
+    one_module k l p q a b = one_value (sym a.0 ∙ ap (slice_get ps) (one_index k l p q a b) ∙ b.0)
 
     pub named_found : (k : ℕ) (p : Provision) → IsNamed ps name k p → found ps name ≡ Some p
     named_found k p named = by (found ps name) refl
       where
         by : (o : Option Provision) → found ps name ≡ o → o ≡ Some p
         by None e = absurd (none_named e k p named)
-        by (Some q) e = let f = found_named q e in ap (λ x. Some x) (one_module f.0 k q p f.1 named)
+        by (Some q) e = let f = found_named q e in ap Some (one_module f.0 k q p f.1 named)
 
 -- ---- what the checks ask
 
@@ -261,24 +266,24 @@ module _ (ps : List Provision) (differ : AllDiffer (names_of ps)) (k : ℕ) (p :
   pub object_not_info : (r : InfoRequirement) (object : ℕ) → IsNamed ps r.name k p → p.maker ≡ Object object → IsNotByInfo ps r
   object_not_info r object named is h =
       let same = one_module ps r.name differ k h.0 p h.1 named h.3 in
-      let maker : Object object ≡ Info h.2 = sym is ∙ ap (λ (x : Provision). x.maker) same ∙ h.4 in
+      let maker : Object object ≡ Info h.2 = sym is ∙ ap maker_of same ∙ h.4 in
       cc
 
-  pub info_not_object : (name : List ℕ) (info : ℕ) → IsNamed ps name k p → p.maker ≡ Info info → IsNotByObject ps name
+  pub info_not_object : (name : Name) (info : ℕ) → IsNamed ps name k p → p.maker ≡ Info info → IsNotByObject ps name
   info_not_object name info named is h =
       let same = one_module ps name differ k h.0 p h.1 named h.3 in
-      let maker : Info info ≡ Object h.2 = sym is ∙ ap (λ (x : Provision). x.maker) same ∙ h.4 in
+      let maker : Info info ≡ Object h.2 = sym is ∙ ap maker_of same ∙ h.4 in
       cc
 
 -- what holds of the module that is found, or of none, decides what holds of all of that name
-module _ (ps : List Provision) (differ : AllDiffer (names_of ps)) (name : List ℕ) (test : Provision → Bool) where
+module _ (ps : List Provision) (differ : AllDiffer (names_of ps)) (name : Name) (test : Provision → Bool) where
   abbrev Holds : Type 0
   Holds = (k : ℕ) × (p : Provision) × IsNamed ps name k p × (test p ≡ true)
 
   abbrev Fails : Type 0
   Fails = (k : ℕ) × (p : Provision) × IsNamed ps name k p × (test p ≡ false)
 
-  pub some_decides : MatchBool (some_and test (found ps name)) Holds (Holds → ⊥)
+  some_decides : MatchBool (some_and test (found ps name)) Holds (Holds → ⊥)
   some_decides = by (found ps name) refl
     where
       other : (q : Provision) → found ps name ≡ Some q → (b : Bool) → test q ≡ b → MatchBool b Holds (Holds → ⊥)
@@ -292,7 +297,7 @@ module _ (ps : List Provision) (differ : AllDiffer (names_of ps)) (name : List �
   abbrev All : Type 0
   All = (k : ℕ) (p : Provision) → IsNamed ps name k p → test p ≡ true
 
-  pub all_decides : MatchBool (none_or test (found ps name)) All Fails
+  all_decides : MatchBool (none_or test (found ps name)) All Fails
   all_decides = by (found ps name) refl
     where
       other : (q : Provision) → found ps name ≡ Some q → (b : Bool) → test q ≡ b → MatchBool b All Fails
@@ -303,7 +308,7 @@ module _ (ps : List Provision) (differ : AllDiffer (names_of ps)) (name : List �
       by None e = λ k p named. absurd (none_named ps name e k p named)
       by (Some q) e = other q e (test q) refl
 
-pub turned : (b : Bool) (P Q R S : Type 0) → (P → R) → (Q → S) → MatchBool b P Q → MatchBool b R S
+turned : (b : Bool) (P Q R S : Type 0) → (P → R) → (Q → S) → MatchBool b P Q → MatchBool b R S
 turned true P Q R S f g h = f h
 turned false P Q R S f g h = g h
 
@@ -330,7 +335,7 @@ module _ (ps : List Provision) (differ : AllDiffer (names_of ps)) where
       (λ none h. none (h.0, h.1, h.3, ap is_info h.4))
       (some_decides ps differ r.name (λ p. is_info p.maker))
 
-  pub by_object : (name : List ℕ) → MatchBool (is_by_object ps name) (IsByObject ps name) (IsNotByObject ps name)
+  pub by_object : (name : Name) → MatchBool (is_by_object ps name) (IsByObject ps name) (IsNotByObject ps name)
   by_object name =
       turned (is_by_object ps name) _ _ (IsByObject ps name) (IsNotByObject ps name)
       (λ h. let m = is_object_by h.1.maker h.3 in (h.0, h.1, m.0, h.2, m.1))
@@ -348,16 +353,16 @@ module _ (ps : List Provision) (differ : AllDiffer (names_of ps)) where
   unless_private p = none_or (λ q. not q.is_private) p
 
   -- the module of this index has this name, and no other has
-  private_of : (index : ℕ) (name : List ℕ) → slice_get (names_of ps) index ≡ Some name → is_public_at ps index ≡ false → IsPrivate ps name
+  private_of : (index : ℕ) (name : Name) → At (names_of ps) index name → is_public_at ps index ≡ false → IsPrivate ps name
   private_of index name at private =
-      let p = from_map (λ (p : Provision). p.name) ps index name at in
+      let p = from_map name_of ps index name at in
       (index, p.0, (p.1, p.2), not-false p.0.is_private (sym (ap unless_private p.1) ∙ private))
 
-  public_of : (index : ℕ) (name : List ℕ) → slice_get (names_of ps) index ≡ Some name → is_public_at ps index ≡ true → IsPublic ps name
+  public_of : (index : ℕ) (name : Name) → At (names_of ps) index name → is_public_at ps index ≡ true → IsPublic ps name
   public_of index name at public k q named =
-      let p = from_map (λ (p : Provision). p.name) ps index name at in
+      let p = from_map name_of ps index name at in
       let same = one_module ps name differ k index q p.0 named (p.1, p.2) in
-      ap (λ (p : Provision). p.is_private) same ∙ not-true p.0.is_private (sym (ap unless_private p.1) ∙ public)
+      ap privacy_of same ∙ not-true p.0.is_private (sym (ap unless_private p.1) ∙ public)
 
   abbrev pub IsPublicAt : ℕ → Type 0
   IsPublicAt index = is_public_at ps index ≡ true
@@ -366,15 +371,16 @@ module _ (ps : List Provision) (differ : AllDiffer (names_of ps)) where
   IsPrivateAt index = is_public_at ps index ≡ false
 
   -- the first private module of a row, by the names that the row stands for
-  module _ (row : List ℕ) (names : List (List ℕ)) (same : map (slice_get (names_of ps)) row ≡ map (λ name. Some name) names) where
-    pub name_here : (k index : ℕ) (name : List ℕ) → slice_get row k ≡ Some index → slice_get names k ≡ Some name → slice_get (names_of ps) index ≡ Some name
+  module _ (row : List ℕ) (names : List Name) (same : map (slice_get (names_of ps)) row ≡ map Some names) where
+    name_here : (k index : ℕ) (name : Name) → At row k index → At names k name → At (names_of ps) index name
     name_here k index name at at_name =
-        same_some _ _ (sym (to_map (slice_get (names_of ps)) row k index at) ∙ ap (λ xs. slice_get xs k) same ∙ to_map (λ n. Some n) names k name at_name)
+        same_some _ _ (sym (to_map (slice_get (names_of ps)) row k index at) ∙ same_reads k same ∙ to_map Some names k name at_name)
 
     pub row_public : AcceptsAll IsPublicAt row → AcceptsAll (IsPublic ps) names
-    row_public all = record { each = λ k name at_name. let n = in_row (names_of ps) row names k name same at_name in public_of n.0 name n.2 (all.each k n.0 n.1) }
+    row_public all = record
+        { each = λ k name at_name. let n = in_row (names_of ps) row names k name same at_name in public_of n.0 name n.2 (all.each k n.0 n.1) }
 
-    pub row_private : (k : ℕ) → RefusesAt IsPublicAt IsPrivateAt row k → (name : List ℕ) → slice_get names k ≡ Some name → RefusesAt (IsPublic ps) (IsPrivate ps) names k
+    pub row_private : (k : ℕ) → RefusesAt IsPublicAt IsPrivateAt row k → (name : Name) → At names k name → RefusesAt (IsPublic ps) (IsPrivate ps) names k
     row_private k found name at_name = record {
       x = name;
       here = at_name;
@@ -395,5 +401,6 @@ module _ (ps : List Provision) (differ : AllDiffer (names_of ps)) where
   allowed r =
       turned (is_allowed (with_module ps r)) _ _ (IsAllowed ps r) (IsNotAllowed ps r)
       (λ h k p named private. info_at_by p.maker r.info (private_is p.is_private (is_info_at p.maker r.info) (h k p named) private))
-      (λ h. let n = private_not h.1.is_private (is_info_at h.1.maker r.info) h.3 in (h.0, h.1, h.2, n.0, λ same. true≢false (sym (info_at_of h.1.maker r.info same) ∙ n.1)))
+      (λ h. let n = private_not h.1.is_private (is_info_at h.1.maker r.info) h.3 in
+      (h.0, h.1, h.2, n.0, λ same. true≢false (sym (info_at_of h.1.maker r.info same) ∙ n.1)))
       (all_decides ps differ r.name (λ p. not p.is_private || is_info_at p.maker r.info))

@@ -1,3 +1,4 @@
+pub mod Words
 pub mod Found
 pub mod Passing
 pub mod Places

@@ -1,28 +1,48 @@
 -- What loops push, lists that differ or have the same indexes, and what is the first to be rejected.
-use Rattle.std.proofs.Common.{◌≡◌, ℕ, ◌+◌, List, [], ◌∷◌, ◌++◌, map, take, Some, ap, sym, ◌∙◌, append_assoc, slice_get, zero, suc, length, refl, subst, arith, ◌<◌, Bool, true, false, ⊎_elim, MatchBool, not, true≢false, Option, None, position, get_or, append-nil, bytes_eq, cond, IfSome, IfNone, is_some}
-use Rattle.std.proofs.lemmas.List.{map-append}
+use Rattle.std.proofs.Common.{◌≡◌, ℕ, ◌+◌, List, [], ◌∷◌, ◌++◌, map, take, Some, ap, sym, ◌∙◌, append_assoc, slice_get, zero, suc, length, refl, subst, arith, ◌<◌, Bool, true, false, ⊎_elim, MatchBool, not, Option, None, position, get_or, append-nil, bytes_eq, cond, IfSome, IfNone, is_some}
+use Rattle.std.proofs.lemmas.List.{map-append, length-take-le}
 use Rattle.ninja_text.proofs.ForCallers.{take_next, same_some, from_push, in_take, to_map, from_map, from_take, differ_push, not_among, found_if, new_if}
-use Rattle.std.specs.List.{flat_map, enumerate_from, AllZip, position_or_len, list_any}
-use Rattle.std.proofs.lemmas.Grind.{flat_map-append, common_steps}
-use Rattle.std.proofs.lemmas.Option.{slice_get-get_or, slice_get_within, get_or_from_slice_get}
+use Rattle.std.specs.List.{flat_map, enumerate_from, AllZip, list_any}
+use Rattle.std.proofs.lemmas.Grind.{flat_map-append}
+use Rattle.std.proofs.lemmas.Option.{slice_get-get_or, slice_get_within, slice_get_read}
 use Rattle.std.proofs.lemmas.List.Quantifiers.{position-Some}
-use Rattle.std.proofs.lemmas.List.Sums.{fails_before_first}
-use Rattle.module_table.specs.inner.Finds.{AcceptsAll, FindsRefused, RefusesAt}
+use Rattle.module_table.specs.inner.Finds.{AcceptsAll, RefusesAt}
 use Rattle.std.specs.Cmp.Lexicographic.{bytes_decides}
-use Rattle.ninja_text.specs.Firsts.{AllDiffer, RepeatsFirst, IsFirstRepetition}
+use Rattle.ninja_text.specs.Firsts.{AllDiffer, RepeatsFirst, IsFirstRepetition, IsFirst}
+use Rattle.ninja_text.specs.Bytes.{Name}
+use Rattle.std.proofs.lemmas.Slice.Zip.{AllZip-long}
+use Rattle.module_table.proofs.Words.{At}
+
+-- what a loop reads at an index
+pub read_at : {X : Type 0} (xs : List X) (i : ℕ) (x : X) → i < length xs → x ≡ get_or xs i x → At xs i x
+read_at xs i x lt is = slice_get_read xs (length xs) i x refl lt is
+
+pub one_value : {X : Type 0} {x y : X} → Some x ≡ Some y → x ≡ y
+one_value e = same_some _ _ e
+
+-- what is read once is one value
+pub one_there : {X : Type 0} {o : Option X} {x y : X} → o ≡ Some x → o ≡ Some y → x ≡ y
+one_there a b = one_value (sym a ∙ b)
+
+-- the same lists have the same elements
+pub same_reads : {X : Type 0} {xs ys : List X} (k : ℕ) → xs ≡ ys → slice_get xs k ≡ slice_get ys k
+same_reads k same = ap (λ zs. slice_get zs k) same
 
 -- ---- loops that push
 
 -- a loop that pushes what each element becomes
-pub pushes_next : {A B Y : Type 0} (g : A → B) (f : Y → B) (ys longer : List Y) (y : Y) (old : List B) (now new : List A) (a : A) → longer ≡ ys ++ y ∷ [] → map g now ≡ old ++ map f ys → new ≡ now ++ a ∷ [] → g a ≡ f y → map g new ≡ old ++ map f longer
+pub pushes_next : {A B Y : Type 0} (g : A → B) (f : Y → B) (ys longer : List Y) (y : Y) (old : List B) (now new : List A) (a : A) → longer ≡ ys ++ y ∷ [] →
+    map g now ≡ old ++ map f ys → new ≡ now ++ a ∷ [] → g a ≡ f y → map g new ≡ old ++ map f longer
 pushes_next g f ys longer y old now new a next before pushed is =
     ap (map g) pushed ∙ map-append g now (a ∷ []) ∙ ap (λ zs. zs ++ g a ∷ []) before ∙ append_assoc old (map f ys) (g a ∷ [])
     ∙ ap (λ zs. old ++ zs) (ap (λ z. map f ys ++ z ∷ []) is ∙ sym (ap (map f) next ∙ map-append f ys (y ∷ [])))
 
 -- a loop that makes something of each element of a list
-pub maps_next : {X Y : Type 0} (f : X → Y) (xs : List X) (i : ℕ) (x : X) (y : Y) (now new : List Y) → slice_get xs i ≡ Some x → now ≡ map f (take i xs) → new ≡ now ++ y ∷ [] → y ≡ f x → new ≡ map f (take (i + 1) xs)
+pub maps_next : {X Y : Type 0} (f : X → Y) (xs : List X) (i : ℕ) (x : X) (y : Y) (now new : List Y) → At xs i x → now ≡ map f (take i xs) →
+    new ≡ now ++ y ∷ [] → y ≡ f x → new ≡ map f (take (i + 1) xs)
 maps_next f xs i x y now new at before pushed is =
-    pushed ∙ ap (λ ys. ys ++ y ∷ []) before ∙ ap (λ z. map f (take i xs) ++ z ∷ []) is ∙ sym (ap (map f) (take_next xs i x at) ∙ map-append f (take i xs) (x ∷ []))
+    pushed ∙ ap (λ ys. ys ++ y ∷ []) before ∙ ap (λ z. map f (take i xs) ++ z ∷ []) is ∙
+    sym (ap (map f) (take_next xs i x at) ∙ map-append f (take i xs) (x ∷ []))
 
 -- ---- lists whose elements have the same indexes as those of the other
 
@@ -33,12 +53,14 @@ zip_append R (x ∷ xs) us [] vs h g = absurd h
 zip_append R (x ∷ xs) us (y ∷ ys) vs h g = (h.0, zip_append R xs us ys vs h.1 g)
 
 -- the parts of each element
-pub zip_flat_map : {A B C : Type 0} (R : B → C → Type 0) (f : A → List B) (g : A → List C) (xs : List A) → ((k : ℕ) (x : A) → slice_get xs k ≡ Some x → AllZip R (f x) (g x)) → AllZip R (flat_map f xs) (flat_map g xs)
+pub zip_flat_map : {A B C : Type 0} (R : B → C → Type 0) (f : A → List B) (g : A → List C) (xs : List A) →
+    ((k : ℕ) (x : A) → At xs k x → AllZip R (f x) (g x)) → AllZip R (flat_map f xs) (flat_map g xs)
 zip_flat_map R f g [] h = tt
 zip_flat_map R f g (x ∷ xs) h = zip_append R (f x) (flat_map f xs) (g x) (flat_map g xs) (h 0 x refl) (zip_flat_map R f g xs (λ k y at. h (suc k) y at))
 
 -- what is made of the elements, and of their numbers
-pub zip_numbered : {A B C : Type 0} (R : B → C → Type 0) (f : A → B) (g : ℕ × A → C) (n : ℕ) (xs : List A) → ((k : ℕ) (x : A) → slice_get xs k ≡ Some x → R (f x) (g (n + k, x))) → AllZip R (map f xs) (map g (enumerate_from n xs))
+pub zip_numbered : {A B C : Type 0} (R : B → C → Type 0) (f : A → B) (g : ℕ × A → C) (n : ℕ) (xs : List A) →
+    ((k : ℕ) (x : A) → At xs k x → R (f x) (g (n + k, x))) → AllZip R (map f xs) (map g (enumerate_from n xs))
 zip_numbered R f g n [] h = tt
 zip_numbered R f g n (x ∷ xs) h =
     let here : n + 0 ≡ n = omega arith in (
@@ -54,91 +76,48 @@ zip_flip R (x ∷ xs) [] h = absurd h
 zip_flip R (x ∷ xs) (y ∷ ys) h = (h.0, zip_flip R xs ys h.1)
 
 -- what has the index of an element
-pub zip_there : {A B : Type 0} (R : A → B → Type 0) (xs : List A) (ys : List B) (k : ℕ) (x : A) → AllZip R xs ys → slice_get xs k ≡ Some x → (y : B) × (slice_get ys k ≡ Some y) × R x y
+pub zip_there : {A B : Type 0} (R : A → B → Type 0) (xs : List A) (ys : List B) (k : ℕ) (x : A) → AllZip R xs ys → At xs k x → (y : B) × (At ys k y) × R x y
 zip_there R [] ys k x h at = cc
 zip_there R (z ∷ xs) [] k x h at = absurd h
-zip_there R (z ∷ xs) (y ∷ ys) zero x h at = (y, refl, subst (λ w. R w y) (same_some _ _ at) h.0)
+zip_there R (z ∷ xs) (y ∷ ys) zero x h at = (y, refl, subst (λ w. R w y) (one_value at) h.0)
 zip_there R (z ∷ xs) (y ∷ ys) (suc k) x h at = zip_there R xs ys k x h.1 at
 
-pub zip_back : {A B : Type 0} (R : A → B → Type 0) (xs : List A) (ys : List B) (k : ℕ) (y : B) → AllZip R xs ys → slice_get ys k ≡ Some y → (x : A) × (slice_get xs k ≡ Some x) × R x y
+pub zip_back : {A B : Type 0} (R : A → B → Type 0) (xs : List A) (ys : List B) (k : ℕ) (y : B) → AllZip R xs ys → At ys k y → (x : A) × (At xs k x) × R x y
 zip_back R xs [] k y h at = cc
 zip_back R [] (z ∷ ys) k y h at = absurd h
-zip_back R (x ∷ xs) (z ∷ ys) zero y h at = (x, refl, subst (R x) (same_some _ _ at) h.0)
+zip_back R (x ∷ xs) (z ∷ ys) zero y h at = (x, refl, subst (R x) (one_value at) h.0)
 zip_back R (x ∷ xs) (z ∷ ys) (suc k) y h at = zip_back R xs ys k y h.1 at
 
 pub zip_length : {A B : Type 0} (R : A → B → Type 0) (xs : List A) (ys : List B) → AllZip R xs ys → length xs ≡ length ys
-zip_length R [] [] h = refl
-zip_length R [] (y ∷ ys) h = absurd h
-zip_length R (x ∷ xs) [] h = absurd h
-zip_length R (x ∷ xs) (y ∷ ys) h = ap suc (zip_length R xs ys h.1)
+zip_length R xs ys h = sym (AllZip-long R xs ys h)
 
 -- ---- what is asked of each requirement, and the first that is rejected
 
-module _ {X : Type 0} (Accepted Refused : X → Type 0) (xs : List X) (place : ℕ) (x : X) (at : slice_get xs place ≡ Some x) (before : AcceptsAll Accepted (take place xs)) where
-  pub accepts_next : Accepted x → AcceptsAll Accepted (take (place + 1) xs)
-  accepts_next good = subst (AcceptsAll Accepted) (sym (take_next xs place x at)) (record { each = each })
+-- what a loop that checks a list knows after the next element: so far all are accepted, or this is the first that is rejected
+module _ {X : Type 0} (Accepted Refused : X → Type 0) (xs : List X) (k : ℕ) (x : X) (at : At xs k x) (before : AcceptsAll Accepted (take k xs)) where
+  pub first_rejected : (b : Bool) → MatchBool b (Accepted x) (Refused x) → MatchBool b (AcceptsAll Accepted (take (k + 1) xs)) (RefusesAt Accepted Refused xs k)
+  first_rejected true good = subst (AcceptsAll Accepted) (sym (take_next xs k x at)) (record { each = each })
     where
-      each : (k : ℕ) (y : X) → slice_get (take place xs ++ x ∷ []) k ≡ Some y → Accepted y
-      each k y at_k = ⊎_elim (λ in_k. before.each k y in_k) (λ last. subst Accepted last.1 good) (from_push (take place xs) x k y at_k)
+      each : (i : ℕ) (y : X) → At (take k xs ++ x ∷ []) i y → Accepted y
+      each i y at_i = ⊎_elim (λ old. before.each i y old) (λ last. subst Accepted last.1 good) (from_push (take k xs) x i y at_i)
+  first_rejected false bad = record { x = x; here = at; refused = bad; accepted = λ i y lt at_i. before.each i y (in_take k xs i y lt at_i) }
 
-  pub refuses_here : Refused x → RefusesAt Accepted Refused xs place
-  refuses_here bad = record { x = x; here = at; refused = bad; accepted = λ k y lt at_k. before.each k y (in_take place xs k y lt at_k) }
-
--- the first element that a test rejects, in a list that says the same as the one that is tested
-module _ {X Y Z : Type 0} (f : X → Z) (g : Y → Z) (test : Z → Bool) (Accepted Refused : Y → Type 0) (decides : (y : Y) → MatchBool (test (g y)) (Accepted y) (Refused y)) where
-  abbrev refuses : X → Bool
-  refuses x = not (test (f x))
-
-  accepted_by : (y : Y) (x : X) → f x ≡ g y → refuses x ≡ false → Accepted y
-  accepted_by y x same e = by (test (g y)) (decides y) (ap (λ z. not (test z)) (sym same) ∙ e)
-    where
-      by : (b : Bool) → MatchBool b (Accepted y) (Refused y) → not b ≡ false → Accepted y
-      by true h e = h
-      by false h e = absurd (true≢false e)
-
-  refused_by : (y : Y) (x : X) → f x ≡ g y → refuses x ≡ true → Refused y
-  refused_by y x same e = by (test (g y)) (decides y) (ap (λ z. not (test z)) (sym same) ∙ e)
-    where
-      by : (b : Bool) → MatchBool b (Accepted y) (Refused y) → not b ≡ true → Refused y
-      by true h e = absurd (true≢false (sym e))
-      by false h e = h
-
-  none_before : (xs : List X) (k : ℕ) (x : X) → position refuses xs ≡ None → slice_get xs k ≡ Some x → k < position_or_len refuses xs
-  none_before xs k x none at = let lt = slice_get_within xs k x at in grind (arith, common_steps)
-
-  first_at : (xs : List X) (i : ℕ) → position refuses xs ≡ Some i → position_or_len refuses xs ≡ i
-  first_at xs i e = grind (arith, common_steps)
-
-  module _ (ys : List Y) where
-    tested : (xs : List X) → map f xs ≡ map g ys → (k : ℕ) (y : Y) → slice_get ys k ≡ Some y → (x : X) × (slice_get xs k ≡ Some x) × (f x ≡ g y)
-    tested xs same k y at = from_map f xs k (g y) (ap (λ zs. slice_get zs k) same ∙ to_map g ys k y at)
-
-    accepted_at : (xs : List X) → map f xs ≡ map g ys → (k : ℕ) (y : Y) → slice_get ys k ≡ Some y → k < position_or_len refuses xs → Accepted y
-    accepted_at xs same k y at lt =
-        let x = tested xs same k y at in
-        accepted_by y x.0 x.2 (subst (λ z. refuses z ≡ false) (get_or_from_slice_get xs k x.0 x.0 x.1) (fails_before_first refuses xs k x.0 lt))
-
-    pub first_refused : (xs : List X) → map f xs ≡ map g ys → (r : Option ℕ) → r ≡ position refuses xs → FindsRefused Accepted Refused ys r
-    first_refused xs same None e = record { each = λ k y at. let x = tested xs same k y at in accepted_at xs same k y at (none_before xs k x.0 (sym e) x.1) }
-    first_refused [] same (Some i) e = cc
-    first_refused (first ∷ rest) same (Some i) e =
-        let xs = first ∷ rest in
-        let p = position-Some refuses xs i first (sym e) in
-        let x = get_or xs i first in
-        let y = from_map g ys i (f x) (ap (λ zs. slice_get zs i) (sym same) ∙ to_map f xs i x (slice_get-get_or xs i first p.0)) in
-        let at_first = first_at xs i (sym e) in
-        record {
-          x = y.0;
-          here = y.1;
-          refused = refused_by y.0 x (sym y.2) p.1;
-          accepted = λ k z lt at. accepted_at xs same k z at (omega (arith, lt, at_first));
-        }
+-- the first that is rejected is the first of which P holds
+pub first_of_rejected : {X : Type 0} (Accepted Refused P : X → Type 0) (xs : List X) (k : ℕ) (x : X) → At xs k x → RefusesAt Accepted Refused xs k →
+    (Refused x → P x) → ((y : X) → Accepted y → P y → ⊥) → IsFirst P xs k x
+first_of_rejected Accepted Refused P xs k x at rejected holds fails = record {
+  here = at;
+  holds = holds (subst Refused (one_there rejected.here at) rejected.refused);
+  before = λ i y lt at_i. fails y (rejected.accepted i y lt at_i);
+}
 
 -- the parts of one more element, without its number
-pub gathers_more : {X A : Type 0} (f : X → List A) (xs : List X) (i : ℕ) (x : X) (old now new : List A) → slice_get xs i ≡ Some x → now ≡ old ++ flat_map f (take i xs) → new ≡ now ++ f x → new ≡ old ++ flat_map f (take (i + 1) xs)
+pub gathers_more : {X A : Type 0} (f : X → List A) (xs : List X) (i : ℕ) (x : X) (old now new : List A) → At xs i x → now ≡ old ++ flat_map f (take i xs) →
+    new ≡ now ++ f x → new ≡ old ++ flat_map f (take (i + 1) xs)
 gathers_more f xs i x old now new at before more =
     more ∙ ap (λ ys. ys ++ f x) before ∙ append_assoc old (flat_map f (take i xs)) (f x)
-    ∙ ap (λ ys. old ++ ys) (sym (ap (flat_map f) (take_next xs i x at) ∙ flat_map-append f (take i xs) (x ∷ []) ∙ ap (λ ys. flat_map f (take i xs) ++ ys) (append-nil (f x))))
+    ∙ ap (λ ys. old ++ ys)
+    (sym (ap (flat_map f) (take_next xs i x at) ∙ flat_map-append f (take i xs) (x ∷ []) ∙ ap (λ ys. flat_map f (take i xs) ++ ys) (append-nil (f x))))
 
 -- ---- lists in which all differ, and the first repetition in a list
 
@@ -147,45 +126,48 @@ pub take_behind : {X : Type 0} (xs ys : List X) (n : ℕ) → take (length xs + 
 take_behind [] ys n = let e : 0 + n ≡ n = omega arith in rw e refl
 take_behind (x ∷ xs) ys n = let e : suc (length xs) + n ≡ suc (length xs + n) = omega arith in rw e (ap (λ zs. x ∷ zs) (take_behind xs ys n))
 
-pub length_before : {X : Type 0} (xs : List X) (i : ℕ) (x : X) → slice_get xs i ≡ Some x → length (take i xs) ≡ i
-length_before [] i x e = cc
-length_before (y ∷ xs) zero x e = refl
-length_before (y ∷ xs) (suc i) x e = ap suc (length_before xs i x e)
+length_before : {X : Type 0} (xs : List X) (i : ℕ) (x : X) → At xs i x → length (take i xs) ≡ i
+length_before xs i x e = let lt = slice_get_within xs i x e in length-take-le i xs (omega arith)
 
 numbered_push : {X : Type 0} (n : ℕ) (xs : List X) (x : X) → enumerate_from n (xs ++ x ∷ []) ≡ enumerate_from n xs ++ (n + length xs, x) ∷ []
 numbered_push n [] x = let e : n + 0 ≡ n = omega arith in rw e refl
 numbered_push n (y ∷ xs) x = let e : n + suc (length xs) ≡ (n + 1) + length xs = omega arith in rw e (ap (λ ys. (n, y) ∷ ys) (numbered_push (n + 1) xs x))
 
 -- one more element, by its number
-pub numbered_next : {X : Type 0} (xs : List X) (i : ℕ) (x : X) → slice_get xs i ≡ Some x → enumerate_from 0 (take (i + 1) xs) ≡ enumerate_from 0 (take i xs) ++ (i, x) ∷ []
+pub numbered_next : {X : Type 0} (xs : List X) (i : ℕ) (x : X) → At xs i x → enumerate_from 0 (take (i + 1) xs) ≡ enumerate_from 0 (take i xs) ++ (i, x) ∷ []
 numbered_next xs i x at =
     let e : 0 + length (take i xs) ≡ i = omega (arith, length_before xs i x at) in
     ap (enumerate_from 0) (take_next xs i x at) ∙ numbered_push 0 (take i xs) x ∙ ap (λ n. enumerate_from 0 (take i xs) ++ (n, x) ∷ []) e
 
 -- the parts of one more element
-pub parts_next : {X A : Type 0} (f : ℕ × X → List A) (xs : List X) (i : ℕ) (x : X) → slice_get xs i ≡ Some x → flat_map f (enumerate_from 0 (take (i + 1) xs)) ≡ flat_map f (enumerate_from 0 (take i xs)) ++ f (i, x)
+parts_next : {X A : Type 0} (f : ℕ × X → List A) (xs : List X) (i : ℕ) (x : X) → At xs i x →
+    flat_map f (enumerate_from 0 (take (i + 1) xs)) ≡ flat_map f (enumerate_from 0 (take i xs)) ++ f (i, x)
 parts_next f xs i x at =
-    ap (flat_map f) (numbered_next xs i x at) ∙ flat_map-append f (enumerate_from 0 (take i xs)) ((i, x) ∷ []) ∙ ap (λ ys. flat_map f (enumerate_from 0 (take i xs)) ++ ys) (append-nil (f (i, x)))
+    ap (flat_map f) (numbered_next xs i x at) ∙ flat_map-append f (enumerate_from 0 (take i xs)) ((i, x) ∷ []) ∙
+    ap (λ ys. flat_map f (enumerate_from 0 (take i xs)) ++ ys) (append-nil (f (i, x)))
 
 -- a loop that gathers the parts of each element
-pub gathers_next : {X A : Type 0} (f : ℕ × X → List A) (xs : List X) (i : ℕ) (x : X) (old now new : List A) → slice_get xs i ≡ Some x → now ≡ old ++ flat_map f (enumerate_from 0 (take i xs)) → new ≡ now ++ f (i, x) → new ≡ old ++ flat_map f (enumerate_from 0 (take (i + 1) xs))
+pub gathers_next : {X A : Type 0} (f : ℕ × X → List A) (xs : List X) (i : ℕ) (x : X) (old now new : List A) → At xs i x →
+    now ≡ old ++ flat_map f (enumerate_from 0 (take i xs)) → new ≡ now ++ f (i, x) → new ≡ old ++ flat_map f (enumerate_from 0 (take (i + 1) xs))
 gathers_next f xs i x old now new at before more =
-    more ∙ ap (λ ys. ys ++ f (i, x)) before ∙ append_assoc old (flat_map f (enumerate_from 0 (take i xs))) (f (i, x)) ∙ ap (λ ys. old ++ ys) (sym (parts_next f xs i x at))
+    more ∙ ap (λ ys. ys ++ f (i, x)) before ∙ append_assoc old (flat_map f (enumerate_from 0 (take i xs))) (f (i, x)) ∙
+    ap (λ ys. old ++ ys) (sym (parts_next f xs i x at))
 
 -- a text is put into a table of the texts before it
-module _ {X : Type 0} (f : X → List ℕ) (texts : List (List ℕ)) (j : ℕ) (x : X) (keys new : List X) (at : slice_get texts j ≡ Some (f x))
+module _ {X : Type 0} (f : X → List ℕ) (texts : List Name) (j : ℕ) (x : X) (keys new : List X) (at : At texts j (f x))
     (same : map f keys ≡ take j texts) (all : AllDiffer (take j texts))
     (put : new ≡ cond (list_any (λ k. bytes_eq (f x) (f k)) keys) keys (keys ++ x ∷ [])) where
   -- it was there
-  pub repeats_if_found : (i : ℕ) → false ≡ not (list_any (λ k. bytes_eq (f x) (f k)) keys) → (y : X) → slice_get new i ≡ Some y → bytes_eq (f x) (f y) ≡ true → RepeatsFirst texts i j
+  pub repeats_if_found : (i : ℕ) → false ≡ not (list_any (λ k. bytes_eq (f x) (f k)) keys) → (y : X) → At new i y → bytes_eq (f x) (f y) ≡ true →
+      RepeatsFirst texts i j
   repeats_if_found i old y stored alike =
       let kept : new ≡ keys = put ∙ ap (λ b. cond b keys (keys ++ x ∷ [])) (found_if _ old) in
-      let here = ap (λ ts. slice_get ts i) (sym same) ∙ to_map f keys i y (ap (λ ks. slice_get ks i) (sym kept) ∙ stored) in
+      let here = same_reads i (sym same) ∙ to_map f keys i y (same_reads i (sym kept) ∙ stored) in
       let from = from_take j texts i (f y) here in
       record {
         repeated = f x;
         earlier = from.0;
-        here = from.1 ∙ ap (λ z. Some z) (sym ((bytes_decides (f x) (f y)).0 alike));
+        here = from.1 ∙ ap Some (sym ((bytes_decides (f x) (f y)).0 alike));
         again = at;
         before = all;
       }
@@ -193,15 +175,23 @@ module _ {X : Type 0} (f : X → List ℕ) (texts : List (List ℕ)) (j : ℕ) (
   -- it was not
   pub keys_if_new : true ≡ not (list_any (λ k. bytes_eq (f x) (f k)) keys) → map f new ≡ take (j + 1) texts
   keys_if_new fresh =
-      ap (map f) (put ∙ ap (λ b. cond b keys (keys ++ x ∷ [])) (new_if _ fresh)) ∙ map-append f keys (x ∷ []) ∙ ap (λ ts. ts ++ f x ∷ []) same ∙ sym (take_next texts j (f x) at)
+      ap (map f) (put ∙ ap (λ b. cond b keys (keys ++ x ∷ [])) (new_if _ fresh)) ∙ map-append f keys (x ∷ []) ∙ ap (λ ts. ts ++ f x ∷ []) same ∙
+      sym (take_next texts j (f x) at)
 
   pub differ_if_new : true ≡ not (list_any (λ k. bytes_eq (f x) (f k)) keys) → AllDiffer (take (j + 1) texts)
   differ_if_new fresh =
       subst AllDiffer (sym (take_next texts j (f x) at))
-      (differ_push (take j texts) (f x) all (λ k at_k. not_among f keys x (new_if _ fresh) k (ap (λ ts. slice_get ts k) same ∙ at_k)))
+      (differ_push (take j texts) (f x) all (λ k at_k. not_among f keys x (new_if _ fresh) k (same_reads k same ∙ at_k)))
+
+-- what never repeats differs
+pub differ_by : {X : Type 0} (f : X → Name) (xs : List X) → ((i j : ℕ) (a b : X) → i < j → At xs i a → At xs j b → f a ≡ f b → ⊥) → AllDiffer (map f xs)
+differ_by f xs apart = record {
+  differ = λ i j name lt at_i at_j. let a = from_map f xs i name at_i in let b = from_map f xs j name at_j in apart i j a.0 b.0 lt a.1 b.1 (a.2 ∙ sym b.2);
+}
 
 -- the first repetition of what is seen of elements
-pub repetition_of : {X : Type 0} (g : X → List ℕ) (xs : List X) (i j : ℕ) → RepeatsFirst (map g xs) i j → (x : X) × (y : X) × IsFirstRepetition (λ a b. g a ≡ g b) xs i j x y
+pub repetition_of : {X : Type 0} (g : X → List ℕ) (xs : List X) (i j : ℕ) → RepeatsFirst (map g xs) i j →
+    (x : X) × (y : X) × IsFirstRepetition (λ a b. g a ≡ g b) xs i j x y
 repetition_of {X} g xs i j r =
     let at_i = from_map g xs i r.repeated r.here in
     let at_j = from_map g xs j r.repeated r.again in (
@@ -213,42 +203,46 @@ repetition_of {X} g xs i j r =
         y_here = at_j.1;
         alike = at_i.2 ∙ sym at_j.2;
         y_first = λ k l v w kl lj at_k at_l same.
-            r.before.differ k l (g v) kl (in_take j (map g xs) k (g v) (omega (arith, kl, lj)) (to_map g xs k v at_k)) (in_take j (map g xs) l (g v) lj (to_map g xs l w at_l ∙ ap (λ z. Some z) (sym same)));
+            r.before.differ k l (g v) kl (in_take j (map g xs) k (g v) (omega (arith, kl, lj)) (to_map g xs k v at_k))
+            (in_take j (map g xs) l (g v) lj (to_map g xs l w at_l ∙ ap Some (sym same)));
         x_first = λ k v ki at_k same.
-            r.before.differ k i (g v) ki (in_take j (map g xs) k (g v) (let e = r.earlier in omega (arith, ki, e)) (to_map g xs k v at_k)) (in_take j (map g xs) i (g v) r.earlier (r.here ∙ ap (λ z. Some z) (sym at_j.2 ∙ sym same)));
+            r.before.differ k i (g v) ki (in_take j (map g xs) k (g v) (let e = r.earlier in omega (arith, ki, e)) (to_map g xs k v at_k))
+            (in_take j (map g xs) i (g v) r.earlier (r.here ∙ ap Some (sym at_j.2 ∙ sym same)));
       },
     )
 
 -- rows that are made of elements
-pub row_is : {X R Y : Type 0} (f : X → Y) (g : R → Y) (xs : List X) (rows : List R) (k : ℕ) (x : X) (row : R) → map g rows ≡ map f xs → slice_get xs k ≡ Some x → row ≡ get_or rows k row → g row ≡ f x
+pub row_is : {X R Y : Type 0} (f : X → Y) (g : R → Y) (xs : List X) (rows : List R) (k : ℕ) (x : X) (row : R) → map g rows ≡ map f xs → At xs k x →
+    row ≡ get_or rows k row → g row ≡ f x
 row_is f g [] rows k x row same at here = cc
 row_is f g (y ∷ xs) [] k x row same at here = cc
 row_is f g (y ∷ xs) (r ∷ rows) zero x row same at here = cc
 row_is f g (y ∷ xs) (r ∷ rows) (suc k) x row same at here = let rest : map g rows ≡ map f xs = cc in row_is f g xs rows k x row rest at here
 
 -- the first repetition in a list of texts
-pub text_repetition : (xs : List (List ℕ)) (i j : ℕ) (x : List ℕ) → RepeatsFirst xs i j → slice_get xs j ≡ Some x → IsFirstRepetition (λ a b. a ≡ b) xs i j x x
+pub text_repetition : (xs : List (List ℕ)) (i j : ℕ) (x : List ℕ) → RepeatsFirst xs i j → At xs j x → IsFirstRepetition (λ a b. a ≡ b) xs i j x x
 text_repetition xs i j x r at =
-    let same : r.repeated ≡ x = same_some _ _ (sym r.again ∙ at) in
+    let same = one_there r.again at in
     record {
       earlier = r.earlier;
-      x_here = r.here ∙ ap (λ z. Some z) same;
+      x_here = r.here ∙ ap Some same;
       y_here = at;
       alike = refl;
       y_first = λ k l v w kl lj at_k at_l e.
-          r.before.differ k l v kl (in_take j xs k v (omega (arith, kl, lj)) at_k) (in_take j xs l v lj (at_l ∙ ap (λ z. Some z) (sym e)));
+          r.before.differ k l v kl (in_take j xs k v (omega (arith, kl, lj)) at_k) (in_take j xs l v lj (at_l ∙ ap Some (sym e)));
       x_first = λ k v ki at_k e.
-          r.before.differ k i v ki (in_take j xs k v (let lt = r.earlier in omega (arith, ki, lt)) at_k) (in_take j xs i v r.earlier (r.here ∙ ap (λ z. Some z) (same ∙ sym e)));
+          r.before.differ k i v ki (in_take j xs k v (let lt = r.earlier in omega (arith, ki, lt)) at_k)
+          (in_take j xs i v r.earlier (r.here ∙ ap Some (same ∙ sym e)));
     }
 
 -- what a look-up finds, and what it means that it finds none
-pub finds : (keys : List (List ℕ)) (name : List ℕ) (r : Option ℕ) → r ≡ position (λ k. bytes_eq name k) keys → IfSome r (λ k. slice_get keys k ≡ Some name)
+pub finds : (keys : List Name) (name : Name) (r : Option ℕ) → r ≡ position (λ k. bytes_eq name k) keys → IfSome r (λ k. At keys k name)
 finds keys name None e = tt
 finds keys name (Some k) e =
     let p = position-Some (λ key. bytes_eq name key) keys k [] (sym e) in
-    slice_get-get_or keys k [] p.0 ∙ ap (λ z. Some z) (sym ((bytes_decides name (get_or keys k [])).0 p.1))
+    slice_get-get_or keys k [] p.0 ∙ ap Some (sym ((bytes_decides name (get_or keys k [])).0 p.1))
 
-pub misses : (keys : List (List ℕ)) (name : List ℕ) (r : Option ℕ) → is_some r ≡ list_any (λ k. bytes_eq name k) keys → IfNone r ((k : ℕ) → slice_get keys k ≡ Some name → ⊥)
+pub misses : (keys : List Name) (name : Name) (r : Option ℕ) → is_some r ≡ list_any (λ k. bytes_eq name k) keys → IfNone r ((k : ℕ) → At keys k name → ⊥)
 misses keys name None e = λ k at. not_among (λ n. n) keys name (sym e) k (to_map (λ n. n) keys k name at)
 misses keys name (Some k) e = tt
 

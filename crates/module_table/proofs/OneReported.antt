@@ -1,55 +1,59 @@
 -- A sound table has no fault, and one fault at most is reported of a table.
-use Rattle.std.proofs.Common.{◌≡◌, ℕ, List, Some, ap, subst, sym, ◌∙◌, arith, slice_get, ◌<◌}
+use Rattle.std.proofs.Common.{◌≡◌, ℕ, List, ap, subst, sym, ◌∙◌, arith, slice_get, ◌<◌}
 use Rattle.std.specs.List.{enumerate_from}
 use Rattle.document_values.specs.Rule.{RuleValue}
-use Rattle.document_values.specs.Info.{InfoValue, ModuleValue}
+use Rattle.document_values.specs.Info.{ModuleValue}
 use Rattle.module_table.specs.TableValue.{TableValue}
-use Rattle.module_table.specs.Modules.{InfoRequires, InfoRequirement, module_requirements, requirements_of_info, info_requirements, DependsOn, provisions, Provision}
+use Rattle.module_table.specs.Modules.{InfoRequires, InfoRequirement, module_requirements, requirements_of_info, info_requirements, DependsOn, provisions}
 use Rattle.module_table.specs.Outcomes.{SoundHasNoFault, IsSameFault, same, same_ring, OneTableFault}
 use Rattle.module_table.specs.declared.fault.Maker.TheVariants.{Object, Info}
 use Rattle.module_table.specs.declared.fault.TableFault.TheVariants.{ObjectTwice, InfoTwice, ProvidedTwice, BmiTwice, ModuleUnknown, InfoUnknown, InfoDisagrees, ImportCycle, ModulePrivate, PrivateUnknown}
-use Rattle.module_table.proofs.Places.{one_file, neither_less, from_flat_map, from_numbered}
-use Rattle.ninja_text.proofs.ForCallers.{contained}
-use Rattle.ninja_text.proofs.ForCallers.{from_map, same_some}
+use Rattle.module_table.proofs.Places.{one_file, neither_less, from_first}
+use Rattle.ninja_text.proofs.ForCallers.{contained, from_map, from_flat_map}
 use Rattle.dep_order.proofs.ForCallers.{one_cycle}
 use Rattle.ninja_text.specs.Firsts.{IsFirst, IsFirstRepetition, AllDiffer}
-use Rattle.module_table.specs.Faults.{IsReported, IsFirstRequired, HasPrivate, Claim, code_number}
+use Rattle.module_table.specs.Faults.{IsReported, IsFirstRequired, HasPrivate, code_number}
 use Rattle.module_table.specs.inner.Views.{names_of}
 use Rattle.module_table.specs.declared.fault.TableFault.{TableFault}
 use Rattle.module_table.proofs.Found.{one_module}
 use Rattle.module_table.proofs.Passing.{has_private}
 use Rattle.module_table.proofs.Faultless.{names_differ}
+use Rattle.module_table.proofs.Words.{Pair, maker_of, path_of, target_of, At}
+use Rattle.ninja_text.specs.Bytes.{Name}
+use Rattle.module_table.proofs.Lists.{one_value}
 
 -- ---- A sound table that keeps its own names has no fault
 
 -- a requirement among those of all info files is one of a module of its info
-requires_at : (t : TableValue) (k : ℕ) (r : InfoRequirement) → slice_get (info_requirements t) k ≡ Some r → (j : ℕ) × (m : ModuleValue) × InfoRequires t r.info j m r.name r.file
+requires_at : (t : TableValue) (k : ℕ) (r : InfoRequirement) → At (info_requirements t) k r →
+    (j : ℕ) × (m : ModuleValue) × InfoRequires t r.info j m r.name r.file
 requires_at t k r e =
     let part = from_flat_map requirements_of_info (enumerate_from 0 t.infos) k r e in
-    let n = from_numbered 0 t.infos part.1 part.0 part.3 in
-    let inner = from_flat_map (module_requirements part.0.0 part.0.1.target) part.0.1.modules part.2 r part.4 in
-    let pair = from_map (λ (p : List ℕ × List ℕ). let q : InfoRequirement = record { info = part.0.0; target = part.0.1.target; module_name = inner.0.name; name = p.0; file = p.1 } in q) inner.0.required inner.2 r inner.4 in
-    let place : part.1 ≡ part.0.0 = omega (arith, n.0) in
-    let at : slice_get t.infos part.0.0 ≡ Some part.0.1 = ap (slice_get t.infos) (sym place) ∙ n.1 in (
-      inner.1,
+    let n = from_first t.infos part.0 part.2.0 part.2.1 in
+    let info = part.2.0.1 in
+    let inner = from_flat_map (module_requirements part.0 info.target) info.modules part.1 r (subst (λ x. At (requirements_of_info x) part.1 r) n.0 part.2.2) in
+    let m = inner.2.0 in
+    let pair = from_map (λ (p : Pair). let q : InfoRequirement = record { info = part.0; target = info.target; module_name = m.name; name = p.0; file = p.1 } in
+    q) m.required inner.1 r inner.2.2 in (
       inner.0,
-      subst (λ (q : InfoRequirement). InfoRequires t q.info inner.1 inner.0 q.name q.file) pair.2
-          ((part.0.1, at, inner.3), contained inner.0.required (pair.0.0, pair.0.1) (inner.2, pair.1)),
+      m,
+      subst (λ (q : InfoRequirement). InfoRequires t q.info inner.0 m q.name q.file) pair.2
+          ((info, n.1, inner.2.1), contained m.required pair.0 (inner.1, pair.1)),
     )
 
 pub sound_has_no_fault : SoundHasNoFault
 sound_has_no_fault t kept sound own (ObjectTwice path first second) h =
-    let a = from_map (λ (x : RuleValue). x.object) t.objects h.0 path h.2.x_here in
-    let b = from_map (λ (x : RuleValue). x.object) t.objects h.1 path h.2.y_here in
-    let same : h.0 ≡ h.1 = sound.objects_differ h.0 h.1 a.0 b.0 a.1 b.1 (a.2 ∙ sym b.2) in
+    let a = from_map path_of t.objects h.0 path h.2.x_here in
+    let b = from_map path_of t.objects h.1 path h.2.y_here in
+    let same = sound.objects_differ h.0 h.1 a.0 b.0 a.1 b.1 (a.2 ∙ sym b.2) in
     omega (arith, h.2.earlier, same)
 sound_has_no_fault t kept sound own (InfoTwice target) h =
-    let a = from_map (λ (x : InfoValue). x.target) t.infos h.0 target h.2.x_here in
-    let b = from_map (λ (x : InfoValue). x.target) t.infos h.1 target h.2.y_here in
-    let same : h.0 ≡ h.1 = sound.infos_differ h.0 h.1 a.0 b.0 a.1 b.1 (a.2 ∙ sym b.2) in
+    let a = from_map target_of t.infos h.0 target h.2.x_here in
+    let b = from_map target_of t.infos h.1 target h.2.y_here in
+    let same = sound.infos_differ h.0 h.1 a.0 b.0 a.1 b.1 (a.2 ∙ sym b.2) in
     omega (arith, h.2.earlier, same)
 sound_has_no_fault t kept sound own (ProvidedTwice name first second) h =
-    let same : h.0 ≡ h.1 = sound.names_differ h.0 h.1 h.2 h.3 h.4.x_here h.4.y_here h.4.alike in
+    let same = sound.names_differ h.0 h.1 h.2 h.3 h.4.x_here h.4.y_here h.4.alike in
     omega (arith, h.4.earlier, same)
 sound_has_no_fault t kept sound own (BmiTwice path first second) h = sound.files_differ h.0 h.1 h.2 h.3 h.4.earlier h.4.x_here h.4.y_here h.4.alike
 sound_has_no_fault t kept sound own (ModuleUnknown name object) h =
@@ -79,8 +83,8 @@ sound_has_no_fault t kept sound own (PrivateUnknown name) h =
 -- ---- there is one first
 
 module _ {X : Type 0} (xs : List X) where
-  same_there : (i j : ℕ) (x y : X) → i ≡ j → slice_get xs i ≡ Some x → slice_get xs j ≡ Some y → x ≡ y
-  same_there i j x y e at_i at_j = same_some _ _ (sym at_i ∙ ap (slice_get xs) e ∙ at_j)
+  same_there : (i j : ℕ) (x y : X) → i ≡ j → At xs i x → At xs j y → x ≡ y
+  same_there i j x y e at_i at_j = one_value (sym at_i ∙ ap (slice_get xs) e ∙ at_j)
 
   module _ (P : X → Type 0) (i j : ℕ) (x y : X) (p : IsFirst P xs i x) (q : IsFirst P xs j y) where
     one_place : i ≡ j
@@ -100,46 +104,48 @@ module _ {X : Type 0} (xs : List X) where
 
     one_earlier : i ≡ k
     one_earlier =
-        neither_less i k (λ lt. q.x_first i x lt p.x_here (subst (Alike x) one_second p.alike)) (λ gt. p.x_first k v gt q.x_here (subst (Alike v) (sym one_second) q.alike))
+        neither_less i k (λ lt. q.x_first i x lt p.x_here (subst (Alike x) one_second p.alike))
+        (λ gt. p.x_first k v gt q.x_here (subst (Alike v) (sym one_second) q.alike))
 
     one_partner : x ≡ v
     one_partner = same_there i k x v one_earlier p.x_here q.x_here
 
-module _ (P : List ℕ → Type 0) (objects : List RuleValue) (o u : ℕ) (name other : List ℕ) (p : IsFirstRequired P objects o name) (q : IsFirstRequired P objects u other) where
+module _ (P : List ℕ → Type 0) (objects : List RuleValue) (o u : ℕ) (name other : Name) (p : IsFirstRequired P objects o name)
+    (q : IsFirstRequired P objects u other) where
   one_user : o ≡ u
   one_user = one_place objects _ o u p.rule q.rule p.first_object q.first_object
 
   one_required : name ≡ other
   one_required =
-      let rule : p.rule ≡ q.rule = one_first objects _ o u p.rule q.rule p.first_object q.first_object in
-      one_first q.rule.required P p.index q.index name other (subst (λ (r : RuleValue). IsFirst P r.required p.index name) rule p.first_name) q.first_name
+      one_first q.rule.required P p.index q.index name other
+      (subst (λ (r : RuleValue). IsFirst P r.required p.index name) (one_first objects _ o u p.rule q.rule p.first_object q.first_object) p.first_name)
+      q.first_name
 
 -- one info keeps a module
-one_keeper : (t : TableValue) → AllDiffer (names_of (provisions t)) → (name : List ℕ) (i j : ℕ) → HasPrivate t i name → HasPrivate t j name → i ≡ j
+one_keeper : (t : TableValue) → AllDiffer (names_of (provisions t)) → (name : Name) (i j : ℕ) → HasPrivate t i name → HasPrivate t j name → i ≡ j
 one_keeper t differ name i j p q =
     let a = has_private t i name p in
     let b = has_private t j name q in
-    let makers : Info i ≡ Info j = sym a.4 ∙ ap (λ (x : Provision). x.maker) (one_module (provisions t) name differ a.0 b.0 a.1 b.1 a.2 b.2) ∙ b.4 in
+    let makers = sym a.4 ∙ ap maker_of (one_module (provisions t) name differ a.0 b.0 a.1 b.1 a.2 b.2) ∙ b.4 in
     cc
 
 by_same : (fault other : TableFault) → fault ≡ other → IsSameFault fault other
 by_same fault other e = subst (IsSameFault fault) e same
 
 -- if a fault of that code is reported no name is provided twice
-differ_below : (t : TableValue) (kept : List (List ℕ)) (fault : TableFault) → IsReported t kept fault → 3 < code_number fault → AllDiffer (names_of (provisions t))
+differ_below : (t : TableValue) (kept : List Name) (fault : TableFault) → IsReported t kept fault → 3 < code_number fault → AllDiffer (names_of (provisions t))
 differ_below t kept fault told lt = names_differ t kept (λ name first second h. absurd (omega (arith, lt, told.lowest (ProvidedTwice name first second) h)))
 
 -- ---- of each code one fault is reported
 
-one_of_code : (t : TableValue) (kept : List (List ℕ)) (fault other : TableFault) → code_number fault ≡ code_number other → IsReported t kept fault → IsReported t kept other → IsSameFault fault other
+one_of_code : (t : TableValue) (kept : List Name) (fault other : TableFault) → code_number fault ≡ code_number other → IsReported t kept fault →
+    IsReported t kept other → IsSameFault fault other
 one_of_code t kept (ObjectTwice path first second) (ObjectTwice other third fourth) e a b =
     let p = a.present in
     let q = b.present in
-    let i : p.0 ≡ q.0 = one_earlier _ _ p.0 p.1 q.0 q.1 path path other other p.2 q.2 in
-    let j : p.1 ≡ q.1 = one_later _ _ p.0 p.1 q.0 q.1 path path other other p.2 q.2 in
-    let is : path ≡ other = one_second _ _ p.0 p.1 q.0 q.1 path path other other p.2 q.2 in
-    let f : first ≡ third = p.3 ∙ ap Object i ∙ sym q.3 in
-    let s : second ≡ fourth = p.4 ∙ ap Object j ∙ sym q.4 in
+    let i = one_earlier _ _ p.0 p.1 q.0 q.1 path path other other p.2 q.2 in
+    let j = one_later _ _ p.0 p.1 q.0 q.1 path path other other p.2 q.2 in
+    let is = one_second _ _ p.0 p.1 q.0 q.1 path path other other p.2 q.2 in
     by_same _ _ (cc)
 one_of_code t kept (InfoTwice target) (InfoTwice other) e a b =
     let p = a.present in
@@ -148,45 +154,33 @@ one_of_code t kept (InfoTwice target) (InfoTwice other) e a b =
 one_of_code t kept (ProvidedTwice name first second) (ProvidedTwice other third fourth) e a b =
     let p = a.present in
     let q = b.present in
-    let x : p.2 ≡ q.2 = one_partner _ _ p.0 p.1 q.0 q.1 p.2 p.3 q.2 q.3 p.4 q.4 in
-    let y : p.3 ≡ q.3 = one_second _ _ p.0 p.1 q.0 q.1 p.2 p.3 q.2 q.3 p.4 q.4 in
-    let n : name ≡ other = sym p.5 ∙ ap (λ (z : Provision). z.name) y ∙ q.5 in
-    let f : first ≡ third = sym p.6 ∙ ap (λ (z : Provision). z.maker) x ∙ q.6 in
-    let s : second ≡ fourth = sym p.7 ∙ ap (λ (z : Provision). z.maker) y ∙ q.7 in
+    let x = one_partner _ _ p.0 p.1 q.0 q.1 p.2 p.3 q.2 q.3 p.4 q.4 in
+    let y = one_second _ _ p.0 p.1 q.0 q.1 p.2 p.3 q.2 q.3 p.4 q.4 in
     by_same _ _ (cc)
 one_of_code t kept (BmiTwice path first second) (BmiTwice other third fourth) e a b =
     let p = a.present in
     let q = b.present in
-    let x : p.2 ≡ q.2 = one_partner _ _ p.0 p.1 q.0 q.1 p.2 p.3 q.2 q.3 p.4 q.4 in
-    let y : p.3 ≡ q.3 = one_second _ _ p.0 p.1 q.0 q.1 p.2 p.3 q.2 q.3 p.4 q.4 in
-    let n : path ≡ other = sym p.5 ∙ ap (λ (z : Claim). z.file) y ∙ q.5 in
-    let f : first ≡ third = sym p.6 ∙ ap (λ (z : Claim). z.maker) x ∙ q.6 in
-    let s : second ≡ fourth = sym p.7 ∙ ap (λ (z : Claim). z.maker) y ∙ q.7 in
+    let x = one_partner _ _ p.0 p.1 q.0 q.1 p.2 p.3 q.2 q.3 p.4 q.4 in
+    let y = one_second _ _ p.0 p.1 q.0 q.1 p.2 p.3 q.2 q.3 p.4 q.4 in
     by_same _ _ (cc)
 one_of_code t kept (ModuleUnknown name object) (ModuleUnknown other user) e a b =
-    let n : name ≡ other = one_required _ t.objects object user name other a.present b.present in
-    let o : object ≡ user = one_user _ t.objects object user name other a.present b.present in
+    let n = one_required _ t.objects object user name other a.present b.present in
+    let o = one_user _ t.objects object user name other a.present b.present in
     by_same _ _ (cc)
 one_of_code t kept (InfoUnknown target module_name name) (InfoUnknown other_target other_module other) e a b =
     let p = a.present in
     let q = b.present in
-    let r : p.1 ≡ q.1 = one_first _ _ p.0 q.0 p.1 q.1 p.2 q.2 in
-    let x : target ≡ other_target = sym p.3 ∙ ap (λ (z : InfoRequirement). z.target) r ∙ q.3 in
-    let y : module_name ≡ other_module = sym p.4 ∙ ap (λ (z : InfoRequirement). z.module_name) r ∙ q.4 in
-    let n : name ≡ other = sym p.5 ∙ ap (λ (z : InfoRequirement). z.name) r ∙ q.5 in
+    let r = one_first _ _ p.0 q.0 p.1 q.1 p.2 q.2 in
     by_same _ _ (cc)
 one_of_code t kept (InfoDisagrees target module_name name) (InfoDisagrees other_target other_module other) e a b =
     let p = a.present in
     let q = b.present in
-    let r : p.1 ≡ q.1 = one_first _ _ p.0 q.0 p.1 q.1 p.2 q.2 in
-    let x : target ≡ other_target = sym p.3 ∙ ap (λ (z : InfoRequirement). z.target) r ∙ q.3 in
-    let y : module_name ≡ other_module = sym p.4 ∙ ap (λ (z : InfoRequirement). z.module_name) r ∙ q.4 in
-    let n : name ≡ other = sym p.5 ∙ ap (λ (z : InfoRequirement). z.name) r ∙ q.5 in
+    let r = one_first _ _ p.0 q.0 p.1 q.1 p.2 q.2 in
     by_same _ _ (cc)
 one_of_code t kept (ImportCycle ring) (ImportCycle other) e a b = same_ring (one_cycle (DependsOn t) ring.items other.items a.present b.present)
 one_of_code t kept (ModulePrivate name info (Object object)) (ModulePrivate other keeper (Object user)) e a b =
-    let n : name ≡ other = one_required _ t.objects object user name other a.present.0 b.present.0 in
-    let o : object ≡ user = one_user _ t.objects object user name other a.present.0 b.present.0 in
+    let n = one_required _ t.objects object user name other a.present.0 b.present.0 in
+    let o = one_user _ t.objects object user name other a.present.0 b.present.0 in
     let k : info ≡ keeper = one_keeper t (differ_below t kept _ a (omega arith)) other info keeper (subst (HasPrivate t info) n a.present.1) b.present.1 in
     by_same _ _ (cc)
 one_of_code t kept (ModulePrivate name info (Object object)) (ModulePrivate other keeper (Info user)) e a b =
@@ -198,9 +192,8 @@ one_of_code t kept (ModulePrivate name info (Info user)) (ModulePrivate other ke
 one_of_code t kept (ModulePrivate name info (Info user)) (ModulePrivate other keeper (Info third)) e a b =
     let p = a.present.1 in
     let q = b.present.1 in
-    let r : p.1 ≡ q.1 = one_first _ _ p.0 q.0 p.1 q.1 p.2 q.2 in
-    let n : name ≡ other = sym p.3 ∙ ap (λ (z : InfoRequirement). z.name) r ∙ q.3 in
-    let u : user ≡ third = sym p.4 ∙ ap (λ (z : InfoRequirement). z.info) r ∙ q.4 in
+    let r = one_first _ _ p.0 q.0 p.1 q.1 p.2 q.2 in
+    let n = sym p.3 ∙ ap (λ (z : InfoRequirement). z.name) r ∙ q.3 in
     let k : info ≡ keeper = one_keeper t (differ_below t kept _ a (omega arith)) other info keeper (subst (HasPrivate t info) n p.5) q.5 in
     by_same _ _ (cc)
 one_of_code t kept (PrivateUnknown name) (PrivateUnknown other) e a b =

@@ -1,16 +1,14 @@
 -- Pairs of names and files: which of them an object requires, and their order by name.
 use Rattle.std.proofs.Common.{◌≡◌, ℕ, zero, suc, ◌<◌, ◌⊎◌, List, [], ◌∷◌, Some, None, refl, ap, ap₂, subst, sym, ◌∙◌, inl, inr, ⊎_elim, arith, slice_get, get_or, Bool, true, false, filter, find, cond, not, bytes_eq, ◌≢◌, ◌+◌, ◌++◌, length, map, set, slice_index, Ordering, true≢false}
-use Rattle.std.specs.List.{AllPairs, IsDistinct}
+use Rattle.std.specs.List.{AllPairs}
 use Rattle.std.specs.Ordering.{ordering_reverse, nat_cmp, ordering_then, is_lt, is_eq}
 use Rattle.std.specs.declared.cmp.Ordering.TheVariants.{Less, Greater, Equal}
 use Rattle.std.specs.Cmp.Lexicographic.{nat_list_cmp_total, bytes_decides, slice_cmp, on_texts}
 use Rattle.std.proofs.lemmas.Option.{slice_get_within, get_or_from_slice_get, slice_get-get_or}
 use Rattle.module_table.specs.Needed.{ArePairs, lent}
-use Rattle.ninja_text.specs.Bytes.{Precedes}
+use Rattle.ninja_text.specs.Bytes.{Precedes, Name}
 use Rattle.module_table.proofs.Places.{Has, has_more, from_option_map, provision_by, neither_less}
-use Rattle.ninja_text.proofs.ForCallers.{contained}
-use Rattle.ninja_text.proofs.ForCallers.{placed}
-use Rattle.ninja_text.proofs.ForCallers.{same_some, from_push, to_map, from_map, element_at, in_filter_map}
+use Rattle.ninja_text.proofs.ForCallers.{contained, placed, same_some, from_push, to_map, from_map, element_at, in_filter_map}
 use Rattle.std.specs.Option.{option_map}
 use Rattle.module_table.specs.Modules.{Provision, provisions}
 use Rattle.module_table.specs.Added.{first_mentions, pair_of, required_of, AllRequired}
@@ -26,16 +24,19 @@ use Rattle.std.proofs.lemmas.List.Sorted.{ranks_by, sorted_far, Contains-permuta
 use Rattle.module_table.specs.TableValue.{TableValue}
 use Rattle.module_table.specs.inner.Indexed.{pair_at}
 use Rattle.module_table.specs.Sound.{IsSound}
-use Rattle.module_table.specs.inner.Ranks.{Numbered, AreListed, AreByName, AreNumbers, AreRanks, AreRanked}
+use Rattle.module_table.specs.inner.Ranks.{pair_in, AreListed, AreByName, AreNumbers, AreRanks, AreRanked}
+use Rattle.module_table.proofs.Words.{bmi_of, Pair, At, name_in_pair, pair_of_module, with_file}
+use Rattle.module_table.proofs.Lists.{same_reads, one_value}
+use Rattle.module_table.specs.declared.needed.Numbered.{Numbered}
 
 -- ---- at most one list has exactly the pairs of which something holds, in byte order of names
 
 -- each element comes before all that are after it
 abbrev Rises : {X : Type 0} → (X → X → Type 0) → List X → Type 0
-Rises {X} Before xs = (i j : ℕ) (a b : X) → i < j → slice_get xs i ≡ Some a → slice_get xs j ≡ Some b → Before a b
+Rises {X} Before xs = (i j : ℕ) (a b : X) → i < j → At xs i a → At xs j b → Before a b
 
 first_or_behind : {X : Type 0} (y : X) (ys : List X) (x : X) → Has (y ∷ ys) x → (y ≡ x) ⊎ Has ys x
-first_or_behind y ys x (zero, e) = inl (same_some _ _ e)
+first_or_behind y ys x (zero, e) = inl (one_value e)
 first_or_behind y ys x (suc k, e) = inr (k, e)
 
 module _ {X : Type 0} (Before : X → X → Type 0) (one_way : (a b : X) → Before a b → Before b a → ⊥) where
@@ -59,9 +60,8 @@ module _ {X : Type 0} (Before : X → X → Type 0) (one_way : (a b : X) → Bef
   -- what the other list has after the same first element
   behind_first : (x y : X) (xs ys : List X) → x ≡ y → Rises Before (x ∷ xs) → ((z : X) → Has (x ∷ xs) z → Has (y ∷ ys) z) → (z : X) → Has xs z → Has ys z
   behind_first x y xs ys e rx to z h =
-      let x_before : Before x z = before_rest x xs rx z h in
       ⊎_elim
-      (λ y_is. let itself : Before x x = subst (Before x) (sym (e ∙ y_is)) x_before in absurd (one_way x x itself itself))
+      (λ y_is. let itself : Before x x = subst (Before x) (sym (e ∙ y_is)) (before_rest x xs rx z h) in absurd (one_way x x itself itself))
       (λ behind. behind)
       (first_or_behind y ys z (to z (suc h.0, h.1)))
 
@@ -79,12 +79,12 @@ by_places Before xs all i j a b lt at_i at_j =
     subst (λ x. Before x b) (get_or_from_slice_get xs i a a at_i)
     (subst (Before (get_or xs i a)) (get_or_from_slice_get xs j b a at_j) (all i j a lt (slice_get_within xs j b at_j)))
 
-pub precedes_one_way : (a b : List ℕ) → Precedes a b → Precedes b a → ⊥
+precedes_one_way : (a b : List ℕ) → Precedes a b → Precedes b a → ⊥
 precedes_one_way a b h k = let both : Less ≡ Greater = sym k ∙ nat_list_cmp_total.antisymm b a ∙ ap ordering_reverse h in cc
 
-pub one_list_of_pairs : (P : List ℕ → List ℕ → Type 0) (xs ys : List (List ℕ × List ℕ)) → ArePairs P xs → ArePairs P ys → xs ≡ ys
+pub one_list_of_pairs : (P : List ℕ → List ℕ → Type 0) (xs ys : List (Pair)) → ArePairs P xs → ArePairs P ys → xs ≡ ys
 one_list_of_pairs P xs ys p q =
-    let Before = λ (x y : List ℕ × List ℕ). Precedes x.0 y.0 in
+    let Before = λ (x y : Pair). Precedes x.0 y.0 in
     same_lists Before (λ a b. precedes_one_way a.0 b.0) xs ys (by_places Before xs p.rising) (by_places Before ys q.rising)
     (λ x h. placed ys x ((q.each x.0 x.1).1 ((p.each x.0 x.1).0 (contained xs x h))))
     (λ x h. placed xs x ((p.each x.0 x.1).1 ((q.each x.0 x.1).0 (contained ys x h))))
@@ -101,28 +101,31 @@ in_front : {X : Type 0} (y : X) (ys : List X) (b : Bool) → b ≡ true → Has 
 in_front y ys true e = (0, refl)
 in_front y ys false e = cc
 
-in_filter : {X : Type 0} (test : X → Bool) (xs : List X) (k : ℕ) (x : X) → slice_get xs k ≡ Some x → test x ≡ true → Has (filter test xs) x
+in_filter : {X : Type 0} (test : X → Bool) (xs : List X) (k : ℕ) (x : X) → At xs k x → test x ≡ true → Has (filter test xs) x
 in_filter test [] k x at passes = cc
 in_filter test (y ∷ xs) zero x at passes =
-    let same : y ≡ x = same_some _ _ at in
+    let same = one_value at in
     subst (Has (filter test (y ∷ xs))) same (in_front y (filter test xs) (test y) (ap test same ∙ passes))
 in_filter test (y ∷ xs) (suc k) x at passes = in_rest y (filter test xs) x (test y) (in_filter test xs k x at passes)
 
 -- ---- each name is mentioned
 
-behind_mention : (first : List ℕ) (mentions : List (List ℕ)) (name : List ℕ) → Has mentions name → (b : Bool) → bytes_eq first name ≡ b → Has (first ∷ filter (λ other. not (bytes_eq first other)) mentions) name
+behind_mention : (first : Name) (mentions : List (List ℕ)) (name : Name) → Has mentions name → (b : Bool) → bytes_eq first name ≡ b →
+    Has (first ∷ filter (λ other. not (bytes_eq first other)) mentions) name
 behind_mention first mentions name h true e = (0, ap Some ((bytes_decides first name).0 e))
 behind_mention first mentions name h false e =
-    has_more first (filter (λ other. not (bytes_eq first other)) mentions) name (in_filter (λ other. not (bytes_eq first other)) mentions h.0 name h.1 (ap not e))
+    has_more first (filter (λ other. not (bytes_eq first other)) mentions) name
+    (in_filter (λ other. not (bytes_eq first other)) mentions h.0 name h.1 (ap not e))
 
-in_mentions : (names : List (List ℕ)) (k : ℕ) (name : List ℕ) → slice_get names k ≡ Some name → Has (first_mentions names) name
+in_mentions : (names : List Name) (k : ℕ) (name : Name) → At names k name → Has (first_mentions names) name
 in_mentions [] k name at = cc
 in_mentions (first ∷ names) zero name at = (0, at)
 in_mentions (first ∷ names) (suc k) name at = behind_mention first (first_mentions names) name (in_mentions names k name at) (bytes_eq first name) refl
 
 -- ---- a search finds what there is
 
-found_or_behind : {X : Type 0} (test : X → Bool) (y : X) (xs : List X) → ((x : X) × (find test xs ≡ Some x)) → (b : Bool) → (x : X) × (cond b (Some y) (find test xs) ≡ Some x)
+found_or_behind : {X : Type 0} (test : X → Bool) (y : X) (xs : List X) → ((x : X) × (find test xs ≡ Some x)) → (b : Bool) →
+    (x : X) × (cond b (Some y) (find test xs) ≡ Some x)
 found_or_behind test y xs rest true = (y, refl)
 found_or_behind test y xs rest false = rest
 
@@ -130,9 +133,9 @@ found_first : {X : Type 0} (test : X → Bool) (y : X) (xs : List X) (b : Bool) 
 found_first test y xs true e = (y, refl)
 found_first test y xs false e = cc
 
-found : {X : Type 0} (test : X → Bool) (xs : List X) (k : ℕ) (x : X) → slice_get xs k ≡ Some x → test x ≡ true → (y : X) × (find test xs ≡ Some y)
+found : {X : Type 0} (test : X → Bool) (xs : List X) (k : ℕ) (x : X) → At xs k x → test x ≡ true → (y : X) × (find test xs ≡ Some y)
 found test [] k x at passes = cc
-found test (y ∷ xs) zero x at passes = let same : y ≡ x = same_some _ _ at in found_first test y xs (test y) (ap test same ∙ passes)
+found test (y ∷ xs) zero x at passes = let same : y ≡ x = one_value at in found_first test y xs (test y) (ap test same ∙ passes)
 found test (y ∷ xs) (suc k) x at passes = found_or_behind test y xs (found test xs k x at passes) (test y)
 
 pub all_required : AllRequired
@@ -140,43 +143,46 @@ unfolding required_of
 all_required t sound o rule name at has =
     let known = sound.known o name (rule, at, has) in
     let provided = provision_by t name known.0 known.1.0 known.1.1 in
-    let entry = found (λ (p : Provision). bytes_eq name p.name) (provisions t) provided.0 provided.1 provided.2 ((bytes_decides name provided.1.name).1 (sym provided.3)) in
+    let entry = found (λ (p : Provision). bytes_eq name p.name) (provisions t) provided.0 provided.1 provided.2
+    ((bytes_decides name provided.1.name).1 (sym provided.3)) in
     let there = placed rule.required name has in
     let mention = in_mentions rule.required there.0 name there.1 in
-    let pair : pair_of (provisions t) name ≡ Some (name, entry.0.file) = ap (λ o. option_map (λ (file : List ℕ). let p : List ℕ × List ℕ = (name, file) in p) (option_map (λ (p : Provision). p.file) o)) entry.1 in
-    (entry.0.file, contained (required_of t rule) (name, entry.0.file) (in_filter_map (pair_of (provisions t)) (first_mentions rule.required) mention.0 name (name, entry.0.file) mention.1 pair))
+    let pair : pair_of (provisions t) name ≡ Some (name, entry.0.file) =
+    ap (λ o. option_map (with_file name) (option_map bmi_of o)) entry.1 in (
+      entry.0.file,
+      contained (required_of t rule) (name, entry.0.file)
+          (in_filter_map (pair_of (provisions t)) (first_mentions rule.required) mention.0 name (name, entry.0.file) mention.1 pair),
+    )
 
 -- ---- modules sorted by name, and their ranks
 
-abbrev Pair : Type 0
-Pair = List ℕ × List ℕ
-
 -- ---- all modules, by number
 
-pub listed_more : (provided : List Provision) (count : ℕ) (modules : List Numbered) (m : Numbered) → m.1 ≡ count → pair_at provided count ≡ Some (lent m.0) → AreListed provided count modules → AreListed provided (count + 1) (modules ++ m ∷ [])
+pub listed_more : (provided : List Provision) (count : ℕ) (modules : List Numbered) (m : Numbered) → m.index ≡ count →
+    pair_at provided count ≡ Some (lent (pair_in m)) → AreListed provided count modules → AreListed provided (count + 1) (modules ++ m ∷ [])
 listed_more provided count modules m number pair h = record {
   as_many = length_push modules m ∙ ap (λ n. n + 1) h.as_many;
   numbers = λ k n at. ⊎_elim
       (λ old. h.numbers k n old)
-      (λ new. ap (λ (x : Numbered). x.1) (sym new.1) ∙ number ∙ sym h.as_many ∙ sym new.0)
+      (λ new. ap (λ (x : Numbered). x.index) (sym new.1) ∙ number ∙ sym h.as_many ∙ sym new.0)
       (from_push modules m k n at);
   pairs = λ k n at. ⊎_elim
       (λ old. h.pairs k n old)
-      (λ new. ap (pair_at provided) (new.0 ∙ h.as_many) ∙ pair ∙ ap (λ (x : Numbered). Some (lent x.0)) new.1)
+      (λ new. ap (pair_at provided) (new.0 ∙ h.as_many) ∙ pair ∙ ap (λ (x : Numbered). Some (lent (pair_in x))) new.1)
       (from_push modules m k n at);
 }
 
 -- ---- modules sorted
 
+abbrev name : Numbered → Name
+name m = m.name.now
+
 -- the order of modules: by name, and then by file and number
 abbrev pub module_cmp : Numbered → Numbered → Ordering
-module_cmp x y = ordering_then (ordering_then (slice_cmp nat_cmp x.0.0.now y.0.0.now) (slice_cmp nat_cmp x.0.1.now y.0.1.now)) (nat_cmp x.1 y.1)
+module_cmp x y = ordering_then (slice_cmp nat_cmp x.name.now y.name.now) (ordering_then (slice_cmp nat_cmp x.file.now y.file.now) (nat_cmp x.index y.index))
 
 module_total : IsTotalOrder module_cmp
-module_total = then_total (then_total (on_texts (λ (m : Numbered). m.0.0.now)) (on_texts (λ (m : Numbered). m.0.1.now))) (on_total (λ (m : Numbered). m.1) nat_cmp_total)
-
-abbrev name : Numbered → List ℕ
-name m = m.0.0.now
+module_total = then_total (on_texts name) (then_total (on_texts (λ (m : Numbered). m.file.now)) (on_total (λ (m : Numbered). m.index) nat_cmp_total))
 
 same_name : Numbered → Numbered → Bool
 same_name a b = bytes_eq (name a) (name b)
@@ -203,30 +209,34 @@ precedes a b not_below differ = by (slice_cmp nat_cmp (name a) (name b)) refl
     by Less e = e
     by Equal e = absurd (differ (same_if_equal (name a) (name b) e))
     by Greater e =
-        let back : slice_cmp nat_cmp (name b) (name a) ≡ Less = nat_list_cmp_total.antisymm (name b) (name a) ∙ ap ordering_reverse e in
-        absurd (true≢false (sym (ap (λ o. is_lt (ordering_then (ordering_then o (slice_cmp nat_cmp b.0.1.now a.0.1.now)) (nat_cmp b.1 a.1))) back) ∙ not_below))
+        absurd (true≢false (sym
+        (ap (λ o. is_lt (ordering_then o (ordering_then (slice_cmp nat_cmp b.file.now a.file.now) (nat_cmp b.index a.index))))
+        (nat_list_cmp_total.antisymm (name b) (name a) ∙ ap ordering_reverse e)) ∙ not_below))
 
 -- modules whose names differ, sorted
-rising : (made sorted : List Numbered) → IsPermutation made sorted → IsSorted module_cmp sorted → AllPairs (λ a b. name a ≢ name b) made → AllPairs (λ a b. Precedes (name a) (name b)) sorted
+rising : (made sorted : List Numbered) → IsPermutation made sorted → IsSorted module_cmp sorted → AllPairs (λ a b. name a ≢ name b) made →
+    AllPairs (λ a b. Precedes (name a) (name b)) sorted
 rising made sorted permuted in_order apart i j d lt in_j =
-    let distinct : IsDistinct same_name made = IsDistinct-from_apart same_name made (λ k l e k_lt in_l. not_same (get_or made k e) (get_or made l e) (apart k l e k_lt in_l)) in
-    let still : IsDistinct same_name sorted = IsDistinct-IsPermutation same_name flips made sorted permuted distinct in
-    precedes (get_or sorted i d) (get_or sorted j d) (sorted_far (λ a b. is_lt (module_cmp a b)) (ranks_by module_total (λ m. m)) sorted in_order i j d (omega (arith, lt)) in_j)
+    let distinct = IsDistinct-from_apart same_name made (λ k l e k_lt in_l. not_same (get_or made k e) (get_or made l e) (apart k l e k_lt in_l)) in
+    let still = IsDistinct-IsPermutation same_name flips made sorted permuted distinct in
+    precedes (get_or sorted i d) (get_or sorted j d)
+    (sorted_far (λ a b. is_lt (module_cmp a b)) (ranks_by module_total (λ m. m)) sorted in_order i j d (omega (arith, lt)) in_j)
     (differ_from (get_or sorted i d) (get_or sorted j d) (apart_from_distinct same_name sorted i j d still lt in_j))
 
 module _ (t : TableValue) (sound : IsSound t) where
-  module_of : (k : ℕ) (x : Pair) → pair_at (provisions t) k ≡ Some x → (p : Provision) × (slice_get (provisions t) k ≡ Some p) × ((p.name, p.file) ≡ x)
-  module_of k x e = from_option_map (λ (p : Provision). let q : Pair = (p.name, p.file) in q) (slice_get (provisions t) k) x e
+  module_of : (k : ℕ) (x : Pair) → pair_at (provisions t) k ≡ Some x → (p : Provision) × (At (provisions t) k p) × ((p.name, p.file) ≡ x)
+  module_of k x e = from_option_map pair_of_module (slice_get (provisions t) k) x e
 
   module _ (made : List Numbered) (l : AreListed (provisions t) (length (provisions t)) made) where
     apart : AllPairs (λ a b. name a ≢ name b) made
     apart i j d lt in_j same =
         let p = module_of i _ (l.pairs i (get_or made i d) (slice_get-get_or made i d (omega (arith, lt, in_j)))) in
         let q = module_of j _ (l.pairs j (get_or made j d) (slice_get-get_or made j d in_j)) in
-        let one = sound.names_differ i j p.0 q.0 p.1 q.1 (ap (λ (z : Pair). z.0) p.2 ∙ same ∙ ap (λ (z : Pair). z.0) (sym q.2)) in
+        let one = sound.names_differ i j p.0 q.0 p.1 q.1 (ap name_in_pair p.2 ∙ same ∙ ap name_in_pair (sym q.2)) in
         omega (arith, lt, one)
 
-    pub by_name : (sorted : List Numbered) → length sorted ≡ length made → IsPermutation made sorted → IsSorted module_cmp sorted → AreByName (provisions t) sorted
+    pub by_name : (sorted : List Numbered) → length sorted ≡ length made → IsPermutation made sorted → IsSorted module_cmp sorted →
+        AreByName (provisions t) sorted
     by_name sorted long permuted in_order = record {
       as_many = long ∙ l.as_many;
       pairs = λ r m at.
@@ -242,61 +252,70 @@ module _ (t : TableValue) (sound : IsSound t) where
 -- ---- ranks
 
 module _ (provided : List Provision) (modules : List Numbered) (h : AreByName provided modules) where
-  never_twice : (r s : ℕ) (m n : Numbered) → slice_get modules r ≡ Some m → slice_get modules s ≡ Some n → r < s → m.1 ≡ n.1 → ⊥
+  never_twice : (r s : ℕ) (m n : Numbered) → At modules r m → At modules s n → r < s → m.index ≡ n.index → ⊥
   never_twice r s m n at_r at_s lt same =
-      let pair : lent m.0 ≡ lent n.0 = same_some _ _ (sym (h.pairs r m at_r) ∙ ap (pair_at provided) same ∙ h.pairs s n at_s) in
+      let pair : lent (pair_in m) ≡ lent (pair_in n) = one_value (sym (h.pairs r m at_r) ∙ ap (pair_at provided) same ∙ h.pairs s n at_s) in
       let up = h.rising r s m lt (slice_get_within modules s n at_s) in
-      let here : Precedes (name m) (name n) = subst (λ x. Precedes (name m) (name x)) (get_or_from_slice_get modules s n m at_s) (subst (λ x. Precedes (name x) (name (get_or modules s m))) (get_or_from_slice_get modules r m m at_r) up) in
-      let itself : Precedes (name n) (name n) = subst (λ z. Precedes z (name n)) (ap (λ (x : Pair). x.0) pair) here in
+      let here : Precedes (name m) (name n) =
+      subst (λ x. Precedes (name m) (name x)) (get_or_from_slice_get modules s n m at_s)
+      (subst (λ x. Precedes (name x) (name (get_or modules s m))) (get_or_from_slice_get modules r m m at_r) up) in
+      let itself : Precedes (name n) (name n) = subst (λ z. Precedes z (name n)) (ap name_in_pair pair) here in
       precedes_one_way (name n) (name n) itself itself
 
   pub are_numbers : AreNumbers modules
   are_numbers = record {
     below = λ r m at.
-        let p = from_option_map (λ (p : Provision). let q : Pair = (p.name, p.file) in q) (slice_get provided m.1) (lent m.0) (h.pairs r m at) in
-        omega (arith, slice_get_within provided m.1 p.0 p.1, h.as_many);
+        let p = from_option_map pair_of_module (slice_get provided m.index) (lent (pair_in m)) (h.pairs r m at) in
+        omega (arith, slice_get_within provided m.index p.0 p.1, h.as_many);
     once = λ r s m n at_r at_s same.
         neither_less r s (λ lt. never_twice r s m n at_r at_s lt same) (λ gt. never_twice s r n m at_s at_r gt (sym same));
   }
 
-  module _ (ranks : List ℕ) (is : AreRanks modules (length modules) ranks) (pairs : List Pair) (made : pairs ≡ map (λ (m : Numbered). lent m.0) modules) where
-    pair_there : (r : ℕ) (m : Numbered) → slice_get modules r ≡ Some m → slice_get pairs r ≡ Some (lent m.0)
-    pair_there r m at = ap (λ xs. slice_get xs r) made ∙ to_map (λ (m : Numbered). lent m.0) modules r m at
+  module _ (ranks : List ℕ) (is : AreRanks modules (length modules) ranks) (pairs : List Pair) (made : pairs ≡ map (λ (m : Numbered). lent (pair_in m)) modules)
+    where
+      pair_there : (r : ℕ) (m : Numbered) → At modules r m → At pairs r (lent (pair_in m))
+      pair_there r m at = same_reads r made ∙ to_map (λ (m : Numbered). lent (pair_in m)) modules r m at
 
-    module_there : (r : ℕ) (x : Pair) → slice_get pairs r ≡ Some x → (m : Numbered) × (slice_get modules r ≡ Some m) × (lent m.0 ≡ x)
-    module_there r x at = from_map (λ (m : Numbered). lent m.0) modules r x (ap (λ xs. slice_get xs r) (sym made) ∙ at)
+      module_there : (r : ℕ) (x : Pair) → At pairs r x → (m : Numbered) × (At modules r m) × (lent (pair_in m) ≡ x)
+      module_there r x at = from_map (λ (m : Numbered). lent (pair_in m)) modules r x (same_reads r (sym made) ∙ at)
 
-    pub are_ranked : AreRanked provided ranks pairs
-    are_ranked = record {
-      as_many = is.as_many ∙ h.as_many;
-      each = λ k p at.
-          let lt = slice_get_within provided k p at in
-          let m = h.all k lt in
-          let rank : slice_index ranks k ≡ m.0 = ap (slice_index ranks) (sym m.3) ∙ is.each m.0 m.1 (slice_get_within modules m.0 m.1 m.2) m.2 in
-          let pair : lent m.1.0 ≡ (p.name, p.file) = same_some _ _ (sym (h.pairs m.0 m.1 m.2) ∙ ap (pair_at provided) m.3 ∙ ap (option_map (λ (p : Provision). let q : Pair = (p.name, p.file) in q)) at) in
-          (m.0, slice_get-get_or ranks k 0 (omega (arith, lt, is.as_many, h.as_many)) ∙ ap (λ n. Some n) rank, pair_there m.0 m.1 m.2 ∙ ap (λ x. Some x) pair);
-      rising = λ i j d lt in_j.
-          let a = module_there i (get_or pairs i d) (slice_get-get_or pairs i d (omega (arith, lt, in_j))) in
-          let b = module_there j (get_or pairs j d) (slice_get-get_or pairs j d in_j) in
-          let up = h.rising i j a.0 lt (slice_get_within modules j b.0 b.1) in
-          let here : Precedes (name a.0) (name b.0) = subst (λ x. Precedes (name a.0) (name x)) (get_or_from_slice_get modules j b.0 a.0 b.1) (subst (λ x. Precedes (name x) (name (get_or modules j a.0))) (get_or_from_slice_get modules i a.0 a.0 a.1) up) in
-          subst (λ (x : Pair). Precedes x.0 (get_or pairs j d).0) a.2 (subst (λ (y : Pair). Precedes (name a.0) y.0) b.2 here);
-    }
+      pub are_ranked : AreRanked provided ranks pairs
+      are_ranked = record {
+        as_many = is.as_many ∙ h.as_many;
+        each = λ k p at.
+            let lt = slice_get_within provided k p at in
+            let m = h.all k lt in
+            let rank : slice_index ranks k ≡ m.0 = ap (slice_index ranks) (sym m.3) ∙ is.each m.0 m.1 (slice_get_within modules m.0 m.1 m.2) m.2 in
+            let pair : lent (pair_in m.1) ≡ (p.name, p.file) =
+            same_some _ _ (sym (h.pairs m.0 m.1 m.2) ∙ ap (pair_at provided) m.3 ∙
+            ap (option_map pair_of_module) at) in
+            (m.0, slice_get-get_or ranks k 0 (omega (arith, lt, is.as_many, h.as_many)) ∙ ap Some rank, pair_there m.0 m.1 m.2 ∙ ap Some pair);
+        rising = λ i j d lt in_j.
+            let a = module_there i (get_or pairs i d) (slice_get-get_or pairs i d (omega (arith, lt, in_j))) in
+            let b = module_there j (get_or pairs j d) (slice_get-get_or pairs j d in_j) in
+            let up = h.rising i j a.0 lt (slice_get_within modules j b.0 b.1) in
+            let here : Precedes (name a.0) (name b.0) =
+            subst (λ x. Precedes (name a.0) (name x)) (get_or_from_slice_get modules j b.0 a.0 b.1)
+            (subst (λ x. Precedes (name x) (name (get_or modules j a.0))) (get_or_from_slice_get modules i a.0 a.0 a.1) up) in
+            subst (λ (x : Pair). Precedes x.0 (get_or pairs j d).0) a.2 (subst (λ (y : Pair). Precedes (name a.0) y.0) b.2 here);
+      }
 
-pub ranks_more : (modules : List Numbered) (i : ℕ) (ranks : List ℕ) (m : Numbered) → AreNumbers modules → slice_get modules i ≡ Some m → AreRanks modules i ranks → AreRanks modules (i + 1) (set ranks m.1 i)
+pub ranks_more : (modules : List Numbered) (i : ℕ) (ranks : List ℕ) (m : Numbered) → AreNumbers modules → At modules i m → AreRanks modules i ranks →
+    AreRanks modules (i + 1) (set ranks m.index i)
 ranks_more modules i ranks m numbers at h = record {
-  as_many = length-set ranks m.1 i ∙ h.as_many;
+  as_many = length-set ranks m.index i ∙ h.as_many;
   each = λ r n lt at_r. ⊎_elim
       (λ old.
-      let other : n.1 ≢ m.1 = (λ same. let e = numbers.once r i n m at_r at same in omega (arith, e, old)) in
-      get_or-set_other ranks m.1 n.1 i 0 other ∙ h.each r n old at_r)
+      let other : n.index ≢ m.index = (λ same. let e = numbers.once r i n m at_r at same in omega (arith, e, old)) in
+      get_or-set_other ranks m.index n.index i 0 other ∙ h.each r n old at_r)
       (λ last.
       let here : r ≡ i = omega (arith, last, lt) in
-      let one : n ≡ m = same_some _ _ (sym at_r ∙ ap (slice_get modules) here ∙ at) in
-      ap (λ (x : Numbered). slice_index (set ranks m.1 i) x.1) one ∙ get_or-set_same ranks m.1 i 0 (omega (arith, numbers.below i m at, h.as_many)) ∙ sym here)
+      let one : n ≡ m = one_value (sym at_r ∙ ap (slice_get modules) here ∙ at) in
+      ap (λ (x : Numbered). slice_index (set ranks m.index i) x.index) one ∙
+      get_or-set_same ranks m.index i 0 (omega (arith, numbers.below i m at, h.as_many)) ∙ sym here)
       (cases_lt r i);
 }
 
-pub lent_modules : (modules : List Numbered) → map lent (map (λ (m : Numbered). m.0) modules) ≡ map (λ (m : Numbered). lent m.0) modules
+pub lent_modules : (modules : List Numbered) → map lent (map pair_in modules) ≡ map (λ (m : Numbered). lent (pair_in m)) modules
 lent_modules [] = refl
-lent_modules (m ∷ modules) = ap (λ (ps : List Pair). lent m.0 ∷ ps) (lent_modules modules)
+lent_modules (m ∷ modules) = ap (λ (ps : List Pair). lent (pair_in m) ∷ ps) (lent_modules modules)

@@ -1,95 +1,60 @@
 -- A sound table with a part of the info files stands for the one with all.
-use Rattle.std.proofs.Common.{◌≡◌, ◌↔◌, ℕ, suc, ◌+◌, ◌<◌, ◌⊎◌, true, false, List, [], ◌∷◌, length, map, Option, Some, refl, ap, ap₂, subst, sym, ◌∙◌, inl, inr, arith, slice_get, Contains}
+use Rattle.std.proofs.Common.{◌≡◌, ◌↔◌, ℕ, suc, ◌+◌, ◌<◌, ◌⊎◌, List, [], ◌∷◌, length, map, Option, Some, refl, ap, ap₂, subst, sym, ◌∙◌, inl, inr, arith, slice_get, Contains}
 use Rattle.std.specs.Option.{option_map}
 use Rattle.std.specs.List.{flat_map, enumerate_from, filter_map, cons_option}
 use Rattle.document_values.specs.Rule.{RuleValue}
 use Rattle.document_values.specs.Info.{InfoValue, ModuleValue}
 use Rattle.module_table.specs.TableValue.{TableValue, table_with}
-use Rattle.module_table.specs.Modules.{Provides, Requires, InfoRequires, IsProvided, IsProvidedBy, IsInfoProvided, Provision, provisions, object_provisions, info_provisions}
+use Rattle.module_table.specs.Modules.{Provides, Requires, InfoRequires, IsProvided, IsProvidedBy, IsInfoProvided, Provision, provisions, info_provisions}
 use Rattle.module_table.specs.Faults.{Claim, claims, own_claims, Collides, HasPrivate}
 use Rattle.module_table.specs.Sound.{IsSound}
 use Rattle.module_table.specs.Needed.{LeadsTo, Leads, IsNeeded}
 use Rattle.module_table.specs.Added.{first_mentions, file_of, pair_of, required_of, tasks_of}
 use Rattle.module_table.specs.Parts.{PartIsSound, PartHasTasks, PartIsNeeded}
 use Rattle.document_values.specs.Parts.{HasModule, KeepsRequired, IsEnough}
-use Rattle.module_table.specs.inner.Views.{names_of}
 use Rattle.module_table.specs.declared.fault.Maker.{Maker}
 use Rattle.module_table.specs.declared.fault.Maker.TheVariants.{Object, Info}
-use Rattle.ninja_text.specs.Firsts.{AllDiffer}
-use Rattle.module_table.proofs.Places.{one_file, offset, provision_by, from_numbered, from_mentions}
-use Rattle.ninja_text.proofs.ForCallers.{contained}
+use Rattle.module_table.proofs.Places.{one_file, provision_by, from_numbered, from_mentions, module_from, sound_names}
+use Rattle.ninja_text.proofs.ForCallers.{contained, to_map, from_map, in_first, in_second, in_append, offset}
 use Rattle.module_table.proofs.Graph.{one_entry}
 use Rattle.module_table.proofs.Found.{named_found}
-use Rattle.ninja_text.proofs.ForCallers.{to_map, from_map, in_first, in_second, in_append}
+use Rattle.module_table.proofs.Words.{name_of, bmi_of, target_of, claimed, own_claim_of, own_modules, At, module_claim, with_file}
+use Rattle.ninja_text.specs.Bytes.{Name}
+use Rattle.module_table.proofs.Lists.{same_reads}
 
 -- ---- lists
 
-map_on : {X Y : Type 0} (f g : X → Y) (xs : List X) → ((k : ℕ) (x : X) → slice_get xs k ≡ Some x → f x ≡ g x) → map f xs ≡ map g xs
+map_on : {X Y : Type 0} (f g : X → Y) (xs : List X) → ((k : ℕ) (x : X) → At xs k x → f x ≡ g x) → map f xs ≡ map g xs
 map_on f g [] same = refl
 map_on f g (x ∷ xs) same = ap₂ (λ y ys. y ∷ ys) (same 0 x refl) (map_on f g xs (λ k y at. same (suc k) y at))
 
-filter_map_on : {X Y : Type 0} (f g : X → Option Y) (xs : List X) → ((k : ℕ) (x : X) → slice_get xs k ≡ Some x → f x ≡ g x) → filter_map f xs ≡ filter_map g xs
+filter_map_on : {X Y : Type 0} (f g : X → Option Y) (xs : List X) → ((k : ℕ) (x : X) → At xs k x → f x ≡ g x) → filter_map f xs ≡ filter_map g xs
 filter_map_on f g [] same = refl
 filter_map_on f g (x ∷ xs) same = ap₂ (λ o ys. cons_option o ys) (same 0 x refl) (filter_map_on f g xs (λ k y at. same (suc k) y at))
-
-abbrev FromPlace : {A B : Type 0} → (A → List B) → List A → ℕ → B → Type 0
-FromPlace {A} f xs k y = (x : A) × (i : ℕ) × (j : ℕ) × (slice_get xs i ≡ Some x) × (slice_get (f x) j ≡ Some y) × (k ≡ offset f xs i + j)
-
-from_flat_map_at : {A B : Type 0} (f : A → List B) (xs : List A) (k : ℕ) (y : B) → slice_get (flat_map f xs) k ≡ Some y → FromPlace f xs k y
-unfolding offset
-from_flat_map_at f [] k y e = cc
-from_flat_map_at f (x ∷ xs) k y e =
-    elim (in_append (f x) (flat_map f xs) k y e) [
-      | inl h ↦ (x, 0, k, refl, h, omega arith)
-      | inr h ↦ let r = from_flat_map_at f xs h.0 y h.2 in (r.0, suc r.1, r.2, r.3, r.4, omega (arith, h.1, r.5))
-    ]
 
 -- ---- the position of a module of a table
 
 module _ (t : TableValue) where
-  abbrev own_modules : List Provision
-  own_modules = flat_map object_provisions (enumerate_from 0 t.objects)
-
   -- an object's, which is at its place whatever the info files are
   abbrev IsOwnAt : ℕ → Provision → Type 0
-  IsOwnAt k p = (o : ℕ) × (j : ℕ) × (rule : RuleValue) × (slice_get t.objects o ≡ Some rule) × (slice_get rule.provided j ≡ Some (p.name, p.file)) × (slice_get own_modules k ≡ Some p)
+  IsOwnAt k p = (o : ℕ) × (j : ℕ) × (rule : RuleValue) × (At t.objects o rule) × (At rule.provided j (p.name, p.file)) × (At (own_modules t) k p)
 
   abbrev IsInfosAt : ℕ → Provision → Type 0
-  IsInfosAt k p = (i : ℕ) × (j : ℕ) × (m : ModuleValue) × HasModule t.infos i j m × (m.name ≡ p.name) × (m.file ≡ p.file) × (k ≡ length own_modules + (offset info_provisions (enumerate_from 0 t.infos) i + j))
+  IsInfosAt k p = (i : ℕ) × (j : ℕ) × (m : ModuleValue) × HasModule t.infos i j m × (m.name ≡ p.name) × (m.file ≡ p.file) ×
+      (k ≡ length (own_modules t) + (offset info_provisions (enumerate_from 0 t.infos) i + j))
 
-  own_at : (k : ℕ) (p : Provision) → slice_get own_modules k ≡ Some p → IsOwnAt k p
-  own_at k p e =
-      let r = from_flat_map_at object_provisions (enumerate_from 0 t.objects) k p e in
-      let n = from_numbered 0 t.objects r.1 r.0 r.3 in
-      let m = from_map (λ (q : List ℕ × List ℕ). let x : Provision = record { maker = Object r.0.0; name = q.0; file = q.1; is_private = false } in x) r.0.1.provided r.2 p r.4 in
-      (r.1, r.2, r.0.1, n.1, subst (λ (q : Provision). slice_get r.0.1.provided r.2 ≡ Some (q.name, q.file)) m.2 m.1, e)
-
-  module_from : (k : ℕ) (p : Provision) → slice_get (provisions t) k ≡ Some p → IsOwnAt k p ⊎ IsInfosAt k p
-  module_from k p e =
-      elim (in_append own_modules (flat_map info_provisions (enumerate_from 0 t.infos)) k p e) [
-        | inl h ↦ inl (own_at k p h)
-        | inr h ↦
-            let r = from_flat_map_at info_provisions (enumerate_from 0 t.infos) h.0 p h.2 in
-            let n = from_numbered 0 t.infos r.1 r.0 r.3 in
-            let m = from_map (λ (q : ModuleValue). let x : Provision = record { maker = Info r.0.0; name = q.name; file = q.file; is_private = q.is_private } in x) r.0.1.modules r.2 p r.4 in
-            inr (r.1, r.2, m.0, (r.0.1, n.1, m.1), ap (λ (q : Provision). q.name) m.2, ap (λ (q : Provision). q.file) m.2, omega (arith, h.1, r.5))
+  module_at : (k : ℕ) (p : Provision) → At (provisions t) k p → IsOwnAt k p ⊎ IsInfosAt k p
+  module_at k p e =
+      elim (module_from t k p e) [
+        | inl h ↦ inl (h.0, h.1, h.3.0, h.3.1, subst (λ (q : Provision). At h.3.0.provided h.1 (q.name, q.file)) h.4 h.3.2, h.5)
+        | inr h ↦ inr (h.0, h.1, h.2, h.3, ap name_of h.4, ap bmi_of h.4, h.5)
       ]
 
--- the names of a sound table differ
-names_apart : (v : TableValue) → IsSound v → AllDiffer (names_of (provisions v))
-names_apart v sound = record {
-  differ = λ i j name lt at_i at_j.
-      let a = from_map (λ (p : Provision). p.name) (provisions v) i name at_i in
-      let b = from_map (λ (p : Provision). p.name) (provisions v) j name at_j in
-      let same = sound.names_differ i j a.0 b.0 a.1 b.1 (a.2 ∙ sym b.2) in
-      omega (arith, lt, same);
-}
-
--- in it a name that is provided is found with its file
-file_found : (v : TableValue) → IsSound v → (name file : List ℕ) → IsProvided v name file → file_of (provisions v) name ≡ Some file
+-- in a sound table a name that is provided is found with its file
+file_found : (v : TableValue) → IsSound v → (name file : Name) → IsProvided v name file → file_of (provisions v) name ≡ Some file
 file_found v sound name file h =
     let p = provision_by v name file h.0 h.1 in
-    ap (option_map (λ (p : Provision). p.file)) (named_found (provisions v) name (names_apart v sound) p.0 p.1 (p.2, p.3)) ∙ ap Some p.4
+    ap (option_map bmi_of) (named_found (provisions v) name (sound_names v sound) p.0 p.1 (p.2, p.3)) ∙ ap Some p.4
 
 -- ---- the part and the whole
 
@@ -100,43 +65,44 @@ module _ (objects : List RuleValue) (part infos : List InfoValue) (is : IsEnough
   abbrev t : TableValue
   t = table_with objects infos
 
-  provided_by : (name file : List ℕ) (maker : Maker) → IsProvidedBy u maker name file → IsProvided t name file
+  provided_by : (name file : Name) (maker : Maker) → IsProvidedBy u maker name file → IsProvided t name file
   provided_by name file (Object o) by = (Object o, by)
   provided_by name file (Info i) by =
       let w = is.is_part.modules i by.0 by.1 by.2 in
       (Info i, (w.0, w.1, w.2, sym w.3.name ∙ by.3, sym w.3.file ∙ by.4))
 
-  provided : (name file : List ℕ) → IsProvided u name file → IsProvided t name file
+  provided : (name file : Name) → IsProvided u name file → IsProvided t name file
   provided name file h = provided_by name file h.0 h.1
 
-  names_differ : (i j : ℕ) (a b : Provision) → slice_get (provisions t) i ≡ Some a → slice_get (provisions t) j ≡ Some b → a.name ≡ b.name → i ≡ j
+  names_differ : (i j : ℕ) (a b : Provision) → At (provisions t) i a → At (provisions t) j b → a.name ≡ b.name → i ≡ j
   names_differ i j a b at_i at_j same =
-      elim (module_from t i a at_i) [
-        | inl own ↦ elim (module_from t j b at_j) [
-          | inl other ↦ sound.names_differ i j a b (in_first (own_modules t) (flat_map info_provisions (enumerate_from 0 part)) i a own.5) (in_first (own_modules t) (flat_map info_provisions (enumerate_from 0 part)) j b other.5) same
+      elim (module_at t i a at_i) [
+        | inl own ↦ elim (module_at t j b at_j) [
+          | inl other ↦ sound.names_differ i j a b (in_first (own_modules t) (flat_map info_provisions (enumerate_from 0 part)) i a own.5)
+              (in_first (own_modules t) (flat_map info_provisions (enumerate_from 0 part)) j b other.5) same
           | inr other ↦ absurd (is.own_apart.names own.0 own.1 other.0 other.1 own.2 a.name a.file other.2 own.3 own.4 other.3 (same ∙ sym other.4))
         ]
-        | inr mine ↦ elim (module_from t j b at_j) [
+        | inr mine ↦ elim (module_at t j b at_j) [
           | inl other ↦ absurd (is.own_apart.names other.0 other.1 mine.0 mine.1 other.2 b.name b.file mine.2 other.3 other.4 mine.3 (sym same ∙ sym mine.4))
           | inr other ↦
-              let place = is.infos_apart mine.0 mine.1 other.0 other.1 mine.2 other.2 mine.3 other.3 (inl (mine.4 ∙ same ∙ sym other.4)) in
-              mine.6 ∙ ap₂ (λ x y. length (own_modules t) + (offset info_provisions (enumerate_from 0 infos) x + y)) place.0 place.1 ∙ sym other.6
+              let index = is.infos_apart mine.0 mine.1 other.0 other.1 mine.2 other.2 mine.3 other.3 (inl (mine.4 ∙ same ∙ sym other.4)) in
+              mine.6 ∙ ap₂ (λ x y. length (own_modules t) + (offset info_provisions (enumerate_from 0 infos) x + y)) index.0 index.1 ∙ sym other.6
         ]
       ]
 
-  infos_differ : (i j : ℕ) (a b : InfoValue) → slice_get infos i ≡ Some a → slice_get infos j ≡ Some b → a.target ≡ b.target → i ≡ j
+  infos_differ : (i j : ℕ) (a b : InfoValue) → At infos i a → At infos j b → a.target ≡ b.target → i ≡ j
   infos_differ i j a b at_i at_j same =
-      let x = from_map (λ (info : InfoValue). info.target) part i a.target (ap (λ ts. slice_get ts i) is.is_part.targets ∙ to_map (λ (info : InfoValue). info.target) infos i a at_i) in
-      let y = from_map (λ (info : InfoValue). info.target) part j b.target (ap (λ ts. slice_get ts j) is.is_part.targets ∙ to_map (λ (info : InfoValue). info.target) infos j b at_j) in
+      let x = from_map target_of part i a.target (same_reads i is.is_part.targets ∙ to_map target_of infos i a at_i) in
+      let y = from_map target_of part j b.target (same_reads j is.is_part.targets ∙ to_map target_of infos j b at_j) in
       sound.infos_differ i j x.0 y.0 x.1 y.1 (x.2 ∙ same ∙ sym y.2)
 
   -- ---- files
 
   -- an object's claim, which the table with the part has at the same place
   abbrev IsOwnClaim : ℕ → Claim → Type 0
-  IsOwnClaim k c = (slice_get (claims u) k ≡ Some c)
-      × (((o : ℕ) × (rule : RuleValue) × (slice_get objects o ≡ Some rule) × (rule.object ≡ c.file))
-      ⊎ ((o : ℕ) × (j : ℕ) × (rule : RuleValue) × (name : List ℕ) × (slice_get objects o ≡ Some rule) × (slice_get rule.provided j ≡ Some (name, c.file))))
+  IsOwnClaim k c = (At (claims u) k c)
+      × (((o : ℕ) × (rule : RuleValue) × (At objects o rule) × (rule.object ≡ c.file))
+      ⊎ ((o : ℕ) × (j : ℕ) × (rule : RuleValue) × (name : Name) × (At objects o rule) × (At rule.provided j (name, c.file))))
 
   abbrev info_place : ℕ → ℕ → ℕ
   info_place i j = length (own_claims objects) + (length (own_modules t) + (offset info_provisions (enumerate_from 0 infos) i + j))
@@ -144,23 +110,25 @@ module _ (objects : List RuleValue) (part infos : List InfoValue) (is : IsEnough
   abbrev IsInfosClaim : ℕ → Claim → Type 0
   IsInfosClaim k c = (i : ℕ) × (j : ℕ) × (m : ModuleValue) × HasModule infos i j m × (m.file ≡ c.file) × (k ≡ info_place i j)
 
-  abbrev as_claim : Provision → Claim
-  as_claim p = record { maker = p.maker; file = p.file; is_module = true }
-
-  claim_from : (k : ℕ) (c : Claim) → slice_get (claims t) k ≡ Some c → IsOwnClaim k c ⊎ IsInfosClaim k c
+  claim_from : (k : ℕ) (c : Claim) → At (claims t) k c → IsOwnClaim k c ⊎ IsInfosClaim k c
   claim_from k c e =
-      elim (in_append (own_claims objects) (map as_claim (provisions t)) k c e) [
+      elim (in_append (own_claims objects) (map module_claim (provisions t)) k c e) [
         | inl h ↦
-            let r = from_map (λ (o : ℕ × RuleValue). let x : Claim = record { maker = Object o.0; file = o.1.object; is_module = false } in x) (enumerate_from 0 objects) k c h in
-            let n = from_numbered 0 objects k r.0 r.1 in
-            inl (in_first (own_claims objects) (map as_claim (provisions u)) k c h, inl (k, r.0.1, n.1, ap (λ (x : Claim). x.file) r.2))
+            let r = from_map own_claim_of (enumerate_from 0 objects) k c h in
+            inl (in_first (own_claims objects) (map module_claim (provisions u)) k c h, inl (k, r.0.1, (from_numbered 0 objects k r.0 r.1).1, ap claimed r.2))
         | inr h ↦
-            let p = from_map as_claim (provisions t) h.0 c h.2 in
-            elim (module_from t h.0 p.0 p.1) [
+            let p = from_map module_claim (provisions t) h.0 c h.2 in
+            elim (module_at t h.0 p.0 p.1) [
               | inl own ↦
-                  let there = in_second (own_claims objects) (map as_claim (provisions u)) h.0 (as_claim p.0) (to_map as_claim (provisions u) h.0 p.0 (in_first (own_modules t) (flat_map info_provisions (enumerate_from 0 part)) h.0 p.0 own.5)) in
-                  inl (ap (slice_get (claims u)) h.1 ∙ there ∙ ap Some p.2, inr (own.0, own.1, own.2, p.0.name, own.3, subst (λ (x : Claim). slice_get own.2.provided own.1 ≡ Some (p.0.name, x.file)) p.2 own.4))
-              | inr mine ↦ inr (mine.0, mine.1, mine.2, mine.3, mine.5 ∙ ap (λ (x : Claim). x.file) p.2, omega (arith, h.1, mine.6))
+                  let there = in_second (own_claims objects) (map module_claim (provisions u)) h.0 (module_claim p.0)
+                  (to_map module_claim (provisions u) h.0 p.0 (in_first (own_modules t) (flat_map info_provisions (enumerate_from 0 part)) h.0 p.0 own.5))
+                  in
+                  inl (
+                    ap (slice_get (claims u)) h.1 ∙ there ∙
+                        ap Some p.2,
+                    inr (own.0, own.1, own.2, p.0.name, own.3, subst (λ (x : Claim). At own.2.provided own.1 (p.0.name, x.file)) p.2 own.4),
+                  )
+              | inr mine ↦ inr (mine.0, mine.1, mine.2, mine.3, mine.5 ∙ ap claimed p.2, omega (arith, h.1, mine.6))
             ]
       ]
 
@@ -171,7 +139,7 @@ module _ (objects : List RuleValue) (part infos : List InfoValue) (is : IsEnough
         | inr h ↦ is.own_apart.files h.0 h.1 i j h.2 h.3 c.file m h.4 h.5 has same
       ]
 
-  files_differ : (i j : ℕ) (a b : Claim) → i < j → slice_get (claims t) i ≡ Some a → slice_get (claims t) j ≡ Some b → Collides a b → ⊥
+  files_differ : (i j : ℕ) (a b : Claim) → i < j → At (claims t) i a → At (claims t) j b → Collides a b → ⊥
   files_differ i j a b lt at_i at_j collides =
       elim (claim_from i a at_i) [
         | inl own ↦ elim (claim_from j b at_j) [
@@ -181,40 +149,44 @@ module _ (objects : List RuleValue) (part infos : List InfoValue) (is : IsEnough
         | inr mine ↦ elim (claim_from j b at_j) [
           | inl other ↦ own_file j b other mine.0 mine.1 mine.2 mine.3 (sym collides.0 ∙ sym mine.4)
           | inr other ↦
-              let place = is.infos_apart mine.0 mine.1 other.0 other.1 mine.2 other.2 mine.3 other.3 (inr (mine.4 ∙ collides.0 ∙ sym other.4)) in
-              let same : i ≡ j = mine.5 ∙ ap₂ info_place place.0 place.1 ∙ sym other.5 in
+              let index = is.infos_apart mine.0 mine.1 other.0 other.1 mine.2 other.2 mine.3 other.3 (inr (mine.4 ∙ collides.0 ∙ sym other.4)) in
+              let same : i ≡ j = mine.5 ∙ ap₂ info_place index.0 index.1 ∙ sym other.5 in
               omega (arith, lt, same)
         ]
       ]
 
   -- ---- requirements
 
-  known : (o : ℕ) (name : List ℕ) → Requires t o name → (file : List ℕ) × IsProvided t name file
+  known : (o : ℕ) (name : Name) → Requires t o name → (file : Name) × IsProvided t name file
   known o name needs = let k = sound.known o name needs in (k.0, provided name k.0 k.1)
 
-  infos_known : (i j : ℕ) (m : ModuleValue) (name file : List ℕ) → InfoRequires t i j m name file → IsInfoProvided t name file
+  infos_known : (i j : ℕ) (m : ModuleValue) (name file : Name) → InfoRequires t i j m name file → IsInfoProvided t name file
   infos_known i j m name file h = let c = is.closed i j m name file h.0 h.1 in (c.0, (c.1, c.2, c.3, c.4, c.5))
 
-  infos_allowed : (i j info : ℕ) (m : ModuleValue) (name file : List ℕ) → InfoRequires t i j m name file → HasPrivate t info name → info ≡ i
+  infos_allowed : (i j info : ℕ) (m : ModuleValue) (name file : Name) → InfoRequires t i j m name file → HasPrivate t info name → info ≡ i
   infos_allowed i j info m name file h keeps =
       let c = is.closed i j m name file h.0 h.1 in
-      let place = is.infos_apart c.0 c.1 info keeps.0 c.2 keeps.1 c.3 keeps.2 (inl (c.4 ∙ sym keeps.3)) in
-      let one : c.2 ≡ keeps.1 = one_entry infos info keeps.0 c.2 keeps.1 (subst (λ n. HasModule infos n keeps.0 c.2) place.0 (subst (λ n. HasModule infos c.0 n c.2) place.1 c.3)) keeps.2 in
-      sym place.0 ∙ c.6 (ap (λ (m : ModuleValue). m.is_private) one ∙ keeps.4)
+      let index = is.infos_apart c.0 c.1 info keeps.0 c.2 keeps.1 c.3 keeps.2 (inl (c.4 ∙ sym keeps.3)) in
+      let one : c.2 ≡ keeps.1 =
+      one_entry infos info keeps.0 c.2 keeps.1 (subst (λ n. HasModule infos n keeps.0 c.2) index.0 (subst (λ n. HasModule infos c.0 n c.2) index.1 c.3))
+      keeps.2 in
+      sym index.0 ∙ c.6 (ap (λ (m : ModuleValue). m.is_private) one ∙ keeps.4)
 
   -- an object's module is not one of an info
-  not_both : (o j i k : ℕ) (name file : List ℕ) (m : ModuleValue) → Provides t o j name file → HasModule infos i k m → m.name ≡ name → ⊥
+  not_both : (o j i k : ℕ) (name file : Name) (m : ModuleValue) → Provides t o j name file → HasModule infos i k m → m.name ≡ name → ⊥
   not_both o j i k name file m provides has same = is.own_apart.names o j i k provides.0 name file m provides.1 provides.2 has (sym same)
 
-  allowed_by : (o info : ℕ) (name file : List ℕ) (maker : Maker) → Requires t o name → IsProvidedBy u maker name file → HasPrivate t info name → ⊥
+  allowed_by : (o info : ℕ) (name file : Name) (maker : Maker) → Requires t o name → IsProvidedBy u maker name file → HasPrivate t info name → ⊥
   allowed_by o info name file (Object p) needs by keeps = not_both p by.0 info keeps.0 name file keeps.1 by.1 keeps.2 keeps.3
   allowed_by o info name file (Info i) needs by keeps =
       let w = is.is_part.modules i by.0 by.1 by.2 in
-      let place = is.infos_apart i w.0 info keeps.0 w.1 keeps.1 w.2 keeps.2 (inl (sym w.3.name ∙ by.3 ∙ sym keeps.3)) in
-      let one : w.1 ≡ keeps.1 = one_entry infos info keeps.0 w.1 keeps.1 (subst (λ n. HasModule infos n keeps.0 w.1) place.0 (subst (λ n. HasModule infos i n w.1) place.1 w.2)) keeps.2 in
+      let index = is.infos_apart i w.0 info keeps.0 w.1 keeps.1 w.2 keeps.2 (inl (sym w.3.name ∙ by.3 ∙ sym keeps.3)) in
+      let one : w.1 ≡ keeps.1 =
+      one_entry infos info keeps.0 w.1 keeps.1 (subst (λ n. HasModule infos n keeps.0 w.1) index.0 (subst (λ n. HasModule infos i n w.1) index.1 w.2))
+      keeps.2 in
       sound.objects_allowed o i name needs (by.0, by.1, by.2, by.3, w.3.is_private ∙ ap (λ (m : ModuleValue). m.is_private) one ∙ keeps.4)
 
-  objects_allowed : (o info : ℕ) (name : List ℕ) → Requires t o name → HasPrivate t info name → ⊥
+  objects_allowed : (o info : ℕ) (name : Name) → Requires t o name → HasPrivate t info name → ⊥
   objects_allowed o info name needs keeps = let k = sound.known o name needs in allowed_by o info name k.0 k.1.0 needs k.1.1 keeps
 
   whole : IsSound t
@@ -233,45 +205,51 @@ module _ (objects : List RuleValue) (part infos : List InfoValue) (is : IsEnough
 
   -- ---- what objects require
 
-  same_pair : (o : ℕ) (rule : RuleValue) (name : List ℕ) → slice_get objects o ≡ Some rule → Contains rule.required name → pair_of (provisions u) name ≡ pair_of (provisions t) name
+  same_pair : (o : ℕ) (rule : RuleValue) (name : Name) → At objects o rule → Contains rule.required name →
+      pair_of (provisions u) name ≡ pair_of (provisions t) name
   same_pair o rule name at has =
       let k = sound.known o name (rule, at, has) in
-      ap (option_map (λ (file : List ℕ). let p : List ℕ × List ℕ = (name, file) in p)) (file_found u sound name k.0 k.1 ∙ sym (file_found t whole name k.0 (provided name k.0 k.1)))
+      ap (option_map (with_file name))
+      (file_found u sound name k.0 k.1 ∙ sym (file_found t whole name k.0 (provided name k.0 k.1)))
 
-  same_required : (o : ℕ) (rule : RuleValue) → slice_get objects o ≡ Some rule → required_of u rule ≡ required_of t rule
+  same_required : (o : ℕ) (rule : RuleValue) → At objects o rule → required_of u rule ≡ required_of t rule
   unfolding required_of
   same_required o rule at =
-      filter_map_on (pair_of (provisions u)) (pair_of (provisions t)) (first_mentions rule.required) (λ k name here. same_pair o rule name at (contained rule.required name (from_mentions rule.required name (k, here))))
+      filter_map_on (pair_of (provisions u)) (pair_of (provisions t)) (first_mentions rule.required)
+      (λ k name here. same_pair o rule name at (contained rule.required name (from_mentions rule.required name (k, here))))
 
   same_tasks : tasks_of u ≡ tasks_of t
-  same_tasks = map_on (λ (rule : RuleValue). (rule, required_of u rule)) (λ (rule : RuleValue). (rule, required_of t rule)) objects (λ o rule at. ap (λ pairs. (rule, pairs)) (same_required o rule at))
+  same_tasks = map_on (λ (rule : RuleValue). (rule, required_of u rule)) (λ (rule : RuleValue). (rule, required_of t rule)) objects
+      (λ o rule at. ap (λ pairs. (rule, pairs)) (same_required o rule at))
 
   -- ---- what objects need
 
   module _ (keeps : KeepsRequired part infos) where
-    step_up : (first second : List ℕ) → LeadsTo u first second → LeadsTo t first second
+    step_up : (first second : Name) → LeadsTo u first second → LeadsTo t first second
     step_up first second (inl h) = inl h
     step_up first second (inr h) = let k = keeps h.0 h.1 h.2 h.5.0 in inr (h.0, k.0, h.2, h.3, h.4, (k.1, h.5.1))
 
-    up : (names : List (List ℕ)) (first last : List ℕ) → Leads u first names last → Leads t first names last
+    up : (names : List Name) (first last : Name) → Leads u first names last → Leads t first names last
     up [] first last h = h
     up (second ∷ names) first last h = (step_up first second h.0, up names second last h.1)
 
     -- a step from what is provided in the table with the part is one there
-    step_down : (first second file : List ℕ) (maker : Maker) → IsProvidedBy u maker first file → LeadsTo t first second → LeadsTo u first second
+    step_down : (first second file : Name) (maker : Maker) → IsProvidedBy u maker first file → LeadsTo t first second → LeadsTo u first second
     step_down first second file maker by (inl h) = inl h
     step_down first second file (Object p) by (inr h) = absurd (not_both p by.0 h.0 h.1 first file h.2 by.1 h.5.0 h.4)
     step_down first second file (Info i) by (inr h) =
         let k = keeps i by.0 by.1 by.2 in
-        let place = is.infos_apart i k.0 h.0 h.1 by.1 h.2 k.1 h.5.0 (inl (by.3 ∙ sym h.4)) in
-        let one : by.1 ≡ h.2 = one_entry infos h.0 h.1 by.1 h.2 (subst (λ n. HasModule infos n h.1 by.1) place.0 (subst (λ n. HasModule infos i n by.1) place.1 k.1)) h.5.0 in
+        let index = is.infos_apart i k.0 h.0 h.1 by.1 h.2 k.1 h.5.0 (inl (by.3 ∙ sym h.4)) in
+        let one : by.1 ≡ h.2 =
+        one_entry infos h.0 h.1 by.1 h.2 (subst (λ n. HasModule infos n h.1 by.1) index.0 (subst (λ n. HasModule infos i n by.1) index.1 k.1)) h.5.0 in
         inr (i, by.0, by.1, h.3, by.3, (by.2, subst (λ (m : ModuleValue). Contains m.required (second, h.3)) (sym one) h.5.1))
 
-    next_provided : (first second : List ℕ) → LeadsTo u first second → (file : List ℕ) × IsProvided u second file
+    next_provided : (first second : Name) → LeadsTo u first second → (file : Name) × IsProvided u second file
     next_provided first second (inl h) = sound.known h.0 second h.4
     next_provided first second (inr h) = let p = sound.infos_known h.0 h.1 h.2 second h.3 h.5 in (h.3, (Info p.0, p.1))
 
-    down : (names : List (List ℕ)) (first file last : List ℕ) → IsProvided u first file → Leads t first names last → Leads u first names last × ((f : List ℕ) × IsProvided u last f)
+    down : (names : List Name) (first file last : Name) → IsProvided u first file → Leads t first names last →
+        Leads u first names last × ((f : List ℕ) × IsProvided u last f)
     down [] first file last p h = (h, (file, subst (λ n. IsProvided u n file) h p))
     down (second ∷ names) first file last p h =
         let step = step_down first second file p.0 p.1 h.0 in
@@ -279,7 +257,7 @@ module _ (objects : List RuleValue) (part infos : List InfoValue) (is : IsEnough
         let rest = down names second next.0 last next.1 h.1 in
         ((step, rest.0), rest.1)
 
-    same_needed : (object : ℕ) (name file : List ℕ) → IsNeeded u object name file ↔ IsNeeded t object name file
+    same_needed : (object : ℕ) (name file : Name) → IsNeeded u object name file ↔ IsNeeded t object name file
     same_needed object name file = (
       λ h. (h.0, h.1, h.2, up h.1 h.0 name h.3, provided name file h.4),
       λ h.

@@ -1,16 +1,15 @@
 -- What the pairs of an object are.
-use Rattle.std.proofs.Common.{◌≡◌, ℕ, zero, suc, ◌+◌, ◌⊎◌, Bool, true, false, List, [], ◌∷◌, ◌++◌, filter, find, Option, Some, None, refl, ap, subst, sym, ◌∙◌, inl, inr, arith, slice_get, cond, bytes_eq, ⊎_elim, ◌<◌, length, map, ◌||◌, IsTrue, ap₂, true≢false, MatchBool}
+use Rattle.std.proofs.Common.{◌≡◌, ℕ, zero, suc, ◌+◌, ◌⊎◌, Bool, true, false, List, [], ◌∷◌, ◌++◌, filter, find, Option, Some, None, refl, ap, subst, sym, ◌∙◌, inl, inr, arith, slice_get, cond, bytes_eq, ⊎_elim, ◌<◌, length, map, ◌||◌, IsTrue, ap₂, true≢false, MatchBool, take}
 use Rattle.std.specs.Option.{option_map}
 use Rattle.std.specs.List.{flat_map, enumerate_from}
 use Rattle.std.specs.Cmp.Lexicographic.{bytes_decides}
 use Rattle.std.proofs.lemmas.Option.{slice_get-get_or}
-use Rattle.ninja_text.proofs.ForCallers.{contained}
+use Rattle.ninja_text.proofs.ForCallers.{contained, in_append, from_map, to_map, in_first, in_second, three_ways, from_filter_map, from_flat_map, in_flat_map, offset}
 use Rattle.document_values.specs.Info.{ModuleValue, InfoValue}
 use Rattle.module_table.specs.TableValue.{TableValue}
 use Rattle.module_table.specs.Modules.{IsProvidedBy, Provision, provisions, object_provisions, info_provisions, Provides, Requires, InfoProvides, IsProvided, DependsOn, InfoRequires, IsInfoProvided, InfoRequirement, info_requirements, requirements_of_info, module_requirements}
 use Rattle.module_table.specs.Added.{first_mentions, file_of, required_of, RequiredFiles, AddedNeeds, AddedOrderable, FilesOnce, FilesApart, OneFile}
 use Rattle.module_table.specs.declared.fault.Maker.TheVariants.{Object, Info}
-use Rattle.ninja_text.proofs.ForCallers.{same_some, from_map, to_map, in_first, in_second, three_ways, from_filter_map}
 use Rattle.document_values.specs.Rule.{RuleValue}
 use Rattle.dep_order.specs.Needs.{IsOrderable}
 use Rattle.dep_order.proofs.ForCallers.{orderable_same}
@@ -18,61 +17,66 @@ use Rattle.module_table.specs.Faults.{Claim, claims, own_claims, Disagrees}
 use Rattle.module_table.specs.Sound.{IsSound}
 use Rattle.module_table.specs.declared.fault.Maker.{Maker}
 use Rattle.std.proofs.lemmas.List.{map-append}
-use Rattle.module_table.specs.inner.Views.{requirement_of as requirement_seen}
-use Rattle.module_table.specs.inner.Finds.{LookedUp}
+use Rattle.module_table.specs.inner.Views.{requirement_of as requirement_seen, names_of}
+use Rattle.module_table.specs.inner.Finds.{LookedUp, AcceptsAll, RefusesAt}
 use Rattle.module_table.specs.inner.Found.{looked_up, with_module, lookups_of, AreLookedUp}
 use Rattle.module_table.specs.declared.requirements.InfoRequired.{InfoRequired}
+use Rattle.module_table.proofs.Words.{Pair, bmi_of, claimant, own_module, infos_module, own_claim_of, own_modules, infos_modules, At, module_claim, name_of, name_in_pair}
+use Rattle.ninja_text.specs.Bytes.{Name}
+use Rattle.ninja_text.specs.Firsts.{AllDiffer}
+use Rattle.module_table.proofs.Lists.{differ_by, first_rejected, same_reads, one_value}
 
 -- x is at some index of the list
 abbrev pub Has : {X : Type 0} → List X → X → Type 0
-Has xs x = (k : ℕ) × (slice_get xs k ≡ Some x)
+Has xs x = (k : ℕ) × (At xs k x)
 
 pub has_more : {X : Type 0} (y : X) (xs : List X) (x : X) → Has xs x → Has (y ∷ xs) x
 has_more y xs x h = (suc h.0, h.1)
 
-pub from_append : {X : Type 0} (xs ys : List X) (k : ℕ) (x : X) → slice_get (xs ++ ys) k ≡ Some x → Has xs x ⊎ Has ys x
-from_append [] ys k x e = inr (k, e)
-from_append (y ∷ xs) ys zero x e = inl (0, e)
-from_append (y ∷ xs) ys (suc k) x e = elim (from_append xs ys k x e) [ inl h ↦ inl (has_more y xs x h) | inr h ↦ inr h ]
-
-abbrev pub FromPart : {A B : Type 0} → (A → List B) → List A → B → Type 0
-FromPart {A} f xs y = (x : A) × (i : ℕ) × (j : ℕ) × (slice_get xs i ≡ Some x) × (slice_get (f x) j ≡ Some y)
-
-pub from_flat_map : {A B : Type 0} (f : A → List B) (xs : List A) (k : ℕ) (y : B) → slice_get (flat_map f xs) k ≡ Some y → FromPart f xs y
-from_flat_map f [] k y e = cc
-from_flat_map f (x ∷ xs) k y e =
-    elim (from_append (f x) (flat_map f xs) k y e) [
-      | inl h ↦ (x, 0, h.0, refl, h.1)
-      | inr h ↦ let r = from_flat_map f xs h.0 y h.1 in (r.0, suc r.1, r.2, r.3, r.4)
-    ]
-
-pub from_numbered : {X : Type 0} (n : ℕ) (xs : List X) (k : ℕ) (p : ℕ × X) → slice_get (enumerate_from n xs) k ≡ Some p → (p.0 ≡ n + k) × (slice_get xs k ≡ Some p.1)
+pub from_numbered : {X : Type 0} (n : ℕ) (xs : List X) (k : ℕ) (p : ℕ × X) → At (enumerate_from n xs) k p → (p.0 ≡ n + k) × (At xs k p.1)
 from_numbered n [] k p e = cc
-from_numbered n (y ∷ xs) zero p e = let same : (n, y) ≡ p = same_some _ _ e in (omega (arith, ap (λ (q : ℕ × _). q.0) same), ap (λ (q : ℕ × _). Some q.1) same)
+from_numbered n (y ∷ xs) zero p e = let same : (n, y) ≡ p = one_value e in (omega (arith, ap (λ (q : ℕ × _). q.0) same), ap (λ (q : ℕ × _). Some q.1) same)
 from_numbered n (y ∷ xs) (suc k) p e = let r = from_numbered (n + 1) xs k p e in (omega (arith, r.0), r.1)
 
--- a module among all modules is one that somebody provides
-pub from_provisions : (t : TableValue) (k : ℕ) (p : Provision) → slice_get (provisions t) k ≡ Some p → IsProvidedBy t p.maker p.name p.file
-from_provisions t k p e =
-    elim (from_append (flat_map object_provisions (enumerate_from 0 t.objects)) (flat_map info_provisions (enumerate_from 0 t.infos)) k p e) [
-      | inl h ↦
-          let r = from_flat_map object_provisions (enumerate_from 0 t.objects) h.0 p h.1 in
-          let n = from_numbered 0 t.objects r.1 r.0 r.3 in
-          let m = from_map (λ (q : List ℕ × List ℕ). let x : Provision = record { maker = Object r.0.0; name = q.0; file = q.1; is_private = false } in x) r.0.1.provided r.2 p r.4 in
-          let place : r.1 ≡ r.0.0 = omega (arith, n.0) in
-          let at : slice_get t.objects r.0.0 ≡ Some r.0.1 = ap (slice_get t.objects) (sym place) ∙ n.1 in
-          subst (λ (q : Provision). IsProvidedBy t q.maker q.name q.file) m.2 (r.2, (r.0.1, at, m.1))
-      | inr h ↦
-          let r = from_flat_map info_provisions (enumerate_from 0 t.infos) h.0 p h.1 in
-          let n = from_numbered 0 t.infos r.1 r.0 r.3 in
-          let m = from_map (λ (q : ModuleValue). let x : Provision = record { maker = Info r.0.0; name = q.name; file = q.file; is_private = q.is_private } in x) r.0.1.modules r.2 p r.4 in
-          let place : r.1 ≡ r.0.0 = omega (arith, n.0) in
-          let at : slice_get t.infos r.0.0 ≡ Some r.0.1 = ap (slice_get t.infos) (sym place) ∙ n.1 in
-          subst (λ (q : Provision). IsProvidedBy t q.maker q.name q.file) m.2 (r.2, m.0, (r.0.1, at, m.1), refl, refl)
-    ]
+-- an element that is numbered from 0
+pub from_first : {X : Type 0} (xs : List X) (k : ℕ) (p : ℕ × X) → At (enumerate_from 0 xs) k p → (p ≡ (k, p.1)) × (At xs k p.1)
+from_first xs k p e = let n = from_numbered 0 xs k p e in let same : p.0 ≡ k = omega (arith, n.0) in (ap (λ i. (i, p.1)) same, n.1)
 
-found : {X : Type 0} (test : X → Bool) (y : X) (xs : List X) (x : X) → (find test xs ≡ Some x → Has xs x × (test x ≡ true)) → (b : Bool) → test y ≡ b → cond b (Some y) (find test xs) ≡ Some x → Has (y ∷ xs) x × (test x ≡ true)
-found test y xs x rest true is h = let same : y ≡ x = same_some _ _ h in ((0, ap Some same), ap test (sym same) ∙ is)
+-- the module at this index is that of an object, or that of an info file
+module _ (t : TableValue) where
+  abbrev IsObjects : ℕ → Provision → Type 0
+  IsObjects k p = (o : ℕ) × (j : ℕ) × (pair : Pair) × Provides t o j pair.0 pair.1 × (own_module o pair ≡ p) × (At (own_modules t) k p)
+
+  abbrev IsInfos : ℕ → Provision → Type 0
+  IsInfos k p = (i : ℕ) × (j : ℕ) × (m : ModuleValue) × InfoProvides t i j m × (infos_module i m ≡ p) ×
+      (k ≡ length (own_modules t) + (offset info_provisions (enumerate_from 0 t.infos) i + j))
+
+  pub module_from : (k : ℕ) (p : Provision) → At (provisions t) k p → IsObjects k p ⊎ IsInfos k p
+  module_from k p e =
+      elim (in_append (own_modules t) (infos_modules t) k p e) [
+        | inl h ↦
+            let r = from_flat_map object_provisions (enumerate_from 0 t.objects) k p h in
+            let n = from_first t.objects r.0 r.2.0 r.2.1 in
+            let m = from_map (own_module r.0) r.2.0.1.provided r.1 p (subst (λ x. At (object_provisions x) r.1 p) n.0 r.2.2) in
+            inl (r.0, r.1, m.0, (r.2.0.1, n.1, m.1), m.2, h)
+        | inr h ↦
+            let r = from_flat_map info_provisions (enumerate_from 0 t.infos) h.0 p h.2 in
+            let n = from_first t.infos r.0 r.2.0 r.2.1 in
+            let m = from_map (infos_module r.0) r.2.0.1.modules r.1 p (subst (λ x. At (info_provisions x) r.1 p) n.0 r.2.2) in
+            inr (r.0, r.1, m.0, (r.2.0.1, n.1, m.1), m.2, omega (arith, h.1, r.3))
+      ]
+
+  -- a module among all modules is one that somebody provides
+  pub from_provisions : (k : ℕ) (p : Provision) → At (provisions t) k p → IsProvidedBy t p.maker p.name p.file
+  from_provisions k p e =
+      elim (module_from k p e) [
+        | inl h ↦ subst (λ (q : Provision). IsProvidedBy t q.maker q.name q.file) h.4 (h.1, h.3)
+        | inr h ↦ subst (λ (q : Provision). IsProvidedBy t q.maker q.name q.file) h.4 (h.1, h.2, h.3, refl, refl)
+      ]
+
+found : {X : Type 0} (test : X → Bool) (y : X) (xs : List X) (x : X) → (find test xs ≡ Some x → Has xs x × (test x ≡ true)) → (b : Bool) → test y ≡ b →
+    cond b (Some y) (find test xs) ≡ Some x → Has (y ∷ xs) x × (test x ≡ true)
+found test y xs x rest true is h = let same : y ≡ x = one_value h in ((0, ap Some same), ap test (sym same) ∙ is)
 found test y xs x rest false is h = let r = rest h in (has_more y xs x r.0, r.1)
 
 pub from_find : {X : Type 0} (test : X → Bool) (xs : List X) (x : X) → find test xs ≡ Some x → Has xs x × (test x ≡ true)
@@ -88,65 +92,50 @@ from_filter : {X : Type 0} (test : X → Bool) (xs : List X) (x : X) → Has (fi
 from_filter test [] x h = h
 from_filter test (y ∷ xs) x h = kept y (filter test xs) xs x (from_filter test xs x) (test y) h
 
-pub from_mentions : (names : List (List ℕ)) (name : List ℕ) → Has (first_mentions names) name → Has names name
+pub from_mentions : (names : List Name) (name : Name) → Has (first_mentions names) name → Has names name
 from_mentions [] name h = h
 from_mentions (n ∷ names) name (zero, e) = (0, e)
 from_mentions (n ∷ names) name (suc k, e) = has_more n names name (from_mentions names name (from_filter _ (first_mentions names) name (k, e)))
 
 pub from_option_map : {A B : Type 0} (f : A → B) (o : Option A) (y : B) → option_map f o ≡ Some y → (x : A) × (o ≡ Some x) × (f x ≡ y)
 from_option_map f None y e = cc
-from_option_map f (Some x) y e = (x, refl, same_some _ _ e)
+from_option_map f (Some x) y e = (x, refl, one_value e)
 
 pub required_files : RequiredFiles
 unfolding required_of
 required_files t rule k name file e =
-    let item = from_filter_map (λ (n : List ℕ). option_map (λ (f : List ℕ). let p : List ℕ × List ℕ = (n, f) in p) (file_of (provisions t) n)) (first_mentions rule.required) k (name, file) e in
-    let pair = from_option_map (λ (f : List ℕ). let p : List ℕ × List ℕ = (item.0, f) in p) (file_of (provisions t) item.0) (name, file) item.2 in
-    let is_name : item.0 ≡ name = ap (λ (p : List ℕ × List ℕ). p.0) pair.2 in
-    let is_file : pair.0 ≡ file = ap (λ (p : List ℕ × List ℕ). p.1) pair.2 in
-    let provision = from_option_map (λ (p : Provision). p.file) (find (λ p. bytes_eq item.0 p.name) (provisions t)) pair.0 pair.1 in
+    let item = from_filter_map (λ (n : List ℕ). option_map (λ (f : List ℕ). let p : Pair = (n, f) in p) (file_of (provisions t) n))
+    (first_mentions rule.required) k (name, file) e in
+    let pair = from_option_map (λ (f : List ℕ). let p : Pair = (item.0, f) in p) (file_of (provisions t) item.0) (name, file) item.2 in
+    let is_name = ap name_in_pair pair.2 in
+    let is_file = ap (λ (p : Pair). p.1) pair.2 in
+    let provision = from_option_map bmi_of (find (λ p. bytes_eq item.0 p.name) (provisions t)) pair.0 pair.1 in
     let find_at = from_find (λ (p : Provision). bytes_eq item.0 p.name) (provisions t) provision.0 provision.1 in
     let called : item.0 ≡ provision.0.name = (bytes_decides item.0 provision.0.name).0 find_at.1 in
     let by = from_provisions t find_at.0.0 provision.0 find_at.0.1 in (
       contained rule.required name (subst (Has rule.required) is_name (from_mentions _ _ item.1)),
-      (provision.0.maker, subst (λ n. IsProvidedBy t provision.0.maker n file) (sym called ∙ is_name) (subst (λ f. IsProvidedBy t provision.0.maker provision.0.name f) (provision.2 ∙ is_file) by)),
+      (
+        provision.0.maker,
+        subst (λ n. IsProvidedBy t provision.0.maker n file) (sym called ∙ is_name)
+            (subst (λ f. IsProvidedBy t provision.0.maker provision.0.name f) (provision.2 ∙ is_file) by),
+      ),
     )
 
 -- ---- The indexes of modules in the lists of all modules, files and requirements
 
 -- ---- the indexes of modules in the lists of all modules and all files
 
-pub numbered : {X : Type 0} (n : ℕ) (xs : List X) (k : ℕ) (x : X) → slice_get xs k ≡ Some x → slice_get (enumerate_from n xs) k ≡ Some (n + k, x)
+pub numbered : {X : Type 0} (n : ℕ) (xs : List X) (k : ℕ) (x : X) → At xs k x → At (enumerate_from n xs) k (n + k, x)
 numbered n [] k x e = cc
-numbered n (y ∷ xs) zero x e = let at : n + 0 ≡ n = omega arith in rw at (ap (λ z. Some (n, z)) (same_some _ _ e))
+numbered n (y ∷ xs) zero x e = let at : n + 0 ≡ n = omega arith in rw at (ap (λ z. Some (n, z)) (one_value e))
 numbered n (y ∷ xs) (suc k) x e = let at : n + suc k ≡ (n + 1) + k = omega arith in rw at (numbered (n + 1) xs k x e)
-
--- how many elements are before those of element i
-unfoldable pub offset : {A B : Type 0} → (A → List B) → List A → ℕ → ℕ
-offset f [] i = 0
-offset f (x ∷ xs) zero = 0
-offset f (x ∷ xs) (suc i) = length (f x) + offset f xs i
-
-pub in_flat_map : {A B : Type 0} (f : A → List B) (xs : List A) (i : ℕ) (x : A) (j : ℕ) (y : B) → slice_get xs i ≡ Some x → slice_get (f x) j ≡ Some y → slice_get (flat_map f xs) (offset f xs i + j) ≡ Some y
-unfolding offset
-in_flat_map f [] i x j y e h = cc
-in_flat_map f (z ∷ xs) zero x j y e h =
-    let at : 0 + j ≡ j = omega arith in
-    let same : z ≡ x = same_some _ _ e in
-    rw at (in_first (f z) (flat_map f xs) j y (subst (λ w. slice_get (f w) j ≡ Some y) (sym same) h))
-in_flat_map f (z ∷ xs) (suc i) x j y e h =
-    let at : (length (f z) + offset f xs i) + j ≡ length (f z) + (offset f xs i + j) = omega arith in
-    rw at (in_second (f z) (flat_map f xs) (offset f xs i + j) y (in_flat_map f xs i x j y e h))
-
-abbrev as_claim : Provision → Claim
-as_claim p = record { maker = p.maker; file = p.file; is_module = true }
 
 -- the index of module j of object o among all claims
 object_place : TableValue → ℕ → ℕ → ℕ
 object_place t o j = length (own_claims t.objects) + (offset object_provisions (enumerate_from 0 t.objects) o + j)
 
 info_place : TableValue → ℕ → ℕ → ℕ
-info_place t i j = length (own_claims t.objects) + (length (flat_map object_provisions (enumerate_from 0 t.objects)) + (offset info_provisions (enumerate_from 0 t.infos) i + j))
+info_place t i j = length (own_claims t.objects) + (length (own_modules t) + (offset info_provisions (enumerate_from 0 t.infos) i + j))
 
 zero_plus : (n : ℕ) → 0 + n ≡ n
 zero_plus n = omega arith
@@ -161,47 +150,65 @@ either true y e = refl
 either false y e = e
 
 module _ (t : TableValue) where
-  row_of : (o : ℕ) (rule : RuleValue) → slice_get t.objects o ≡ Some rule → slice_get (enumerate_from 0 t.objects) o ≡ Some (o, rule)
+  row_of : (o : ℕ) (rule : RuleValue) → At t.objects o rule → At (enumerate_from 0 t.objects) o (o, rule)
   row_of o rule e = numbered 0 t.objects o rule e ∙ ap (λ n. Some (n, rule)) (zero_plus o)
 
-  pub info_row_of : (i : ℕ) (info : InfoValue) → slice_get t.infos i ≡ Some info → slice_get (enumerate_from 0 t.infos) i ≡ Some (i, info)
+  info_row_of : (i : ℕ) (info : InfoValue) → At t.infos i info → At (enumerate_from 0 t.infos) i (i, info)
   info_row_of i info e = numbered 0 t.infos i info e ∙ ap (λ n. Some (n, info)) (zero_plus i)
 
-  pub object_provision : (o j : ℕ) (name : List ℕ) (file : List ℕ) → Provides t o j name file → slice_get (provisions t) (offset object_provisions (enumerate_from 0 t.objects) o + j) ≡ Some (record { maker = Object o; name = name; file = file; is_private = false })
+  pub object_provision : (o j : ℕ) (name : Name) (file : Name) → Provides t o j name file →
+      At (provisions t) (offset object_provisions (enumerate_from 0 t.objects) o + j)
+      (record { maker = Object o; name = name; file = file; is_private = false })
   object_provision o j name file h =
-      in_first (flat_map object_provisions (enumerate_from 0 t.objects)) (flat_map info_provisions (enumerate_from 0 t.infos)) (offset object_provisions (enumerate_from 0 t.objects) o + j) _ (in_flat_map object_provisions (enumerate_from 0 t.objects) o (o, h.0) j _ (row_of o h.0 h.1) (to_map (λ (p : List ℕ × List ℕ). let x : Provision = record { maker = Object o; name = p.0; file = p.1; is_private = false } in x) h.0.provided j (name, file) h.2))
+      in_first (own_modules t) (infos_modules t) (offset object_provisions (enumerate_from 0 t.objects) o + j) _
+      (in_flat_map object_provisions (enumerate_from 0 t.objects) o j _ ((o, h.0), row_of o h.0 h.1, to_map (own_module o) h.0.provided j (name, file) h.2))
 
-  pub info_provision : (i j : ℕ) (m : ModuleValue) → InfoProvides t i j m → slice_get (provisions t) (length (flat_map object_provisions (enumerate_from 0 t.objects)) + (offset info_provisions (enumerate_from 0 t.infos) i + j)) ≡ Some (record { maker = Info i; name = m.name; file = m.file; is_private = m.is_private })
+  pub info_provision : (i j : ℕ) (m : ModuleValue) → InfoProvides t i j m →
+      At (provisions t) (length (own_modules t) + (offset info_provisions (enumerate_from 0 t.infos) i + j))
+      (record { maker = Info i; name = m.name; file = m.file; is_private = m.is_private })
   info_provision i j m h =
-      in_second (flat_map object_provisions (enumerate_from 0 t.objects)) (flat_map info_provisions (enumerate_from 0 t.infos)) (offset info_provisions (enumerate_from 0 t.infos) i + j) _ (in_flat_map info_provisions (enumerate_from 0 t.infos) i (i, h.0) j _ (info_row_of i h.0 h.1) (to_map (λ (m : ModuleValue). let x : Provision = record { maker = Info i; name = m.name; file = m.file; is_private = m.is_private } in x) h.0.modules j m h.2))
+      in_second (own_modules t) (infos_modules t) (offset info_provisions (enumerate_from 0 t.infos) i + j) _
+      (in_flat_map info_provisions (enumerate_from 0 t.infos) i j _ ((i, h.0), info_row_of i h.0 h.1, to_map (infos_module i) h.0.modules j m h.2))
 
-  object_claim : (o j : ℕ) (name : List ℕ) (file : List ℕ) → Provides t o j name file → slice_get (claims t) (object_place t o j) ≡ Some (record { maker = Object o; file = file; is_module = true })
+  object_claim : (o j : ℕ) (name : Name) (file : Name) → Provides t o j name file →
+      At (claims t) (object_place t o j) (record { maker = Object o; file = file; is_module = true })
   unfolding object_place
-  object_claim o j name file h = in_second (own_claims t.objects) (map as_claim (provisions t)) (offset object_provisions (enumerate_from 0 t.objects) o + j) _ (to_map as_claim (provisions t) (offset object_provisions (enumerate_from 0 t.objects) o + j) _ (object_provision o j name file h))
+  object_claim o j name file h =
+      in_second (own_claims t.objects) (map module_claim (provisions t)) (offset object_provisions (enumerate_from 0 t.objects) o + j) _
+      (to_map module_claim (provisions t) (offset object_provisions (enumerate_from 0 t.objects) o + j) _ (object_provision o j name file h))
 
-  info_claim : (i j : ℕ) (m : ModuleValue) → InfoProvides t i j m → slice_get (claims t) (info_place t i j) ≡ Some (record { maker = Info i; file = m.file; is_module = true })
+  info_claim : (i j : ℕ) (m : ModuleValue) → InfoProvides t i j m →
+      At (claims t) (info_place t i j) (record { maker = Info i; file = m.file; is_module = true })
   unfolding info_place
-  info_claim i j m h = in_second (own_claims t.objects) (map as_claim (provisions t)) (length (flat_map object_provisions (enumerate_from 0 t.objects)) + (offset info_provisions (enumerate_from 0 t.infos) i + j)) _ (to_map as_claim (provisions t) (length (flat_map object_provisions (enumerate_from 0 t.objects)) + (offset info_provisions (enumerate_from 0 t.infos) i + j)) _ (info_provision i j m h))
+  info_claim i j m h = in_second (own_claims t.objects) (map module_claim (provisions t))
+      (length (own_modules t) + (offset info_provisions (enumerate_from 0 t.infos) i + j)) _
+      (to_map module_claim (provisions t) (length (own_modules t) + (offset info_provisions (enumerate_from 0 t.infos) i + j)) _ (info_provision i j m h))
 
-  own_claim : (o : ℕ) (rule : RuleValue) → slice_get t.objects o ≡ Some rule → slice_get (claims t) o ≡ Some (record { maker = Object o; file = rule.object; is_module = false })
-  own_claim o rule e = in_first (own_claims t.objects) (map as_claim (provisions t)) o _ (to_map (λ (x : ℕ × RuleValue). let c : Claim = record { maker = Object x.0; file = x.1.object; is_module = false } in c) (enumerate_from 0 t.objects) o (o, rule) (row_of o rule e))
+  own_claim : (o : ℕ) (rule : RuleValue) → At t.objects o rule → At (claims t) o (record { maker = Object o; file = rule.object; is_module = false })
+  own_claim o rule e = in_first (own_claims t.objects) (map module_claim (provisions t)) o _
+      (to_map own_claim_of (enumerate_from 0 t.objects) o (o, rule) (row_of o rule e))
 
   -- who provides a name is among all modules
-  pub provision_by : (name file : List ℕ) (maker : Maker) → IsProvidedBy t maker name file → (k : ℕ) × (p : Provision) × (slice_get (provisions t) k ≡ Some p) × (p.name ≡ name) × (p.file ≡ file)
+  pub provision_by : (name file : Name) (maker : Maker) → IsProvidedBy t maker name file →
+      (k : ℕ) × (p : Provision) × (At (provisions t) k p) × (p.name ≡ name) × (p.file ≡ file)
   provision_by name file (Object o) by = (_, _, object_provision o by.0 name file by.1, refl, refl)
   provision_by name file (Info i) by = (_, _, info_provision i by.0 by.1 by.2, by.3, by.4)
 
   module _ (sound : IsSound t) where
-    one_name_file : (name file other : List ℕ) → IsProvided t name file → IsProvided t name other → file ≡ other
+    -- the names of the modules differ
+    pub sound_names : AllDiffer (names_of (provisions t))
+    sound_names = differ_by name_of (provisions t) (λ i j a b lt at_i at_j same. let one = sound.names_differ i j a b at_i at_j same in omega (arith, lt, one))
+
+    one_name_file : (name file other : Name) → IsProvided t name file → IsProvided t name other → file ≡ other
     one_name_file name file other a b =
         let p = provision_by name file a.0 a.1 in
         let q = provision_by name other b.0 b.1 in
-        let place : p.0 ≡ q.0 = sound.names_differ p.0 q.0 p.1 q.1 p.2 q.2 (p.3 ∙ sym q.3) in
-        let same : p.1 ≡ q.1 = same_some _ _ (sym p.2 ∙ ap (slice_get (provisions t)) place ∙ q.2) in
-        sym p.4 ∙ ap (λ (x : Provision). x.file) same ∙ q.4
+        let index : p.0 ≡ q.0 = sound.names_differ p.0 q.0 p.1 q.1 p.2 q.2 (p.3 ∙ sym q.3) in
+        let same : p.1 ≡ q.1 = one_value (sym p.2 ∙ ap (slice_get (provisions t)) index ∙ q.2) in
+        sym p.4 ∙ ap bmi_of same ∙ q.4
 
     -- a module's file is claimed at one place
-    one_place : (a b : ℕ) (x y : Claim) → slice_get (claims t) a ≡ Some x → slice_get (claims t) b ≡ Some y → x.file ≡ y.file → x.is_module ≡ true → a ≡ b
+    one_place : (a b : ℕ) (x y : Claim) → At (claims t) a x → At (claims t) b y → x.file ≡ y.file → x.is_module ≡ true → a ≡ b
     one_place a b x y ax by file m =
         elim (three_ways a b) [
           | inl less ↦ absurd (sound.files_differ a b x y less ax by (file, rw m refl))
@@ -211,25 +218,26 @@ module _ (t : TableValue) where
           ]
         ]
 
-    files_once : (o p j k : ℕ) (name other : List ℕ) (file : List ℕ) → Provides t o j name file → Provides t p k other file → (o ≡ p) × (j ≡ k)
+    files_once : (o p j k : ℕ) (name other : Name) (file : Name) → Provides t o j name file → Provides t p k other file → (o ≡ p) × (j ≡ k)
     unfolding object_place
     files_once o p j k name other file a b =
-        let place : object_place t o j ≡ object_place t p k = one_place _ _ _ _ (object_claim o j name file a) (object_claim p k other file b) refl refl in
-        let claim = ap (slice_get (claims t)) (sym place) ∙ object_claim o j name file a in
-        let maker : Object o ≡ Object p = ap (λ (c : Claim). c.maker) (same_some _ _ (sym claim ∙ object_claim p k other file b)) in
+        let index : object_place t o j ≡ object_place t p k = one_place _ _ _ _ (object_claim o j name file a) (object_claim p k other file b) refl refl in
+        let claim = ap (slice_get (claims t)) (sym index) ∙ object_claim o j name file a in
+        let maker : Object o ≡ Object p = ap claimant (one_value (sym claim ∙ object_claim p k other file b)) in
         let object : o ≡ p = cc in
-        let moved : object_place t o j ≡ object_place t o k = place ∙ ap (λ n. object_place t n k) (sym object) in
+        let moved : object_place t o j ≡ object_place t o k = index ∙ ap (λ n. object_place t n k) (sym object) in
         (object, omega (arith, moved))
 
-    depends_on : (o p : ℕ) (file : List ℕ) (name : List ℕ) → Requires t o name → (maker : Maker) → IsProvidedBy t maker name file → (j : ℕ) (other : List ℕ) → Provides t p j other file → DependsOn t o p
+    depends_on : (o p : ℕ) (file : Name) (name : Name) → Requires t o name → (maker : Maker) → IsProvidedBy t maker name file → (j : ℕ) (other : Name) →
+        Provides t p j other file → DependsOn t o p
     depends_on o p file name needs (Object q) by j other adds =
         let same = files_once q p by.0 j name other file by.1 adds in
         (name, file, by.0, needs, subst (λ n. Provides t n by.0 name file) same.0 by.1)
     depends_on o p file name needs (Info i) by j other adds =
         let here = info_claim i by.0 by.1 by.2 in
         let there = object_claim p j other file adds in
-        let place = one_place _ _ _ _ there here (sym by.4) refl in
-        let maker : Object p ≡ Info i = ap (λ (c : Claim). c.maker) (same_some _ _ (sym there ∙ ap (slice_get (claims t)) place ∙ here)) in
+        let index = one_place _ _ _ _ there here (sym by.4) refl in
+        let maker : Object p ≡ Info i = ap claimant (one_value (sym there ∙ ap (slice_get (claims t)) index ∙ here)) in
         absurd (cc)
 
     depends : (o p : ℕ) → AddedNeeds t o p → DependsOn t o p
@@ -238,12 +246,12 @@ module _ (t : TableValue) where
     orderable : IsOrderable (length t.objects) (AddedNeeds t)
     orderable = orderable_same (length t.objects) (DependsOn t) (AddedNeeds t) depends sound.orderable
 
-    apart : (o p j : ℕ) (rule : RuleValue) (name : List ℕ) → slice_get t.objects o ≡ Some rule → Provides t p j name rule.object → ⊥
+    apart : (o p j : ℕ) (rule : RuleValue) (name : Name) → At t.objects o rule → Provides t p j name rule.object → ⊥
     apart o p j rule name at provides =
         let here = own_claim o rule at in
         let there = object_claim p j name rule.object provides in
-        let place = one_place _ _ _ _ there here refl refl in
-        let kind : true ≡ false = ap (λ (c : Claim). c.is_module) (same_some _ _ (sym there ∙ ap (slice_get (claims t)) place ∙ here)) in
+        let kind : true ≡ false =
+        ap (λ (c : Claim). c.is_module) (one_value (sym there ∙ ap (slice_get (claims t)) (one_place _ _ _ _ there here refl refl) ∙ here)) in
         cc
 
 pub added_orderable : AddedOrderable
@@ -266,15 +274,16 @@ requirement_of info target entry name file = record { info = info; target = targ
 
 module _ (t : TableValue) where
   -- what an info's module requires is among the requirements of all info files
-  pub requirement : (i j : ℕ) (m : ModuleValue) (name file : List ℕ) → InfoRequires t i j m name file → (k : ℕ) × (target : List ℕ) × (slice_get (info_requirements t) k ≡ Some (requirement_of i target m name file))
+  pub requirement : (i j : ℕ) (m : ModuleValue) (name file : Name) → InfoRequires t i j m name file →
+      (k : ℕ) × (target : Name) × (At (info_requirements t) k (requirement_of i target m name file))
   requirement i j m name file ((info, at, at_m), has) =
-      let pair = slice_get-get_or m.required has.0 (name, file) has.1 ∙ ap (λ x. Some x) has.2 in
-      let mine = to_map (λ (r : List ℕ × List ℕ). requirement_of i info.target m r.0 r.1) m.required has.0 (name, file) pair in
-      let inner = in_flat_map (module_requirements i info.target) info.modules j m has.0 _ at_m mine in
-      (_, info.target, in_flat_map requirements_of_info (enumerate_from 0 t.infos) i (i, info) _ _ (info_row_of t i info at) inner)
+      let pair = slice_get-get_or m.required has.0 (name, file) has.1 ∙ ap Some has.2 in
+      let mine = to_map (λ (r : Pair). requirement_of i info.target m r.0 r.1) m.required has.0 (name, file) pair in
+      let inner = in_flat_map (module_requirements i info.target) info.modules j has.0 _ (m, at_m, mine) in
+      (_, info.target, in_flat_map requirements_of_info (enumerate_from 0 t.infos) i _ _ ((i, info), info_row_of t i info at, inner))
 
   -- what an info provides, and not with another file, it provides with this one
-  pub agreed : (r : InfoRequirement) (file : List ℕ) → IsInfoProvided t r.name file → (Disagrees t r → ⊥) → IsInfoProvided t r.name r.file
+  pub agreed : (r : InfoRequirement) (file : Name) → IsInfoProvided t r.name file → (Disagrees t r → ⊥) → IsInfoProvided t r.name r.file
   agreed r file provided agrees = by (bytes_eq file r.file) refl
     where
       by : (b : Bool) → bytes_eq file r.file ≡ b → IsInfoProvided t r.name r.file
@@ -283,11 +292,12 @@ module _ (t : TableValue) where
 
 -- ---- what is looked up
 
-map_map : {A B C : Type 0} (h : B → C) (f : A → B) (xs : List A) → map h (map f xs) ≡ map (λ x. h (f x)) xs
+pub map_map : {A B C : Type 0} (h : B → C) (f : A → B) (xs : List A) → map h (map f xs) ≡ map (λ x. h (f x)) xs
 map_map h f [] = refl
 map_map h f (x ∷ xs) = ap (λ ys. h (f x) ∷ ys) (map_map h f xs)
 
-map_flat_map : {A B C : Type 0} (h : B → C) (f : A → List B) (g : A → List C) (xs : List A) → ((x : A) → map h (f x) ≡ g x) → map h (flat_map f xs) ≡ flat_map g xs
+map_flat_map : {A B C : Type 0} (h : B → C) (f : A → List B) (g : A → List C) (xs : List A) → ((x : A) → map h (f x) ≡ g x) →
+    map h (flat_map f xs) ≡ flat_map g xs
 map_flat_map h f g [] each = refl
 map_flat_map h f g (x ∷ xs) each = map-append h (f x) (flat_map f xs) ∙ ap₂ (λ ys zs. ys ++ zs) (each x) (map_flat_map h f g xs each)
 
@@ -295,24 +305,31 @@ module _ (t : TableValue) where
   abbrev with_found : InfoRequirement → LookedUp
   with_found = with_module (provisions t)
 
-  pub lookups : map with_found (info_requirements t) ≡ flat_map (λ (info : ℕ × InfoValue). flat_map (lookups_of (provisions t) info.0 info.1.target) info.1.modules) (enumerate_from 0 t.infos)
+  pub lookups : map with_found (info_requirements t) ≡
+      flat_map (λ (info : ℕ × InfoValue). flat_map (lookups_of (provisions t) info.0 info.1.target) info.1.modules) (enumerate_from 0 t.infos)
   lookups =
       map_flat_map with_found requirements_of_info _ (enumerate_from 0 t.infos)
       (λ info. map_flat_map with_found (module_requirements info.0 info.1.target) _ info.1.modules
-      (λ entry. map_map with_found (λ (r : List ℕ × List ℕ). requirement_of info.0 info.1.target entry r.0 r.1) entry.required))
+      (λ entry. map_map with_found (λ (r : Pair). requirement_of info.0 info.1.target entry r.0 r.1) entry.required))
 
   -- and with the module of its name
-  pub found_there : (all : List InfoRequired) → AreLookedUp t all → (k : ℕ) (r : InfoRequired) → slice_get all k ≡ Some r → looked_up r ≡ with_found (requirement_seen r)
+  found_there : (all : List InfoRequired) → AreLookedUp t all → (k : ℕ) (r : InfoRequired) → At all k r → looked_up r ≡ with_found (requirement_seen r)
   found_there all looked k r at =
-      let y = from_map with_found (info_requirements t) k (looked_up r) (ap (λ xs. slice_get xs k) (sym looked.same) ∙ to_map looked_up all k r at) in
+      let y = from_map with_found (info_requirements t) k (looked_up r) (same_reads k (sym looked.same) ∙ to_map looked_up all k r at) in
       sym y.2 ∙ ap (λ (x : LookedUp). with_found x.0) y.2
 
   -- what is looked up is the requirement at the same index
-  pub required_there : (all : List InfoRequired) → AreLookedUp t all → (k : ℕ) (r : InfoRequired) → slice_get all k ≡ Some r → slice_get (info_requirements t) k ≡ Some (requirement_seen r)
+  pub required_there : (all : List InfoRequired) → AreLookedUp t all → (k : ℕ) (r : InfoRequired) → At all k r → At (info_requirements t) k (requirement_seen r)
   required_there all looked k r at =
-      let y = from_map with_found (info_requirements t) k (looked_up r) (ap (λ xs. slice_get xs k) (sym looked.same) ∙ to_map looked_up all k r at) in
+      let y = from_map with_found (info_requirements t) k (looked_up r) (same_reads k (sym looked.same) ∙ to_map looked_up all k r at) in
       y.1 ∙ ap (λ (x : LookedUp). Some x.0) y.2
 
-  -- what a test says of a requirement that was looked up, it says of the one at the same index
-  pub decided : (all : List InfoRequired) → AreLookedUp t all → (k : ℕ) (r : InfoRequired) → slice_get all k ≡ Some r → (test : LookedUp → Bool) (Yes No : InfoRequirement → Type 0) → ((q : InfoRequirement) → MatchBool (test (with_found q)) (Yes q) (No q)) → (b : Bool) → test (looked_up r) ≡ b → MatchBool b (Yes (requirement_seen r)) (No (requirement_seen r))
-  decided all looked k r at test Yes No decides b tested = subst (λ b. MatchBool b (Yes (requirement_seen r)) (No (requirement_seen r))) (ap test (sym (found_there all looked k r at)) ∙ tested) (decides (requirement_seen r))
+  -- a check by a test of what was looked up is one of the requirements of info files
+  pub requirement_checked : (test : LookedUp → Bool) (Yes No : InfoRequirement → Type 0) →
+      ((q : InfoRequirement) → MatchBool (test (with_found q)) (Yes q) (No q)) → (all : List InfoRequired) → AreLookedUp t all → (k : ℕ) (r : InfoRequired) →
+      At all k r → AcceptsAll Yes (take k (info_requirements t)) → (b : Bool) → test (looked_up r) ≡ b →
+      MatchBool b (AcceptsAll Yes (take (k + 1) (info_requirements t))) (RefusesAt Yes No (info_requirements t) k)
+  requirement_checked test Yes No decides all looked k r at before b tested =
+      let q = requirement_seen r in
+      first_rejected Yes No (info_requirements t) k q (required_there all looked k r at) before b
+      (subst (λ b. MatchBool b (Yes q) (No q)) (ap test (sym (found_there all looked k r at)) ∙ tested) (decides q))

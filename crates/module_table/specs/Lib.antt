@@ -7,5 +7,6 @@ pub mod Sound
 pub mod Needed
 pub mod Added
 pub mod Outcomes
+pub mod Building
 pub mod Parts
 pub mod inner

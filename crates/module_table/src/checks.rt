@@ -103,9 +103,18 @@ pub(crate) fn check_all(
     check_infos(alloc, infos, key)?;
     let modules = check_names(alloc, objects, infos, key)?;
     check_files(alloc, &modules, paths)?;
-    let (needs, indexes) = check_requirements(alloc, &modules, kept)?;
+    let Requirements { needs, indexes } = check_requirements(alloc, &modules, kept)?;
     let index = Index::new(alloc, modules, needs, indexes)?;
     Ok(index)
+}
+
+/// What modules and objects need, by index.
+#[derive(Drop)]
+struct Requirements {
+    /// What each module needs.
+    needs: Vec<Vec<usize>>,
+    /// The modules that each object requires.
+    indexes: Vec<Vec<usize>>,
 }
 
 /// Checks M5 to M10. Returns what each module needs, and the modules that each object requires.
@@ -113,10 +122,10 @@ fn check_requirements(
     alloc: Global,
     modules: &Modules,
     kept: &[Name],
-) -> Result<(Vec<Vec<usize>>, Vec<Vec<usize>>), Failure<Box<TableFault>>>
+) -> Result<Requirements, Failure<Box<TableFault>>>
     requires { Passed 5 modules.now kept.now }
-    ensures needs { IfOk result (λ all. AreModuleRows modules.now (rows all.0.items)) }
-    ensures indexes { IfOk result (λ all. AreIndexes modules.now (rows all.1.items)) }
+    ensures needs { IfOk result (λ all. AreModuleRows modules.now (rows all.needs.items)) }
+    ensures indexes { IfOk result (λ all. AreIndexes modules.now (rows all.indexes.items)) }
     ensures passed { OnOk result (Passed 11 modules.now kept.now) }
     ensures fault { IfErr result (ForFault (λ fault. IsReported modules.now kept.now fault.value)) }
 {
@@ -129,5 +138,5 @@ fn check_requirements(
     check_objects_allowed(alloc, modules, &indexes)?;
     check_infos_allowed(alloc, modules, &required)?;
     check_kept(alloc, modules, kept)?;
-    Ok((needs, indexes))
+    Ok(Requirements { needs, indexes })
 }

@@ -22,8 +22,8 @@ pub(crate) fn table_key(objects: &[Rule], infos: &[Info]) -> TableKey
     digest.key()
 }
 
-/// Adds to a digest what a table of these objects holds of them: their paths, and the names and files
-/// of the modules that they provide. A project makes the key of all its tables with this.
+/// Adds to a digest what a table of these objects holds of them: their paths, and the names and
+/// files of the modules that they provide. A project makes the key of all its tables with this.
 pub fn add_objects(digest: &mut KeyDigest, objects: &[Rule])
     ensures { (entries : TableEntries) → HasAdded digest.old entries
         → HasAdded digest.new (entries ++ flat_map object_entries objects.now) }

@@ -6,7 +6,7 @@ ghost use Rattle.module_table.specs.Outcomes.{SoundHasNoFault, FaultlessIsSound,
 
 /// A table is sound and its objects provide the private names if and only if none of the faults M1
 /// to M10 is present.
-pub fn sound_tables()
+pub fn sound_is_faultless()
     ensures no_fault { SoundHasNoFault }
     ensures sound { FaultlessIsSound }
 {}
@@ -14,7 +14,7 @@ pub fn sound_tables()
 /// At most one fault can be reported for a table: the same data, and for a cycle the same objects
 /// in the same order.
 #[tactic(auto, using(crate::proofs::OneReported::one_told))]
-pub fn one_fault()
+pub fn one_fault_is_reported()
     ensures { OneTableFault }
 {}
 
@@ -22,7 +22,7 @@ pub fn one_fault()
 /// from one another can be ordered. A file belongs to at most one module of one object, and no
 /// module's file is an object. An object's pairs are all names that it requires, with the files of
 /// their modules, and each name has one file.
-pub fn added_files()
+pub fn added_files_can_be_ordered()
     ensures orderable { AddedOrderable }
     ensures once { FilesOnce }
     ensures apart { FilesApart }
@@ -34,7 +34,7 @@ pub fn added_files()
 /// A part of the linked modules that is enough for a table: if the table of the part is sound, so
 /// is the table of all. Then the objects of both require the same. If the part keeps what its
 /// modules require, the objects of both also need the same.
-pub fn parts()
+pub fn sound_part_is_enough()
     ensures sound { PartIsSound }
     ensures tasks { PartHasTasks }
     ensures needed { PartIsNeeded }

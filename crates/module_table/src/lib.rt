@@ -3,9 +3,10 @@
 //! [`Table::build`] makes a table of a target's rules and of the info files of the targets that it
 //! links. It succeeds if and only if none of the faults M1 to M10 is present (`specs/Faults.antt`,
 //! `IsFault`). Otherwise it reports a fault that is present, with its data and the lowest code
-//! (`IsReported`). `specs/Sound.antt` states what holds of a table without faults. The law
-//! [`sound_tables`] says that this holds exactly if no fault is present, and the law [`one_fault`]
-//! that no other fault is reported (`specs/Outcomes.antt`).
+//! (`IsReported`). `specs/Building.antt` says this for both calls that build tables, and
+//! `specs/Sound.antt` what holds of a table without faults. By the law [`laws::sound_is_faultless`]
+//! this holds exactly if no fault is present, and by the law [`laws::one_fault_is_reported`] no
+//! other fault is reported (`specs/Outcomes.antt`).
 //!
 //! Names, paths and targets are looked up in hash tables. Their key is the digest of all of them
 //! (`specs/Entries.antt`, `table_entries`), so nobody can choose names that all hash alike. One key
@@ -16,12 +17,13 @@
 //! return what an object provides and requires. [`Table::needed`] returns the modules that an
 //! object requires directly or through others (`specs/Needed.antt`), and [`Table::needs`] does this
 //! for one object after another. [`Resolved`] has the objects and what each requires, without
-//! look-ups. The law [`added_files`] says what a sound table means for the files that are added to
-//! a build (`specs/Added.antt`). All these definitions are relations over rules and info files
-//! (`specs/Modules.antt`). Definitions that only private clauses use are in `specs/inner/`.
+//! look-ups. The law [`laws::added_files_can_be_ordered`] says what a sound table means for the
+//! files that are added to a build (`specs/Added.antt`). All these definitions are relations over
+//! rules and info files (`specs/Modules.antt`). Definitions that only private clauses use are in
+//! `specs/inner/`.
 //!
-//! The law [`parts`] says what a table tells that has only a part of the linked modules
-//! (`specs/Parts.antt`). The crate `info_pool` picks such parts.
+//! The law [`laws::sound_part_is_enough`] says what holds of a table that has only a part of the
+//! linked modules (`specs/Parts.antt`). The crate `info_pool` picks such parts.
 //!
 //! [`TableFault::name`] returns the code and the name of a fault (`specs/FaultNames.antt`).
 //!
@@ -31,8 +33,8 @@
 //!   name in a table of names. This is the invariant of `Modules`.
 //! - `checks.rt` makes the checks in the order of the codes and reports the fault of the first that
 //!   fails. `checks/repeated.rt` has M1 to M4, `checks/required.rt` M5 to M8, and
-//!   `checks/privacy.rt` M9 and M10. M8 calls `order` of `dep_order`. `requirements.rt` looks up once
-//!   what the modules of info files require. M6, M7 and M9 use what it finds.
+//!   `checks/privacy.rt` M9 and M10. M8 calls `order` of `dep_order`. `requirements.rt` looks up
+//!   once what the modules of info files require. M6, M7 and M9 use what it finds.
 //! - `keys.rt` makes the key of a table's hash tables.
 //! - `table.rt`: a table has the objects and what each requires with the files ([`Resolved`]).
 //!   Names and paths have numbers, which are their indexes in two hash tables. Names are numbered
@@ -41,15 +43,15 @@
 //!   graph an object needs the modules that it requires, a module of an object needs the object,
 //!   and a module of an info file needs the modules that it requires.
 //! - `needed.rt` lists the modules that each object requires, with their files. [`Needs`] calls
-//!   `Reaching` of `dep_order` in the graph, and sorts what it finds by the ranks of the names, which
-//!   are computed once.
+//!   `Reaching` of `dep_order` in the graph, and sorts what it finds by the ranks of the names,
+//!   which are computed once.
 //!
 //! Other crates cite only one file of the proofs: `proofs/ForCallers.antt` shows that at most one
 //! list has exactly the pairs of a relation.
 //!
-//! The crate uses `document_values` for rules, info files and names, `ninja_text` for paths, `dep_order`
-//! for cycles and for what a module leads to, `indexmap` and `table_keys` for look-ups, and
-//! `thiserror` for its fault.
+//! The crate uses `document_values` for rules, info files and names, `ninja_text` for paths,
+//! `dep_order` for cycles and for what a module leads to, `indexmap` and `table_keys` for look-ups,
+//! and `thiserror` for its fault.
 //!
 //! `must-fail/` has wrong bodies for each public function and for the key of a table, with these
 //! exceptions. Laws have no body.
@@ -63,7 +65,7 @@
 mod checks;
 mod fault;
 mod keys;
-mod laws;
+pub mod laws;
 mod modules;
 mod needed;
 mod requirements;
@@ -71,6 +73,5 @@ mod table;
 
 pub use fault::{Maker, RefusedTable, TableFault};
 pub use keys::add_objects;
-pub use laws::{added_files, one_fault, parts, sound_tables};
 pub use needed::Needs;
 pub use table::{Resolved, Table};

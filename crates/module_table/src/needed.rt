@@ -30,10 +30,18 @@ pub struct Needs<'t> {
     objects: &'t [Rule],
     infos: &'t [Info],
     reaching: Reaching<'t>,
-    /// The name and the file of each module, and its own index, in byte order of names.
-    modules: Vec<((&'t Name, &'t Path), usize)>,
+    /// The modules in byte order of names.
+    modules: Vec<Numbered<'t>>,
     /// The index of each module among them, by its own index.
     ranks: Vec<usize>,
+}
+
+/// A module and its index among all. Modules are ordered by name first.
+#[derive(Clone, Copy, PartialEq, Eq, PartialOrd, Ord)]
+struct Numbered<'t> {
+    name: &'t Name,
+    file: &'t Path,
+    index: usize,
 }
 
 // Not derived: a derived drop is written out, field by field, wherever a value goes.
@@ -86,12 +94,13 @@ impl<'t> Needs<'t> {
     {
         let mut modules = Vec::with_capacity(alloc, origins.len())?;
         for (index, origin) in origins.iter().enumerate() {
-            modules.push((named_at(objects, infos, *origin), index))?;
+            let (name, file) = named_at(objects, infos, *origin);
+            modules.push(Numbered { name, file, index })?;
         }
         modules.sort_unstable();
         let mut ranks = vec![in alloc; 0; modules.len()]?;
         for (rank, numbered) in modules.iter().enumerate() {
-            ranks[numbered.1] = rank;
+            ranks[numbered.index] = rank;
         }
         let reaching = Reaching::new(alloc, graph)?;
         Ok(Needs {
@@ -132,7 +141,7 @@ impl<'t> Needs<'t> {
 /// Returns the names and files of the modules at these indexes.
 fn pairs_at<'t>(
     alloc: Global,
-    modules: &[((&'t Name, &'t Path), usize)],
+    modules: &[Numbered<'t>],
     indexes: &[usize],
 ) -> Result<Vec<(&'t Name, &'t Path)>, AllocError>
     requires { All (λ index. index < length modules.now) indexes.now }
@@ -141,7 +150,8 @@ fn pairs_at<'t>(
 {
     let mut found = Vec::with_capacity(alloc, indexes.len())?;
     for index in indexes {
-        found.push(modules[*index].0)?;
+        let module = modules[*index];
+        found.push((module.name, module.file))?;
     }
     Ok(found)
 }

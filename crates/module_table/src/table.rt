@@ -7,11 +7,11 @@ ghost use Rattle.document_values.specs.Rule.{RuleValue};
 ghost use Rattle.module_table.specs.TableValue.{table_with};
 ghost use Rattle.module_table.specs.Entries.{table_entries};
 ghost use Rattle.module_table.specs.Modules.{IsProvidedBy};
-ghost use Rattle.module_table.specs.Faults.{IsReported, IsFault, IsUnknown};
-ghost use Rattle.module_table.specs.Sound.{IsSound, PrivateAreProvided};
+ghost use Rattle.module_table.specs.Faults.{IsUnknown};
+ghost use Rattle.module_table.specs.Sound.{IsSound};
+ghost use Rattle.module_table.specs.Building.{Builds};
 ghost use Rattle.module_table.specs.Needed.{ArePairs, IsNeeded};
 ghost use Rattle.module_table.specs.Added.{required_of};
-ghost use Rattle.module_table.specs.declared.fault.TableFault.{TableFault};
 
 use crate::checks::check_all;
 use crate::fault::{Maker, RefusedTable, TableFault};
@@ -88,13 +88,7 @@ impl Table {
         infos: Vec<Info>,
         kept: &[Name],
     ) -> Result<Table, Failure<TableFault>>
-        ensures table { IfOk result (λ table. table ≡ table_with objects.items infos.items) }
-        ensures sound { IfOk result IsSound }
-        ensures kept { IfOk result (λ table. PrivateAreProvided table kept.now) }
-        ensures no_fault { IfOk result
-            (λ table. (fault : TableFault) → IsFault table kept.now fault → ⊥) }
-        ensures fault { IfErr result
-            (ForFault (IsReported (table_with objects.items infos.items) kept.now)) }
+        ensures { Builds (λ fault. fault) objects.items infos.items kept.now result }
     {
         Table::build_or_refused(alloc, objects, infos, kept, None).map_err(|failure| failure.map(
             |refused| refused.fault,
@@ -113,13 +107,8 @@ impl Table {
     ) -> Result<Table, Failure<RefusedTable>>
         requires { ForSome key
             (λ key. Covers key (table_entries (table_with objects.items infos.items))) }
-        ensures table { IfOk result (λ table. table ≡ table_with objects.items infos.items) }
-        ensures sound { IfOk result IsSound }
-        ensures kept { IfOk result (λ table. PrivateAreProvided table kept.now) }
-        ensures no_fault { IfOk result
-            (λ table. (fault : TableFault) → IsFault table kept.now fault → ⊥) }
-        ensures fault { IfErr result (ForFault (λ refused.
-            IsReported (table_with objects.items infos.items) kept.now refused.fault)) }
+        ensures builds { Builds (λ refused. refused.fault)
+            objects.items infos.items kept.now result }
         ensures given { IfErr result (ForFault (λ refused.
             table_with refused.objects.items refused.infos.items
             ≡ table_with objects.items infos.items)) }

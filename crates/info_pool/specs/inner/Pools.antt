@@ -1,4 +1,4 @@
--- What a pool lists of the info files that are known, and what it looks at when some are linked.
+-- What a pool lists of the known info files, and what it checks when some of them are linked.
 use Rattle.std.specs.Prelude.{◌≡◌, ◌⊎◌, ◌++◌, ◌∷◌, ◌<◌, [], ℕ, Bool, true, if◌then◌else◌, List, length, slice_get, get_or, bytes_eq, Option, Some, None}
 use Rattle.indexmap.specs.IndexMap.{get}
 use Rattle.ninja_text.specs.Bytes.{PathText, Name}
@@ -37,8 +37,8 @@ rows_of listed by_file = get bytes_eq listed.files
 abbrev pub module_at : ℕ → ℕ → ModuleAt
 module_at i j = record { info = i; «module» = j }
 
--- A module is listed in the row that was found: it is the first, or its info shares the number of
--- the row with the info of the first.
+-- The row that was found lists the module: the module is its first, or its info file shares the
+-- number of the row with the info file of the first module.
 abbrev pub InRow : (Shared → Type 0) → Option Row → ModuleAt → Type 0
 InRow Shares found at = (row : Row) × (found ≡ Some row) × ((row.first ≡ at) ⊎ ((s : Shared)
     × Shares s × (row.number ≡ Some s.number) × (s.module ≡ at.module)
@@ -67,19 +67,19 @@ abbrev pub AreListed : (ModuleValue → Name) → ℕ → List ModuleValue → R
 AreListed key number modules rows shared = (j : ℕ) (m : ModuleValue) → slice_get modules j ≡ Some m
     → InRow (Has shared) (rows (key m)) (module_at number j)
 
--- the known info i has the module m at index j
+-- info file i is known, and m is its module j
 abbrev pub IsKnownModule : List (Option InfoValue) → ℕ → ℕ → ModuleValue → Type 0
 IsKnownModule known i j m = (value : InfoValue) × (slice_get known i ≡ Some (Some value))
     × (slice_get value.modules j ≡ Some m)
 
--- Info k has what a module of info i requires: the name, of this file. If it is private, it is of
--- info i itself.
+-- Info file k has what a module of info file i requires: a module of that name and file. Only info
+-- file i itself may have it as a private module.
 abbrev pub IsSource : List (Option InfoValue) → ℕ → Name × PathText → ℕ → Type 0
 IsSource known i pair k = (l : ℕ) × (w : ModuleValue) × IsKnownModule known k l w
     × (w.name ≡ pair.0) × (w.file ≡ pair.1) × (w.is_private ≡ true → k ≡ i)
 
--- An info that is added after the known ones: its modules are listed, and it is related to those
--- that have what its modules require, and to those that have a name or a file of it.
+-- How an info file that is added is related to the known ones: its modules are listed, and some
+-- info file among its sources has what they require.
 pub record IsRelated (known : List (Option InfoValue)) (info : InfoValue) (listed : Listed)
     (r : Related) : Type 0 where
   pub are_listed : (by : By) → AreListed (key_of by) (length known) info.modules
@@ -89,12 +89,12 @@ pub record IsRelated (known : List (Option InfoValue)) (info : InfoValue) (liste
       → (k : ℕ) × Has r.sources.items k
       × IsSource (known ++ Some info ∷ []) (length known) pair k
 
--- info k is among the sources of info i
+-- info file k is among the sources of info file i
 abbrev pub HasSource : List (Option Related) → ℕ → ℕ → Type 0
 HasSource related i k =
     (r : Related) × (slice_get related i ≡ Some (Some r)) × Has r.sources.items k
 
--- info i shares this with an earlier module
+-- info file i shares this with an earlier module
 abbrev pub HasShared : List (Option Related) → ℕ → Shared → Type 0
 HasShared related i s =
     (r : Related) × (slice_get related i ≡ Some (Some r)) × Has r.shared.items s
@@ -109,13 +109,13 @@ pub record IsPool (known : List (Option InfoValue)) (listed : Listed)
       → Has m.required pair → (k : ℕ) × HasSource related i k × IsSource known i pair k
   pub many : length related ≡ length known
 
--- the index in `linked` of each linked info, by the index of the info: no info is linked twice
+-- `indexes` has the index in `linked` of each linked info file, so none is linked twice
 abbrev pub AreIndexes : Indexes → Indexes → Type 0
 AreIndexes linked indexes =
     (i n : ℕ) → slice_get linked i ≡ Some n → slice_get indexes n ≡ Some i
 
--- The sources of linked info files are linked. No linked info has the first module of what a linked
--- info shares, and each number of that is stamped with the linked module that has it.
+-- The sources of linked info files are linked. No linked info file shares a name or file with the
+-- first module that had it, and the stamp of its number is the module of the linked info file.
 pub record AreFit (linked : Indexes) (related : List (Option Related)) (stamps : List ModuleAt)
     : Type 0 where
   pub closed : (n k : ℕ) → Has linked n → HasSource related n k → Has linked k
@@ -123,18 +123,18 @@ pub record AreFit (linked : Indexes) (related : List (Option Related)) (stamps :
   pub stamped : (n : ℕ) (s : Shared) → Has linked n → HasShared related n s
       → slice_get stamps s.number ≡ Some (module_at n s.module)
 
--- no module of the row is of a linked info: the first is not, and the one of the stamp is not
+-- no linked info file has a module of the row: neither the first, nor the one of the stamp
 pub record IsRowUnlinked (linked : Indexes) (stamps : List ModuleAt) (row : Row) : Type 0 where
   pub first : Has linked row.first.info → ⊥
   pub stamped : (x : ℕ) (at : ModuleAt) → row.number ≡ Some x → slice_get stamps x ≡ Some at
       → Has linked at.info → ⊥
 
--- no linked info has a module in the row of the key
+-- no linked info file has a module in the row of the key
 abbrev pub IsUnlinked : Indexes → List ModuleAt → Rows → Name → Type 0
 IsUnlinked linked stamps rows key =
     (row : Row) → rows key ≡ Some row → IsRowUnlinked linked stamps row
 
--- no linked info has the path, a name or a file of the object
+-- no linked info file has the path, a name or a file of the object
 pub record IsApart (linked : Indexes) (stamps : List ModuleAt) (listed : Listed)
     (rule : RuleValue) : Type 0 where
   pub path : IsUnlinked linked stamps (rows_of listed by_file) rule.object
@@ -147,7 +147,7 @@ abbrev pub IsCopied : Type 0 → InfoValue → ModuleValue → Type 0
 IsCopied keeps info m = (k : ℕ) × (w : ModuleValue) × (slice_get info.modules k ≡ Some w)
     × IsAlike m w × (keeps → m ≡ w)
 
--- the target of an info, with copies of some of its modules
+-- the target of an info file, with copies of some of its modules
 abbrev pub IsPicked : Type 0 → InfoValue → InfoValue → Type 0
 IsPicked keeps info part = (part.target ≡ info.target)
     × ((m : ModuleValue) → Has part.modules m → IsCopied keeps info m)
@@ -156,19 +156,19 @@ IsPicked keeps info part = (part.target ≡ info.target)
 abbrev pub Below : {X : Type 0} → (X → Type 0) → List X → ℕ → Type 0
 Below {X} P xs i = (k : ℕ) (x : X) → k < i → slice_get xs k ≡ Some x → P x
 
--- No other linked info has what info n shares: the one with the first module is not linked, and the
--- stamp is that of n.
+-- No other linked info file has what info file n shares: the first that had it is not linked, and
+-- the stamp is the module of n.
 abbrev pub IsAlone : Indexes → List ModuleAt → ℕ → Shared → Type 0
 IsAlone linked stamps n s = (Has linked s.first → ⊥)
     × (slice_get stamps s.number ≡ Some (module_at n s.module))
 
--- what is looked at of one linked info
+-- what is checked of one linked info file
 abbrev pub IsFitAt : Indexes → List (Option Related) → List ModuleAt → ℕ → Type 0
 IsFitAt linked related stamps n = (r : Related) × (slice_get related n ≡ Some (Some r))
     × ((k : ℕ) → Has r.sources.items k → Has linked k)
     × ((s : Shared) → Has r.shared.items s → IsAlone linked stamps n s)
 
--- the picked modules of the info that is known at this index
+-- the picked modules of the known info file at this index
 abbrev pub IsPickedOf : Type 0 → List (Option InfoValue) → ℕ → InfoValue → Type 0
 IsPickedOf keeps known n part = (info : InfoValue) × (get_or known n None ≡ Some info)
     × IsPicked keeps info part

@@ -127,11 +127,6 @@ pub record RefusesAt {X : Type 0} (Accepted Refused : X → Type 0) (xs : List X
 pub record AcceptsAll {X : Type 0} (Accepted : X → Type 0) (xs : List X) : Type 0 where
   pub each : (k : ℕ) (y : X) → slice_get xs k ≡ Some y → Accepted y
 
--- the index of the first element that is rejected, or none
-abbrev pub FindsRefused : {X : Type 0} → (X → Type 0) → (X → Type 0) → List X → Option ℕ → Type 0
-FindsRefused Accepted Refused xs None = AcceptsAll Accepted xs
-FindsRefused Accepted Refused xs (Some index) = RefusesAt Accepted Refused xs index
-
 -- a rule requires no name of a private module
 abbrev pub RequiresPublic : List Provision → RuleValue → Type 0
 RequiresPublic modules rule = AcceptsAll (IsPublic modules) rule.required

@@ -1,4 +1,4 @@
--- The position of each provided module.
+-- The origin of each provided module: its producer, and its index in what the producer provides.
 use Rattle.std.specs.Prelude.{ℕ, List, ◌++◌, map}
 use Rattle.std.specs.List.{flat_map, enumerate_from}
 use Rattle.document_values.specs.Rule.{RuleValue}

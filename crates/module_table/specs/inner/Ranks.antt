@@ -5,42 +5,43 @@ use Rattle.module_table.specs.Modules.{Provision}
 use Rattle.module_table.specs.Needed.{lent}
 use Rattle.ninja_text.specs.Bytes.{Precedes}
 use Rattle.module_table.specs.inner.Indexed.{pair_at}
+use Rattle.module_table.specs.declared.needed.Numbered.{Numbered}
 
--- the name and the file of a module, and its number
-abbrev pub Numbered : Type 0
-Numbered = (Bor (List ℕ) × Bor (List ℕ)) × ℕ
+-- the name and the file of a module
+abbrev pub pair_in : Numbered → Bor (List ℕ) × Bor (List ℕ)
+pair_in m = (m.name, m.file)
 
 abbrev pub pairs_of : List Numbered → List (Bor (List ℕ) × Bor (List ℕ))
-pairs_of modules = map (λ m. m.0) modules
+pairs_of modules = map pair_in modules
 
 -- each module in order of numbers
 pub record AreListed (provided : List Provision) (count : ℕ) (modules : List Numbered)
     : Type 0 where
   pub as_many : length modules ≡ count
-  pub numbers : (k : ℕ) (m : Numbered) → slice_get modules k ≡ Some m → m.1 ≡ k
+  pub numbers : (k : ℕ) (m : Numbered) → slice_get modules k ≡ Some m → m.index ≡ k
   pub pairs : (k : ℕ) (m : Numbered) → slice_get modules k ≡ Some m
-      → pair_at provided k ≡ Some (lent m.0)
+      → pair_at provided k ≡ Some (lent (pair_in m))
 
 -- all modules, each once, in byte order of names
 pub record AreByName (provided : List Provision) (modules : List Numbered) : Type 0 where
   pub as_many : length modules ≡ length provided
   pub pairs : (r : ℕ) (m : Numbered) → slice_get modules r ≡ Some m
-      → pair_at provided m.1 ≡ Some (lent m.0)
+      → pair_at provided m.index ≡ Some (lent (pair_in m))
   pub all : (k : ℕ) → k < length provided → (r : ℕ) × (m : Numbered)
-      × (slice_get modules r ≡ Some m) × (m.1 ≡ k)
-  pub rising : AllPairs (λ a b. Precedes a.0.0.now b.0.0.now) modules
+      × (slice_get modules r ≡ Some m) × (m.index ≡ k)
+  pub rising : AllPairs (λ a b. Precedes a.name.now b.name.now) modules
 
 -- no number is there twice
 pub record AreNumbers (modules : List Numbered) : Type 0 where
-  pub below : (r : ℕ) (m : Numbered) → slice_get modules r ≡ Some m → m.1 < length modules
+  pub below : (r : ℕ) (m : Numbered) → slice_get modules r ≡ Some m → m.index < length modules
   pub once : (r s : ℕ) (m n : Numbered) → slice_get modules r ≡ Some m
-      → slice_get modules s ≡ Some n → m.1 ≡ n.1 → r ≡ s
+      → slice_get modules s ≡ Some n → m.index ≡ n.index → r ≡ s
 
 -- the index of each of the first modules, by its number
 pub record AreRanks (modules : List Numbered) (count : ℕ) (ranks : List ℕ) : Type 0 where
   pub as_many : length ranks ≡ length modules
   pub each : (r : ℕ) (m : Numbered) → r < count → slice_get modules r ≡ Some m
-      → slice_index ranks m.1 ≡ r
+      → slice_index ranks m.index ≡ r
 
 -- The names and files of all modules, in byte order of names, and the index of each, by its number.
 pub record AreRanked (provided : List Provision) (ranks : List ℕ) (pairs : List (List ℕ × List ℕ))

@@ -1,5 +1,5 @@
-//! M5 to M8: what is required is provided, and not in a cycle. M5 and M8 speak of objects, M6 and M7
-//! of the modules of info files.
+//! M5 to M8: what is required is provided, and not in a cycle. M5 and M8 are about objects, M6 and
+//! M7 about the modules of info files.
 ghost use Rattle.std.specs.Prelude.{◌≡◌, ◌<◌, List, Some, map, length, IfOk, IfErr, OnOk};
 ghost use Rattle.std.specs.List.{filter_map};
 ghost use Rattle.ninja_text.specs.Bytes.{Name};

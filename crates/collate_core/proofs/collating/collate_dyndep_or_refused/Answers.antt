@@ -44,7 +44,7 @@ returns-in-Ok-clause-dyndep c =
     let info : InfoValue = info_of_table target.name target.kept t in
     let named : IsTargetName target.name =
     subst IsTargetName (ap (λ (t : TargetValue). t.name) c.target.view_is) (record { accepted = c.target_names.ensures.accepted; utf8 = c.target_names.ensures.utf8 }) in
-    let sound = info_is_sound t table.text c.added_files.ensures.required target.name target.kept named (subst (All HasPaths) are (has_paths statements text.spelled)) in
+    let sound = info_is_sound t table.text c.added_files_can_be_ordered.ensures.required target.name target.kept named (subst (All HasPaths) are (has_paths statements text.spelled)) in
     let collated : CollatedValue = record { dyndep = c.in-Ok.dyndep.items; info = info_text info; objects = map (λ rule. rule.object) t.objects; maps = [] } in
     let is : Collates target None collated =
     collates target None t collated table.table table.resolved (record {

@@ -7,11 +7,11 @@ use Rattle.collate_core.proofs.laws.no_false_rebuild.Goals as goal
 
 pub returns-clause-target : goal.returns-clause-target
 returns-clause-target c = λ target g new after.
-    let laws = c.added_files.ensures in
+    let laws = c.added_files_can_be_ordered.ensures in
     no_false_rebuild laws.required laws.all_required laws.one_file (table_of target ∷ []) g new (gained_after_target target g new after)
 
 pub returns-clause-project : goal.returns-clause-project
 returns-clause-project c = λ targets outs applied g new after.
-    let laws = c.added_files.ensures in
+    let laws = c.added_files_can_be_ordered.ensures in
     let orders = c.project_orders.ensures.orders after.style targets outs after.project in
     no_false_rebuild laws.required laws.all_required laws.one_file (tables_of targets outs applied) g new (gained_after_project targets outs orders applied g new after)

@@ -9,7 +9,7 @@ returns-clause-collate c =
 pub returns-clause-one : goal.returns-clause-one
 returns-clause-one c =
     let answers : OneAnswer = record { scan = c.one_answer.ensures.scan; info = c.one_answer.ensures.info } in
-    one_refusal answers c.one_fault.ensures
+    one_refusal answers c.one_fault_is_reported.ensures
 
 pub returns-clause-project : goal.returns-clause-project
 returns-clause-project c =
@@ -19,4 +19,4 @@ returns-clause-project c =
 pub returns-clause-one_of_project : goal.returns-clause-one_of_project
 returns-clause-one_of_project c =
     let answers : OneAnswer = record { scan = c.one_answer.ensures.scan; info = c.one_answer.ensures.info } in
-    one_project_refusal answers c.one_fault.ensures
+    one_project_refusal answers c.one_fault_is_reported.ensures

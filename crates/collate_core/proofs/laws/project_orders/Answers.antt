@@ -5,17 +5,17 @@ use Rattle.collate_core.proofs.laws.project_orders.Goals as goal
 
 pub returns-clause-numbered : goal.returns-clause-numbered
 returns-clause-numbered c = λ style targets outs project.
-    let laws = c.added_files.ensures in
+    let laws = c.added_files_can_be_ordered.ensures in
     order.ordered laws.required laws.all_required laws.one_file laws.once c.value_of_bytes.ensures.info style targets outs project
 
 pub returns-clause-orders : goal.returns-clause-orders
 returns-clause-orders c = λ style targets outs project.
-    let laws = c.added_files.ensures in
+    let laws = c.added_files_can_be_ordered.ensures in
     lemmas.orders laws.orderable laws.once laws.apart laws.required c.any_order.ensures.any_order c.any_order.ensures.end_alike style targets outs project
 
 pub returns-clause-orderable : goal.returns-clause-orderable
 returns-clause-orderable c = λ style targets outs project g names order_of h ranks new count meets outputs level all indices applies.
-    let laws = c.added_files.ensures in
+    let laws = c.added_files_can_be_ordered.ensures in
     let orders = lemmas.orders laws.orderable laws.once laws.apart laws.required c.any_order.ensures.any_order c.any_order.ensures.end_alike style targets outs project in
     let ordered = order.ordered laws.required laws.all_required laws.one_file laws.once c.value_of_bytes.ensures.info style targets outs project in
     lemmas.end_orderable c.files_order.ensures laws.required style targets outs project orders ordered

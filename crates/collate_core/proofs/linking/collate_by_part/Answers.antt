@@ -28,7 +28,7 @@ part_collated-requires-clause-enough g c =
     let kept : (s : _) → c.args.style ≡ Some s → c.match-style.requirements ≡ Kept = λ s e. elim c.match-style.branch [ in-Some-style w ↦ w.requirements-is | in-None w ↦ let none : None ≡ Some s = sym w.in-None.is ∙ e in absurd cc ] in
     let enough_here = enough_for_target (option_map g.M.MapStyle.written (option_copied c.args.style)) target c.requires.infos.0 c.args.pool.now c.args.linked.now objects c.in-Some-2.part.items found.0
     c.requires.infos.1 c.requires.infos.2 c.requires.infos.3 read.accepted read.same read.text found.1 (subst (λ (os : List RuleValue). IsEnough os c.in-Some-2.part.items found.0) c.deref.ensures.value found.2) (keeps_for_style c.args.style g.M.MapStyle.written (c.match-style.requirements ≡ Kept) c.in-Some-2.part.items found.0 kept found.3) in
-    subst (IsEnoughFor target (option_map g.M.MapStyle.written (option_copied c.args.style))) (sym (without_fault _ _ _ _ c.in-Some-3.is c.in_ok-table.ensures c.build_or_refused-built.ensures.table)) enough_here
+    subst (IsEnoughFor target (option_map g.M.MapStyle.written (option_copied c.args.style))) (sym (without_fault _ _ _ _ c.in-Some-3.is c.in_ok-table.ensures c.build_or_refused-built.ensures.builds.table)) enough_here
 
 pub build_or_refused-built-requires : goal.build_or_refused-built-requires
 build_or_refused-built-requires g c = λ key is.
@@ -38,9 +38,9 @@ build_or_refused-built-requires g c = λ key is.
     (covers_part c.args.key c.args.pool.now c.args.linked.now c.in-Some.objects.items c.in-Some-2.part.items found.0 covers found.1 found.2.is_part)
 
 pub part_collated-requires-clause-sound : goal.part_collated-requires-clause-sound
-part_collated-requires-clause-sound g c = without_fault IsSound _ _ _ c.in-Some-3.is c.in_ok-table.ensures c.build_or_refused-built.ensures.sound
+part_collated-requires-clause-sound g c = without_fault IsSound _ _ _ c.in-Some-3.is c.in_ok-table.ensures c.build_or_refused-built.ensures.builds.sound
 
 pub part_collated-requires-clause-kept : goal.part_collated-requires-clause-kept
 part_collated-requires-clause-kept g c =
     subst (λ (t : TargetValue). PrivateAreProvided c.in-Some-3.table t.kept) c.target.view_is
-    (without_fault (λ table. PrivateAreProvided table c.target.inside.kept.now) _ _ _ c.in-Some-3.is c.in_ok-table.ensures c.build_or_refused-built.ensures.kept)
+    (without_fault (λ table. PrivateAreProvided table c.target.inside.kept.now) _ _ _ c.in-Some-3.is c.in_ok-table.ensures c.build_or_refused-built.ensures.builds.kept)

@@ -18,7 +18,7 @@ returns g c =
     let target : TargetValue = c.args.target.now in
     let style : Option Written = option_map g.M.MapStyle.written (option_copied c.args.style) in
     let written = without_fault (IsWrittenOf target style c.args.table.now) _ _ _ c.in-Some.is c.in_ok-out.ensures c.written_of.ensures.written in
-    let laws : PartLaws = record { sound = c.parts.ensures.sound; tasks = c.parts.ensures.tasks; needed = c.parts.ensures.needed; no_fault = c.sound_tables.ensures.no_fault } in (
+    let laws : PartLaws = record { sound = c.sound_part_is_enough.ensures.sound; tasks = c.sound_part_is_enough.ensures.tasks; needed = c.sound_part_is_enough.ensures.needed; no_fault = c.sound_is_faultless.ensures.no_fault } in (
       table_collates target style c.args.table.now laws c.requires.enough c.requires.sound c.requires.kept c.in-Some.out written,
       subst (λ (text : List ℕ). IfSome c.in_ok-info.info (λ info. IsTrue c.args.is_read × IsReadAs text info)) c.info.ensures c.in_ok-info.ensures,
     )

@@ -25,12 +25,12 @@ same_table c = rw (← c.target.view_is) (ap₂ (λ (objects : List RuleValue) (
 pub returns-clause-table : goal.returns-clause-table
 returns-clause-table c =
     value_stays (λ table. table ≡ table_of c.args.target.now) _ c.build_or_refused.result c.map_err.result c.map_err.ensures.cases
-    (subst (λ (read : TableValue). IfOk c.build_or_refused.result (λ table. table ≡ read)) (same_table c) c.build_or_refused.ensures.table)
+    (subst (λ (read : TableValue). IfOk c.build_or_refused.result (λ table. table ≡ read)) (same_table c) c.build_or_refused.ensures.builds.table)
 
 pub returns-clause-resolved : goal.returns-clause-resolved
 returns-clause-resolved c =
     let target : TargetValue = c.args.target.now in
-    let built = c.build_or_refused.ensures in
+    let built = c.build_or_refused.ensures.builds in
     value_stays (λ table. IsResolved target) _ c.build_or_refused.result c.map_err.result c.map_err.ensures.cases
     (built_resolved target (table_with c.in-Ok.objects.items c.in-Ok-infos_of_all.infos.items) c.build_or_refused.result (same_table c) (accepted c)
     built.table (rw (← c.target.view_is) built.no_fault) built.sound (rw (← c.target.view_is) built.kept))
@@ -40,7 +40,7 @@ returns-clause-text c =
     let read : TableValue = table_with c.in-Ok.objects.items c.in-Ok-infos_of_all.infos.items in
     value_stays IsTableText _ c.build_or_refused.result c.map_err.result c.map_err.ensures.cases
     (IfOk-weaker c.build_or_refused.result (λ table. table ≡ read) IsTableText
-    (λ table same. subst IsTableText (sym same) (record { objects = c.in-Ok.ensures.text; infos = c.in-Ok-infos_of_all.ensures.read.text })) c.build_or_refused.ensures.table)
+    (λ table same. subst IsTableText (sym same) (record { objects = c.in-Ok.ensures.text; infos = c.in-Ok-infos_of_all.ensures.read.text })) c.build_or_refused.ensures.builds.table)
 
 pub returns-clause-refused : goal.returns-clause-refused
 returns-clause-refused c =
@@ -51,7 +51,7 @@ returns-clause-refused c =
     (λ failure new post. turned IsOfTable reported refusal (λ given refused same h style. subst (IsRefusal target style) (sym same.0) (accepted c, h)) failure new (search rules))
     c.build_or_refused.result c.map_err.result c.map_err.ensures.cases
     (subst (λ (read : TableValue). IfErr c.build_or_refused.result (ForFault (λ (refused : RefusedTable). IsReported read target.kept refused.fault))) (same_table c)
-    (rw (← c.target.view_is) c.build_or_refused.ensures.fault))
+    (rw (← c.target.view_is) c.build_or_refused.ensures.builds.fault))
 
 pub returns-clause-read : goal.returns-clause-read
 returns-clause-read c =

@@ -1,9 +1,9 @@
-use Rattle.std.proofs.Common.{◌∙◌, ◌≡◌, ◌++◌, ◌∷◌, [], nat_eq, get_or, refl, ap, sym, slice_get, subst, List, None, arith}
+use Rattle.std.proofs.Common.{◌∙◌, ◌≡◌, ◌++◌, ◌∷◌, [], nat_eq, get_or, refl, ap, sym, slice_get, subst, None, arith}
 use Rattle.std.specs.List.{AllZip}
 use Rattle.std.proofs.lemmas.Bool.{eqb-true}
 use Rattle.std.proofs.lemmas.Option.{slice_get_read, slice_get-get_or, get_or_from_slice_get, slice_get_within}
-use Rattle.document_values.specs.Info.{InfoValue, ModuleValue}
-use Rattle.info_pool.proofs.PoolLemmas.{same_at, part_of, zip_pushed, zip_at, one_more_picked}
+use Rattle.document_values.specs.Info.{InfoValue}
+use Rattle.info_pool.proofs.PoolLemmas.{same_at, part_of, zip_pushed, zip_at, one_more_picked, target_of}
 use Rattle.info_pool.specs.declared.requirements.Requirements.TheVariants.{Kept}
 use Rattle.info_pool.specs.inner.Pools.{module_at, IsPickedOf, IsCopied}
 use Rattle.ninja_text.proofs.ForCallers.{same_some, take_next}
@@ -23,9 +23,9 @@ loop-number-preserved c =
       get_or_from_slice_get infos n _ None (slice_get_read infos _ n c.in-Some-Some.field-0.now refl h.3.0 h.1)
           ∙ c.in-Some-Some.field-0-is,
       (
-        c.in_ok-copy.ensures ∙ ap (λ (v : InfoValue). v.target) c.info.view_is,
+        c.in_ok-copy.ensures ∙ ap target_of c.info.view_is,
         λ m has.
-            let none = ap (λ (ms : List ModuleValue). slice_get ms has.0) (sym c.new.ensures.items) ∙ has.1 in cc,
+            let none = ap (λ ms. slice_get ms has.0) (sym c.new.ensures.items) ∙ has.1 in cc,
       ),
     ))
 
@@ -34,8 +34,7 @@ index_mut-requires c =
     let i = c.in-Some.index.now in
     let at = same_at nat_eq eqb-true c.args.links.now.linked.now i _ _ c.get-in-loop-at-2.ensures.lookup.3 (sym c.eq.ensures ∙ c.if-eq.true) in
     let here = zip_at (IsPickedOf (c.args.requirements ≡ Kept) c.args.infos.now) _ c.loop-at.part.items i _ c.loop-at.invariant at in
-    let within = slice_get_within c.loop-at.part.items i here.0 here.1 in
-    omega (arith, within, c.loop-at.part.ok.0)
+    omega (arith, (slice_get_within c.loop-at.part.items i here.0 here.1), c.loop-at.part.ok.0)
 
 pub loop-at-preserved : goal.loop-at-preserved
 loop-at-preserved c =
@@ -46,7 +45,7 @@ loop-at-preserved c =
     let entry = get_or c.args.picked.now c.loop-at.at-index (module_at 0 0) in
     let n = entry.info in
     let k = entry.module in
-    let Fits : List InfoValue → Type 0 = AllZip (IsPickedOf keeps infos) linked in
+    let Fits = AllZip (IsPickedOf keeps infos) linked in
     elim c.match-get-3.branch [
       | in-Some+then-eq+in-Some-Some-get+in-Some-get+in_ok-copy-2+in_ok-push-2 w ↦
           let i = w.in-Some.index.now in
@@ -64,7 +63,7 @@ loop-at-preserved c =
           let element = slice_get_read part _ i w.index_mut.result.now refl (slice_get_within part i here.0 here.1) w.index_mut.ensures.value in
           let old = w.behind-part.view_is ∙ same_some _ _ (sym element ∙ here.1) in
           let pushed = w.in_ok-push-2.ensures.items ∙ ap (λ (v : InfoValue). v.modules ++ copy.copy ∷ []) old in
-          let one = one_more_picked keeps infos n info.info here.0 _ copy.copy here.2 known copied (ap (λ (v : InfoValue). v.target) old) pushed in
+          let one = one_more_picked keeps infos n info.info here.0 _ copy.copy here.2 known copied (ap target_of old) pushed in
           subst Fits (sym (ap (λ v. v.items) w.part-is)) (here.3 _ one)
       | in_default w ↦ subst (λ v. Fits v.items) (sym w.part-is) c.loop-at.invariant
     ]

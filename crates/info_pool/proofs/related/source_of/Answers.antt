@@ -1,9 +1,9 @@
-use Rattle.std.proofs.Common.{◌≡◌, ◌∙◌, ◌++◌, ◌∷◌, [], List, Some, true, true≢false, get_or, length, refl, ap, subst, sym, slice_get}
+use Rattle.std.proofs.Common.{◌≡◌, ◌∙◌, ◌++◌, ◌∷◌, [], Some, true, true≢false, get_or, length, refl, ap, subst, sym, slice_get}
 use Rattle.std.proofs.lemmas.Bool.{not-true}
 use Rattle.std.proofs.lemmas.Option.{slice_get_read}
-use Rattle.document_values.specs.Info.{InfoValue, ModuleValue}
+use Rattle.document_values.specs.Info.{ModuleValue}
 use Rattle.info_pool.specs.inner.Pools.{module_at, IsKnownModule}
-use Rattle.info_pool.proofs.PoolLemmas.{is_source, last_at}
+use Rattle.info_pool.proofs.PoolLemmas.{is_source, last_at, At, modules_of}
 use Rattle.ninja_text.proofs.ForCallers.{in_first}
 use Rattle.info_pool.proofs.related.source_of.Goals as goal
 use Rattle.info_pool.proofs.related.source_of.Goals.{in-Some-Some, in-None, then-is_own-2, else-is_own-2}
@@ -15,17 +15,17 @@ returns-then-not-module c =
     let known = infos ++ Some info ∷ [] in
     let row = c.in_ok-row.row.now in
     let at = get_or (row.last ∷ row.first ∷ c.unwrap_or-sharing.result ∷ []) c.loop-at.at-index (module_at 0 0) in
-    let other : InfoValue = c.match-get.other.now in
-    let there : slice_get known at.info ≡ Some (Some other) = elim c.match-get.branch [
+    let other = c.match-get.other.now in
+    let there : At known at.info (Some other) = elim c.match-get.branch [
       | in-Some-Some w ↦
           let o = w.in-Some-Some.ensures.lookup in
-          let found = in_first infos (Some info ∷ []) at.info w.in-Some-Some.field-0.now (slice_get_read infos _ at.info w.in-Some-Some.field-0.now refl o.3.0 o.1) in
-          found ∙ ap (λ o. Some o) (w.in-Some-Some.field-0-is ∙ ap (λ o. Some o) (sym (ap (λ o. o.now) w.other-is)))
+          let found = in_first infos (Some info ∷ []) at.info w.in-Some-Some.field-0.now
+          (slice_get_read infos _ at.info w.in-Some-Some.field-0.now refl o.3.0 o.1) in
+          found ∙ ap Some (w.in-Some-Some.field-0-is ∙ ap Some (sym (ap (λ o. o.now) w.other-is)))
       | in-None w ↦ last_at infos (Some info) at.info w.if-is_own.true ∙ ap (λ o. Some (Some o)) (sym (ap (λ o. o.now) w.other-is))
     ] in
-    let list : c.deref.result.now ≡ other.modules = c.deref.ensures.value ∙ ap (λ (i : InfoValue). i.modules) c.other.view_is in
     let h = c.in-Some.ensures.lookup in
-    let found = ap (λ (ms : List ModuleValue). slice_get ms at.module) (sym list)
+    let found = ap (λ ms. slice_get ms at.module) (sym (c.deref.ensures.value ∙ ap modules_of c.other.view_is))
     ∙ slice_get_read c.deref.result.now _ at.module c.in-Some.module.now refl h.3.0 h.1 in
     let own : c.module.inside.is_private ≡ true → at.info ≡ length infos =
     λ private. elim c.if-is_own-2.branch [

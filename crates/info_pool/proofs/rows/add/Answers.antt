@@ -3,7 +3,7 @@ use Rattle.indexmap.specs.IndexMap.{get}
 use Rattle.info_pool.specs.declared.rows.Row.{Row}
 use Rattle.info_pool.specs.declared.rows.Shared.{Shared}
 use Rattle.info_pool.specs.inner.Pools.{IsSameRow}
-use Rattle.info_pool.proofs.PoolLemmas.{has_grown, has_new}
+use Rattle.info_pool.proofs.PoolLemmas.{has_grown, has_new, first_of, number_of}
 use Rattle.info_pool.proofs.rows.add.Goals as goal
 use Rattle.info_pool.proofs.rows.add.Goals.{in-Some, in-None}
 
@@ -16,7 +16,7 @@ returns-then-eq-clause-put g c =
     record {
       row = row;
       updates = λ q. search rules;
-      kept = λ r at. (ap (λ (r : Row). r.first) (same r at), λ x e. ap (λ (r : Row). r.number) (same r at) ∙ e);
+      kept = λ r at. (ap first_of (same r at), λ x e. ap number_of (same r at) ∙ e);
       listed = (row, refl, inl (search rules));
     }
 
@@ -30,19 +30,19 @@ returns-clause-put g c =
     ∙ ap (λ o. unwrap_or o fresh) (c.in_ok-rows.ensures.value ∙ at) in
     let now : IsSameRow old row × (row.number ≡ Some c.match-row.number) = elim c.match-row.branch [
       | in-Some w ↦ (
-        (ap (λ (r : Row). r.first) w.row-is, λ x e. ap (λ (r : Row). r.number) w.row-is ∙ e),
-        ap (λ (r : Row). r.number) w.row-is ∙ w.in-Some.is
+        (ap first_of w.row-is, λ x e. ap number_of w.row-is ∙ e),
+        ap number_of w.row-is ∙ w.in-Some.is
             ∙ ap Some (sym w.number-is),
       )
       | in-None w ↦ (
-        (ap (λ (r : Row). r.first) w.row-is, λ x e. let none : None ≡ Some x = sym w.in-None.is ∙ e in absurd cc),
-        ap (λ (r : Row). r.number) w.row-is ∙ ap Some (sym w.number-is),
+        (ap first_of w.row-is, λ x e. let none : None ≡ Some x = sym w.in-None.is ∙ e in absurd cc),
+        ap number_of w.row-is ∙ ap Some (sym w.number-is),
       )
     ] in
     record {
       row = row;
       updates = λ q. search rules;
-      kept = λ r at. (now.0.0 ∙ ap (λ (r : Row). r.first) (same r at), λ x e. now.0.1 x (ap (λ (r : Row). r.number) (same r at) ∙ e));
+      kept = λ r at. (now.0.0 ∙ ap first_of (same r at), λ x e. now.0.1 x (ap number_of (same r at) ∙ e));
       listed = (row, refl, inr (shared, has_new c.args.shared.now.items c.push.new.self.items shared c.in_ok-push.ensures.items, now.1, refl, refl));
     }
 

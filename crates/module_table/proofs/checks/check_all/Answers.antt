@@ -1,7 +1,6 @@
-use Rattle.std.proofs.Common.{◌≡◌, ℕ, List, arith, map, refl, subst, sym}
+use Rattle.std.proofs.Common.{◌≡◌, List, arith, map, refl, subst, sym}
 use Rattle.std.proofs.lemmas.Result.{err_from_is_err_and}
-use Rattle.document_values.specs.Rule.{RuleValue}
-use Rattle.module_table.specs.TableValue.{TableValue}
+use Rattle.module_table.specs.TableValue.{TableValue, table_with}
 use Rattle.module_table.specs.Modules.{provisions}
 use Rattle.module_table.specs.Faults.{IsReported}
 use Rattle.module_table.specs.inner.LookUps.{AreLookUps}
@@ -11,60 +10,68 @@ use Rattle.module_table.specs.inner.Views.{names_of}
 use Rattle.module_table.proofs.Found.{for_fault}
 use Rattle.module_table.proofs.Passing.{code_within, reported, fails, none_passed, after_objects, after_infos, after_names, after_files}
 use Rattle.module_table.proofs.checks.check_all.Goals as goal
+use Rattle.module_table.proofs.Words.{path_of}
+use Rattle.ninja_text.specs.Bytes.{Name}
 
 pub returns-in_err-check_objects-clause-fault : goal.returns-in_err-check_objects-clause-fault
 returns-in_err-check_objects-clause-fault c =
-    let t : TableValue = record { objects = c.args.objects.now; infos = c.args.infos.now } in
+    let t = table_with c.args.objects.now c.args.infos.now in
     let kept = c.args.kept.now in
     let p = err_from_is_err_and c.from_residual.result c.from_residual.ensures.1 in
     rw (p.1, p.2) (for_fault _ _ _ (λ fault is. reported t kept 1 fault.value (is t kept refl) (none_passed t kept)) c.in_err-check_objects.ensures.fault)
 
 pub returns-in_err-check_infos-clause-fault : goal.returns-in_err-check_infos-clause-fault
 returns-in_err-check_infos-clause-fault c =
-    let t : TableValue = record { objects = c.args.objects.now; infos = c.args.infos.now } in
+    let t = table_with c.args.objects.now c.args.infos.now in
     let kept = c.args.kept.now in
     let p = err_from_is_err_and c.from_residual-in_err-check_infos.result c.from_residual-in_err-check_infos.ensures.1 in
-    rw (p.1, p.2) (for_fault _ _ _ (λ fault is. reported t kept 2 fault.value (is t kept refl) (after_objects t kept c.in_ok-check_objects.ensures.differ)) c.in_err-check_infos.ensures.fault)
+    rw (p.1, p.2) (for_fault _ _ _ (λ fault is. reported t kept 2 fault.value (is t kept refl) (after_objects t kept c.in_ok-check_objects.ensures.differ))
+    c.in_err-check_infos.ensures.fault)
 
 pub returns-in_err-modules-clause-fault : goal.returns-in_err-modules-clause-fault
 returns-in_err-modules-clause-fault c =
-    let t : TableValue = record { objects = c.args.objects.now; infos = c.args.infos.now } in
+    let t = table_with c.args.objects.now c.args.infos.now in
     let kept = c.args.kept.now in
     let p = err_from_is_err_and c.from_residual-in_err-modules.result c.from_residual-in_err-modules.ensures.1 in
-    rw (p.1, p.2) (fails t kept 3 _ (after_infos t kept c.in_ok-check_infos.ensures.ok (after_objects t kept c.in_ok-check_objects.ensures.differ)) c.in_err-modules.ensures.fault)
+    rw (p.1, p.2) (fails t kept 3 _ (after_infos t kept c.in_ok-check_infos.ensures.ok (after_objects t kept c.in_ok-check_objects.ensures.differ))
+    c.in_err-modules.ensures.fault)
 
 pub check_files-requires-clause-differ : goal.check_files-requires-clause-differ
 check_files-requires-clause-differ c =
-    subst (λ (t : TableValue). AllDiffer (map (λ (rule : RuleValue). rule.object) t.objects)) (sym c.in_ok-modules.ensures.modules) c.in_ok-check_objects.ensures.differ
+    subst (λ (t : TableValue). AllDiffer (map path_of t.objects)) (sym c.in_ok-modules.ensures.modules) c.in_ok-check_objects.ensures.differ
 
 -- the checks of objects, info files and names have passed for what the modules are
-three_passed : (t u : TableValue) (kept : List (List ℕ)) → u ≡ t → AllDiffer (map (λ (rule : RuleValue). rule.object) t.objects) → AllDiffer (map (λ info. info.target) t.infos) → AllDiffer (names_of (provisions u)) → Passed 4 u kept
+three_passed : (t u : TableValue) (kept : List Name) → u ≡ t → AllDiffer (map path_of t.objects) → AllDiffer (map (λ info. info.target) t.infos) →
+    AllDiffer (names_of (provisions u)) → Passed 4 u kept
 three_passed t u kept same objects infos names =
     subst (λ v. Passed 4 v kept) (sym same)
     (after_names t kept (subst (λ v. AllDiffer (names_of (provisions v))) same names) (after_infos t kept infos (after_objects t kept objects)))
 
 pub returns-in_err-check_files-clause-fault : goal.returns-in_err-check_files-clause-fault
 returns-in_err-check_files-clause-fault c =
-    let t : TableValue = record { objects = c.args.objects.now; infos = c.args.infos.now } in
-    let u : TableValue = c.in_ok-modules.modules in
+    let u = c.in_ok-modules.modules in
     let kept = c.args.kept.now in
     let same = c.in_ok-modules.ensures.modules in
-    let passed = three_passed t u kept same c.in_ok-check_objects.ensures.differ c.in_ok-check_infos.ensures.ok c.in_ok-modules.ensures.differ in
     let p = err_from_is_err_and c.from_residual-in_err-check_files.result c.from_residual-in_err-check_files.ensures.1 in
-    rw (p.1, p.2) (for_fault _ _ _ (λ fault is. subst (λ v. IsReported v kept fault.value) same (reported u kept 4 fault.value (is kept) passed)) c.in_err-check_files.ensures.fault)
+    rw (p.1, p.2) (for_fault _ _ _
+    (λ fault is. subst (λ v. IsReported v kept fault.value) same
+    (reported u kept 4 fault.value (is kept)
+    (three_passed (table_with c.args.objects.now c.args.infos.now) u kept same c.in_ok-check_objects.ensures.differ c.in_ok-check_infos.ensures.ok
+    c.in_ok-modules.ensures.differ))) c.in_err-check_files.ensures.fault)
 
 pub check_requirements-requires : goal.check_requirements-requires
 check_requirements-requires c =
-    let t : TableValue = record { objects = c.args.objects.now; infos = c.args.infos.now } in
-    let u : TableValue = c.in_ok-modules.modules in
+    let u = c.in_ok-modules.modules in
     let kept = c.args.kept.now in
-    after_files u kept c.in_ok-check_files.ensures.ok (three_passed t u kept c.in_ok-modules.ensures.modules c.in_ok-check_objects.ensures.differ c.in_ok-check_infos.ensures.ok c.in_ok-modules.ensures.differ)
+    after_files u kept c.in_ok-check_files.ensures.ok
+    (three_passed (table_with c.args.objects.now c.args.infos.now) u kept c.in_ok-modules.ensures.modules c.in_ok-check_objects.ensures.differ
+    c.in_ok-check_infos.ensures.ok c.in_ok-modules.ensures.differ)
 
 pub returns-in_err-needs-clause-fault : goal.returns-in_err-needs-clause-fault
 returns-in_err-needs-clause-fault c =
-    let same = c.in_ok-modules.ensures.modules in
     let p = err_from_is_err_and c.from_residual-in_err-needs.result c.from_residual-in_err-needs.ensures.1 in
-    rw (p.1, p.2) (for_fault _ _ _ (λ fault is. subst (λ t. IsReported t c.args.kept.now fault.value) same is) c.in_err-needs.ensures.fault)
+    rw (p.1, p.2) (for_fault _ _ _ (λ fault is. subst (λ t. IsReported t c.args.kept.now fault.value) c.in_ok-modules.ensures.modules is)
+    c.in_err-needs.ensures.fault)
 
 pub returns-clause-no_fault : goal.returns-clause-no_fault
 returns-clause-no_fault c = λ fault is.
@@ -74,4 +81,5 @@ returns-clause-no_fault c = λ fault is.
 pub returns-clause-index : goal.returns-clause-index
 returns-clause-index c =
     let index = c.in_ok-index.index in
-    subst (λ (t : TableValue). AreLookUps t index.names.keys index.origins.items index.graph (map (λ row. row.items) index.required.items)) c.in_ok-modules.ensures.modules c.in_ok-index.ensures
+    subst (λ (t : TableValue). AreLookUps t index.names.keys index.origins.items index.graph (map (λ row. row.items) index.required.items))
+    c.in_ok-modules.ensures.modules c.in_ok-index.ensures

@@ -3,4 +3,5 @@ use Rattle.table_keys.specs.Keys.{HasAdded}
 use Rattle.module_table.proofs.keys.table_key.Goals as goal
 
 pub loop-info-init : goal.loop-info-init
-loop-info-init c = subst (λ (entries : List (List ℕ)). HasAdded c.add_objects.new.digest entries) (sym (append-nil _)) (c.add_objects.ensures [] c.new-digest.ensures)
+loop-info-init c = subst (λ (entries : List (List ℕ)). HasAdded c.add_objects.new.digest entries) (sym (append-nil _))
+    (c.add_objects.ensures [] c.new-digest.ensures)

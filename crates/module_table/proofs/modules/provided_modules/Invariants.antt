@@ -13,8 +13,10 @@ invariant-loop-object l = record {
 
 abbrev pub invariant-loop-index : goal.invariant-loop-index
 invariant-loop-index l = record {
-  provisions : map provision_of l.all.items ≡ map provision_of l.initial.all.items ++ object_provisions (l.object, record { object = []; provided = take l.index l.pair-items; required = [] });
-  origins : map origin_of l.all.items ≡ map origin_of l.initial.all.items ++ object_origins (l.object, record { object = []; provided = take l.index l.pair-items; required = [] });
+  provisions : map provision_of l.all.items ≡
+      map provision_of l.initial.all.items ++ object_provisions (l.object, record { object = []; provided = take l.index l.pair-items; required = [] });
+  origins : map origin_of l.all.items ≡
+      map origin_of l.initial.all.items ++ object_origins (l.object, record { object = []; provided = take l.index l.pair-items; required = [] });
 }
 
 abbrev pub invariant-loop-info : goal.invariant-loop-info
@@ -25,6 +27,8 @@ invariant-loop-info l = record {
 
 abbrev pub invariant-loop-index-2 : goal.invariant-loop-index-2
 invariant-loop-index-2 l = record {
-  provisions : map provision_of l.all.items ≡ map provision_of l.initial.all.items ++ info_provisions (l.info, record { target = []; modules = take l.index l.module-items });
-  origins : map origin_of l.all.items ≡ map origin_of l.initial.all.items ++ info_origins (l.info, record { target = []; modules = take l.index l.module-items });
+  provisions : map provision_of l.all.items ≡
+      map provision_of l.initial.all.items ++ info_provisions (l.info, record { target = []; modules = take l.index l.module-items });
+  origins : map origin_of l.all.items ≡
+      map origin_of l.initial.all.items ++ info_origins (l.info, record { target = []; modules = take l.index l.module-items });
 }

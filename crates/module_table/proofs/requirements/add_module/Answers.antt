@@ -1,16 +1,16 @@
-use Rattle.std.proofs.Common.{◌≡◌, ◌∙◌, ◌++◌, ◌+◌, ap, map, refl, slice_get, subst, sym, take, List, ℕ}
+use Rattle.std.proofs.Common.{◌≡◌, ◌∙◌, ◌++◌, ◌+◌, ap, map, subst, sym, take}
 use Rattle.std.specs.Option.{option_map}
-use Rattle.std.proofs.lemmas.Option.{slice_get_read}
 use Rattle.document_values.specs.Info.{ModuleValue}
 use Rattle.module_table.specs.Modules.{InfoRequirement, provisions}
 use Rattle.module_table.specs.inner.Views.{names_of}
 use Rattle.module_table.specs.inner.Graph.{index_in, indexes_in}
 use Rattle.module_table.specs.inner.Found.{looked_up, lookup_of, lookups_of}
 use Rattle.module_table.proofs.IndexRows.{take_all, takes_some, takes_none}
-use Rattle.module_table.proofs.Lists.{pushes_next}
+use Rattle.module_table.proofs.Lists.{pushes_next, same_reads, read_at}
 use Rattle.module_table.proofs.requirements.add_module.Goals as goal
 use Rattle.module_table.proofs.requirements.add_module.Goals.{in-Some+in_ok-push-in-Some, in-None}
 use Rattle.ninja_text.proofs.ForCallers.{take_next}
+use Rattle.module_table.proofs.Words.{Pair}
 
 pub loop-pair-preserved : goal.loop-pair-preserved
 loop-pair-preserved c =
@@ -18,32 +18,44 @@ loop-pair-preserved c =
     let i = c.loop-pair.pair-index in
     let entry = c.args.entry.now in
     let pair = c.pair-item.result in
-    let h = λ (pair : List ℕ × List ℕ). index_in (names_of ps) pair.0 in
-    let list : c.deref-pair-items.result.now ≡ entry.required = c.deref-pair-items.ensures.value ∙ ap (λ (m : ModuleValue). m.required) c.entry.view_is in
-    let at = ap (λ xs. slice_get xs i) (sym list) ∙ slice_get_read c.deref-pair-items.result.now _ i pair refl c.loop-pair-test.true c.pair-item.is in
+    let h = λ (pair : Pair). index_in (names_of ps) pair.0 in
+    let list = c.deref-pair-items.ensures.value ∙ ap (λ (m : ModuleValue). m.required) c.entry.view_is in
+    let at = same_reads i (sym list) ∙ read_at c.deref-pair-items.result.now i pair c.loop-pair-test.true c.pair-item.is in
     record {
       required =
-          pushes_next looked_up (lookup_of ps c.args.info c.args.target.now entry.name) (take i entry.required) (take (i + 1) entry.required) pair _ _ _ _ (take_next entry.required i pair at) c.loop-pair.invariant.required c.in_ok-push.ensures.items
-          (ap (λ m. (let r : InfoRequirement = record { info = c.args.info; target = c.args.target.now; module_name = c.entry.inside.name; name = pair.0; file = pair.1 } in r, m)) c.find-module.ensures.module
+          pushes_next looked_up (lookup_of ps c.args.info c.args.target.now entry.name) (take i entry.required) (take (i + 1) entry.required) pair _ _ _ _
+          (take_next entry.required i pair at) c.loop-pair.invariant.required c.in_ok-push.ensures.items
+          (ap (λ m. (
+            let r : InfoRequirement =
+                record { info = c.args.info; target = c.args.target.now; module_name = c.entry.inside.name; name = pair.0; file = pair.1 } in r,
+            m,
+          ))
+          c.find-module.ensures.module
           ∙ ap (λ (m : ModuleValue). lookup_of ps c.args.info c.args.target.now m.name pair) c.entry.view_is);
       row =
           elim c.match-module.branch [
             | in-Some+in_ok-push-in-Some w ↦
                 ap (λ v. v.items) w.row-is
-                ∙ takes_some h entry.required i pair _ c.loop-pair.row.items _ at c.loop-pair.invariant.row (sym c.find-module.ensures.index ∙ ap (option_map _) w.in-Some.is) w.in_ok-push-in-Some.ensures.items
-            | in-None w ↦ ap (λ v. v.items) w.row-is ∙ takes_none h entry.required i pair c.loop-pair.row.items at c.loop-pair.invariant.row (sym c.find-module.ensures.index ∙ ap (option_map _) w.in-None.is)
+                ∙ takes_some h entry.required i pair _ c.loop-pair.row.items _ at c.loop-pair.invariant.row
+                (sym c.find-module.ensures.index ∙ ap (option_map _) w.in-Some.is) w.in_ok-push-in-Some.ensures.items
+            | in-None w ↦ ap (λ v. v.items) w.row-is ∙
+                takes_none h entry.required i pair c.loop-pair.row.items at c.loop-pair.invariant.row
+                (sym c.find-module.ensures.index ∙ ap (option_map _) w.in-None.is)
           ];
     }
 
 pub returns-clause-required : goal.returns-clause-required
 returns-clause-required c =
-    let entry = c.args.entry.now in
     let list = c.deref-pair-items.ensures.value ∙ ap (λ (m : ModuleValue). m.required) c.entry.view_is in
-    let whole = subst (λ pairs. take c.loop-pair.pair-index pairs ≡ pairs) list (take_all c.deref-pair-items.result.now c.loop-pair.pair-index c.loop-pair-test.false) in
-    c.loop-pair.invariant.required ∙ ap (λ pairs. map looked_up c.args.all.now.items ++ lookups_of (provisions c.args.modules.now) c.args.info c.args.target.now (record entry { required = pairs })) whole
+    let whole = subst (λ pairs. take c.loop-pair.pair-index pairs ≡ pairs) list
+    (take_all c.deref-pair-items.result.now c.loop-pair.pair-index c.loop-pair-test.false) in
+    c.loop-pair.invariant.required ∙
+    ap (λ pairs. map looked_up c.args.all.now.items ++ lookups_of (provisions c.args.modules.now) c.args.info c.args.target.now
+    (record c.args.entry.now { required = pairs })) whole
 
 pub returns-clause-row : goal.returns-clause-row
 returns-clause-row c =
     let list = c.deref-pair-items.ensures.value ∙ ap (λ (m : ModuleValue). m.required) c.entry.view_is in
-    let whole = subst (λ pairs. take c.loop-pair.pair-index pairs ≡ pairs) list (take_all c.deref-pair-items.result.now c.loop-pair.pair-index c.loop-pair-test.false) in
+    let whole = subst (λ pairs. take c.loop-pair.pair-index pairs ≡ pairs) list
+    (take_all c.deref-pair-items.result.now c.loop-pair.pair-index c.loop-pair-test.false) in
     c.loop-pair.invariant.row ∙ ap (indexes_in (names_of (provisions c.args.modules.now))) whole

@@ -7,6 +7,7 @@ use Rattle.module_table.proofs.requirements.add_module.Given as goal
 
 abbrev pub invariant-loop-pair : goal.invariant-loop-pair
 invariant-loop-pair l = record {
-  required : map looked_up l.all.items ≡ map looked_up l.initial.all.items ++ lookups_of (provisions l.modules) l.info l.target (record l.entry { required = take l.pair-index l.entry.required });
+  required : map looked_up l.all.items ≡
+      map looked_up l.initial.all.items ++ lookups_of (provisions l.modules) l.info l.target (record l.entry { required = take l.pair-index l.entry.required });
   row : l.row.items ≡ indexes_in (names_of (provisions l.modules)) (take l.pair-index l.entry.required);
 }

@@ -1,6 +1,5 @@
-use Rattle.std.proofs.Common.{◌∙◌, ◌+◌, ◌++◌, ap, map, sym, refl, take, [], ℕ, Vec, Global}
+use Rattle.std.proofs.Common.{◌∙◌, ◌+◌, ◌++◌, ap, map, sym, take, [], ℕ}
 use Rattle.std.specs.List.{flat_map, enumerate_from}
-use Rattle.std.proofs.lemmas.Option.{slice_get_read}
 use Rattle.document_values.specs.Info.{InfoValue, ModuleValue}
 use Rattle.dep_order.specs.Rows.{rows}
 use Rattle.module_table.specs.Modules.{provisions}
@@ -9,21 +8,23 @@ use Rattle.module_table.specs.inner.Graph.{indexes_in, info_rows}
 use Rattle.module_table.specs.inner.Found.{looked_up, lookups_of}
 use Rattle.module_table.proofs.IndexRows.{take_all}
 use Rattle.module_table.proofs.Places.{lookups}
-use Rattle.module_table.proofs.Lists.{pushes_next, gathers_more, gathers_next}
+use Rattle.module_table.proofs.Lists.{pushes_next, gathers_more, gathers_next, read_at}
 use Rattle.module_table.proofs.requirements.all_required.Goals as goal
 use Rattle.ninja_text.proofs.ForCallers.{take_next}
+use Rattle.module_table.proofs.Words.{items_of}
 
 pub loop-entry-preserved : goal.loop-entry-preserved
 loop-entry-preserved c =
     let ps = provisions c.args.modules.now in
-    let k = c.loop-info.info in
     let i = c.loop-entry.entry-index in
     let modules = c.deref-entry-items.result.now in
     let entry = c.entry-item.result in
-    let at = slice_get_read modules _ i entry refl c.loop-entry-test.true c.entry-item.is in
+    let at = read_at modules i entry c.loop-entry-test.true c.entry-item.is in
     record {
-      required = gathers_more (lookups_of ps k c.value.inside.target) modules i entry _ _ _ at c.loop-entry.invariant.required c.in_ok-row.ensures.required;
-      needs = pushes_next (λ (row : Vec ℕ Global). row.items) (λ (m : ModuleValue). indexes_in (names_of ps) m.required) (take i modules) (take (i + 1) modules) entry _ _ _ _ (take_next modules i entry at) c.loop-entry.invariant.needs c.in_ok-push.ensures.items c.in_ok-row.ensures.row;
+      required = gathers_more (lookups_of ps c.loop-info.info c.value.inside.target) modules i entry _ _ _ at c.loop-entry.invariant.required
+          c.in_ok-row.ensures.required;
+      needs = pushes_next items_of (λ (m : ModuleValue). indexes_in (names_of ps) m.required) (take i modules) (take (i + 1) modules) entry _ _ _ _
+          (take_next modules i entry at) c.loop-entry.invariant.needs c.in_ok-push.ensures.items c.in_ok-row.ensures.row;
     }
 
 pub loop-info-preserved : goal.loop-info-preserved
@@ -32,13 +33,18 @@ loop-info-preserved c =
     let infos = c.infos-infos.result.now in
     let i = c.loop-info.info in
     let value = c.index-infos-info.result in
-    let at = slice_get_read infos _ i value refl c.loop-info-test.true c.index-infos-info.is in
-    let whole = take_all c.deref-entry-items.result.now c.loop-entry.entry-index c.loop-entry-test.false ∙ c.deref-entry-items.ensures.value ∙ ap (λ (r : InfoValue). r.modules) c.value.view_is in
+    let at = read_at infos i value c.loop-info-test.true c.index-infos-info.is in
+    let whole = take_all c.deref-entry-items.result.now c.loop-entry.entry-index c.loop-entry-test.false ∙ c.deref-entry-items.ensures.value ∙
+    ap (λ (r : InfoValue). r.modules) c.value.view_is in
     record {
-      required = gathers_next (λ (info : ℕ × InfoValue). flat_map (lookups_of ps info.0 info.1.target) info.1.modules) infos i value [] _ _ at c.loop-info.invariant.required
-          (c.loop-entry.invariant.required ∙ ap (λ entries. map looked_up c.loop-info.all.items ++ flat_map (lookups_of ps i c.value.inside.target) entries) whole ∙ ap (λ (v : InfoValue). map looked_up c.loop-info.all.items ++ flat_map (lookups_of ps i v.target) value.modules) c.value.view_is);
+      required = gathers_next (λ (info : ℕ × InfoValue). flat_map (lookups_of ps info.0 info.1.target) info.1.modules) infos i value
+          [] _ _ at c.loop-info.invariant.required
+          (c.loop-entry.invariant.required ∙
+          ap (λ entries. map looked_up c.loop-info.all.items ++ flat_map (lookups_of ps i c.value.inside.target) entries) whole ∙
+          ap (λ (v : InfoValue). map looked_up c.loop-info.all.items ++ flat_map (lookups_of ps i v.target) value.modules) c.value.view_is);
       needs = gathers_next (info_rows (names_of ps)) infos i value (rows c.args.needs.now.items) _ _ at c.loop-info.invariant.needs
-          (c.loop-entry.invariant.needs ∙ ap (λ entries. rows c.loop-info.needs.items ++ map (λ (m : ModuleValue). indexes_in (names_of ps) m.required) entries) whole);
+          (c.loop-entry.invariant.needs ∙
+          ap (λ entries. rows c.loop-info.needs.items ++ map (λ (m : ModuleValue). indexes_in (names_of ps) m.required) entries) whole);
     }
 
 pub returns-clause-required : goal.returns-clause-required
@@ -46,12 +52,14 @@ returns-clause-required c = record {
   same =
       let t = c.args.modules.now in
       c.loop-info.invariant.required
-      ∙ ap (λ infos. flat_map (λ (info : ℕ × InfoValue). flat_map (lookups_of (provisions t) info.0 info.1.target) info.1.modules) (enumerate_from 0 infos)) (take_all c.infos-infos.result.now c.loop-info.info c.loop-info-test.false ∙ c.infos-infos.ensures.infos)
+      ∙ ap (λ infos. flat_map (λ (info : ℕ × InfoValue). flat_map (lookups_of (provisions t) info.0 info.1.target) info.1.modules) (enumerate_from 0 infos))
+      (take_all c.infos-infos.result.now c.loop-info.info c.loop-info-test.false ∙ c.infos-infos.ensures.infos)
       ∙ sym (lookups t);
   differ = c.infos-infos.ensures.differ;
 }
 
 pub returns-clause-needs : goal.returns-clause-needs
 returns-clause-needs c =
-    let whole = take_all c.infos-infos.result.now c.loop-info.info c.loop-info-test.false ∙ c.infos-infos.ensures.infos in
-    c.loop-info.invariant.needs ∙ ap (λ infos. rows c.args.needs.now.items ++ flat_map (info_rows (names_of (provisions c.args.modules.now))) (enumerate_from 0 infos)) whole
+    c.loop-info.invariant.needs ∙
+    ap (λ infos. rows c.args.needs.now.items ++ flat_map (info_rows (names_of (provisions c.args.modules.now))) (enumerate_from 0 infos))
+    (take_all c.infos-infos.result.now c.loop-info.info c.loop-info-test.false ∙ c.infos-infos.ensures.infos)

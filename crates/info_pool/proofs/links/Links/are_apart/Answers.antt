@@ -1,8 +1,8 @@
-use Rattle.std.proofs.Common.{◌≡◌, ◌∙◌, ap, sym, refl, subst, List, ℕ}
+use Rattle.std.proofs.Common.{◌≡◌, ◌∙◌, ap, sym, refl, subst, List}
 use Rattle.std.proofs.lemmas.Option.{slice_get_read}
 use Rattle.document_values.specs.Rule.{RuleValue}
 use Rattle.info_pool.specs.inner.Pools.{Has, by_name, by_file, rows_of, IsUnlinked, IsApart}
-use Rattle.info_pool.proofs.PoolLemmas.{below_next, below_all, if_none, unlinked}
+use Rattle.info_pool.proofs.PoolLemmas.{Pair, below_next, below_all, if_none, unlinked}
 use Rattle.info_pool.proofs.links.Links.are_apart.Goals as goal
 
 pub loop-pair-preserved : goal.loop-pair-preserved
@@ -14,7 +14,7 @@ loop-pair-preserved c =
     let pair = c.pair-item.result in
     let at = slice_get_read provided _ i pair refl c.loop-pair-test.true c.pair-item.is in
     let Unlinked = IsUnlinked c.args.self.now.linked.now c.args.self.now.stamps.now in
-    below_next (λ (pair : List ℕ × List ℕ). Unlinked (rows_of listed by_name) pair.0 × Unlinked (rows_of listed by_file) pair.1) provided i pair at
+    below_next (λ (pair : Pair). Unlinked (rows_of listed by_name) pair.0 × Unlinked (rows_of listed by_file) pair.1) provided i pair at
     c.loop-pair.invariant (
       unlinked links.linked.now links.stamps.now (rows_of listed by_name) pair.0 _ c.get-in-loop-pair.ensures.value
           (if_none _ _ (sym c.is_some-in-loop-pair.ensures ∙ c.if-is_some-2.false) c.module_of-in-loop-pair.ensures),
@@ -28,15 +28,16 @@ loop-rule-preserved c =
     let listed = c.args.listed.now in
     let i = c.loop-rule.rule-index in
     let rule = c.rule-item.result in
-    let at = slice_get_read c.args.objects.now _ i rule refl c.loop-rule-test.true c.rule-item.is in
     let Unlinked = IsUnlinked c.args.self.now.linked.now c.args.self.now.stamps.now in
-    let Apart : List ℕ × List ℕ → Type 0 = λ pair. Unlinked (rows_of listed by_name) pair.0 × Unlinked (rows_of listed by_file) pair.1 in
-    below_next (IsApart links.linked.now links.stamps.now listed) c.args.objects.now i rule at c.loop-rule.invariant (record {
+    let Apart : Pair → Type 0 = λ pair. Unlinked (rows_of listed by_name) pair.0 × Unlinked (rows_of listed by_file) pair.1 in
+    below_next (IsApart links.linked.now links.stamps.now listed) c.args.objects.now i rule
+    (slice_get_read c.args.objects.now _ i rule refl c.loop-rule-test.true c.rule-item.is) c.loop-rule.invariant (record {
       path = unlinked links.linked.now links.stamps.now (rows_of listed by_file) rule.object _
-          (rw (sym (ap (λ (r : RuleValue). r.object) c.rule.view_is)) c.get.ensures.value) (if_none _ _ (sym c.is_some.ensures ∙ c.if-is_some.false) c.module_of.ensures);
+          (rw (sym (ap (λ (r : RuleValue). r.object) c.rule.view_is)) c.get.ensures.value)
+          (if_none _ _ (sym c.is_some.ensures ∙ c.if-is_some.false) c.module_of.ensures);
       provided =
           let list : c.deref-pair-items.result.now ≡ rule.provided = c.deref-pair-items.ensures.value ∙ ap (λ (r : RuleValue). r.provided) c.rule.view_is in
-          subst (λ (pairs : List (List ℕ × List ℕ)). (pair : List ℕ × List ℕ) → Has pairs pair → Apart pair) list
+          subst (λ (pairs : List Pair). (pair : Pair) → Has pairs pair → Apart pair) list
           (below_all Apart c.deref-pair-items.result.now c.loop-pair.pair-index c.loop-pair-test.false c.loop-pair.invariant);
     })
 

@@ -1,4 +1,4 @@
-use Rattle.std.proofs.Common.{rules, tests, ◌∙◌, ◌≡◌, ℕ, ap, Some, get_or, refl, subst, sym, List, Bool, true, nat_eq, ◌&&◌}
+use Rattle.std.proofs.Common.{rules, tests, ◌∙◌, ◌≡◌, ap, Some, get_or, refl, subst, sym, List, Bool, true, nat_eq, ◌&&◌}
 use Rattle.std.proofs.lemmas.Iterator.{YieldsList-from_slice, cases_from_all}
 use Rattle.std.proofs.lemmas.Option.{slice_get-get_or, slice_get_read}
 use Rattle.info_pool.specs.declared.rows.ModuleAt.{ModuleAt}
@@ -20,7 +20,8 @@ loop-shared-preserved c =
     let none : Shared = record { number = 0; «module» = 0; first = 0 } in
     below_next _ items i (get_or items i none) (slice_get-get_or items i none c.loop-shared-test.true) c.loop-shared.invariant (
       c.has.ensures.unlinked c.if-has.false,
-      same_at same_module_test same_module c.args.self.now.stamps.now (get_or items i none).number _ _ c.get-in-loop-shared.ensures.lookup.3 (sym c.eq-is_alone.ensures ∙ c.if-not-is_alone.false),
+      same_at same_module_test same_module c.args.self.now.stamps.now (get_or items i none).number _ _ c.get-in-loop-shared.ensures.lookup.3
+          (sym c.eq-is_alone.ensures ∙ c.if-not-is_alone.false),
     )
 
 pub loop-info-preserved : goal.loop-info-preserved
@@ -32,8 +33,8 @@ loop-info-preserved c =
     let n = get_or linked i 0 in
     let relations = c.in-Some-Some.relations in
     let found = c.in-Some-Some.ensures.lookup in
-    let Linked : ℕ → Type 0 = Has c.args.self.now.linked.now in
-    let Alone : Shared → Type 0 = IsAlone c.args.self.now.linked.now stamps n in
+    let Linked = Has c.args.self.now.linked.now in
+    let Alone = IsAlone c.args.self.now.linked.now stamps n in
     below_next (IsFitAt linked related stamps) linked i _ (slice_get-get_or linked i 0 c.loop-info-test.true) c.loop-info.invariant (
       relations,
       slice_get_read related _ n c.in-Some-Some.field-0.now refl found.3.0 found.1 ∙ ap Some c.in-Some-Some.field-0-is,
@@ -48,4 +49,5 @@ loop-info-preserved c =
 pub returns : goal.returns
 returns c = λ is. let links = c.args.self.now in
     all_fit links.linked.now c.args.related.now links.stamps.now
-    (below_all (IsFitAt links.linked.now c.args.related.now links.stamps.now) links.linked.now c.loop-info.info-index c.loop-info-test.false c.loop-info.invariant)
+    (below_all (IsFitAt links.linked.now c.args.related.now links.stamps.now) links.linked.now c.loop-info.info-index c.loop-info-test.false
+    c.loop-info.invariant)

@@ -1,12 +1,12 @@
-use Rattle.std.proofs.Common.{◌≡◌, List, ℕ, Option, Some, subst, sym, slice_get, IfOk, IfSome}
+use Rattle.std.proofs.Common.{◌≡◌, List, ℕ, Option, subst, sym, IfOk, IfSome}
 use Rattle.std.proofs.lemmas.Result.{IfOk-weaker}
 use Rattle.document_values.specs.Rule.{RuleValue}
 use Rattle.document_values.specs.Info.{InfoValue}
 use Rattle.document_values.specs.Parts.{IsEnough, IsPartOf, KeepsRequired}
 use Rattle.info_pool.specs.Pool.{AreLinked}
 use Rattle.info_pool.specs.declared.requirements.Requirements.TheVariants.{Kept}
-use Rattle.info_pool.specs.inner.Pools.{AreIndexes, AreFit, IsApart}
-use Rattle.info_pool.proofs.PoolLemmas.{some_weaker, enough}
+use Rattle.info_pool.specs.inner.Pools.{AreFit, IsApart}
+use Rattle.info_pool.proofs.PoolLemmas.{some_weaker, enough, At}
 use Rattle.info_pool.proofs.pool.Pool.part.Goals as goal
 
 pub returns : goal.returns
@@ -15,9 +15,9 @@ returns c =
     let objects = c.args.objects.now in
     let pool = c.self.inside in
     let stamps = c.deref-3.result.now in
-    let are : AreIndexes linked c.put_indexes.new.indexes.items = c.put_indexes.ensures c.if-not-put_indexes.false in
+    let are = c.put_indexes.ensures c.if-not-put_indexes.false in
     let fit : AreFit linked pool.related.items stamps = rw (sym c.deref-4.ensures.value) (c.are_fit.ensures c.if-not-are_fit.false) in
-    let apart : (o : ℕ) (rule : RuleValue) → slice_get objects o ≡ Some rule
+    let apart : (o : ℕ) (rule : RuleValue) → At objects o rule
     → IsApart linked stamps pool.listed rule = c.are_apart.ensures c.if-not-are_apart.false in
     let Found : List (Option InfoValue) → List InfoValue → Type 0 = λ known part.
     (infos : List InfoValue) × AreLinked known linked infos × IsEnough objects part infos × (c.args.requirements ≡ Kept → KeepsRequired part infos) in

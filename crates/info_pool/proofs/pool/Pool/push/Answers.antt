@@ -1,4 +1,4 @@
-use Rattle.std.proofs.Common.{◌≡◌, ◌∙◌, sym, true, Some, None, is_some}
+use Rattle.std.proofs.Common.{List, ◌≡◌, ◌∙◌, ◌++◌, ◌∷◌, [], ap, inl, inr, sym, true, Option, Some, None, is_some}
 use Rattle.document_values.specs.Info.{InfoValue}
 use Rattle.info_pool.specs.inner.Pools.{StillListed, IsRelated}
 use Rattle.info_pool.specs.declared.related.Related.{Related}
@@ -30,3 +30,13 @@ invariant_of-result c =
     ] in
     rw (c.in_ok-push.ensures.items, c.in_ok-push-2.ensures.items)
     (pool_grown pool.infos.items pool.listed listed pool.related.items c.self.invariant still c.if-is_some.push found is)
+
+-- said here, so that a body which adds nothing is rejected soon
+pub returns : goal.returns
+returns c =
+    let added = c.in_ok-push.ensures.items ∙ ap (λ (known : List (Option InfoValue)). known ++ c.if-is_some.push ∷ []) c.self.view_is in
+    elim c.if-is_some.branch [
+      | then-is_some w ↦ inl (added ∙ ap (λ (x : Option InfoValue). c.args.self ++ x ∷ []) w.push-is)
+      | else-is_some w ↦
+          inr (added ∙ ap (λ (x : Option InfoValue). c.args.self ++ x ∷ []) w.push-is)
+    ]

@@ -8,9 +8,10 @@ use Rattle.dep_order.specs.Rows.{rows}
 use Rattle.module_table.specs.inner.Origins.{origin_of}
 use Rattle.module_table.proofs.Graph.{are_nodes, is_graph}
 use Rattle.module_table.proofs.checks.Index.new.Goals as goal
+use Rattle.module_table.proofs.Words.{items_of}
 
 rows_of_append : (needs more all : List (Vec ℕ Global)) → all ≡ needs ++ more → rows all ≡ rows needs ++ rows more
-rows_of_append needs more all is = ap rows is ∙ map-append (λ (row : Vec ℕ Global). row.items) needs more
+rows_of_append needs more all is = ap rows is ∙ map-append items_of needs more
 
 pub new-requires : goal.new-requires
 new-requires c =
@@ -21,8 +22,11 @@ pub returns : goal.returns
 returns c = record {
   all_names = c.into_names.ensures;
   all_origins =
-      items_from_collect {E = AllocError} (Ok c.in_ok-origins.origins) c.in_ok-origins.ensures.ran (YieldsList-from_map _ origin_of (YieldsList-at c.map-origins.ensures.source (YieldsList-from_slice c.provided.result.now c.iter.ensures.rest)) c.map-origins.ensures.closure (λ x r q k. search (rules, tests)))
+      items_from_collect {E = AllocError} (Ok c.in_ok-origins.origins) c.in_ok-origins.ensures.ran
+      (YieldsList-from_map _ origin_of (YieldsList-at c.map-origins.ensures.source (YieldsList-from_slice c.provided.result.now c.iter.ensures.rest))
+      c.map-origins.ensures.closure (λ x r q k. search (rules, tests)))
       ∙ c.provided.ensures.origins;
-  is_graph = is_graph c.args.modules (rows c.args.needs.items) (rows c.args.indexes.items) c.requires.needs c.requires.indexes _ (c.new.ensures ∙ rows_of_append c.args.needs.items c.args.indexes.items _ c.in_ok-append.ensures.items);
+  is_graph = is_graph c.args.modules (rows c.args.needs.items) (rows c.args.indexes.items) c.requires.needs c.requires.indexes _
+      (c.new.ensures ∙ rows_of_append c.args.needs.items c.args.indexes.items _ c.in_ok-append.ensures.items);
   all_required = c.in_ok-required.ensures;
 }

@@ -1,7 +1,6 @@
 use Rattle.std.proofs.Common.{◌≡◌, ◌∙◌, ℕ, ap, sym}
 use Rattle.module_table.specs.Modules.{provisions}
 use Rattle.module_table.specs.inner.Views.{provision_of}
-use Rattle.module_table.specs.declared.fault.Maker.TheVariants.{Object, Info}
 use Rattle.module_table.specs.declared.fault.TableFault.TheVariants.{ModulePrivate}
 use Rattle.module_table.specs.inner.Finds.{IsPrivateTo}
 use Rattle.module_table.proofs.Found.{for_boxed, found_named, none_named}
@@ -12,8 +11,9 @@ pub unreachable-requires : goal.unreachable-requires
 unreachable-requires c =
     let t = c.args.modules.now in
     let f = found_named (provisions t) c.args.name.now (provision_of c.in-Some.module.now) (sym c.in-Some.ensures.module) in
-    let h = info_of_private (provisions t) c.requires.differ (private_by_infos t) c.args.name.now c.requires.private f.0 (provision_of c.in-Some.module.now) f.1 in
-    let e : Object c.in-Object.field-0 ≡ Info h.0 = sym c.in-Object.is ∙ h.1 in
+    let h = info_of_private (provisions t) c.requires.differ (private_by_infos t) c.args.name.now c.requires.private f.0 (provision_of c.in-Some.module.now) f.1
+    in
+    let e = sym c.in-Object.is ∙ h.1 in
     cc
 
 pub unreachable-requires-in-None : goal.unreachable-requires-in-None

@@ -1,38 +1,43 @@
-use Rattle.std.proofs.Common.{◌≡◌, ◌+◌, ◌-◌, ◌≤◌, ap, map, refl, arith, length, slice_get, subst, sym, take, true, ◌∙◌, ◌++◌, List, ℕ, Some}
-use Rattle.std.proofs.lemmas.Option.{slice_get_read}
+use Rattle.std.proofs.Common.{◌≡◌, ◌+◌, ◌-◌, ◌≤◌, ap, map, arith, length, subst, sym, take, true, ◌∙◌, ◌++◌, List, ℕ, Some}
 use Rattle.document_values.specs.Rule.{RuleValue}
 use Rattle.module_table.specs.Faults.{Claim, claims_of}
-use Rattle.module_table.specs.Modules.{Provision, provisions}
+use Rattle.module_table.specs.Modules.{provisions}
 use Rattle.ninja_text.specs.Firsts.{AllDiffer, RepeatsFirst}
 use Rattle.module_table.specs.inner.Reported.{Reports}
 use Rattle.module_table.specs.inner.Views.{provision_of, files_of, IsMadeTwice}
 use Rattle.module_table.specs.declared.modules.Module.{Module}
 use Rattle.module_table.specs.declared.fault.TableFault.TheVariants.{BmiTwice}
 use Rattle.module_table.proofs.IndexRows.{length_mapped, take_all}
-use Rattle.module_table.proofs.Lists.{repeats_if_found, keys_if_new, differ_if_new, take_behind, map_same}
+use Rattle.module_table.proofs.Lists.{repeats_if_found, keys_if_new, differ_if_new, take_behind, map_same, read_at}
 use Rattle.module_table.proofs.Found.{reported_made, for_boxed, own_claim_at, module_claim_at}
 use Rattle.module_table.proofs.checks.repeated.check_files.Goals as goal
 use Rattle.module_table.proofs.checks.repeated.check_files.Goals.{then-first-objects, else-first-objects}
 use Rattle.ninja_text.proofs.ForCallers.{to_map, in_second, element_at}
+use Rattle.module_table.proofs.Words.{bmi_of, At}
+use Rattle.ninja_text.specs.Bytes.{Name}
 
 abbrev object_of : RuleValue → List ℕ
 object_of rule = rule.object
 
 -- the file of a module is after the paths that were there
-file_at : (paths : List (List ℕ)) (provided : List Module) (i : ℕ) (p : Module) → slice_get provided i ≡ Some p → slice_get (paths ++ files_of (map provision_of provided)) (length paths + i) ≡ Some p.file.now
+file_at : (paths : List Name) (provided : List Module) (i : ℕ) (p : Module) → At provided i p →
+    At (paths ++ files_of (map provision_of provided)) (length paths + i) p.file.now
 file_at paths provided i p at =
-    in_second paths (files_of (map provision_of provided)) i p.file.now (to_map (λ (q : Provision). q.file) (map provision_of provided) i (provision_of p) (to_map provision_of provided i p at))
+    in_second paths (files_of (map provision_of provided)) i p.file.now
+    (to_map bmi_of (map provision_of provided) i (provision_of p) (to_map provision_of provided i p at))
 
 -- there are as many paths as objects
-as_many : (paths : List (List ℕ)) (objects : List RuleValue) → paths ≡ map object_of objects → length paths ≡ length objects
+as_many : (paths : List Name) (objects : List RuleValue) → paths ≡ map object_of objects → length paths ≡ length objects
 as_many paths objects same = ap length same ∙ length_mapped object_of objects
 
 -- at the end the files of all modules are there
-all_files : (paths : List (List ℕ)) (provided : List Module) (i : ℕ) → length provided ≤ i → take (length paths + i) (paths ++ files_of (map provision_of provided)) ≡ paths ++ files_of (map provision_of provided)
+all_files : (paths : List Name) (provided : List Module) (i : ℕ) → length provided ≤ i →
+    take (length paths + i) (paths ++ files_of (map provision_of provided)) ≡ paths ++ files_of (map provision_of provided)
 all_files paths provided i over =
     let files = files_of (map provision_of provided) in
-    let long = length_mapped (λ (q : Provision). q.file) (map provision_of provided) ∙ length_mapped provision_of provided in
-    take_behind paths files i ∙ ap (λ ys. paths ++ ys) (take_all files i (omega (arith, over, long)))
+    take_behind paths files i ∙
+    ap (λ ys. paths ++ ys)
+    (take_all files i (omega (arith, over, (length_mapped bmi_of (map provision_of provided) ∙ length_mapped provision_of provided))))
 
 pub module_at-requires : goal.module_at-requires
 module_at-requires c =
@@ -43,12 +48,17 @@ module_at-requires c =
     let h = c.in_ok-first.ensures in
     let stored = h.stored in
     let r = repeats_if_found (λ n. n) (paths ++ files_of (map provision_of provided)) (length paths + i) _ c.loop-module.files.keys c.insert_full.new.self.keys
-    (file_at paths provided i p (slice_get_read provided _ i p refl c.loop-module-test.true c.module-item.is) ∙ ap (λ z. Some z) (sym c.in_ok-file.ensures))
-    (map_same c.loop-module.files.keys ∙ c.loop-module.invariant.same) c.loop-module.invariant.differ h.keys c.in_ok-first.first (sym c.if-not-is_new.true ∙ h.added) stored.0 stored.1 stored.2 in
-    let earlier = r.earlier in
-    let many = as_many paths c.args.modules.now.objects c.requires.paths in
-    let objects = ap length c.objects-objects.ensures in
-    omega (arith, earlier, c.loop-module-test.true, many, objects, c.objects-objects.type_inv.0)
+    (file_at paths provided i p (read_at provided i p c.loop-module-test.true c.module-item.is) ∙ ap Some (sym c.in_ok-file.ensures))
+    (map_same c.loop-module.files.keys ∙ c.loop-module.invariant.same) c.loop-module.invariant.differ h.keys c.in_ok-first.first
+    (sym c.if-not-is_new.true ∙ h.added) stored.0 stored.1 stored.2 in
+    omega (
+      arith,
+      r.earlier,
+      c.loop-module-test.true,
+      (as_many paths c.args.modules.now.objects c.requires.paths),
+      (ap length c.objects-objects.ensures),
+      c.objects-objects.type_inv.0,
+    )
 
 pub returns-then-not-is_new-clause-fault : goal.returns-then-not-is_new-clause-fault
 returns-then-not-is_new-clause-fault c =
@@ -59,23 +69,33 @@ returns-then-not-is_new-clause-fault c =
     let i = c.loop-module.module-index in
     let p = c.module-item.result in
     let first = c.in_ok-first.first in
-    let there = slice_get_read provided _ i p refl c.loop-module-test.true c.module-item.is in
+    let there = read_at provided i p c.loop-module-test.true c.module-item.is in
     let h = c.in_ok-first.ensures in
     let stored = h.stored in
     let r = repeats_if_found (λ n. n) (paths ++ files_of (map provision_of provided)) (length paths + i) _ c.loop-module.files.keys c.insert_full.new.self.keys
-    (file_at paths provided i p there ∙ ap (λ z. Some z) (sym c.in_ok-file.ensures))
-    (map_same c.loop-module.files.keys ∙ c.loop-module.invariant.same) c.loop-module.invariant.differ h.keys first (sym c.if-not-is_new.true ∙ h.added) stored.0 stored.1 stored.2 in
+    (file_at paths provided i p there ∙ ap Some (sym c.in_ok-file.ensures))
+    (map_same c.loop-module.files.keys ∙ c.loop-module.invariant.same) c.loop-module.invariant.differ h.keys first (sym c.if-not-is_new.true ∙ h.added) stored.0
+    stored.1 stored.2 in
     let of_objects = subst (λ xs. RepeatsFirst (xs ++ files_of (map provision_of provided)) first (length paths + i)) c.requires.paths r in
-    let of_modules = subst (λ ps. RepeatsFirst (map object_of t.objects ++ files_of ps) first (length paths + i)) c.provided-provided.ensures.provisions of_objects in
-    let repeats = subst (λ n. RepeatsFirst (map object_of t.objects ++ files_of (provisions t)) first (n + i)) (as_many paths t.objects c.requires.paths) of_modules in
+    let of_modules = subst (λ ps. RepeatsFirst (map object_of t.objects ++ files_of ps) first (length paths + i)) c.provided-provided.ensures.provisions
+    of_objects in
+    let repeats = subst (λ n. RepeatsFirst (map object_of t.objects ++ files_of (provisions t)) first (n + i)) (as_many paths t.objects c.requires.paths)
+    of_modules in
     let claim : Claim = record { maker = p.maker; file = p.file.now; is_module = true } in
-    let earlier : (claim : Claim) × (slice_get (claims_of objects (map provision_of provided)) first ≡ Some claim) × (claim.maker ≡ c.if-first-objects.maker) = elim c.if-first-objects.branch [
-      | then-first-objects w ↦ let rule = element_at objects first w.if-first-objects.true in (_, own_claim_at objects (map provision_of provided) first rule.0 rule.1, sym w.maker-is)
+    let earlier : (claim : Claim) × (At (claims_of objects (map provision_of provided)) first claim) ×
+    (claim.maker ≡ c.if-first-objects.maker) = elim c.if-first-objects.branch [
+      | then-first-objects w ↦ let rule = element_at objects first w.if-first-objects.true in
+          (_, own_claim_at objects (map provision_of provided) first rule.0 rule.1, sym w.maker-is)
       | else-first-objects w ↦
           let place : length objects + (first - length objects) ≡ first = omega (arith, w.if-first-objects.false) in
           let m = w.module_at.result.now in
-          let other : Claim = record { maker = m.maker; file = m.file.now; is_module = true } in
-          (other, subst (λ n. slice_get (claims_of objects (map provision_of provided)) n ≡ Some other) place (module_claim_at objects (map provision_of provided) (first - length objects) (provision_of m) (to_map provision_of provided (first - length objects) m w.module_at.ensures)), sym w.maker-is)
+          let other : Claim = record { maker = m.maker; file = m.file.now; is_module = true } in (
+            other,
+            subst (λ n. At (claims_of objects (map provision_of provided)) n other) place
+                (module_claim_at objects (map provision_of provided) (first - length objects) (provision_of m)
+                (to_map provision_of provided (first - length objects) m w.module_at.ensures)),
+            sym w.maker-is,
+          )
     ] in
     let twice : IsMadeTwice objects (map provision_of provided) first (length objects + i) (BmiTwice c.in_ok-copy.field-0 c.if-first-objects.maker p.maker) = (
       earlier.0,
@@ -84,10 +104,12 @@ returns-then-not-is_new-clause-fault c =
       module_claim_at objects (map provision_of provided) i (provision_of p) (to_map provision_of provided i p there),
       ap (λ file. BmiTwice file c.if-first-objects.maker p.maker) c.in_ok-copy.ensures ∙ ap (λ maker. BmiTwice p.file.now maker p.maker) (sym earlier.2),
     ) in
-    for_boxed (λ fault. (kept : List (List ℕ)) → Reports 4 t kept fault) _ _
+    for_boxed (λ fault. (kept : List Name) → Reports 4 t kept fault) _ _
     (λ kept. reported_made t kept first (length t.objects + i) _ c.requires.differ repeats
-    (subst (λ os. IsMadeTwice os (provisions t) first (length os + i) (BmiTwice c.in_ok-copy.field-0 c.if-first-objects.maker p.maker)) c.objects-objects.ensures
-    (subst (λ ps. IsMadeTwice objects ps first (length objects + i) (BmiTwice c.in_ok-copy.field-0 c.if-first-objects.maker p.maker)) c.provided-provided.ensures.provisions twice)))
+    (subst (λ os. IsMadeTwice os (provisions t) first (length os + i) (BmiTwice c.in_ok-copy.field-0 c.if-first-objects.maker p.maker))
+    c.objects-objects.ensures
+    (subst (λ ps. IsMadeTwice objects ps first (length objects + i) (BmiTwice c.in_ok-copy.field-0 c.if-first-objects.maker p.maker))
+    c.provided-provided.ensures.provisions twice)))
     c.failure_of.ensures
 
 pub loop-module-preserved : goal.loop-module-preserved
@@ -97,12 +119,16 @@ loop-module-preserved c =
     let i = c.loop-module.module-index in
     let p = c.module-item.result in
     let texts = paths ++ files_of (map provision_of provided) in
-    let at = file_at paths provided i p (slice_get_read provided _ i p refl c.loop-module-test.true c.module-item.is) ∙ ap (λ z. Some z) (sym c.in_ok-file.ensures) in
+    let at = file_at paths provided i p (read_at provided i p c.loop-module-test.true c.module-item.is) ∙ ap Some (sym c.in_ok-file.ensures) in
     let before = map_same c.loop-module.files.keys ∙ c.loop-module.invariant.same in
     let h = c.in_ok-first.ensures in
     let fresh = sym c.if-not-is_new.false ∙ h.added in
     let next : (length paths + i) + 1 ≡ length paths + (i + 1) = omega arith in
     record {
-      same = sym (map_same c.insert_full.new.self.keys) ∙ keys_if_new (λ n. n) texts (length paths + i) _ c.loop-module.files.keys c.insert_full.new.self.keys at before c.loop-module.invariant.differ h.keys fresh ∙ ap (λ n. take n texts) next;
-      differ = subst (λ n. AllDiffer (take n texts)) next (differ_if_new (λ n. n) texts (length paths + i) _ c.loop-module.files.keys c.insert_full.new.self.keys at before c.loop-module.invariant.differ h.keys fresh);
+      same = sym (map_same c.insert_full.new.self.keys) ∙
+          keys_if_new (λ n. n) texts (length paths + i) _ c.loop-module.files.keys c.insert_full.new.self.keys at before c.loop-module.invariant.differ h.keys
+          fresh ∙ ap (λ n. take n texts) next;
+      differ = subst (λ n. AllDiffer (take n texts)) next
+          (differ_if_new (λ n. n) texts (length paths + i) _ c.loop-module.files.keys c.insert_full.new.self.keys at before c.loop-module.invariant.differ
+          h.keys fresh);
     }

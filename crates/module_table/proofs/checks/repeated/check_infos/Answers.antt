@@ -1,35 +1,42 @@
 use Rattle.std.proofs.Common.{◌≡◌, ap, map, refl, subst, sym, ◌∙◌, List, ℕ, Bor, Some}
-use Rattle.std.proofs.lemmas.Option.{slice_get_read}
 use Rattle.document_values.specs.Info.{InfoValue}
 use Rattle.ninja_text.specs.Firsts.{AllDiffer, IsFirstRepetition}
 use Rattle.module_table.specs.declared.fault.TableFault.TheVariants.{InfoTwice}
-use Rattle.module_table.proofs.Lists.{repeats_if_found, keys_if_new, differ_if_new, text_repetition}
+use Rattle.module_table.proofs.Lists.{repeats_if_found, keys_if_new, differ_if_new, text_repetition, read_at}
 use Rattle.module_table.proofs.IndexRows.{map_take_all}
 use Rattle.module_table.proofs.Found.{reports_same, for_boxed}
 use Rattle.module_table.specs.inner.Reported.{Reports}
 use Rattle.module_table.specs.TableValue.{TableValue}
 use Rattle.module_table.proofs.checks.repeated.check_infos.Goals as goal
 use Rattle.ninja_text.proofs.ForCallers.{to_map}
+use Rattle.ninja_text.specs.Bytes.{Name}
+use Rattle.module_table.proofs.Words.{target_of}
 
 abbrev text_of : Bor (List ℕ) → List ℕ
 text_of target = target.now
-
-abbrev target_of : InfoValue → List ℕ
-target_of info = info.target
 
 pub returns-then-not-is_new-clause-fault : goal.returns-then-not-is_new-clause-fault
 returns-then-not-is_new-clause-fault c =
     let infos = c.args.infos.now in
     let i = c.loop-info.info-index in
     let first = c.in_ok-is_new.field-0-0 in
-    let target : List ℕ = c.info.inside.target in
-    let at = to_map target_of infos i _ (slice_get_read infos _ i _ refl c.loop-info-test.true c.info-item.is) ∙ ap (λ (r : InfoValue). Some r.target) (sym c.info.view_is) in
+    let target = c.info.inside.target in
+    let at = to_map target_of infos i _ (read_at infos i _ c.loop-info-test.true c.info-item.is) ∙ ap (λ (r : InfoValue). Some r.target) (sym c.info.view_is) in
     let h = c.in_ok-is_new.ensures in
     let stored = h.stored in
-    let repeated = repeats_if_found text_of (map target_of infos) i _ c.loop-info.targets.keys c.insert_full.new.self.keys at c.loop-info.invariant.same c.loop-info.invariant.differ h.keys first (sym c.if-not-is_new.true ∙ h.added) stored.0 stored.1 stored.2 in
-    let is = text_repetition (map target_of infos) first i target repeated at in
-    for_boxed (λ fault. (t : TableValue) (kept : List (List ℕ)) → infos ≡ t.infos → Reports 2 t kept fault) _ _
-    (λ t kept same. reports_same 2 t kept _ _ (ap InfoTwice c.in_ok-target.ensures) (record { present = (first, i, subst (λ xs. IsFirstRepetition (λ a b. a ≡ b) (map target_of xs) first i target target) same is); coded = refl }))
+    let repeated = repeats_if_found text_of (map target_of infos) i _ c.loop-info.targets.keys c.insert_full.new.self.keys at c.loop-info.invariant.same
+    c.loop-info.invariant.differ h.keys first (sym c.if-not-is_new.true ∙ h.added) stored.0 stored.1 stored.2 in
+    for_boxed (λ fault. (t : TableValue) (kept : List Name) → infos ≡ t.infos → Reports 2 t kept fault) _ _
+    (λ t kept same. reports_same 2 t kept _ _ (ap InfoTwice c.in_ok-target.ensures)
+    (record {
+      present = (
+        first,
+        i,
+        subst (λ xs. IsFirstRepetition (λ a b. a ≡ b) (map target_of xs) first i target target) same
+            (text_repetition (map target_of infos) first i target repeated at),
+      );
+      coded = refl;
+    }))
     c.failure_of.ensures
 
 pub loop-info-preserved : goal.loop-info-preserved
@@ -37,12 +44,15 @@ loop-info-preserved c =
     let infos = c.args.infos.now in
     let i = c.loop-info.info-index in
     let info = c.info-item.result in
-    let at = to_map target_of infos i info (slice_get_read infos _ i info refl c.loop-info-test.true c.info-item.is) ∙ ap (λ (r : InfoValue). Some r.target) (sym c.info.view_is) in
+    let at = to_map target_of infos i info (read_at infos i info c.loop-info-test.true c.info-item.is) ∙
+    ap (λ (r : InfoValue). Some r.target) (sym c.info.view_is) in
     let h = c.in_ok-is_new.ensures in
     let fresh = sym c.if-not-is_new.false ∙ h.added in
     record {
-      same = keys_if_new text_of (map target_of infos) i _ c.loop-info.targets.keys c.insert_full.new.self.keys at c.loop-info.invariant.same c.loop-info.invariant.differ h.keys fresh;
-      differ = differ_if_new text_of (map target_of infos) i _ c.loop-info.targets.keys c.insert_full.new.self.keys at c.loop-info.invariant.same c.loop-info.invariant.differ h.keys fresh;
+      same = keys_if_new text_of (map target_of infos) i _ c.loop-info.targets.keys c.insert_full.new.self.keys at c.loop-info.invariant.same
+          c.loop-info.invariant.differ h.keys fresh;
+      differ = differ_if_new text_of (map target_of infos) i _ c.loop-info.targets.keys c.insert_full.new.self.keys at c.loop-info.invariant.same
+          c.loop-info.invariant.differ h.keys fresh;
     }
 
 pub returns-clause-ok : goal.returns-clause-ok

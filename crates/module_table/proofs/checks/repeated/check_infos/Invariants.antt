@@ -3,4 +3,8 @@ use Rattle.ninja_text.specs.Firsts.{AllDiffer}
 use Rattle.module_table.proofs.checks.repeated.check_infos.Given as goal
 
 abbrev pub invariant-loop-info : goal.invariant-loop-info
-invariant-loop-info l = record { same : map (λ target. target.now) l.targets.keys ≡ take l.info-index (map (λ info. info.target) l.infos); differ : AllDiffer (take l.info-index (map (λ info. info.target) l.infos)) }
+invariant-loop-info l =
+    record {
+      same : map (λ target. target.now) l.targets.keys ≡ take l.info-index (map (λ info. info.target) l.infos);
+      differ : AllDiffer (take l.info-index (map (λ info. info.target) l.infos));
+    }

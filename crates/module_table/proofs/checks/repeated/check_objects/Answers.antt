@@ -1,15 +1,15 @@
 use Rattle.std.proofs.Common.{◌≡◌, ap, map, refl, subst, sym, ◌∙◌, List, ℕ, Some}
-use Rattle.std.proofs.lemmas.Option.{slice_get_read}
 use Rattle.document_values.specs.Rule.{RuleValue}
 use Rattle.ninja_text.specs.Firsts.{IsFirstRepetition}
 use Rattle.module_table.specs.declared.fault.Maker.TheVariants.{Object}
 use Rattle.module_table.specs.declared.fault.TableFault.TheVariants.{ObjectTwice}
-use Rattle.module_table.proofs.Lists.{repeats_if_found, keys_if_new, differ_if_new, text_repetition, map_same}
+use Rattle.module_table.proofs.Lists.{repeats_if_found, keys_if_new, differ_if_new, text_repetition, map_same, read_at}
 use Rattle.module_table.proofs.Found.{reports_same, for_boxed}
 use Rattle.module_table.specs.inner.Reported.{Reports}
 use Rattle.module_table.specs.TableValue.{TableValue}
 use Rattle.module_table.proofs.checks.repeated.check_objects.Goals as goal
 use Rattle.ninja_text.proofs.ForCallers.{to_map}
+use Rattle.ninja_text.specs.Bytes.{Name}
 
 abbrev object_of : RuleValue → List ℕ
 object_of rule = rule.object
@@ -19,16 +19,27 @@ returns-then-not-is_new-clause-fault c =
     let objects = c.args.objects.now in
     let i = c.loop-index.index in
     let first = c.in_ok-first.first in
-    let path : List ℕ = c.rule.inside.object in
-    let at = to_map object_of objects i _ (slice_get_read objects _ i _ refl c.loop-index-test.true c.index-objects-index.is) ∙ ap (λ (r : RuleValue). Some r.object) (sym c.rule.view_is) in
-    let put = at ∙ ap (λ z. Some z) (sym c.in_ok-path.ensures) in
-    let before = map_same c.loop-index.paths.keys ∙ c.loop-index.invariant.same in
+    let path = c.rule.inside.object in
+    let at = to_map object_of objects i _ (read_at objects i _ c.loop-index-test.true c.index-objects-index.is) ∙
+    ap (λ (r : RuleValue). Some r.object) (sym c.rule.view_is) in
     let h = c.in_ok-first.ensures in
     let stored = h.stored in
-    let repeated = repeats_if_found (λ n. n) (map object_of objects) i _ c.loop-index.paths.keys c.insert_full.new.self.keys put before c.loop-index.invariant.differ h.keys first (sym c.if-not-is_new.true ∙ h.added) stored.0 stored.1 stored.2 in
-    let is = text_repetition (map object_of objects) first i path repeated at in
-    for_boxed (λ fault. (t : TableValue) (kept : List (List ℕ)) → objects ≡ t.objects → Reports 1 t kept fault) _ _
-    (λ t kept same. reports_same 1 t kept _ _ (ap (λ p. ObjectTwice p (Object first) (Object i)) c.in_ok-path-2.ensures) (record { present = (first, i, subst (λ xs. IsFirstRepetition (λ a b. a ≡ b) (map object_of xs) first i path path) same is, refl, refl); coded = refl }))
+    let repeated = repeats_if_found (λ n. n) (map object_of objects) i _ c.loop-index.paths.keys c.insert_full.new.self.keys
+    (at ∙ ap Some (sym c.in_ok-path.ensures)) (map_same c.loop-index.paths.keys ∙ c.loop-index.invariant.same) c.loop-index.invariant.differ h.keys first
+    (sym c.if-not-is_new.true ∙ h.added) stored.0 stored.1 stored.2 in
+    for_boxed (λ fault. (t : TableValue) (kept : List Name) → objects ≡ t.objects → Reports 1 t kept fault) _ _
+    (λ t kept same. reports_same 1 t kept _ _ (ap (λ p. ObjectTwice p (Object first) (Object i)) c.in_ok-path-2.ensures)
+    (record {
+      present = (
+        first,
+        i,
+        subst (λ xs. IsFirstRepetition (λ a b. a ≡ b) (map object_of xs) first i path path) same
+            (text_repetition (map object_of objects) first i path repeated at),
+        refl,
+        refl,
+      );
+      coded = refl;
+    }))
     c.failure_of.ensures
 
 pub loop-index-preserved : goal.loop-index-preserved
@@ -36,11 +47,15 @@ loop-index-preserved c =
     let objects = c.args.objects.now in
     let i = c.loop-index.index in
     let rule = c.index-objects-index.result in
-    let at = to_map object_of objects i rule (slice_get_read objects _ i rule refl c.loop-index-test.true c.index-objects-index.is) ∙ ap (λ (r : RuleValue). Some r.object) (sym c.rule.view_is) ∙ ap (λ z. Some z) (sym c.in_ok-path.ensures) in
+    let at = to_map object_of objects i rule (read_at objects i rule c.loop-index-test.true c.index-objects-index.is) ∙
+    ap (λ (r : RuleValue). Some r.object) (sym c.rule.view_is) ∙ ap Some (sym c.in_ok-path.ensures) in
     let before = map_same c.loop-index.paths.keys ∙ c.loop-index.invariant.same in
     let h = c.in_ok-first.ensures in
     let fresh = sym c.if-not-is_new.false ∙ h.added in
     record {
-      same = sym (map_same c.insert_full.new.self.keys) ∙ keys_if_new (λ n. n) (map object_of objects) i _ c.loop-index.paths.keys c.insert_full.new.self.keys at before c.loop-index.invariant.differ h.keys fresh;
-      differ = differ_if_new (λ n. n) (map object_of objects) i _ c.loop-index.paths.keys c.insert_full.new.self.keys at before c.loop-index.invariant.differ h.keys fresh;
+      same = sym (map_same c.insert_full.new.self.keys) ∙
+          keys_if_new (λ n. n) (map object_of objects) i _ c.loop-index.paths.keys c.insert_full.new.self.keys at before c.loop-index.invariant.differ h.keys
+          fresh;
+      differ = differ_if_new (λ n. n) (map object_of objects) i _ c.loop-index.paths.keys c.insert_full.new.self.keys at before c.loop-index.invariant.differ
+          h.keys fresh;
     }

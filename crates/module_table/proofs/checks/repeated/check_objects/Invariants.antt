@@ -3,4 +3,5 @@ use Rattle.ninja_text.specs.Firsts.{AllDiffer}
 use Rattle.module_table.proofs.checks.repeated.check_objects.Given as goal
 
 abbrev pub invariant-loop-index : goal.invariant-loop-index
-invariant-loop-index l = record { same : l.paths.keys ≡ take l.index (map (λ rule. rule.object) l.objects); differ : AllDiffer (take l.index (map (λ rule. rule.object) l.objects)) }
+invariant-loop-index l =
+    record { same : l.paths.keys ≡ take l.index (map (λ rule. rule.object) l.objects); differ : AllDiffer (take l.index (map (λ rule. rule.object) l.objects)) }

@@ -1,23 +1,24 @@
-use Rattle.std.proofs.Common.{◌≡◌, ◌∙◌, ◌<◌, ◌+◌, ap, arith, cond, length, sym, refl, map, List, ℕ, Some, slice_get, get_or}
+use Rattle.std.proofs.Common.{◌≡◌, ◌∙◌, ◌<◌, ◌+◌, ap, arith, cond, length, sym, map, List, ℕ, Some, get_or}
 use Rattle.std.proofs.lemmas.List.{length-take}
-use Rattle.std.proofs.lemmas.Option.{slice_get_read, slice_get-get_or}
+use Rattle.std.proofs.lemmas.Option.{slice_get-get_or}
 use Rattle.module_table.specs.inner.Views.{provision_of, names_of}
-use Rattle.module_table.specs.Modules.{Provision, provisions}
+use Rattle.module_table.specs.Modules.{provisions}
 use Rattle.module_table.specs.TableValue.{TableValue}
 use Rattle.module_table.specs.declared.modules.Module.{Module}
 use Rattle.module_table.specs.declared.fault.TableFault.TheVariants.{ProvidedTwice}
-use Rattle.module_table.proofs.Lists.{repeats_if_found, keys_if_new, differ_if_new, map_same}
+use Rattle.module_table.proofs.Lists.{repeats_if_found, keys_if_new, differ_if_new, map_same, read_at}
 use Rattle.module_table.proofs.Found.{reports_provided_twice, for_boxed}
 use Rattle.module_table.specs.inner.Reported.{Reports}
 use Rattle.module_table.proofs.checks.repeated.put_names.Goals as goal
 use Rattle.ninja_text.proofs.ForCallers.{to_map}
-
-abbrev name_of : Provision → List ℕ
-name_of p = p.name
+use Rattle.ninja_text.specs.Bytes.{Name}
+use Rattle.module_table.proofs.Words.{name_of, At}
 
 -- the name at the place, in the list of names
-name_at : (provided : List Module) (place : ℕ) (p : Module) → slice_get provided place ≡ Some p → (name : List ℕ) → name ≡ p.name.now → slice_get (names_of (map provision_of provided)) place ≡ Some name
-name_at provided place p at name same = to_map name_of (map provision_of provided) place (provision_of p) (to_map provision_of provided place p at) ∙ ap (λ n. Some n) (sym same)
+name_at : (provided : List Module) (place : ℕ) (p : Module) → At provided place p → (name : Name) → name ≡ p.name.now →
+    At (names_of (map provision_of provided)) place name
+name_at provided place p at name same = to_map name_of (map provision_of provided) place (provision_of p) (to_map provision_of provided place p at) ∙
+    ap Some (sym same)
 
 pub returns-then-not-is_new-clause-fault : goal.returns-then-not-is_new-clause-fault
 returns-then-not-is_new-clause-fault c =
@@ -26,19 +27,22 @@ returns-then-not-is_new-clause-fault c =
     let i = c.loop-module.module-index in
     let m = c.module-item.result in
     let first = c.in_ok-first.first in
-    let there = slice_get_read provided _ i m refl c.loop-module-test.true c.module-item.is in
-    let at = name_at provided i m there c.in_ok-copy.field-0 c.in_ok-copy.ensures in
-    let before = map_same c.loop-module.names.keys ∙ c.loop-module.invariant.same in
+    let there = read_at provided i m c.loop-module-test.true c.module-item.is in
     let h = c.in_ok-first.ensures in
     let stored = h.stored in
-    let repeated = repeats_if_found (λ n. n) (names_of list) i c.in_ok-copy.field-0 c.loop-module.names.keys c.insert_full.new.self.keys at before c.loop-module.invariant.differ h.keys first (sym c.if-not-is_new.true ∙ h.added) stored.0 stored.1 stored.2 in
-    let before_it = repeated.earlier in
-    let within : first < length provided = omega (arith, before_it, c.loop-module-test.true) in
-    let e : Module = get_or provided first c.index-provided-first.result in
-    let earlier = slice_get-get_or provided first c.index-provided-first.result within in
-    for_boxed (λ fault. (t : TableValue) (kept : List (List ℕ)) → list ≡ provisions t → Reports 3 t kept fault) _ _
-    (λ t kept same. reports_provided_twice t kept first i _ list same repeated
-    (provision_of e, provision_of m, to_map provision_of provided first e earlier, to_map provision_of provided i m there, ap (λ name. ProvidedTwice name e.maker m.maker) c.in_ok-name.ensures))
+    let repeated = repeats_if_found (λ n. n) (names_of list) i c.in_ok-copy.field-0 c.loop-module.names.keys c.insert_full.new.self.keys
+    (name_at provided i m there c.in_ok-copy.field-0 c.in_ok-copy.ensures) (map_same c.loop-module.names.keys ∙ c.loop-module.invariant.same)
+    c.loop-module.invariant.differ h.keys first (sym c.if-not-is_new.true ∙ h.added) stored.0 stored.1 stored.2 in
+    let within : first < length provided = omega (arith, repeated.earlier, c.loop-module-test.true) in
+    let e = get_or provided first c.index-provided-first.result in
+    for_boxed (λ fault. (t : TableValue) (kept : List Name) → list ≡ provisions t → Reports 3 t kept fault) _ _
+    (λ t kept same. reports_provided_twice t kept first i _ list same repeated (
+      provision_of e,
+      provision_of m,
+      to_map provision_of provided first e (slice_get-get_or provided first c.index-provided-first.result within),
+      to_map provision_of provided i m there,
+      ap (λ name. ProvidedTwice name e.maker m.maker) c.in_ok-name.ensures,
+    ))
     c.failure_of.ensures
 
 pub loop-module-preserved : goal.loop-module-preserved
@@ -46,20 +50,23 @@ loop-module-preserved c =
     let provided = c.args.provided.now in
     let list = map provision_of provided in
     let i = c.loop-module.module-index in
-    let at = name_at provided i c.module-item.result (slice_get_read provided _ i c.module-item.result refl c.loop-module-test.true c.module-item.is) c.in_ok-copy.field-0 c.in_ok-copy.ensures in
+    let at = name_at provided i c.module-item.result (read_at provided i c.module-item.result c.loop-module-test.true c.module-item.is) c.in_ok-copy.field-0
+    c.in_ok-copy.ensures in
     let before = map_same c.loop-module.names.keys ∙ c.loop-module.invariant.same in
     let h = c.in_ok-first.ensures in
     record {
-      same = sym (map_same c.insert_full.new.self.keys) ∙ keys_if_new (λ n. n) (names_of list) i c.in_ok-copy.field-0 c.loop-module.names.keys c.insert_full.new.self.keys at before c.loop-module.invariant.differ h.keys (sym c.if-not-is_new.false ∙ h.added);
-      differ = differ_if_new (λ n. n) (names_of list) i c.in_ok-copy.field-0 c.loop-module.names.keys c.insert_full.new.self.keys at before c.loop-module.invariant.differ h.keys (sym c.if-not-is_new.false ∙ h.added);
+      same = sym (map_same c.insert_full.new.self.keys) ∙
+          keys_if_new (λ n. n) (names_of list) i c.in_ok-copy.field-0 c.loop-module.names.keys c.insert_full.new.self.keys at before
+          c.loop-module.invariant.differ h.keys (sym c.if-not-is_new.false ∙ h.added);
+      differ = differ_if_new (λ n. n) (names_of list) i c.in_ok-copy.field-0 c.loop-module.names.keys c.insert_full.new.self.keys at before
+          c.loop-module.invariant.differ h.keys (sym c.if-not-is_new.false ∙ h.added);
     }
 
 -- the index of a name that is not new is one of those before
 pub bounds-provided-first : goal.bounds-provided-first
 bounds-provided-first c =
-    let old = c.loop-module.names.keys in
     let h = c.in_ok-first.ensures in
-    let not_more = h.len ∙ ap (λ b. length old + cond b 1 0) c.if-not-is_new.true in
+    let not_more = h.len ∙ ap (λ b. length c.loop-module.names.keys + cond b 1 0) c.if-not-is_new.true in
     let before = ap length c.loop-module.invariant.same ∙ length-take c.loop-module.module-index (names_of (map provision_of c.args.provided.now)) in
     omega (arith, h.within, not_more, before, c.loop-module-test.true)
 

@@ -4,4 +4,8 @@ use Rattle.module_table.specs.inner.Views.{provision_of, names_of}
 use Rattle.module_table.proofs.checks.repeated.put_names.Given as goal
 
 abbrev pub invariant-loop-module : goal.invariant-loop-module
-invariant-loop-module l = record { same : l.names.keys ≡ take l.module-index (names_of (map provision_of l.provided)); differ : AllDiffer (take l.module-index (names_of (map provision_of l.provided))) }
+invariant-loop-module l =
+    record {
+      same : l.names.keys ≡ take l.module-index (names_of (map provision_of l.provided));
+      differ : AllDiffer (take l.module-index (names_of (map provision_of l.provided)));
+    }

@@ -18,20 +18,21 @@ use Rattle.module_table.proofs.table.Table.build_or_refused.Goals.{in-Some, in-N
 -- the key that was passed covers the table, and its own key is made of all that it holds
 pub check_all-checked-requires-clause-key : goal.check_all-checked-requires-clause-key
 check_all-checked-requires-clause-key c =
-    let given = same_table _ _ _ _ c.as_slice-2.ensures.value c.as_slice-3.ensures.value in
-    subst (λ (t : TableValue). Covers c.match-key.key (table_entries t)) (sym given)
+    subst (λ (t : TableValue). Covers c.match-key.key (table_entries t)) (sym (same_table _ _ _ _ c.as_slice-2.ensures.value c.as_slice-3.ensures.value))
     elim c.match-key.branch [
-      | in-Some w ↦ subst (λ key. Covers key (table_entries (table_with c.args.objects.items c.args.infos.items))) (sym w.key-is) (c.requires w.in-Some.key w.in-Some.is)
+      | in-Some w ↦ subst (λ key. Covers key (table_entries (table_with c.args.objects.items c.args.infos.items))) (sym w.key-is)
+          (c.requires w.in-Some.key w.in-Some.is)
       | in-None w ↦
-          let own = subst (λ (t : TableValue). IsKeyOf w.table_key-key.result (table_entries t)) (same_table _ _ _ _ w.as_slice.ensures.value w.as_slice-in-None.ensures.value) w.table_key-key.ensures in
+          let own = subst (λ (t : TableValue). IsKeyOf w.table_key-key.result (table_entries t))
+          (same_table _ _ _ _ w.as_slice.ensures.value w.as_slice-in-None.ensures.value) w.table_key-key.ensures in
           subst (λ key. Covers key (table_entries (table_with c.args.objects.items c.args.infos.items))) (sym w.key-is) (_, own, All-contains_itself _)
     ]
 
 pub new-requires-clause-sound : goal.new-requires-clause-sound
 new-requires-clause-sound c =
-    let t : TableValue = record { objects = c.args.objects.items; infos = c.args.infos.items } in
-    let same = same_table _ _ _ _ c.as_slice-2.ensures.value c.as_slice-3.ensures.value in
-    (faultless_is_sound t c.args.kept.now (omega (arith, c.args.objects.ok.0, c.args.objects.ok.1, c.args.objects.small)) (subst (λ u. HasNoFault u c.args.kept.now) same c.in-Ok.ensures.no_fault)).0
+    (faultless_is_sound (table_with c.args.objects.items c.args.infos.items) c.args.kept.now
+    (omega (arith, c.args.objects.ok.0, c.args.objects.ok.1, c.args.objects.small))
+    (subst (λ u. HasNoFault u c.args.kept.now) (same_table _ _ _ _ c.as_slice-2.ensures.value c.as_slice-3.ensures.value) c.in-Ok.ensures.no_fault)).0
 
 pub new-requires-clause-required : goal.new-requires-clause-required
 new-requires-clause-required c =
@@ -42,28 +43,26 @@ pub invariant_of-result : goal.invariant_of-result
 invariant_of-result c =
     let same = same_table _ _ _ _ c.as_slice-2.ensures.value c.as_slice-3.ensures.value ∙ sym c.new.ensures in
     let index = c.in-Ok.index in
-    let h = subst (λ u. AreLookUps u index.names.keys index.origins.items index.graph (map (λ row. row.items) index.required.items)) same c.in-Ok.ensures.index in
-    let t : TableValue = record { objects = c.args.objects.items; infos = c.args.infos.items } in
-    let given = same_table _ _ _ _ c.as_slice-2.ensures.value c.as_slice-3.ensures.value in
-    let sound = (faultless_is_sound t c.args.kept.now (omega (arith, c.args.objects.ok.0, c.args.objects.ok.1, c.args.objects.small)) (subst (λ u. HasNoFault u c.args.kept.now) given c.in-Ok.ensures.no_fault)).0 in
-    let names = subst (λ (u : TableValue). names_of (provisions u) ≡ first_mentions (mentioned_names u)) (sym c.new.ensures) (all_names t sound) in
-    (h.all_names, h.all_origins, h.is_graph, subst (λ (u : TableValue). c.check_all-checked.new.paths.keys ≡ paths_of u) same c.in-Ok.ensures.paths, h.all_names ∙ names)
+    let h = subst (λ u. AreLookUps u index.names.keys index.origins.items index.graph (map (λ row. row.items) index.required.items)) same c.in-Ok.ensures.index
+    in
+    let t = table_with c.args.objects.items c.args.infos.items in
+    let sound = (faultless_is_sound t c.args.kept.now (omega (arith, c.args.objects.ok.0, c.args.objects.ok.1, c.args.objects.small))
+    (subst (λ u. HasNoFault u c.args.kept.now) (same_table _ _ _ _ c.as_slice-2.ensures.value c.as_slice-3.ensures.value) c.in-Ok.ensures.no_fault)).0 in
+    let names = subst (λ (u : TableValue). names_of (provisions u) ≡ first_mentions (mentioned_names u)) (sym c.new.ensures) (all_names t sound) in (
+      h.all_names,
+      h.all_origins,
+      h.is_graph,
+      subst (λ (u : TableValue). c.check_all-checked.new.paths.keys ≡ paths_of u) same c.in-Ok.ensures.paths,
+      h.all_names ∙ names,
+    )
 
-pub returns-in-Ok-clause-sound : goal.returns-in-Ok-clause-sound
-returns-in-Ok-clause-sound c =
-    let t : TableValue = record { objects = c.args.objects.items; infos = c.args.infos.items } in
-    let same = same_table _ _ _ _ c.as_slice-2.ensures.value c.as_slice-3.ensures.value in
-    rw c.new.ensures ((faultless_is_sound t c.args.kept.now (omega (arith, c.args.objects.ok.0, c.args.objects.ok.1, c.args.objects.small)) (subst (λ u. HasNoFault u c.args.kept.now) same c.in-Ok.ensures.no_fault)).0)
-
-pub returns-in-Ok-clause-kept : goal.returns-in-Ok-clause-kept
-returns-in-Ok-clause-kept c =
-    let t : TableValue = record { objects = c.args.objects.items; infos = c.args.infos.items } in
-    let same = same_table _ _ _ _ c.as_slice-2.ensures.value c.as_slice-3.ensures.value in
-    rw c.new.ensures ((faultless_is_sound t c.args.kept.now (omega (arith, c.args.objects.ok.0, c.args.objects.ok.1, c.args.objects.small)) (subst (λ u. HasNoFault u c.args.kept.now) same c.in-Ok.ensures.no_fault)).1)
-
-pub returns-in-Ok-clause-no_fault : goal.returns-in-Ok-clause-no_fault
-returns-in-Ok-clause-no_fault c =
-    rw c.new.ensures (subst (λ u. HasNoFault u c.args.kept.now) (same_table _ _ _ _ c.as_slice-2.ensures.value c.as_slice-3.ensures.value) c.in-Ok.ensures.no_fault)
+pub returns-in-Ok-clause-builds : goal.returns-in-Ok-clause-builds
+returns-in-Ok-clause-builds c =
+    let faultless = subst (λ u. HasNoFault u c.args.kept.now) (same_table _ _ _ _ c.as_slice-2.ensures.value c.as_slice-3.ensures.value)
+    c.in-Ok.ensures.no_fault in
+    let sound = faultless_is_sound (table_with c.args.objects.items c.args.infos.items) c.args.kept.now
+    (omega (arith, c.args.objects.ok.0, c.args.objects.ok.1, c.args.objects.small)) faultless in
+    rw c.new.ensures (record { table = refl; sound = sound.0; kept = sound.1; no_fault = faultless; fault = tt })
 
 -- said here, so that a body which does something else is rejected soon
 pub returns-in-Err-Fault-clause-given : goal.returns-in-Err-Fault-clause-given

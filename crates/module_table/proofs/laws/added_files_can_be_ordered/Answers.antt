@@ -1,6 +1,6 @@
 use Rattle.module_table.proofs.Places as lemmas
 use Rattle.module_table.proofs.Pairs as pairs
-use Rattle.module_table.proofs.laws.added_files.Goals as goal
+use Rattle.module_table.proofs.laws.added_files_can_be_ordered.Goals as goal
 
 pub returns-clause-orderable : goal.returns-clause-orderable
 returns-clause-orderable c = lemmas.added_orderable

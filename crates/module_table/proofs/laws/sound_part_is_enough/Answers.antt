@@ -1,5 +1,5 @@
 use Rattle.module_table.proofs.PartLemmas as lemmas
-use Rattle.module_table.proofs.laws.parts.Goals as goal
+use Rattle.module_table.proofs.laws.sound_part_is_enough.Goals as goal
 
 pub returns-clause-sound : goal.returns-clause-sound
 returns-clause-sound c = lemmas.part_is_sound
