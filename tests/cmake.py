@@ -702,6 +702,21 @@ class Steps(Case):
                        "which is removed: the next build makes it again")
             self.assertFalse(os.path.exists("l/CXXModules.json"))
 
+    def test_a_damaged_info_file_that_another_step_removes(self):
+        """The program then reports that the file is missing, and that line names it."""
+        self.target("l", {})
+        self.scan("l", "a.cpp")
+        put("program", f'#!/bin/sh\n{shlex.quote(program.PROGRAM)} "$@"\nstatus=$?\nrm -f l/CXXModules.json\nexit $status\n')
+        os.chmod("program", 0o755)
+        for _ in self.both_kinds(linked=["l"]):
+            self.scan("t", "a.cpp")
+            self.adopt()
+            rules = Path("CMakeFiles/rules.ninja")
+            rules.write_text(rules.read_text().replace(program.PROGRAM, f"{os.getcwd()}/program"))
+            put("l/CXXModules.json", "{")
+            self.assertEqual(step("t"), (3, "dyncollate: info 0: S1 NotJson document\n"
+                                            f"dyncollate: cannot read {os.getcwd()}/l/CXXModules.json\n"))
+
     def test_two_linked_targets_with_modules_of_one_name(self):
         for name in "x", "y":
             self.target(name, {"d.cppm": {}})
