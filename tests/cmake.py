@@ -380,6 +380,13 @@ class NinjaFiles(Case):
         put_target("CMakeFiles/app.dir", f"{os.getcwd()}/b", linked=["x.dir"], **{"database-info": None})
         self.fails(f"{start}it links {os.getcwd()}/b/x.dir, whose modules are not collated in this build", "adopt", "b")
 
+    def test_a_prefix_of_the_output_paths(self):
+        """A super-build includes the Ninja file of such a build, and all its paths begin with the prefix."""
+        self.change(self.names[0], lambda text: text.replace("include CMakeFiles/", "include b/CMakeFiles/"))
+        for command in "adopt", "restore", "--generated":
+            self.fails("b has the CMAKE_NINJA_OUTPUT_PATH_PREFIX b/, which is not supported", command, "b")
+            self.assertFalse(os.path.exists("b/CMakeFiles/dyncollate"))
+
     def test_documents_of_another_shape(self):
         """One line names the document and what is different in it, and nothing is changed."""
         name = "b/CMakeFiles/app.dir/CXXDependInfo.json"
