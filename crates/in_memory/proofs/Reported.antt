@@ -1,0 +1,247 @@
+-- The message of each run that fails is that of an error.
+use Rattle.std.proofs.Common.{◌≡◌, ◌∙◌, ℕ, ◌+◌, List, [], ◌∷◌, ◌++◌, length, zip, Option, Some, None, Ok, Err, ap, refl, subst, sym, codes}
+use Rattle.ninja_text.specs.Bytes.{Bytes, Name, PathText, Text}
+use Rattle.ninja_text.specs.declared.failure.Failure.{Failure}
+use Rattle.ninja_text.specs.declared.failure.Failure.TheVariants.{Fault, Memory}
+use Rattle.dyndep_file.specs.StatementValue.{StatementValue}
+use Rattle.dyndep_file.specs.declared.fault.WriteFault.TheVariants as write
+use Rattle.scan_docs.specs.Scan.{SettingValue}
+use Rattle.scan_docs.specs.Target as document
+use Rattle.module_maps.specs.Maps.{Written}
+use Rattle.build_effect.specs.EdgeValue.{EdgeValue}
+use Rattle.collate_core.specs.Documents.{all_rules}
+use Rattle.collate_core.specs.Values.{CollatedValue, TargetValue}
+use Rattle.collate_core.specs.declared.fault.Refusal.{Refusal}
+use Rattle.collate_core.specs.declared.fault.Refusal.TheVariants as refusal
+use Rattle.commands.specs.CollateCommand.{CollateRun, SpecOf, TargetRun, style_of, target_with}
+use Rattle.commands.specs.Dyndeps.{DyndepOf, DyndepRead, IsDyndepRead}
+use Rattle.commands.specs.EdgeChecks.{EdgesPass, GraphPasses, OrderableOf, TextEffectOf}
+use Rattle.commands.specs.Effect.{EffectOf, EffectOfRead, EffectRun, ListingTextOf, NameOf, PrintsListing}
+use Rattle.commands.specs.Files.{FilesOf}
+use Rattle.commands.specs.Folder.{FileCall, FileRead, whole}
+use Rattle.commands.specs.Listings.{IsListingRead, ListingOf, ListingRead, ReadsListing}
+use Rattle.commands.specs.One.{OneRun, one_setting, one_target}
+use Rattle.commands.specs.Order.{OrderOf, OrderOfRead, OrderRun}
+use Rattle.commands.specs.Outcomes.{Comes, Done, LineValue, Outcome, OutputValue, Part, Prints, ReadsAll, ReadsAs, ReadsDocument, ReadsIfNamed, Returns, Writes, goes_on, stops, ◌>>=◌}
+use Rattle.commands.specs.Outcomes as outcomes
+use Rattle.commands.specs.ProjectCommand.{AllEdgesPass, At, FormOf, LinksAndFiles, LinksOf, ProjectDocumentOf, ProjectOf, ProjectRun, ReadTargetValue, TargetAfter, TargetOfFile, TargetsAfter, TargetsRun, names_at, target_text}
+use Rattle.commands.specs.RefusalTexts.{refusal_by_names}
+use Rattle.commands.specs.Show.{DyndepTextOf, ShowOfRead, ShowRun}
+use Rattle.commands.specs.Targets.{TargetOf}
+use Rattle.in_memory.specs.Locations.{CommandError, in_target, in_project, in_scan, in_info, of_modules, of_statement, of_map, of_link, of_name, in_dyndep, in_edges, of_effect, of_listing, of_cycle, of_file, error_text}
+use Rattle.in_memory.specs.Reported.{EachMessageIsOfAnError, IsErrorMessage}
+
+-- the message is that of an error, which names no target of a project
+abbrev IsPlain : LineValue → Type 0
+IsPlain stop = (error : CommandError) × (stop.message ≡ error_text error)
+
+named : (stop : LineValue) → IsPlain stop → IsErrorMessage stop
+named stop (error, is) = (None, error, is)
+
+-- ---- parts of which all messages are such
+
+module _ (Is : LineValue → Type 0) where
+  abbrev All : {V : Type 0} → Part V → Type 0
+  All Run = (calls : List FileCall) (stop : LineValue) → Run calls (Err (Fault stop)) → Is stop
+
+  in_turn : {A B : Type 0} (First : Part A) (Second : A → Part B) → All First → ((value : A) → All (Second value)) → All (First >>= Second)
+  in_turn First Second one two calls stop (goes_on value before after is first second) = two value after stop second
+  in_turn First Second one two calls stop (stops failure first is) =
+      let same : failure ≡ Fault stop = cc in
+      one calls stop (subst (λ (f : Failure LineValue). First calls (Err f)) same first)
+
+  reads_as : {V : Type 0} (Follows : FileRead → V → Type 0) (name : PathText) → Is (outcomes.failed 3 (codes "cannot read " ++ name)) →
+      All (ReadsAs Follows name)
+  reads_as Follows name unread calls stop (call, is) = subst Is (sym is) unread
+
+  reads : (name : PathText) → Is (outcomes.failed 3 (codes "cannot read " ++ name)) → All (ReadsDocument name)
+  reads name unread calls stop (call, is) = subst Is (sym is) unread
+
+-- ---- what is plain
+
+plain : (error : CommandError) → IsPlain (outcomes.refusal (error_text error))
+plain error = (error, refl)
+
+unread : (name : PathText) → IsPlain (outcomes.failed 3 (codes "cannot read " ++ name))
+unread name = (of_file name, refl)
+
+by_names : (setting : SettingValue) (scans : List Text) (names : List Name) (fault : Refusal) →
+    IsPlain (outcomes.refusal (refusal_by_names setting scans names fault))
+by_names setting scans names (refusal.Scan index fault) = plain (in_scan index fault)
+by_names setting scans names (refusal.Info index fault) = plain (in_info index fault)
+by_names setting scans names (refusal.Table fault) = plain (of_modules (all_rules setting scans) names fault)
+by_names setting scans names (refusal.StatementTooLong statement) = plain (of_statement (write.StatementTooLong statement))
+by_names setting scans names (refusal.Map object fault) = plain (of_map (all_rules setting scans) object fault)
+by_names setting scans names refusal.LinkedLater = plain of_link
+
+abbrev Plain : {V : Type 0} → Part V → Type 0
+Plain = All IsPlain
+
+target_of : (target : TargetValue) (style : Option Written) → Plain (TargetOf target style)
+target_of target style calls stop (none, (fault, is, same)) = subst IsPlain (sym same) (by_names target.setting target.scans _ fault)
+
+listing_of : (read : ListingRead) → Plain (ListingOf read)
+listing_of read calls stop (none, (fault, is, same)) = subst IsPlain (sym same) (plain (in_edges fault))
+
+dyndep_of : (read : DyndepRead) → Plain (DyndepOf read)
+dyndep_of read calls stop (none, (fault, is, same)) = subst IsPlain (sym same) (plain (in_dyndep fault))
+
+spec_of : (bytes : Bytes) → Plain (SpecOf bytes)
+spec_of bytes calls stop (none, (fault, is, same)) = subst IsPlain (sym same) (plain (in_target fault))
+
+project_document_of : (bytes : Bytes) → Plain (ProjectDocumentOf bytes)
+project_document_of bytes calls stop (none, (fault, is, same)) = subst IsPlain (sym same) (plain (in_project fault))
+
+name_of : (name : Text) → Plain (NameOf name)
+name_of name calls stop (none, (fault, is, same)) = subst IsPlain (sym same) (plain (of_name fault))
+
+effect_of : (old : List EdgeValue) (path : PathText) (statements : List StatementValue) → Plain (EffectOf old path statements)
+effect_of old path statements calls stop (none, (fault, is, same)) = subst IsPlain (sym same) (plain (of_effect fault))
+
+text_effect_of : (dyndep : Text) (name : PathText) (old : List EdgeValue) → Plain (TextEffectOf dyndep name old)
+text_effect_of dyndep name old calls stop (none, (fault, is, same)) = subst IsPlain (sym same) (plain (of_effect fault))
+
+orderable_of : (old new : List EdgeValue) → Plain (OrderableOf old new)
+orderable_of old new calls stop (none, (fault, is, same)) = subst IsPlain (sym same) (plain (of_cycle old fault.items))
+
+order_of : (edges : List EdgeValue) → Plain (OrderOf edges)
+order_of edges calls stop (none, (fault, is, same)) = subst IsPlain (sym same) (plain (of_cycle edges fault.items))
+
+listing_text_of : (edges : List EdgeValue) → Plain (ListingTextOf edges)
+listing_text_of edges calls stop (none, (fault, is, same)) = subst IsPlain (sym same) (plain (of_listing edges fault))
+
+dyndep_text_of : (statements : List StatementValue) → Plain (DyndepTextOf statements)
+dyndep_text_of statements calls stop (none, (fault, is, same)) = subst IsPlain (sym same) (plain (of_statement fault))
+
+form_of : (earlier : List ReadTargetValue) (spec : document.TargetDocumentValue) → Plain (FormOf earlier spec)
+form_of earlier spec calls stop (none, (fault, is, same)) = subst IsPlain (sym same) (plain (in_target fault))
+
+links_of : (earlier : List ReadTargetValue) (infos : List PathText) → Plain (LinksOf earlier infos)
+links_of earlier infos calls stop (none, (fault, is, same)) = subst IsPlain (sym same) (plain of_link)
+
+edges_pass : (listing : Option ListingRead) (name : PathText) (dyndep : Text) → Plain (EdgesPass listing name dyndep)
+edges_pass None name dyndep = λ calls stop is. absurd is.1.0
+edges_pass (Some listing) name dyndep =
+    in_turn IsPlain (ListingOf listing) (λ old. GraphPasses old name dyndep) (listing_of listing) λ old.
+    in_turn IsPlain (TextEffectOf dyndep name old) (OrderableOf old) (text_effect_of dyndep name old) (orderable_of old)
+
+reads_all : (names : List PathText) → Plain (ReadsAll names)
+reads_all [] = λ calls stop is. absurd is.1.0
+reads_all (name ∷ names) =
+    in_turn IsPlain (ReadsDocument name) (λ bytes. ReadsAll names >>= λ others. Done (bytes ∷ others)) (reads IsPlain name (unread name)) λ bytes.
+    in_turn IsPlain (ReadsAll names) (λ others. Done (bytes ∷ others)) (reads_all names) λ others. λ calls stop is. absurd is.1.0
+
+reads_if_named : (name : Option PathText) → Plain (ReadsIfNamed ReadsListing name)
+reads_if_named None = λ calls stop is. absurd is.1.0
+reads_if_named (Some name) =
+    in_turn IsPlain (ReadsListing name) (λ value. Done (Some value)) (reads_as IsPlain IsListingRead name (unread name)) λ value. λ calls stop is. absurd is.1.0
+
+files : (spec : document.TargetDocumentValue) (linked : List PathText) → Plain (FilesOf spec linked)
+files spec linked =
+    in_turn IsPlain (ReadsAll spec.scans) _ (reads_all spec.scans) λ scans.
+    in_turn IsPlain (ReadsAll linked) _ (reads_all linked) λ infos.
+    in_turn IsPlain (ReadsIfNamed ReadsListing spec.edges) _ (reads_if_named spec.edges) λ listing. λ calls stop is. absurd is.1.0
+
+-- ---- commands
+
+target_run : (spec : document.TargetDocumentValue) → Plain (TargetRun spec)
+target_run spec =
+    in_turn IsPlain (FilesOf spec spec.linked) _ (files spec spec.linked) λ read.
+    in_turn IsPlain (TargetOf (target_with spec read) (style_of spec.map_form)) _ (target_of (target_with spec read) (style_of spec.map_form)) λ collated.
+    in_turn IsPlain (EdgesPass read.listing spec.dyndep_path collated.dyndep) _ (edges_pass read.listing spec.dyndep_path collated.dyndep) λ passed.
+    λ calls stop is. absurd is.1.0
+
+collate_run : (bytes : Bytes) → Plain (CollateRun bytes)
+collate_run bytes = in_turn IsPlain (SpecOf bytes) TargetRun (spec_of bytes) target_run
+
+one_run : (scan : Text) (dir : PathText) (ext : Text) → Plain (OneRun scan dir ext)
+one_run scan dir ext =
+    let target = one_target (one_setting dir ext) scan in
+    in_turn IsPlain (TargetOf target None) (λ collated. Prints collated.dyndep) (target_of target None) λ collated. λ calls stop is. absurd is.1.0
+
+show_run : (dyndep : Text) → Plain (ShowRun dyndep)
+show_run dyndep =
+    in_turn IsPlain (Comes (IsDyndepRead (whole dyndep))) ShowOfRead (λ calls stop none. absurd none) λ read.
+    in_turn IsPlain (DyndepOf read) _ (dyndep_of read) λ statements.
+    in_turn IsPlain (DyndepTextOf statements) Prints (dyndep_text_of statements) λ text. λ calls stop is. absurd is.1.0
+
+order_run : (edges : Text) → Plain (OrderRun edges)
+order_run edges =
+    in_turn IsPlain (Comes (IsListingRead (whole edges))) OrderOfRead (λ calls stop none. absurd none) λ read.
+    in_turn IsPlain (ListingOf read) OrderOf (listing_of read) order_of
+
+effect_run : (name edges dyndep : Text) → Plain (EffectRun name edges dyndep)
+effect_run name edges dyndep =
+    in_turn IsPlain (Comes (IsListingRead (whole edges))) _ (λ calls stop none. absurd none) λ listing.
+    in_turn IsPlain (Comes (IsDyndepRead (whole dyndep))) (EffectOfRead name listing) (λ calls stop none. absurd none) λ read.
+    in_turn IsPlain (NameOf name) _ (name_of name) λ path.
+    in_turn IsPlain (ListingOf listing) _ (listing_of listing) λ old.
+    in_turn IsPlain (DyndepOf read) _ (dyndep_of read) λ statements.
+    in_turn IsPlain (EffectOf old path statements) PrintsListing (effect_of old path statements) λ new.
+    in_turn IsPlain (ListingTextOf new) Prints (listing_text_of new) λ text. λ calls stop is. absurd is.1.0
+
+-- ---- a project
+
+abbrev Reported : {V : Type 0} → Part V → Type 0
+Reported = All IsErrorMessage
+
+reported : {V : Type 0} (Run : Part V) → Plain Run → Reported Run
+reported Run are calls stop is = named stop (are calls stop is)
+
+-- a part about one target
+at_target : {V : Type 0} (index : ℕ) (Run : Part V) → Plain Run → Reported (At index Run)
+at_target index Run are calls stop (Ok value, holds, is) = cc
+at_target index Run are calls stop (Err Memory, holds, is) = absurd is
+at_target index Run are calls stop (Err (Fault own), holds, is) =
+    let (error, same) = are calls own holds in
+    (Some index, error, ap (λ (l : LineValue). l.message) is ∙ ap (target_text index) same)
+
+links_and_files : (earlier : List ReadTargetValue) (spec : document.TargetDocumentValue) → Reported (LinksAndFiles earlier spec)
+links_and_files earlier spec =
+    in_turn IsErrorMessage (At (length earlier) (FormOf earlier spec)) _
+    (at_target (length earlier) (FormOf earlier spec) (form_of earlier spec)) λ form.
+    in_turn IsErrorMessage (At (length earlier) (LinksOf earlier spec.linked)) _
+    (at_target (length earlier) (LinksOf earlier spec.linked) (links_of earlier spec.linked)) λ linked.
+    in_turn IsErrorMessage (FilesOf spec []) _ (reported (FilesOf spec []) (files spec [])) λ read. λ calls stop is. absurd is.1.0
+
+target_of_file : (earlier : List ReadTargetValue) (name : PathText) → Reported (TargetOfFile earlier name)
+target_of_file earlier name =
+    in_turn IsErrorMessage (ReadsDocument name) (TargetAfter earlier) (reported (ReadsDocument name) (reads IsPlain name (unread name))) λ bytes.
+    in_turn IsErrorMessage (At (length earlier) (SpecOf bytes)) _ (at_target (length earlier) (SpecOf bytes) (spec_of bytes)) λ spec.
+    in_turn IsErrorMessage (LinksAndFiles earlier spec) _ (links_and_files earlier spec) λ read. λ calls stop is. absurd is.1.0
+
+targets_after : (earlier : List ReadTargetValue) (names : List PathText) → Reported (TargetsAfter earlier names)
+targets_after earlier [] = λ calls stop is. absurd is.1.0
+targets_after earlier (name ∷ names) =
+    in_turn IsErrorMessage (TargetOfFile earlier name) (λ target. TargetsAfter (earlier ++ target ∷ []) names) (target_of_file earlier name) λ target.
+    targets_after (earlier ++ target ∷ []) names
+
+project_of : (targets : List ReadTargetValue) → Reported (ProjectOf targets)
+project_of targets calls stop (none, (at, is, says)) =
+    let t = at.target in
+    let (error, same) = by_names t.spec.setting t.scans (names_at targets t.linked) at.refusal in
+    (Some at.index, error, ap (λ (l : LineValue). l.message) says ∙ ap (target_text at.index) same)
+
+all_pass : (index : ℕ) (pairs : List (ReadTargetValue × CollatedValue)) → Reported (AllEdgesPass index pairs)
+all_pass index [] = λ calls stop is. absurd is.1.0
+all_pass index ((t, c) ∷ others) =
+    in_turn IsErrorMessage (At index (EdgesPass t.listing t.spec.dyndep_path c.dyndep)) _
+    (at_target index (EdgesPass t.listing t.spec.dyndep_path c.dyndep) (edges_pass t.listing t.spec.dyndep_path c.dyndep)) λ passed.
+    all_pass (index + 1) others
+
+project_run : (bytes : Bytes) → Reported (ProjectRun bytes)
+project_run bytes =
+    in_turn IsErrorMessage (ProjectDocumentOf bytes) _ (reported (ProjectDocumentOf bytes) (project_document_of bytes)) λ project.
+    in_turn IsErrorMessage (TargetsAfter [] project.targets) TargetsRun (targets_after [] project.targets) λ targets.
+    in_turn IsErrorMessage (ProjectOf targets) _ (project_of targets) λ outs.
+    in_turn IsErrorMessage (AllEdgesPass 0 (zip targets outs)) _ (all_pass 0 (zip targets outs)) λ passed. λ calls stop is. absurd is.1.0
+
+pub each_message : EachMessageIsOfAnError
+each_message = record {
+  collate = λ document. reported (CollateRun document) (collate_run document);
+  project = project_run;
+  one = λ scan dir ext. reported (OneRun scan dir ext) (one_run scan dir ext);
+  effect = λ name edges dyndep. reported (EffectRun name edges dyndep) (effect_run name edges dyndep);
+  order = λ edges. reported (OrderRun edges) (order_run edges);
+  show = λ dyndep. reported (ShowRun dyndep) (show_run dyndep);
+}
