@@ -32,8 +32,8 @@
    error is reported.
 
    WHAT YOU PASS
-     A string is a pointer to bytes and their count. It needs no zero at its end. No pointer may be
-     NULL, not even with the count 0.
+     A string is a pointer to bytes and their count. It needs no zero at its end. A pointer whose count
+     is 0 may be NULL, also those of `lengths`, `numbers` and `text`.
      Several files are one string `files`, in which the name and the bytes of each file follow each
      other, and `lengths`, which has two numbers per file: the length of its name, and of its bytes.
      `length_count` counts these numbers. If a name is there twice, its first file is used. A file
@@ -58,8 +58,8 @@
      The functions are proved against contracts that say byte for byte what they write, in terms of
      the definitions that also specify the program: same bytes, same order, same errors. In the
      sources of dyncollate, docs/PROVED.md says what is proved and what is trusted.
-     Your side of the contract is not checked: a pointer that is NULL and a count that is too large
-     are undefined behaviour, as for memcpy.
+     Your side of the contract is not checked: if a pointer has fewer elements than its count says, the
+     behaviour is undefined.
      A call allocates with malloc, realloc and free, and calls nothing else of the system. There is
      no global state, so any number of threads may call at once. The same bytes give the same
      result. */

@@ -22,7 +22,7 @@ namespace dyncollate {
 
 namespace detail {
 
-inline const std::uint8_t *bytes(std::string_view text) { return reinterpret_cast<const std::uint8_t *>(text.empty() ? "" : text.data()); }
+inline const std::uint8_t *bytes(std::string_view text) { return reinterpret_cast<const std::uint8_t *>(text.data()); }
 
 }  // namespace detail
 
@@ -101,7 +101,6 @@ template <class Files, class Function>
 std::vector<file> collated(Function function, std::string_view document, const Files &files)
 {
     std::vector<std::size_t> lengths;
-    lengths.reserve(1);  // so that it has a pointer, also for no files
     std::string joined;
     for (const auto &[name, data] : files) {
         lengths.insert(lengths.end(), {name.size(), data.size()});

@@ -267,6 +267,11 @@ class InC(InRoom):
             failed = re.fullmatch(r"(\d+) of \d+\n", output_of(program, command, *files))
             self.assertGreater(int(failed[1]), 0, command)
 
+    def test_null_pointers(self):
+        """A null pointer with the count 0 is like any other pointer to nothing."""
+        program = embedded.compiled("gcc", *SANITIZED, f"{TOP}/tests/null_pointers.c", embedded.STATIC, to=self.room / "null_pointers")
+        self.assertEqual(output_of(program), "225 alike\n")
+
     def test_threads(self):
         program = self.built("threads", "-std=c11", "-D_GNU_SOURCE", "-O1", "-fsanitize=thread", "-pthread")
         if "unexpected memory mapping" in run(program)[1]:
