@@ -189,7 +189,8 @@ typedef struct dyncollate_location {
        dyncollate: target 2: scan 0: S6 BadName rule 1 requires 3
    document is DYNCOLLATE_SCAN, letter 'S', number 6, list DYNCOLLATE_REQUIRES, target 2, index 0,
    item 1 and entry 3, and line and offset are DYNCOLLATE_ABSENT. */
-dyncollate_location dyncollate_locate(const uint8_t *line, size_t line_size);
+dyncollate_location dyncollate_locate(
+    const uint8_t *line, size_t line_size);
 
 #ifdef __cplusplus
 }
