@@ -14,19 +14,19 @@ use Rattle.collate_core.specs.Values.{CollatedValue, TargetValue}
 use Rattle.collate_core.specs.declared.fault.Refusal.{Refusal}
 use Rattle.collate_core.specs.declared.fault.Refusal.TheVariants as refusal
 use Rattle.commands.specs.CollateCommand.{CollateRun, SpecOf, TargetRun, style_of, target_with}
-use Rattle.commands.specs.Dyndeps.{DyndepOf, DyndepRead, IsDyndepRead}
-use Rattle.commands.specs.EdgeChecks.{EdgesPass, GraphPasses, OrderableOf, TextEffectOf}
-use Rattle.commands.specs.Effect.{EffectOf, EffectOfRead, EffectRun, ListingTextOf, NameOf, PrintsListing}
+use Rattle.commands.specs.Dyndeps.{DyndepOf, DyndepRead}
+use Rattle.commands.specs.EdgeChecks.{EdgesPass, OrderableOf, TextEffectOf}
+use Rattle.commands.specs.Effect.{EffectOf, EffectRun, ListingTextOf, NameOf}
 use Rattle.commands.specs.Files.{FilesOf}
-use Rattle.commands.specs.Folder.{FileCall, FileRead, whole}
+use Rattle.commands.specs.Folder.{FileCall, FileRead}
 use Rattle.commands.specs.Listings.{IsListingRead, ListingOf, ListingRead, ReadsListing}
 use Rattle.commands.specs.One.{OneRun, one_setting, one_target}
-use Rattle.commands.specs.Order.{OrderOf, OrderOfRead, OrderRun}
+use Rattle.commands.specs.Order.{OrderOf, OrderRun}
 use Rattle.commands.specs.Outcomes.{Comes, Done, LineValue, Outcome, OutputValue, Part, Prints, ReadsAll, ReadsAs, ReadsDocument, ReadsIfNamed, Returns, Writes, goes_on, stops, ◌>>=◌}
 use Rattle.commands.specs.Outcomes as outcomes
-use Rattle.commands.specs.ProjectCommand.{AllEdgesPass, At, FormOf, LinksAndFiles, LinksOf, ProjectDocumentOf, ProjectOf, ProjectRun, ReadTargetValue, TargetAfter, TargetOfFile, TargetsAfter, TargetsRun, names_at, target_text}
+use Rattle.commands.specs.ProjectCommand.{AllEdgesPass, At, FormOf, LinksAndFiles, LinksOf, ProjectDocumentOf, ProjectOf, ProjectRun, ReadTargetValue, TargetOfFile, TargetsAfter, names_at, target_text}
 use Rattle.commands.specs.RefusalTexts.{refusal_by_names}
-use Rattle.commands.specs.Show.{DyndepTextOf, ShowOfRead, ShowRun}
+use Rattle.commands.specs.Show.{DyndepTextOf, ShowRun}
 use Rattle.commands.specs.Targets.{TargetOf}
 use Rattle.in_memory.specs.Locations.{CommandError, in_target, in_project, in_scan, in_info, of_modules, of_statement, of_map, of_link, of_name, in_dyndep, in_edges, of_effect, of_listing, of_cycle, of_file, error_text}
 use Rattle.in_memory.specs.Reported.{EachMessageIsOfAnError, IsErrorMessage}
@@ -44,9 +44,9 @@ module _ (Is : LineValue → Type 0) where
   abbrev All : {V : Type 0} → Part V → Type 0
   All Run = (calls : List FileCall) (stop : LineValue) → Run calls (Err (Fault stop)) → Is stop
 
-  in_turn : {A B : Type 0} (First : Part A) (Second : A → Part B) → All First → ((value : A) → All (Second value)) → All (First >>= Second)
-  in_turn First Second one two calls stop (goes_on value before after is first second) = two value after stop second
-  in_turn First Second one two calls stop (stops failure first is) =
+  in_turn : {A B : Type 0} {First : Part A} {Second : A → Part B} → All First → ((value : A) → All (Second value)) → All (First >>= Second)
+  in_turn one two calls stop (goes_on value before after is first second) = two value after stop second
+  in_turn {First = First} one two calls stop (stops failure first is) =
       let same : failure ≡ Fault stop = cc in
       one calls stop (subst (λ (f : Failure LineValue). First calls (Err f)) same first)
 
@@ -121,64 +121,55 @@ links_of earlier infos calls stop (none, (fault, is, same)) = subst IsPlain (sym
 
 edges_pass : (listing : Option ListingRead) (name : PathText) (dyndep : Text) → Plain (EdgesPass listing name dyndep)
 edges_pass None name dyndep = λ calls stop is. absurd is.1.0
-edges_pass (Some listing) name dyndep =
-    in_turn IsPlain (ListingOf listing) (λ old. GraphPasses old name dyndep) (listing_of listing) λ old.
-    in_turn IsPlain (TextEffectOf dyndep name old) (OrderableOf old) (text_effect_of dyndep name old) (orderable_of old)
+edges_pass (Some listing) name dyndep = in_turn IsPlain (listing_of listing) λ old. in_turn IsPlain (text_effect_of dyndep name old) (orderable_of old)
 
 reads_all : (names : List PathText) → Plain (ReadsAll names)
 reads_all [] = λ calls stop is. absurd is.1.0
 reads_all (name ∷ names) =
-    in_turn IsPlain (ReadsDocument name) (λ bytes. ReadsAll names >>= λ others. Done (bytes ∷ others)) (reads IsPlain name (unread name)) λ bytes.
-    in_turn IsPlain (ReadsAll names) (λ others. Done (bytes ∷ others)) (reads_all names) λ others. λ calls stop is. absurd is.1.0
+    in_turn IsPlain (reads IsPlain name (unread name)) λ bytes. in_turn IsPlain (reads_all names) λ others calls stop is. absurd is.1.0
 
 reads_if_named : (name : Option PathText) → Plain (ReadsIfNamed ReadsListing name)
 reads_if_named None = λ calls stop is. absurd is.1.0
-reads_if_named (Some name) =
-    in_turn IsPlain (ReadsListing name) (λ value. Done (Some value)) (reads_as IsPlain IsListingRead name (unread name)) λ value. λ calls stop is. absurd is.1.0
+reads_if_named (Some name) = in_turn IsPlain (reads_as IsPlain IsListingRead name (unread name)) λ value calls stop is. absurd is.1.0
 
 files : (spec : document.TargetDocumentValue) (linked : List PathText) → Plain (FilesOf spec linked)
 files spec linked =
-    in_turn IsPlain (ReadsAll spec.scans) _ (reads_all spec.scans) λ scans.
-    in_turn IsPlain (ReadsAll linked) _ (reads_all linked) λ infos.
-    in_turn IsPlain (ReadsIfNamed ReadsListing spec.edges) _ (reads_if_named spec.edges) λ listing. λ calls stop is. absurd is.1.0
+    in_turn IsPlain (reads_all spec.scans) λ scans.
+    in_turn IsPlain (reads_all linked) λ infos.
+    in_turn IsPlain (reads_if_named spec.edges) λ listing calls stop is. absurd is.1.0
 
 -- ---- commands
 
 target_run : (spec : document.TargetDocumentValue) → Plain (TargetRun spec)
 target_run spec =
-    in_turn IsPlain (FilesOf spec spec.linked) _ (files spec spec.linked) λ read.
-    in_turn IsPlain (TargetOf (target_with spec read) (style_of spec.map_form)) _ (target_of (target_with spec read) (style_of spec.map_form)) λ collated.
-    in_turn IsPlain (EdgesPass read.listing spec.dyndep_path collated.dyndep) _ (edges_pass read.listing spec.dyndep_path collated.dyndep) λ passed.
-    λ calls stop is. absurd is.1.0
+    in_turn IsPlain (files spec spec.linked) λ read.
+    in_turn IsPlain (target_of (target_with spec read) (style_of spec.map_form)) λ collated.
+    in_turn IsPlain (edges_pass read.listing spec.dyndep_path collated.dyndep) λ passed calls stop is. absurd is.1.0
 
 collate_run : (bytes : Bytes) → Plain (CollateRun bytes)
-collate_run bytes = in_turn IsPlain (SpecOf bytes) TargetRun (spec_of bytes) target_run
+collate_run bytes = in_turn IsPlain (spec_of bytes) target_run
 
 one_run : (scan : Text) (dir : PathText) (ext : Text) → Plain (OneRun scan dir ext)
-one_run scan dir ext =
-    let target = one_target (one_setting dir ext) scan in
-    in_turn IsPlain (TargetOf target None) (λ collated. Prints collated.dyndep) (target_of target None) λ collated. λ calls stop is. absurd is.1.0
+one_run scan dir ext = in_turn IsPlain (target_of (one_target (one_setting dir ext) scan) None) λ collated calls stop is. absurd is.1.0
 
 show_run : (dyndep : Text) → Plain (ShowRun dyndep)
 show_run dyndep =
-    in_turn IsPlain (Comes (IsDyndepRead (whole dyndep))) ShowOfRead (λ calls stop none. absurd none) λ read.
-    in_turn IsPlain (DyndepOf read) _ (dyndep_of read) λ statements.
-    in_turn IsPlain (DyndepTextOf statements) Prints (dyndep_text_of statements) λ text. λ calls stop is. absurd is.1.0
+    in_turn IsPlain (λ calls stop none. absurd none) λ read.
+    in_turn IsPlain (dyndep_of read) λ statements.
+    in_turn IsPlain (dyndep_text_of statements) λ text calls stop is. absurd is.1.0
 
 order_run : (edges : Text) → Plain (OrderRun edges)
-order_run edges =
-    in_turn IsPlain (Comes (IsListingRead (whole edges))) OrderOfRead (λ calls stop none. absurd none) λ read.
-    in_turn IsPlain (ListingOf read) OrderOf (listing_of read) order_of
+order_run edges = in_turn IsPlain (λ calls stop none. absurd none) λ read. in_turn IsPlain (listing_of read) order_of
 
 effect_run : (name edges dyndep : Text) → Plain (EffectRun name edges dyndep)
 effect_run name edges dyndep =
-    in_turn IsPlain (Comes (IsListingRead (whole edges))) _ (λ calls stop none. absurd none) λ listing.
-    in_turn IsPlain (Comes (IsDyndepRead (whole dyndep))) (EffectOfRead name listing) (λ calls stop none. absurd none) λ read.
-    in_turn IsPlain (NameOf name) _ (name_of name) λ path.
-    in_turn IsPlain (ListingOf listing) _ (listing_of listing) λ old.
-    in_turn IsPlain (DyndepOf read) _ (dyndep_of read) λ statements.
-    in_turn IsPlain (EffectOf old path statements) PrintsListing (effect_of old path statements) λ new.
-    in_turn IsPlain (ListingTextOf new) Prints (listing_text_of new) λ text. λ calls stop is. absurd is.1.0
+    in_turn IsPlain (λ calls stop none. absurd none) λ listing.
+    in_turn IsPlain (λ calls stop none. absurd none) λ read.
+    in_turn IsPlain (name_of name) λ path.
+    in_turn IsPlain (listing_of listing) λ old.
+    in_turn IsPlain (dyndep_of read) λ statements.
+    in_turn IsPlain (effect_of old path statements) λ new.
+    in_turn IsPlain (listing_text_of new) λ text calls stop is. absurd is.1.0
 
 -- ---- a project
 
@@ -198,23 +189,19 @@ at_target index Run are calls stop (Err (Fault own), holds, is) =
 
 links_and_files : (earlier : List ReadTargetValue) (spec : document.TargetDocumentValue) → Reported (LinksAndFiles earlier spec)
 links_and_files earlier spec =
-    in_turn IsErrorMessage (At (length earlier) (FormOf earlier spec)) _
-    (at_target (length earlier) (FormOf earlier spec) (form_of earlier spec)) λ form.
-    in_turn IsErrorMessage (At (length earlier) (LinksOf earlier spec.linked)) _
-    (at_target (length earlier) (LinksOf earlier spec.linked) (links_of earlier spec.linked)) λ linked.
-    in_turn IsErrorMessage (FilesOf spec []) _ (reported (FilesOf spec []) (files spec [])) λ read. λ calls stop is. absurd is.1.0
+    in_turn IsErrorMessage (at_target (length earlier) (FormOf earlier spec) (form_of earlier spec)) λ form.
+    in_turn IsErrorMessage (at_target (length earlier) (LinksOf earlier spec.linked) (links_of earlier spec.linked)) λ linked.
+    in_turn IsErrorMessage (reported (FilesOf spec []) (files spec [])) λ read calls stop is. absurd is.1.0
 
 target_of_file : (earlier : List ReadTargetValue) (name : PathText) → Reported (TargetOfFile earlier name)
 target_of_file earlier name =
-    in_turn IsErrorMessage (ReadsDocument name) (TargetAfter earlier) (reported (ReadsDocument name) (reads IsPlain name (unread name))) λ bytes.
-    in_turn IsErrorMessage (At (length earlier) (SpecOf bytes)) _ (at_target (length earlier) (SpecOf bytes) (spec_of bytes)) λ spec.
-    in_turn IsErrorMessage (LinksAndFiles earlier spec) _ (links_and_files earlier spec) λ read. λ calls stop is. absurd is.1.0
+    in_turn IsErrorMessage (reported (ReadsDocument name) (reads IsPlain name (unread name))) λ bytes.
+    in_turn IsErrorMessage (at_target (length earlier) (SpecOf bytes) (spec_of bytes)) λ spec.
+    in_turn IsErrorMessage (links_and_files earlier spec) λ read calls stop is. absurd is.1.0
 
 targets_after : (earlier : List ReadTargetValue) (names : List PathText) → Reported (TargetsAfter earlier names)
 targets_after earlier [] = λ calls stop is. absurd is.1.0
-targets_after earlier (name ∷ names) =
-    in_turn IsErrorMessage (TargetOfFile earlier name) (λ target. TargetsAfter (earlier ++ target ∷ []) names) (target_of_file earlier name) λ target.
-    targets_after (earlier ++ target ∷ []) names
+targets_after earlier (name ∷ names) = in_turn IsErrorMessage (target_of_file earlier name) λ target. targets_after (earlier ++ target ∷ []) names
 
 project_of : (targets : List ReadTargetValue) → Reported (ProjectOf targets)
 project_of targets calls stop (none, (at, is, says)) =
@@ -225,16 +212,16 @@ project_of targets calls stop (none, (at, is, says)) =
 all_pass : (index : ℕ) (pairs : List (ReadTargetValue × CollatedValue)) → Reported (AllEdgesPass index pairs)
 all_pass index [] = λ calls stop is. absurd is.1.0
 all_pass index ((t, c) ∷ others) =
-    in_turn IsErrorMessage (At index (EdgesPass t.listing t.spec.dyndep_path c.dyndep)) _
-    (at_target index (EdgesPass t.listing t.spec.dyndep_path c.dyndep) (edges_pass t.listing t.spec.dyndep_path c.dyndep)) λ passed.
+    let listing = t.listing in
+    in_turn IsErrorMessage (at_target index (EdgesPass listing t.spec.dyndep_path c.dyndep) (edges_pass listing t.spec.dyndep_path c.dyndep)) λ passed.
     all_pass (index + 1) others
 
 project_run : (bytes : Bytes) → Reported (ProjectRun bytes)
 project_run bytes =
-    in_turn IsErrorMessage (ProjectDocumentOf bytes) _ (reported (ProjectDocumentOf bytes) (project_document_of bytes)) λ project.
-    in_turn IsErrorMessage (TargetsAfter [] project.targets) TargetsRun (targets_after [] project.targets) λ targets.
-    in_turn IsErrorMessage (ProjectOf targets) _ (project_of targets) λ outs.
-    in_turn IsErrorMessage (AllEdgesPass 0 (zip targets outs)) _ (all_pass 0 (zip targets outs)) λ passed. λ calls stop is. absurd is.1.0
+    in_turn IsErrorMessage (reported (ProjectDocumentOf bytes) (project_document_of bytes)) λ project.
+    in_turn IsErrorMessage (targets_after [] project.targets) λ targets.
+    in_turn IsErrorMessage (project_of targets) λ outs.
+    in_turn IsErrorMessage (all_pass 0 (zip targets outs)) λ passed calls stop is. absurd is.1.0
 
 pub each_message : EachMessageIsOfAnError
 each_message = record {

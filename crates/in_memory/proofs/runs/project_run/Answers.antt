@@ -13,7 +13,8 @@ returns c =
     let old = c.in_ok-folder.folder in
     let new = c.collate_project-outcome.new.folder in
     let over = run_over c.args.files.now old.files.now new.files.now old.history.calls new.history.calls
-    (ProjectRun c.args.document.now) c.collate_project-outcome.result c.in_ok-folder.ensures.files c.in_ok-folder.ensures.calls new.got c.collate_project-outcome.ensures in
+    (ProjectRun c.args.document.now) c.collate_project-outcome.result c.in_ok-folder.ensures.files c.in_ok-folder.ensures.calls new.got
+    c.collate_project-outcome.ensures in
     (c.collate_project-outcome.result, over, c.of.ensures)
 
 -- there was no memory for the folder, so no call was made
