@@ -90,14 +90,16 @@ message (Some target) error = target_text target (error_text error)
 abbrev pub absent : ℕ
 absent = 18446744073709551615
 
--- The numbers after the name of an error: the list, the item, the entry and the offset.
+-- The numbers after the name of an error. They are the list, which is 1 `provides`, 2 `requires`, 3
+-- the paths of a statement, or 0; the item, which is a rule, a module or a statement; the entry of
+-- the list; and the offset of a byte.
 abbrev pub Spot : Type 0
 Spot = ℕ × ℕ × ℕ × ℕ
 
 abbrev pub no_spot : Spot
 no_spot = (0, absent, absent, absent)
 
--- a rule or a module, and an entry of its `provides` (1) or `requires` (2)
+-- a rule or a module, and an entry of a list of it
 abbrev pub place_spot : Place → Spot
 place_spot place.Document = no_spot
 place_spot (place.Rule rule) = (0, rule, absent, absent)
@@ -106,15 +108,15 @@ place_spot (place.Requires rule entry) = (2, rule, entry, absent)
 place_spot (place.Module index) = (0, index, absent, absent)
 place_spot (place.ModuleRequires index entry) = (2, index, entry, absent)
 
--- a path (3) of a statement
+-- a path of a statement
 abbrev pub path_spot : ℕ → ℕ → Spot
 path_spot statement path = (3, statement, path, absent)
 
--- Which error it is: the letter and the number of its code, and the numbers after its name.
+-- Which error it is: the letter of its code, in ASCII, the number, and the numbers after its name.
 abbrev pub Which : Type 0
 Which = ℕ × ℕ × Spot
 
--- the errors with these letters
+-- the errors whose codes have these letters
 abbrev pub E : ℕ → Spot → Which
 E number at = (69, number, at)
 
@@ -239,7 +241,9 @@ which (of_listing edges fault) = listing_which fault
 which (of_cycle edges cycle) = (0, 0, no_spot)
 which (of_file name) = (0, 0, no_spot)
 
--- What has an error: which kind of document or file, its index, and the line in it.
+-- Where an error is: the document, its index, and the line in it. The documents are 1 a target
+-- document, 2 a project document, 3 a scan document, 4 an info file, 5 an edge list, 6 the argument
+-- `name`, and 7 a dyndep file; or 0, if the error is in none of these alone.
 abbrev pub Where : Type 0
 Where = ℕ × ℕ × ℕ
 
@@ -251,23 +255,15 @@ abbrev pub in_listing : ListFault → Where
 in_listing (edges.AtLine fault) = (5, absent, fault.line)
 in_listing (edges.NoGraph fault) = (0, absent, absent)
 
--- what has an error of a command
 abbrev pub place_of : CommandError → Where
 place_of (in_target fault) = (1, absent, absent)
 place_of (in_project fault) = (2, absent, absent)
 place_of (in_scan index fault) = (3, index, absent)
 place_of (in_info index fault) = (4, index, absent)
-place_of (of_modules objects names fault) = (0, absent, absent)
-place_of (of_statement fault) = (0, absent, absent)
-place_of (of_map objects object fault) = (0, absent, absent)
-place_of of_link = (0, absent, absent)
+place_of (in_edges fault) = in_listing fault
 place_of (of_name fault) = (6, absent, absent)
 place_of (in_dyndep fault) = in_line fault
-place_of (in_edges fault) = in_listing fault
-place_of (of_effect fault) = (0, absent, absent)
-place_of (of_listing edges fault) = (0, absent, absent)
-place_of (of_cycle edges cycle) = (0, absent, absent)
-place_of (of_file name) = (0, absent, absent)
+place_of error = (0, absent, absent)
 
 -- ---- locations
 

@@ -7,6 +7,28 @@ ghost use Rattle.in_memory.specs.inner.Lines.{code, document, from_space, in_doc
 /// Stands for a number that an error does not have.
 const ABSENT: usize = usize::MAX;
 
+// the documents
+const TARGET: usize = 1;
+
+const PROJECT: usize = 2;
+
+const SCAN: usize = 3;
+
+const INFO: usize = 4;
+
+const EDGES: usize = 5;
+
+const NAME: usize = 6;
+
+const DYNDEP: usize = 7;
+
+// the lists
+const PROVIDES: usize = 1;
+
+const REQUIRES: usize = 2;
+
+const PATHS: usize = 3;
+
 /// Where an error is, and which error it is. If the error has no such number, the first four are 0,
 /// and the others `usize::MAX`.
 #[repr(C)]
@@ -79,17 +101,17 @@ fn document(text: &[u8]) -> (usize, usize, &[u8])
     ensures { (result.0, result.1, result.2.now) ≡ document text.now }
 {
     if let Some((index, rest)) = labelled(text, b"scan ") {
-        (3, index, rest)
+        (SCAN, index, rest)
     } else if let Some((index, rest)) = labelled(text, b"info ") {
-        (4, index, rest)
+        (INFO, index, rest)
     } else if let Some(rest) = text.strip_prefix(b"target: ") {
-        (1, ABSENT, rest)
+        (TARGET, ABSENT, rest)
     } else if let Some(rest) = text.strip_prefix(b"project: ") {
-        (2, ABSENT, rest)
+        (PROJECT, ABSENT, rest)
     } else if let Some(rest) = text.strip_prefix(b"edges: ") {
-        (5, ABSENT, rest)
+        (EDGES, ABSENT, rest)
     } else if let Some(rest) = text.strip_prefix(b"name: ") {
-        (6, ABSENT, rest)
+        (NAME, ABSENT, rest)
     } else {
         (0, ABSENT, text)
     }
@@ -101,7 +123,7 @@ fn lined(document: usize, text: &[u8]) -> (usize, usize, &[u8])
     ensures { (result.0, result.1, result.2.now) ≡ lined document text.now }
 {
     match labelled(text, b"line ") {
-        Some((line, rest)) if document == 0 => (7, line, rest),
+        Some((line, rest)) if document == 0 => (DYNDEP, line, rest),
         Some((line, rest)) => (document, line, rest),
         None => (document, ABSENT, text),
     }
@@ -168,9 +190,9 @@ fn in_item(item: usize, text: &[u8]) -> (usize, usize, usize, usize)
     ensures { result ≡ in_item item text.now }
 {
     if let Some((entry, _)) = numbered(text, b" provides ") {
-        (1, item, entry, ABSENT)
+        (PROVIDES, item, entry, ABSENT)
     } else if let Some((entry, _)) = numbered(text, b" requires ") {
-        (2, item, entry, ABSENT)
+        (REQUIRES, item, entry, ABSENT)
     } else {
         (0, item, ABSENT, ABSENT)
     }
@@ -192,7 +214,7 @@ fn in_path(statement: usize, text: &[u8]) -> (usize, usize, usize, usize)
     ensures { result ≡ in_path statement text.now }
 {
     if let Some((path, _)) = numbered(text, b" path ") {
-        (3, statement, path, ABSENT)
+        (PATHS, statement, path, ABSENT)
     } else {
         (0, statement, ABSENT, ABSENT)
     }
