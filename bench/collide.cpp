@@ -7,7 +7,7 @@
 //                                     BITS bits, as far as there are such, so that they start in few groups of a table
 //   collide names DIGEST BITS COUNT   names whose hashes under the key DIGEST are zero in their last BITS bits
 // DIGEST is a SHA-512 digest as sha512sum prints it. The hash under it is the SipHash-1-3 of std, which has first hashed the digest.
-// Whoever knows the digest can choose such names, so the key of a table has to depend on all its entries and on where they end.
+// Whoever knows the digest can choose such names, so the key of a table has to depend on all its entries and on their lengths.
 #include <algorithm>
 #include <cstddef>
 #include <cstdint>

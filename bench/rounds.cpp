@@ -1,7 +1,7 @@
 // Runs programs in turn and tells what they take: rounds ROUNDS STATUS DIR PROGRAM [DIR PROGRAM].. -- WORDS.. runs each
 // program with the words, in each round, in its directory DIR, whose files out and err take what it prints. It prints
 // a line for each program: the processor time of its fastest run and of its median one, in milliseconds, and the
-// kilobytes that it held at most. It fails where a run ends with another status than STATUS.
+// kilobytes that it held at most. It fails if a run ends with another status than STATUS.
 #include <fcntl.h>
 #include <spawn.h>
 #include <sys/resource.h>

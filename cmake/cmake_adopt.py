@@ -74,6 +74,8 @@ def ninja_files(build):
     for name in f"{build}/build.ninja", f"{build}/CMakeFiles/rules.ninja":
         if not texts.get(name, "").startswith(MADE_BY_CMAKE):
             raise Wrong(f"{name} is not as CMake writes it: run `cmake` again")
+    for prefix in re.findall(r"^include (.+)CMakeFiles/rules\.ninja$", "\n".join(texts.values()), re.M):
+        raise Wrong(f"{build} has the CMAKE_NINJA_OUTPUT_PATH_PREFIX {prefix}, which is not supported")
     return texts
 
 

@@ -117,6 +117,9 @@ def explained(program, status, name):
         raise Wrong(f"{program} was killed by signal {status - SIGNAL}", 3)
     again = subprocess.run([program, "collate", name], stderr=subprocess.PIPE, check=False)
     if again.returncode:
+        if again.returncode != status:
+            # The step of another target has removed the damaged info file: this line has its name
+            sys.stderr.write(os.fsdecode(again.stderr))
         explainer = program_beside(program, "dyncollate-explain")
         if explainer:
             subprocess.run([explainer, name, "-"], input=again.stderr, check=False)

@@ -32,8 +32,8 @@
    error is reported.
 
    WHAT YOU PASS
-     A string is a pointer to bytes and their count. It needs no zero at its end. No pointer may be
-     NULL, not even with the count 0.
+     A string is a pointer to bytes and their count. It needs no zero at its end. A pointer whose count
+     is 0 may be NULL, also those of `lengths`, `numbers` and `text`.
      Several files are one string `files`, in which the name and the bytes of each file follow each
      other, and `lengths`, which has two numbers per file: the length of its name, and of its bytes.
      `length_count` counts these numbers. If a name is there twice, its first file is used. A file
@@ -58,8 +58,8 @@
      The functions are proved against contracts that say byte for byte what they write, in terms of
      the definitions that also specify the program: same bytes, same order, same errors. In the
      sources of dyncollate, docs/PROVED.md says what is proved and what is trusted.
-     Your side of the contract is not checked: a pointer that is NULL and a count that is too large
-     are undefined behaviour, as for memcpy.
+     Your side of the contract is not checked: if a pointer has fewer elements than its count says, the
+     behaviour is undefined.
      A call allocates with malloc, realloc and free, and calls nothing else of the system. There is
      no global state, so any number of threads may call at once. The same bytes give the same
      result. */
@@ -146,6 +146,51 @@ dyncollate_outcome dyncollate_show(
 dyncollate_outcome dyncollate_statements(
     const uint8_t *dyndep, size_t dyndep_size,
     size_t *numbers, size_t numbers_room, uint8_t *text, size_t text_room);
+
+/* What has an error. */
+enum {
+    DYNCOLLATE_TARGET = 1, /* a target document */
+    DYNCOLLATE_PROJECT,    /* a project document */
+    DYNCOLLATE_SCAN,       /* a scan document */
+    DYNCOLLATE_INFO,       /* an info file */
+    DYNCOLLATE_EDGES,      /* an edge list */
+    DYNCOLLATE_NAME,       /* the argument `name` of dyncollate_effect */
+    DYNCOLLATE_DYNDEP      /* a dyndep file */
+};
+
+/* The lists that an entry can be in. */
+enum {
+    DYNCOLLATE_PROVIDES = 1, /* `provides` of a rule */
+    DYNCOLLATE_REQUIRES,     /* `requires` of a rule or of a module */
+    DYNCOLLATE_PATHS         /* the output, implicit outputs and implicit inputs of a statement */
+};
+
+/* Stands for a number that an error does not have. */
+#define DYNCOLLATE_ABSENT ((size_t)-1)
+
+/* Where an error is, and which error it is. If the error has no such number, the first four are 0, and
+   the others DYNCOLLATE_ABSENT. Indexes count from 0, and lines from 1. */
+typedef struct dyncollate_location {
+    size_t document; /* what has the error, such as DYNCOLLATE_SCAN; 0 also if it is not in one file */
+    size_t letter;   /* the letter of its code, such as 'S' */
+    size_t number;   /* the number of its code, such as 6 */
+    size_t list;     /* the list that `entry` is in, such as DYNCOLLATE_REQUIRES */
+    size_t target;   /* which target of a project */
+    size_t index;    /* which scan document or info file, in the list of the target document */
+    size_t line;     /* which line of a dyndep file or of an edge list */
+    size_t item;     /* which rule of a scan document, module of an info file, or statement */
+    size_t entry;    /* which entry of `list` */
+    size_t offset;   /* which byte of the line */
+} dyncollate_location;
+
+/* Returns the location of the error that a command reports. `line` is what the command prints on
+   standard error, up to the end of the line: the `numbers[1]` bytes of the text that follow the first
+   `numbers[0]`. For any other text nothing is known about the result. For
+       dyncollate: target 2: scan 0: S6 BadName rule 1 requires 3
+   document is DYNCOLLATE_SCAN, letter 'S', number 6, list DYNCOLLATE_REQUIRES, target 2, index 0,
+   item 1 and entry 3, and line and offset are DYNCOLLATE_ABSENT. */
+dyncollate_location dyncollate_locate(
+    const uint8_t *line, size_t line_size);
 
 #ifdef __cplusplus
 }

@@ -20,10 +20,26 @@
 
 namespace dyncollate {
 
-// A command that fails: its status, DYNCOLLATE_REJECTED or DYNCOLLATE_UNREAD, and as what() its line on standard error.
+namespace detail {
+
+inline const std::uint8_t *bytes(std::string_view text) { return reinterpret_cast<const std::uint8_t *>(text.data()); }
+
+}  // namespace detail
+
+// The location of the error of a line. The line may be without the name of the program and without its end.
+inline dyncollate_location locate(std::string_view line)
+{
+    const std::string_view name = "dyncollate: ";
+    line = line.substr(line.substr(0, name.size()) == name ? name.size() : 0);
+    const std::string whole = std::string(name).append(line.substr(0, line.find('\n'))) + '\n';
+    return dyncollate_locate(detail::bytes(whole), whole.size());
+}
+
+// A command that fails: its status, DYNCOLLATE_REJECTED or DYNCOLLATE_UNREAD, as what() its line on standard error, and the location of the error.
 struct error : std::runtime_error {
-    error(std::uint32_t with, const std::string &line) : std::runtime_error(line), status(with) {}
+    error(std::uint32_t with, const std::string &line) : std::runtime_error(line), status(with), location(locate(line)) {}
     std::uint32_t status;
+    dyncollate_location location;
 };
 
 // A file to write. If `restat`, it is left alone if it already has these bytes.
@@ -40,8 +56,6 @@ struct statement {
 };
 
 namespace detail {
-
-inline const std::uint8_t *bytes(std::string_view text) { return reinterpret_cast<const std::uint8_t *>(text.empty() ? "" : text.data()); }
 
 // The result of a call. Its numbers are taken one by one, and its strings likewise, each of which has its length as the next number.
 struct reply {
@@ -87,7 +101,6 @@ template <class Files, class Function>
 std::vector<file> collated(Function function, std::string_view document, const Files &files)
 {
     std::vector<std::size_t> lengths;
-    lengths.reserve(1);  // so that it has a pointer, also for no files
     std::string joined;
     for (const auto &[name, data] : files) {
         lengths.insert(lengths.end(), {name.size(), data.size()});

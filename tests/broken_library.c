@@ -60,6 +60,7 @@ static dyncollate_outcome rejected(const uint8_t *input, size_t input_size, ROOM
 #define REJECTED(name) { return rejected(name, name##_size, numbers, count, text, size); }
 
 uint32_t dyncollate_version(void) { return DYNCOLLATE_VERSION; }
+dyncollate_location dyncollate_locate(STRING(line)) { return (dyncollate_location){.line = line_size ? *line : DYNCOLLATE_ABSENT}; }
 dyncollate_outcome dyncollate_collate(FILES, ROOM) REJECTED(document)
 dyncollate_outcome dyncollate_project(FILES, ROOM) REJECTED(document)
 dyncollate_outcome dyncollate_one(STRING(scan), STRING(dir), STRING(ext), ROOM) REJECTED(scan)

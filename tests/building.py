@@ -138,6 +138,16 @@ class Made(InRoom):
             self.assertLess(time.monotonic(), limit, f"the proof of {name} did not begin")
             time.sleep(0.01)
 
+    def begin_left_and_right(self):
+        """Begins a build, and waits until both crates are being proved. The proof of `right` waits further."""
+        self.control_file("left.waits")
+        self.control_file("right.waits")
+        child = self.begin()
+        self.wait_for("left")
+        self.wait_for("right")
+        (self.control / "left.waits").unlink()
+        return child
+
     def built(self):
         """Builds from scratch."""
         status, _, err = self.build()
@@ -183,12 +193,7 @@ class Order(Made):
 
     def test_crates_side_by_side(self):
         """`left` and `right` are proved at the same time."""
-        self.control_file("left.waits")
-        self.control_file("right.waits")
-        child = self.begin()
-        self.wait_for("left")
-        self.wait_for("right")
-        (self.control / "left.waits").unlink()
+        child = self.begin_left_and_right()
         (self.control / "right.waits").unlink()
         self.assertEqual(self.finish(child)[0], 0)
 
@@ -215,12 +220,7 @@ class Failures(Made):
     def test_a_crate_that_is_not_proved(self):
         """Its log is printed, what runs meanwhile is kept, and the rest is not begun."""
         self.control_file("left.fails")
-        self.control_file("left.waits")
-        self.control_file("right.waits")
-        child = self.begin()
-        self.wait_for("left")
-        self.wait_for("right")
-        (self.control / "left.waits").unlink()
+        child = self.begin_left_and_right()
         time.sleep(0.3)
         (self.control / "right.waits").unlink()
         status, out, err = self.finish(child)

@@ -380,6 +380,13 @@ class NinjaFiles(Case):
         put_target("CMakeFiles/app.dir", f"{os.getcwd()}/b", linked=["x.dir"], **{"database-info": None})
         self.fails(f"{start}it links {os.getcwd()}/b/x.dir, whose modules are not collated in this build", "adopt", "b")
 
+    def test_a_prefix_of_the_output_paths(self):
+        """A super-build includes the Ninja file of such a build, and all its paths begin with the prefix."""
+        self.change(self.names[0], lambda text: text.replace("include CMakeFiles/", "include b/CMakeFiles/"))
+        for command in "adopt", "restore", "--generated":
+            self.fails("b has the CMAKE_NINJA_OUTPUT_PATH_PREFIX b/, which is not supported", command, "b")
+            self.assertFalse(os.path.exists("b/CMakeFiles/dyncollate"))
+
     def test_documents_of_another_shape(self):
         """One line names the document and what is different in it, and nothing is changed."""
         name = "b/CMakeFiles/app.dir/CXXDependInfo.json"
@@ -701,6 +708,21 @@ class Steps(Case):
             self.fails("dyncollate: info 0: S1 NotJson document", f"dyncollate-cmake: info 0 was {os.getcwd()}/l/CXXModules.json, "
                        "which is removed: the next build makes it again")
             self.assertFalse(os.path.exists("l/CXXModules.json"))
+
+    def test_a_damaged_info_file_that_another_step_removes(self):
+        """The program then reports that the file is missing, and that line names it."""
+        self.target("l", {})
+        self.scan("l", "a.cpp")
+        put("program", f'#!/bin/sh\n{shlex.quote(program.PROGRAM)} "$@"\nstatus=$?\nrm -f l/CXXModules.json\nexit $status\n')
+        os.chmod("program", 0o755)
+        for _ in self.both_kinds(linked=["l"]):
+            self.scan("t", "a.cpp")
+            self.adopt()
+            rules = Path("CMakeFiles/rules.ninja")
+            rules.write_text(rules.read_text().replace(program.PROGRAM, f"{os.getcwd()}/program"))
+            put("l/CXXModules.json", "{")
+            self.assertEqual(step("t"), (3, "dyncollate: info 0: S1 NotJson document\n"
+                                            f"dyncollate: cannot read {os.getcwd()}/l/CXXModules.json\n"))
 
     def test_two_linked_targets_with_modules_of_one_name(self):
         for name in "x", "y":

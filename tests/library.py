@@ -1,6 +1,7 @@
 """libdyncollate against the program: each row is a call of the shared object, by the Python package. And what a call
 does if there is too little room, if an allocation fails, if it is misused, and on several threads."""
 import ctypes
+import json
 import os
 import re
 import unittest
@@ -78,6 +79,103 @@ def statement_line(it):
     outputs, inputs = (b"".join(b" " + re.sub(rb"[$ :]", rb"$\g<0>", path) for path in paths) for paths in (it.outputs, it.inputs))
     output = re.sub(rb"[$ :]", rb"$\g<0>", it.output)
     return statement(output, outputs[1:], inputs[1:]).replace(b"  restat = 1\n", b"") + b"  restat = 1\n" * it.restat
+
+
+def target(**members):
+    """A target document with these members besides, or in place of its own."""
+    return {"version": 1, "target": "t", "module-dir": "m", "module-ext": ".bmi", "scans": ["a", "b"], "dyndep": "t.dd", "info": "t.info"} | members
+
+
+def scan(*rules):
+    return {"version": 1, "rules": rules}
+
+
+def rule(output, **lists):
+    """A rule with these names in its lists."""
+    return {"primary-output": output} | {name: [{"logical-name": it} for it in names] for name, names in lists.items()}
+
+
+def info(*modules, target="k", version=2):
+    return {"version": version, "target": target, "modules": modules}
+
+
+def module(name, *requires):
+    return {"name": name, "bmi": name, "visibility": "public", "requires": requires}
+
+
+A, B = scan(rule("a.o", provides=["A"])), scan(rule("b.o", requires=["A"]))
+LISTED = b"build a: x\nbuild b: a || t.dd\n  dyndep = t.dd\n"
+HEAD = b"ninja_dyndep_version = 1\n"
+LINKED = target(linked=["k", "l"])
+PROJECT = {"version": 1, "targets": ["s.json", "t.json"]}
+FIRST = target(target="s", scans=["a"], dyndep="s.dd", info="s.info")
+# a command and what it is given, and the numbers of its error that are not 0 or absent. Bytes and names are passed as they are, and
+# documents as JSON. Documents are 1 a target, 2 a project, 3 a scan, 4 an info file, 5 edges, 6 the name, 7 a dyndep file; the lists are
+# 1 `provides`, 2 `requires` and 3 paths.
+ERRORS = [
+    ("collate", target(scans=7), {}, "S3", dict(document=1)),
+    ("collate", b"[", {}, "S1", dict(document=1)),
+    ("project", {"version": 2}, {}, "S2", dict(document=2)),
+    ("one", scan(rule("a.o"), rule("b.o"), rule("c.o", requires=["A", ""])), "", "", "S6", dict(document=3, index=0, item=2, list=2, entry=1)),
+    ("one", scan({"provides": []}), "", "", "S4", dict(document=3, index=0, item=0)),
+    ("collate", target(), {"a": A, "b": scan(rule("b.o", provides=["B", "A:"]))}, "S6", dict(document=3, index=1, item=0, list=1, entry=1)),
+    ("collate", target(), {"a": A, "b": scan(rule("../../../.."), rule(""))}, "S7", dict(document=3, index=1, item=1)),
+    ("collate", target(), {"a": A, "b": b"\xff"}, "S1", dict(document=3, index=1)),
+    ("collate", LINKED, {"a": A, "b": B, "k": info(), "l": info(module("C"), module("D", {"name": "C", "bmi": "C"}, {"name": "", "bmi": ""}))},
+     "S6", dict(document=4, index=1, item=1, list=2, entry=1)),
+    ("collate", LINKED, {"a": A, "b": B, "k": info(version=1), "l": info(module(""), target="l")}, "S6", dict(document=4, index=1, item=0)),
+    ("collate", target(), {"a": A, "b": A}, "M1", {}),
+    ("collate", LINKED, {"a": A, "b": B, "k": info(), "l": info()}, "M2", {}),
+    ("collate", target(), {"a": A, "b": scan(rule("rule 7", requires=["C"]))}, "M5", {}),
+    ("collate", target(private=["Z"]), {"a": A, "b": B}, "M10", {}),
+    ("collate", target(map="clang"), {"a": scan(rule("a.o", provides=["A", "C"])), "b": B}, "K2", {}),
+    ("collate", target(), {"a": A}, "", {}),
+    ("collate", target(edges="e"), {"a": A, "b": B, "e": b"build a.o: x\n\tx\n"}, "E3", dict(document=5, line=2)),
+    ("collate", target(edges="e"), {"a": A, "b": B, "e": LISTED}, "E5", {}),
+    ("project", PROJECT, {"s.json": FIRST, "a": A, "t.json": target(linked=["t.info"])}, "K3", dict(target=1)),
+    ("project", PROJECT, {"s.json": FIRST, "t.json": target(map="gcc"), "a": A}, "S3", dict(document=1, target=1)),
+    ("project", PROJECT, {"s.json": FIRST, "a": A, "t.json": b"{}"}, "S2", dict(document=1, target=1)),
+    ("project", PROJECT, {"s.json": FIRST, "t.json": target(), "a": A, "b": scan(rule("b.o", requires=[""]))},
+     "S6", dict(document=3, target=1, index=1, item=0, list=2, entry=0)),
+    ("project", PROJECT, {"s.json": FIRST, "t.json": target(), "a": A, "b": scan(rule("b.o", requires=["C"]))}, "M5", dict(target=1)),
+    ("effect", "", LISTED, HEAD, "N1", dict(document=6)),
+    ("effect", "t.dd", b"build a: $x\n", HEAD, "N9", dict(document=5, line=1, offset=9)),
+    ("effect", "t.dd", LISTED, HEAD + b"\nbuild b: dyndep | |\n", "Y8", dict(document=7, line=3)),
+    ("effect", "t.dd", LISTED, HEAD + b"build b | c /..: dyndep\n", "E8", dict(item=0, list=3, entry=2)),
+    ("effect", "t.dd", LISTED, HEAD, "E6", {}),
+    ("show", HEAD + b"build a$x: dyndep\n", "N9", dict(document=7, line=2, offset=7)),
+    ("show", b"", "Y4", dict(document=7, line=1)),
+    ("order", b"build a: x b\nbuild b: x a\n", "", {}),
+    ("order", b"build a: x\nbuild a: x\n", "E1", {}),
+]
+
+
+def passed(it):
+    """What a command is passed: documents as JSON."""
+    if isinstance(it, dict) and all(isinstance(value, (dict, bytes)) for value in it.values()):
+        return {name: passed(value) for name, value in it.items()}
+    return json.dumps(it).encode() if isinstance(it, dict) else it
+
+
+def numbers_of(location):
+    """The numbers of a location that are not 0 or absent, and its code."""
+    numbers = {name: getattr(location, name) for name, _ in location._fields_}
+    letter, number = numbers.pop("letter"), numbers.pop("number")
+    kept = {name: it for name, it in numbers.items() if it != (0 if name in ("document", "list") else embedded.calls().ABSENT)}
+    return f"{chr(letter)}{number}" if letter else "", kept
+
+
+@embedded.needs_library
+@each(ERRORS, lambda row: f"{row[0]} {row[-2]} {row[-1]}")
+class Locations(unittest.TestCase):
+    """Where the error of a command is, and which error it is, as numbers."""
+
+    def check(self, row):
+        command, *given, code, numbers = row
+        result = embedded.module().run(command, *map(passed, given))
+        self.assertNotEqual(result.status, 0)
+        found = embedded.calls().located(result.err)
+        self.assertEqual(numbers_of(found), (code, numbers), result.err)
 
 
 def outcome(command, given, numbers_room, text_room, spare=8):
@@ -168,6 +266,11 @@ class InC(InRoom):
         for command, files in self.files.items():
             failed = re.fullmatch(r"(\d+) of \d+\n", output_of(program, command, *files))
             self.assertGreater(int(failed[1]), 0, command)
+
+    def test_null_pointers(self):
+        """A null pointer with the count 0 is like any other pointer to nothing."""
+        program = embedded.compiled("gcc", *SANITIZED, f"{TOP}/tests/null_pointers.c", embedded.STATIC, to=self.room / "null_pointers")
+        self.assertEqual(output_of(program), "225 alike\n")
 
     def test_threads(self):
         program = self.built("threads", "-std=c11", "-D_GNU_SOURCE", "-O1", "-fsanitize=thread", "-pthread")

@@ -16,7 +16,9 @@ NEEDS_LIBRARY = True
 
 HEADER = Path(TOP, "include/dyncollate.h")
 EXPORTS = Path(TOP, "crates/c_library/src/lib.rt")
-OUTCOME = Path(TOP, "crates/in_memory/src/reply.rt")
+# what the functions return: the type in C, the type in the exports, and the file that has it
+RETURNED = {"outcome": ("Outcome", Path(TOP, "crates/in_memory/src/reply.rt")),
+            "location": ("Location", Path(TOP, "crates/in_memory/src/location.rt"))}
 # the types of parameters in the exports: the pointer in C, and how the name of its count ends
 POINTERS = {"&[u8]": ("const uint8_t *", "_size"), "&[usize]": ("const size_t *", "_count"),
             "&mut [usize]": ("size_t *", "_room"), "&mut [u8]": ("uint8_t *", "_room")}
@@ -30,17 +32,17 @@ def without_comments(text):
     return re.sub(r"/\*.*?\*/|//[^\n]*", "", text, flags=re.S)
 
 
-def declared():
-    """The functions of the header that return an outcome: the type and the name of each parameter."""
-    found = re.findall(r"dyncollate_outcome (dyncollate_\w+)\((.*?)\);", without_comments(HEADER.read_text()), re.S)
+def declared(returned="outcome"):
+    """The functions of the header that return an outcome or a location: the type and the name of each parameter."""
+    found = re.findall(rf"dyncollate_{returned} (dyncollate_\w+)\((.*?)\);", without_comments(HEADER.read_text()), re.S)
     return {name: [tuple(re.fullmatch(r"(.*?)(\w+)", it.strip()).groups()) for it in parameters.split(",")] for name, parameters in found}
 
 
-def exported():
-    """The same by the exports, except for the version. What has no bytes, such as the allocator, is no parameter in C."""
+def exported(returned="outcome"):
+    """The same by the exports. What has no bytes, such as the allocator, is no parameter in C."""
     functions = {}
-    for name, parameters, returned in re.findall(r'extern "C" fn (\w+)\((.*?)\) -> (\w+)', EXPORTS.read_text(), re.S):
-        if (name, parameters, returned) == ("dyncollate_version", "", "u32"):
+    for name, parameters, found in re.findall(r'extern "C" fn (\w+)\((.*?)\) -> (\w+)', EXPORTS.read_text(), re.S):
+        if found != RETURNED[returned][0]:
             continue
         functions[name] = []
         for parameter, kind in re.findall(r"(\w+): ([^,\n]+)", parameters):
@@ -48,21 +50,26 @@ def exported():
                 pointer, ending = POINTERS[kind]
                 counted = parameter.removesuffix("s") if ending == "_count" else parameter
                 functions[name] += [(pointer, parameter), ("size_t ", counted + ending)]
-        assert returned == "Outcome", name
     return functions
 
 
 class Header(unittest.TestCase):
     def test_functions(self):
         """Their names, and the order, the names and the types of their parameters."""
-        self.assertEqual(declared(), exported())
+        for returned in RETURNED:
+            self.assertEqual(declared(returned), exported(returned))
+        exports = re.findall(r'extern "C" fn (\w+)', EXPORTS.read_text())
+        self.assertEqual(set(exports), {*declared(), *declared("location"), "dyncollate_version"})
 
-    def test_outcome(self):
-        fields = re.search(r"pub struct Outcome \{(.*?)\n\}", OUTCOME.read_text(), re.S)[1]
-        fields = [(FIELDS[kind], name) for name, kind in re.findall(r"pub (\w+): (\w+)", without_comments(fields))]
-        in_c = re.search(r"typedef struct dyncollate_outcome \{(.*?)\}", without_comments(HEADER.read_text()), re.S)[1]
-        self.assertEqual(re.findall(r"(\w+) (\w+);", in_c), fields)
-        self.assertIn("#[repr(C)]", OUTCOME.read_text())
+    def test_structs(self):
+        """The fields of what the functions return."""
+        for returned, (kind, source) in RETURNED.items():
+            fields = re.search(rf"#\[repr\(C\)\]\n#\[derive\([^)]*\)\]\npub struct {kind} \{{(.*?)\n\}}", source.read_text(), re.S)[1]
+            fields = [(FIELDS[kind], name) for name, kind in re.findall(r"pub (\w+): (\w+)", without_comments(fields))]
+            in_c = re.search(rf"typedef struct dyncollate_{returned} \{{(.*?)\}}", without_comments(HEADER.read_text()), re.S)[1]
+            self.assertEqual(re.findall(r"(\w+) (\w+);", in_c), fields)
+            in_python = getattr(embedded.calls(), kind)._fields_
+            self.assertEqual([name for name, _ in in_python], [name for _, name in fields])
 
     def test_module(self):
         """The Python package has each function, and passes what the header declares."""
@@ -89,7 +96,7 @@ class Linked(unittest.TestCase):
 
     def test_symbols(self):
         """The functions of the header, and nothing else. In the shared object they have the version DYNCOLLATE_1."""
-        functions = {*declared(), "dyncollate_version"}
+        functions = {*declared(), *declared("location"), "dyncollate_version"}
         self.assertEqual(self.defined(embedded.STATIC), functions)
         self.assertEqual(self.defined("-D", embedded.SHARED), {"DYNCOLLATE_1", *(f"{it}@@DYNCOLLATE_1" for it in functions)})
 
@@ -180,7 +187,8 @@ class Examples(InRoom):
             "a restat: b c | d e f\ng: |\n3000 object2999.o m2999\n" + dyndep +
             f"i {len(info)} restat\nd {len(dyndep)}\n2\n"
             "3 dyncollate: cannot read s\n1 dyncollate: target: S2 BadVersion document\ndyncollate: a name is not UTF-8\n"
-            "1 dyncollate: scan 0: S1 NotJson document\n1 line 2: Y9 NoOutput\n0\n"), ""))
+            "1 dyncollate: scan 0: S1 NotJson document\n1 line 2: Y9 NoOutput\n0\n"
+            "3 S6 rule 2 requires 1\n7 Y9 line 2\n"), ""))
 
     @embedded.needs_tools("gcc")
     def test_header(self):

@@ -71,7 +71,8 @@ class Errors(unittest.TestCase):
 
 class Lines(unittest.TestCase):
     def test_each_line_of_the_rows(self):
-        """The code of a line is the first one in it. An error of modules names something, and one of a document has a place in it."""
+        """The code of a line is the first one in it. An error of modules names something, and one of a document has a place in it. The
+        numbers of the place are those in the line, without those that may belong to a name."""
         codes = set()
         for row in all_rows():
             line = os.fsdecode(row.line or b"")
@@ -82,6 +83,10 @@ class Lines(unittest.TestCase):
             self.assertEqual(error.code, code, line)
             self.assertEqual(bool(error.names), code is None or code[0] in "ME" and code not in ("E3", "E8") or code in ("K1", "K2", "S3"), line)
             self.assertEqual(error.document is not None, code is not None and (code[0] in "SN" or code == "E3" or line.startswith("line")), line)
+            labels = re.match(r"(?:(?:target|scan|info|line) \d+: |(?:target|project|edges|name): )*", line)[0]
+            numbered = line if code and (code[0] in "SNY" or code == "E8") else labels
+            words = re.findall(r"\b(target|scan|info|line|rule|module|provides|requires|statement|path|at) (\d+)", numbered)
+            self.assertEqual(error.place, {"offset" if word == "at" else word: int(number) for word, number in words}, line)
             codes.add((code or "-")[0])
         self.assertEqual(codes, set("NYSMEK-"))
 

@@ -150,14 +150,18 @@ class InNode(Rows, unittest.TestCase):
               console.log(text(output), outputs.map(text), inputs.length, restat);
             for (const call of [() => dyncollate.one("", "m", ".x"), () => dyncollate.statements("build a: dyndep\n"),
                                 () => dyncollate.collate(target, {})])
-              try { call(); } catch (error) { console.log(error instanceof DyncollateError, error.status, error.line); }
+              try { call(); } catch (error) { console.log(error instanceof DyncollateError, error.status, error.line, JSON.stringify(error.location)); }
+            const faulty = '{"version":1,"rules":[{"primary-output":"a.o"},{"primary-output":"b.o","requires":[{"logical-name":""}]}]}';
+            try { dyncollate.one(faulty, "", ""); } catch ({ location }) { console.log(JSON.stringify(location)); }
             for (const call of [() => dyncollate.run("one", scan, new Uint8Array([255]), ""), () => dyncollate.run("none")])
               try { call(); } catch (error) { console.log(error.name, error.message); }
             """).splitlines(), [
                 *['t.json: {"modules":[{"bmi":"m/A.x","name":"A","requires":[],"visibility":"public"}],"target":"t","version":2}'
                   "t.dd: ninja_dyndep_version = 1", "build a.o | m/A.x: dyndep", "  restat = 1", ""] * 2,
                 "t.json", "a.o [ 'm/A.x' ] 0 true",
-                "true 1 dyncollate: scan 0: S1 NotJson document", "true 1 line 1: Y4 NoVersion", "true 3 dyncollate: cannot read a.ddi",
+                'true 1 dyncollate: scan 0: S1 NotJson document {"document":"scan","code":"S1","index":0}',
+                'true 1 line 1: Y4 NoVersion {"document":"dyndep","code":"Y4","line":1}', "true 3 dyncollate: cannot read a.ddi {}",
+                '{"document":"scan","code":"S6","index":0,"rule":1,"requires":0}',
                 "TypeError a name is not UTF-8", "TypeError there is no command none"])
 
     def test_memory_that_runs_out(self):

@@ -75,13 +75,12 @@ EXCEPTIONS = [
     "tests: a run needs no random bytes but for names of new files", "FORMATS: fewer words once more", "must-fail edits: 3 refused",
 ]
 # Definitions whose comments have turns of scripts, or call a `Folder` a folder.
-EXCEPTED_DEFINITIONS = {"commands/specs/ProjectCommand.antt": 1, "dyndep_file/specs/Faults.antt": 1, "in_memory/specs/inner/Calls.antt": 3,
-                        "in_memory/specs/inner/Facts.antt": 2, "info_pool/specs/inner/Pools.antt": 1, "ninja_text/specs/Scanning.antt": 1,
-                        "ninja_text/specs/TokenLists.antt": 3}
+EXCEPTED_DEFINITIONS = {"commands/specs/ProjectCommand.antt": 1, "dyndep_file/specs/Faults.antt": 1, "info_pool/specs/inner/Pools.antt": 1,
+                        "ninja_text/specs/Scanning.antt": 1, "ninja_text/specs/TokenLists.antt": 3}
 # The scripts and tests, and those of them that are not read yet. This file has the turns themselves.
 SCRIPTS = ["build", "dyncollate", "install", "release", "test", ".ci/run", "bench/**/*", "building/*", "cmake/*", "cross/*", "examples/generate",
            "examples/embed/*", "explain/*", "include/*", "python/**/*", "tests/**/*", "web/*"]
-NOT_READ = re.compile(r"/__pycache__/|/out/|tests/data/|tests/words\.py$|^bench/|\.(?:bench|css|html|md|toml|typed|in|svg)$|/dictionary$|/deps$")
+NOT_READ = re.compile(r"/__pycache__/|/out/|tests/data/|tests/words\.py$|\.(?:bench|css|html|md|toml|typed|in|svg)$|/dictionary$|/deps$")
 # The commit after which subjects are checked.
 CHECKED_SINCE = "dfbbbcd"
 FOUND, FOUND_IN_SCRIPTS = ([(re.compile(rf"\b(?:{turn})\b"), instead) for turn, instead, _, _ in turns] for turns in (TURNS, TURNS_OF_SCRIPTS))
@@ -148,7 +147,7 @@ def parts_of_python(source, has_names):
 
 def script_text(source, suffix, has_names):
     """What a script or a test says, each part in its line. A line that says nothing ends a sentence."""
-    if suffix == ".py" or "python" in source.split("\n", 1)[0]:
+    if suffix == ".py" or re.match("#!.*python", source):
         parts = parts_of_python(source, has_names)
     else:
         pattern = PART_OF_C if suffix in (".c", ".cpp", ".h", ".hpp", ".mjs") else PART_OF_SCRIPT
@@ -204,7 +203,7 @@ class Words(unittest.TestCase):
 
     def test_scripts(self):
         said = scripts()
-        self.assertLessEqual({"build", "install", "release", "test", "building/link", "cmake/dyncollate-ninja", "cross/heap.c", "examples/generate",
+        self.assertLessEqual({"build", "install", "release", "test", "building/link", "bench/run", "cmake/dyncollate-ninja", "cross/heap.c", "examples/generate",
                               "explain/dyncollate-explain", "python/wheels.py", "tests/preload", "tests/fuzz/calls.c", "web/page.mjs"}, set(said))
         for name, text in said.items():
             with self.subTest(name):

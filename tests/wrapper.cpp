@@ -56,4 +56,20 @@ int main()
     fails([&] { dyncollate::one("", "", ""); });
     fails([&] { dyncollate::statements(version + "build\n"); });
     std::cout << dyncollate::statements(version).size() << "\n";
+
+    try {
+        dyncollate::one(R"({"version":1,"rules":[{"primary-output":"a.o"},{"primary-output":"b.o"},
+            {"primary-output":"c.o","requires":[{"logical-name":"A"},{"logical-name":""}]}]})", "", "");
+    } catch (const dyncollate::error &error) {
+        const dyncollate_location &at = error.location;
+        std::cout << at.document << " " << char(at.letter) << at.number << " rule " << at.item
+                  << (at.list == DYNCOLLATE_REQUIRES ? " requires " : " ? ") << at.entry << "\n";
+    }
+    try {
+        dyncollate::statements(version + "build\n");
+    } catch (const dyncollate::error &error) {
+        const dyncollate_location &at = error.location;
+        std::cout << at.document << " " << char(at.letter) << at.number << " line " << at.line
+                  << (at.item == DYNCOLLATE_ABSENT && at.index == DYNCOLLATE_ABSENT ? "\n" : " ?\n");
+    }
 }

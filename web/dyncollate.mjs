@@ -6,20 +6,27 @@
 //
 // `document` has the bytes of a target document, and the object those of the files that it names, by the names that it has for them. The
 // result is a Map with the bytes of the files that `dyncollate collate` writes, by name, in the order in which they are to be written. If
-// the input is not valid, a DyncollateError is thrown, with the `status` and the `line` that the program ends with.
+// the input is not valid, a DyncollateError is thrown, with the `status` and the `line` that the program ends with, and the `location` of the
+// error, such as { document: "scan", index: 2, code: "S6", rule: 0, requires: 1 }.
 //
 // Bytes are a Uint8Array, or a string, which is passed as UTF-8. Files are an object or a Map.
 
 const COMMANDS = ["collate", "project", "one", "effect", "order", "show", "statements"];
 const NO_MEMORY = 4, MISUSED = 5;
 
-/** A command that fails: its exit status, and its line on standard error. */
+// What has an error, and the lists that an entry can be in, by their numbers in dyncollate.h.
+const DOCUMENTS = [undefined, "target", "project", "scan", "info", "edges", "name", "dyndep"];
+const LISTS = [undefined, "provides", "requires", "path"];
+const ABSENT = 2n ** 64n - 1n;
+
+/** A command that fails: its exit status, its line on standard error, and the location of the error. */
 export class DyncollateError extends Error {
-  constructor(status, line) {
+  constructor(status, line, location) {
     super(line);
     this.name = "DyncollateError";
     this.status = status;
     this.line = line;
+    this.location = location;
   }
 }
 
@@ -53,9 +60,14 @@ export async function load(bytes) {
     return { status, out, err, files, kept };
   }
 
+  /** Throws the error of a command that prints this line. */
+  function fail(status, line) {
+    throw new DyncollateError(status, line, locationOf(instance, `dyncollate: ${line.replace(/^dyncollate: /, "")}\n`));
+  }
+
   function checked(command, ...given) {
     const result = run(command, ...given);
-    if (result.status) throw new DyncollateError(result.status, decoded(result.err).trimEnd());
+    if (result.status) fail(result.status, decoded(result.err).trimEnd());
     return result;
   }
 
@@ -69,12 +81,14 @@ export async function load(bytes) {
     /** The dyndep file of a scan document. */
     one: (scan, directory, extension) => checked("one", scan, directory, extension).out,
     /** The statements of a dyndep file. Their paths are bytes. */
-    statements: (dyndep) => statementsOf(call("statements", dyndep)),
+    statements: (dyndep) => {
+      const { status, numbers, text } = call("statements", dyndep);
+      return status ? fail(status, `line ${numbers[0]}: ${decoded(text)}`) : statementsOf(numbers, text);
+    },
   };
 }
 
-function statementsOf({ status, numbers, text }) {
-  if (status) throw new DyncollateError(status, `line ${numbers[0]}: ${decoded(text)}`);
+function statementsOf(numbers, text) {
   const statements = [], next = pieces(text);
   for (let index = 0; index < numbers.length;) {
     const [restat, outputs, inputs] = numbers.slice(index, index + 3);
@@ -102,8 +116,8 @@ function joined(files) {
   return { lengths: new BigUint64Array(parts.map((part) => BigInt(part.length))), text };
 }
 
-/** Calls a function of an instance, if need be again with as much room as it needs. Addresses and counts are BigInts. */
-function called(instance, command, given) {
+/** Blocks of an instance's memory. Addresses and counts are BigInts. */
+function blocksOf(instance) {
   const blocks = [];
   const allocate = (size) => {
     const address = instance.malloc(BigInt(size || 1));
@@ -116,6 +130,28 @@ function called(instance, command, given) {
     new Uint8Array(instance.memory.buffer, Number(address), raw.length).set(raw);
     return [address, BigInt(count)];
   };
+  return { blocks, allocate, put };
+}
+
+/** What an instance reads from the line of an error: `dyncollate_location` of dyncollate.h. What the error does not have is not there. */
+function locationOf(instance, line) {
+  const { blocks, allocate, put } = blocksOf(instance);
+  try {
+    const at = allocate(80);
+    instance.dyncollate_locate(at, ...put(encoded(line)));
+    const [document, letter, number, list, ...indexes] = new BigUint64Array(instance.memory.buffer, Number(at), 10);
+    const kind = DOCUMENTS[document], item = { scan: "rule", info: "module" }[kind] ?? "statement";
+    const names = ["target", "index", "line", item, LISTS[list], "offset"];
+    const found = names.map((name, index) => [name, indexes[index]]).filter(([, it]) => it !== ABSENT).map(([name, it]) => [name, Number(it)]);
+    return { document: kind, code: letter ? `${String.fromCharCode(Number(letter))}${number}` : undefined, ...Object.fromEntries(found) };
+  } finally {
+    for (const address of blocks) instance.free(address);
+  }
+}
+
+/** Calls a function of an instance, if need be again with as much room as it needs. */
+function called(instance, command, given) {
+  const { blocks, allocate, put } = blocksOf(instance);
   const passed = (it) => {
     if (typeof it === "string" || it instanceof Uint8Array) return put(encoded(it));
     const { lengths, text } = joined(it);

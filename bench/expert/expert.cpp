@@ -201,7 +201,7 @@ private:
 
     static std::uint32_t tag_of(std::uint64_t hash) { return static_cast<std::uint32_t>(hash >> 32); }
 
-    // The slot of the string, or the empty one where it belongs.
+    // The slot of the string, or the empty slot for it.
     template <class TextOf>
     std::size_t find(std::uint64_t hash, string_view text, const TextOf& text_of) const {
         const std::size_t mask = slots_.size() - 1;
@@ -504,13 +504,13 @@ struct Module {
     bool is_private = false;
 };
 
-// An object, and where its modules and the names that it requires begin and end in the lists of all.
+// An object, with the indexes at which its modules and the names that it requires begin and end in the lists of all.
 struct Object {
     Path path;
     Number first_module, end_module, first_required, end_required;
 };
 
-// A module of an info file, and where what it requires begins and ends in the list of all.
+// A module of an info file, with the indexes at which its requirements begin and end in the list of all.
 struct Known {
     Number first, end;
 };

@@ -2,7 +2,7 @@
 
 It prints the processor time of the fastest round of both, and their ratio, and fails if that is more than the limit of the row or if a run
 fails. A run that takes ten times as long, and two seconds, is stopped. SHAPES has the labels, and its functions say what the inputs are.
-The row files is about the library, from the directory that the environment names as LIBRARY, or from where `./build library` leaves it.
+The row files is about the library, from the directory that the environment names as LIBRARY, or from that of `./build library`.
 """
 import hashlib
 import json

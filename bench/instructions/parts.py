@@ -33,7 +33,7 @@ COST = re.compile(r"[+*-]?\d* (\d+)")
 
 def counted(lines):
     """The instructions of each function, by its library and its name."""
-    # a file, a library or a function has a number, and its name only where it is mentioned first
+    # a file, a library or a function has a number, and its name only at its first mention
     names, counts = {}, Counter()
     library = name = ""
     for line in lines:

@@ -19,7 +19,7 @@ constexpr std::size_t max_line = 1'048'576;
 struct Collated {
     std::string dyndep;
     std::string info;
-    // a text for each object, where maps are asked for
+    // a text for each object, if there are maps
     std::vector<std::string> maps;
 };
 
@@ -186,7 +186,7 @@ inline std::vector<std::string> map_texts(const Table& table, Map map) {
     return texts;
 }
 
-// What is written for a target of these rules and infos.
+// What is written for a target of these rules and info files.
 inline Collated collate(const TargetSpec& spec, const std::vector<Rule>& rules,
                         const std::vector<const Info*>& infos) {
     const Table table(rules, infos, spec.kept);

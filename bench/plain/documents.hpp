@@ -51,7 +51,7 @@ struct Info {
     std::vector<InfoModule> modules;
 };
 
-// Where modules are compiled to, and the build directory, which is empty where there is none.
+// Where modules are compiled to, and the build directory, which is empty if there is none.
 struct Setting {
     std::string_view module_dir;
     std::string_view module_ext;
@@ -75,7 +75,7 @@ struct TargetSpec {
     bool has_edges = false;
 };
 
-// A place in a document; its text is made where a refusal needs it.
+// A place in a document. Its text is made if an error needs it.
 struct Place {
     const char* list = nullptr;
     std::size_t number = 0;
@@ -222,8 +222,8 @@ inline bool is_target_name(std::string_view text) {
            std::none_of(text.begin(), text.end(), is_control);
 }
 
-// Parses documents in place, one after the other, with one allocator. A document's values stand until the next is read,
-// its texts as long as its bytes.
+// Parses documents in place, one after the other, with one allocator. A document's values are valid until the next is read,
+// and its texts as long as its bytes.
 class JsonReader {
 public:
     // The members of a document, whose version must be one of those from the least to the greatest.
@@ -332,7 +332,7 @@ private:
         }
     }
 
-    // The logical name of an entry, in which its bytes are not looked at yet.
+    // The logical name of an entry, whose bytes are not checked yet.
     static std::string_view read_logical_name(const Value& entry, const Place& place) {
         if (!entry.IsObject()) {
             refuse_shape(place, "entry");
@@ -399,7 +399,7 @@ inline std::string_view target_name_of(const Value& document) {
     return name;
 }
 
-// Reads infos.
+// Reads info files.
 class InfoReader {
 public:
     Info read(std::string& bytes) {

@@ -5,7 +5,7 @@
 #include <string>
 #include <string_view>
 
-// Why the input is refused. The text is what the program prints behind its name.
+// Why the input is rejected. The text is what the program prints after its name.
 struct Refusal : std::runtime_error {
     using std::runtime_error::runtime_error;
 };
@@ -26,7 +26,7 @@ inline std::string shown(std::string_view text) {
     return line;
 }
 
-// Runs a step. Where that is refused, the label is put before what is printed.
+// Runs a step. If that fails, the label is put before what is printed.
 template <class Label, class Step>
 auto labelled(const Label& label, const Step& step) {
     try {

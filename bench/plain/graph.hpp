@@ -29,7 +29,7 @@ struct Edge {
     bool restat = false;
 };
 
-// What a dyndep file says of an edge. The paths are as they are spelled, without escapes.
+// What a dyndep file says of an edge. The paths are as they are written, without escapes.
 struct Statement {
     std::string output;
     std::vector<std::string> implicit_outputs;
@@ -37,8 +37,8 @@ struct Statement {
     bool restat = false;
 };
 
-// Hands each line of a text that is no comment to a reader, with its tokens, and then the end. A fault is told with the
-// line's number, behind the label.
+// Passes each line of a text that is no comment to a reader, with its tokens, and then the end. A fault is reported with
+// the line's number, after the label.
 template <class Reader>
 void read_lines(std::string_view text, const char* label, Reader& reader) {
     LineReader lines(text);
@@ -119,7 +119,7 @@ private:
         }
     }
 
-    // The words from a token on. The token then is that behind them.
+    // The words from a token on. The token then is that after them.
     static std::vector<std::string_view> take_words(const Token*& token) {
         const Token* end = token;
         while (end->kind == Kind::word) {
@@ -133,7 +133,7 @@ private:
         return words;
     }
 
-    // The words behind a token of this kind, if it is there.
+    // The words after a token of this kind, if it is there.
     static std::vector<std::string_view> take_part(const Token*& token, Kind kind) {
         if (token->kind != kind) {
             return {};
@@ -235,7 +235,7 @@ private:
         is_open_ = false;
     }
 
-    // The fault of a token that may not stand where it does: those of order-only inputs and validations, else another.
+    // The fault of a token that is not allowed there: those of order-only inputs and validations, or otherwise another.
     static LineFault fault_of(const Token& token, const char* other) {
         if (token.kind == Kind::two_bars) {
             return {"Y13 OrderOnly"};
@@ -243,7 +243,7 @@ private:
         return {token.kind == Kind::bar_at ? "Y14 Validation" : other};
     }
 
-    // The words behind a bar, if it is there.
+    // The words after a bar, if it is there.
     static std::vector<std::string> take_part(const Token*& token) {
         std::vector<std::string> paths;
         if (token->kind == Kind::bar) {
@@ -323,7 +323,7 @@ public:
         }
     }
 
-    // The edges, each behind those that make its inputs, or the refusal of a cycle.
+    // The edges, each after those that make its inputs, or the error of a cycle.
     std::vector<Node> order() const {
         Digraph needs;
         for (const Edge& edge : edges_) {

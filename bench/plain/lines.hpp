@@ -20,12 +20,12 @@ struct Line {
     bool is_comment;
 };
 
-// The refusal of a line.
+// Reports the fault of a line.
 [[noreturn]] inline void refuse_line(std::uint64_t number, const std::string& fault) {
     throw Refusal("line " + std::to_string(number) + ": " + fault);
 }
 
-// Where a fault of the bytes stands in a line.
+// A fault of the bytes in a line, and its offset.
 struct LexFault {
     const char* text;
     std::size_t place;
@@ -69,7 +69,7 @@ private:
     std::string_view rest_;
     std::uint64_t number_ = 1;
 
-    // Whether the byte is the second one of an escape: an odd number of $ stands before it.
+    // Whether the byte is the second one of an escape: an odd number of $ precedes it.
     static bool is_escaped(std::string_view text, std::size_t place) {
         std::size_t first = place;
         while (first > 0 && text[first - 1] == '$') {
@@ -96,7 +96,7 @@ private:
 
 enum class Kind { word, bar, two_bars, bar_at, colon, end };
 
-// A token; a word has its bytes as they stand, with escapes.
+// A token. A word has its bytes as they are in the text, with escapes.
 struct Token {
     Kind kind;
     std::string_view raw = {};
@@ -129,7 +129,7 @@ inline bool is_continuation(std::string_view text, std::size_t place) {
 // Makes tokens of lines that are no comments. One is used for all lines, so that their list is allocated once.
 class Lexer {
 public:
-    // The tokens of a line, with one behind them that says that it ends. They stand until the next line is read.
+    // The tokens of a line, with one after them that says that it ends. They are valid until the next line is read.
     const std::vector<Token>& read(std::string_view text) {
         tokens_.clear();
         for (std::size_t place = 0; place < text.size();) {
@@ -161,7 +161,7 @@ private:
     }
 
     std::size_t read_word(std::string_view text, std::size_t first) {
-        // behind the last piece, without continuations that only spaces follow
+        // after the last piece, without continuations that only spaces follow
         std::size_t end = first;
         std::size_t place = first;
         while (place < text.size()) {
@@ -201,7 +201,7 @@ inline std::string value_of(std::string_view raw) {
     return value;
 }
 
-// A name, = and a value, as it stands in a line.
+// A name, = and a value, as in a line.
 struct Assignment {
     std::string_view name;
     std::size_t place;

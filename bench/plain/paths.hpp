@@ -1,4 +1,4 @@
-// Canonical paths, and how they are spelled (docs/FORMATS.md, "Paths").
+// Canonical paths, and how they are written (docs/FORMATS.md, "Paths").
 #pragma once
 
 #include <algorithm>
@@ -94,7 +94,7 @@ private:
     }
 };
 
-// Appends a path as it is spelled in a Ninja file.
+// Appends a path as it is written in a Ninja file.
 inline void append_path(std::string& text, std::string_view path) {
     const auto is_escaped = [](char byte) { return byte == '$' || byte == ' ' || byte == ':'; };
     auto run = path.begin();

@@ -1,6 +1,6 @@
 // Does what dyncollate does, by hand, and proves nothing: what the program is compared with. It has the commands one,
-// collate, project, effect and order, with the files, the standard output and the refusals of docs/FORMATS.md. It takes
-// all words as they stand, those that begin with a hyphen too.
+// collate, project, effect and order, with the files, the standard output and the errors of docs/FORMATS.md. It takes
+// all arguments as they are, also those that begin with a hyphen.
 #include <cstddef>
 #include <cstdio>
 #include <string>
@@ -17,7 +17,7 @@
 
 namespace {
 
-// A target, and the bytes that its rules and infos are slices of.
+// A target, and the bytes that its rules and info files are slices of.
 struct Target {
     std::string bytes;
     TargetSpec spec;
@@ -48,7 +48,7 @@ void read_listing(Target& target) {
     }
 }
 
-// Refuses a target whose listing has no order once its dyndep file is applied.
+// Rejects a target whose listing has no order once its dyndep file is applied.
 void check_edges(const Target& target) {
     if (target.spec.has_edges) {
         Graph graph = graph_of(target.listing);
@@ -198,7 +198,7 @@ void run_order(const char* edges) {
     write_out(text);
 }
 
-// Runs the command of the words, and answers whether there is one.
+// Runs the command of the arguments, and returns whether there is one.
 bool run(int count, char** words) {
     const std::string_view command = count > 1 ? words[1] : "";
     if (command == "one" && count == 5) {

@@ -15,7 +15,7 @@
 #include "digraph.hpp"
 #include "documents.hpp"
 
-// A module of an object or of an info. Modules are numbered: those of the objects in order, then those of the infos.
+// A module of an object or of an info file. Modules are numbered: those of the objects in order, then those of the info files.
 struct Provided {
     std::string_view name;
     const std::string* file;
@@ -27,7 +27,7 @@ struct Provided {
 
 class Table {
 public:
-    // The rules and infos are borrowed, and stay where they are.
+    // The rules and info files are borrowed, and stay where they are.
     Table(const std::vector<Rule>& rules, const std::vector<const Info*>& infos,
           const std::vector<std::string_view>& kept)
         : rules_(rules), infos_(infos) {
@@ -66,7 +66,7 @@ private:
     std::size_t own_ = 0;
     std::unordered_map<std::string_view, Node> names_;
     std::unordered_map<std::string_view, Node> makers_;
-    // the rows of the objects, then those of the infos' modules
+    // the rows of the objects, then those of the info files' modules
     Digraph required_;
 
     std::string maker_text(Node maker) const {
@@ -170,7 +170,7 @@ private:
         return found->second;
     }
 
-    // M6 comes before M7 wherever they are, so all files are compared behind all names.
+    // M6 comes before M7 wherever they are, so all files are compared after all names.
     void require_of_infos() {
         for (const Info* info : infos_) {
             for (const InfoModule& module : info->modules) {
@@ -289,7 +289,7 @@ public:
         }
     }
 
-    // The modules that an object needs. They stand until the next object is asked for.
+    // The modules that an object needs. They are valid until the next object is asked for.
     const std::vector<Node>& needed(std::size_t object) {
         found_.clear();
         add(object, table_.required(object));

@@ -1,6 +1,6 @@
 #!/usr/bin/env bash
 # Builds and runs split.cpp, and compares it with what the Rattle program printed: baseline.sh FILE. It prints for each
-# text and each cutting how many million bytes a second both read, and how much longer DyndepReader takes. It fails where
+# text and each cutting how many million bytes a second both read, and how much longer DyndepReader takes. It fails if
 # the two did not read the same bytes or found other paths.
 set -euo pipefail
 here=$(cd "$(dirname "$0")" && pwd)

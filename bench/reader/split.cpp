@@ -18,7 +18,7 @@ struct Statement {
     bool restat = false;
 };
 
-// Splits a text by its string's end too, the NUL behind the last byte: no look ahead needs a test of its own.
+// Splits a text, and reads the NUL after its last byte as well, so that no look ahead needs a test of its own.
 class Splitter {
 public:
     explicit Splitter(const std::string& text) : at_(text.c_str()), end_(at_ + text.size()) {}
@@ -106,7 +106,7 @@ private:
         open_ = true;
     }
 
-    // Takes the paths behind a '|', if there is one.
+    // Takes the paths after a '|', if there is one.
     void take_part(std::vector<std::string>& paths) {
         skip_spaces();
         if (*at_ != '|') {
@@ -165,7 +165,7 @@ private:
         return escaped;
     }
 
-    // Takes '$', a line's end and the spaces behind it.
+    // Takes '$', a line's end and the spaces after it.
     bool take_continuation() {
         if (at_[1] != '\n' && (at_[1] != '\r' || at_[2] != '\n')) {
             return false;
@@ -186,7 +186,7 @@ private:
         }
     }
 
-    // Takes a name; false, with nothing taken, where another one stands here.
+    // Takes a name. Returns false, and takes nothing, if there is another one here.
     bool take_name(std::string_view name) {
         if (!std::string_view(at_, end_).starts_with(name)) {
             return false;
@@ -234,7 +234,7 @@ std::string compiled_module(std::size_t number) {
     return "mod/some.module" + std::to_string(number) + ".bmi";
 }
 
-// The text of so many statements.
+// The text of that many statements.
 std::string dyndep_text(std::size_t count) {
     std::string text = "ninja_dyndep_version = 1\n";
     for (std::size_t number = 0; number < count; ++number) {

@@ -1,12 +1,18 @@
 """The error of a command, taken apart. docs/FORMATS.md, "Lines that the program prints", has the forms of its line."""
 from __future__ import annotations
 
+import os
 import re
 from typing import Optional
 
-# Which document of a target or of a command, and the error after it
-LABEL = re.compile(r"(target|scan|info|line) (\d+): |(target|project|name|edges): ")
-CODED = re.compile(r"([A-Z]\d+) (\w+) ?")
+from ._library import ABSENT, located
+
+# What has an error, and the lists of an entry, by their numbers in dyncollate.h.
+DOCUMENTS = None, "target", "project", "scan", "info", "edges", "name", "dyndep"
+LISTS = "", "provides", "requires", "path"
+# The labels of a line, and the error after them: its code and its name.
+LABELS = re.compile(r"\A(?:(?:target|scan|info|line) \d+: |(?:target|project|name|edges): )*")
+CODED = re.compile(r"[A-Z]\d+ (\w+) ?")
 # What the modules, files and targets of an error are printed as
 MAKER = r"(?:object|info) (.*)"
 SUBJECTS = {
@@ -24,12 +30,14 @@ class Error(Exception):
 
     status    its exit status: 1 if the input is not valid, 3 if a file that a document names is missing
     line      its line on standard error, such as "dyncollate: target 2: scan 0: S6 BadName rule 1 requires 0"
-    code      the code in it, "S6", and `name` the name after it, "BadName". Lines such as "cannot read main.ddi" have neither
+    code      its code, "S6", and `name` the name after it, "BadName". Lines such as "cannot read main.ddi" have neither
     document  what has the error: "scan", "info", "target", "project", "edges", "name" or, for a dyndep file, "dyndep"; or None if
               no single document has it
-    place     the numbers in the line: {"target": 2, "scan": 0, "rule": 1, "requires": 0}. Lines are numbered from 1, everything
+    place     its position in the document: {"target": 2, "scan": 0, "rule": 1, "requires": 0}. Lines are numbered from 1, everything
               else from 0
     names     the modules, files and targets in the line, in its order; for a cycle all that are on it; for S3 the member
+
+    The library says what the code, the document and the place are. That of version 1.1.0 does not, so all three are missing then.
     """
 
     def __init__(self, status: int, line: str) -> None:
@@ -40,33 +48,35 @@ class Error(Exception):
         self.document: Optional[str] = None
         self.place: dict[str, int] = {}
         self.names: tuple[str, ...] = ()
-        self.take_apart(line.removeprefix("dyncollate: "))
+        self.take_numbers()
+        self.take_names()
 
     def __reduce__(self) -> tuple[type[Error], tuple[int, str]]:
         return type(self), (self.status, self.line)
 
-    def take_apart(self, rest: str) -> None:
-        while label := LABEL.match(rest):
-            rest = rest[label.end():]
-            counted, number, document = label.groups()
-            if counted:
-                self.place[counted] = int(number)
-            if counted in ("scan", "info"):
-                self.document = counted
-            elif counted == "line":
-                self.document = self.document or "dyndep"
-            elif document:
-                self.document = document
-        if coded := CODED.match(rest):
-            self.code, self.name = coded.groups()
-            self.take_subject(rest[coded.end():])
+    def take_numbers(self) -> None:
+        """Takes the code, the document and the place, as the library reads them from the line."""
+        found = located(os.fsencode(f"dyncollate: {self.line.removeprefix('dyncollate: ')}\n"))
+        if found.letter:
+            self.code = f"{chr(found.letter)}{found.number}"
+        self.document = DOCUMENTS[found.document]
+        listed, item = ("info", "module") if self.document == "info" else ("scan", "rule" if self.document else "statement")
+        numbers = {"target": found.target, listed: found.index, "line": found.line, item: found.item,
+                   LISTS[found.list]: found.entry, "offset": found.offset}
+        self.place = {word: number for word, number in numbers.items() if number != ABSENT}
+
+    def take_names(self) -> None:
+        """Takes the name of the error, and what it names."""
+        rest = LABELS.sub("", self.line.removeprefix("dyncollate: "))
+        if self.code and (coded := CODED.match(rest)):
+            self.name = coded[1]
+            self.take_subject(self.code, rest[coded.end():])
         elif rest.startswith("cycle "):
             self.names = tuple(rest.removeprefix("cycle ").split(" -> "))
         elif rest.startswith("cannot read "):
             self.names = (rest.removeprefix("cannot read "),)
 
-    def take_subject(self, subject: str) -> None:
-        code = str(self.code)
+    def take_subject(self, code: str, subject: str) -> None:
         if code in SUBJECTS:
             found = re.fullmatch(SUBJECTS[code], subject, re.S)
             self.names = found.groups() if found else (subject,)
@@ -74,8 +84,5 @@ class Error(Exception):
             self.names = tuple(subject.split(" -> "))
         elif code[0] in "MK" or code[0] == "E" and code not in ("E3", "E8"):
             self.names = (subject,) if subject else ()
-        else:
-            self.place |= {"offset" if word == "at" else word: int(number)
-                           for word, number in re.findall(r"\b(rule|provides|requires|module|statement|path|at) (\d+)", subject)}
-            if member := re.search(r" member (.*)", subject):
-                self.names = (member[1],)
+        elif member := re.search(r" member (.*)", subject):
+            self.names = (member[1],)

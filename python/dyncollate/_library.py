@@ -29,11 +29,18 @@ COMMANDS = {
 # The parameters in C of each of these.
 PARAMETERS = {"file": STRING, "files": NUMBERS + STRING, "name": STRING}
 NO_MEMORY, MISUSED = 4, 5
+ABSENT = ctypes.c_size_t(-1).value
 
 
 class Outcome(ctypes.Structure):
     _fields_ = [("status", ctypes.c_uint32), ("written", ctypes.c_uint32),
                 ("numbers", ctypes.c_size_t), ("text", ctypes.c_size_t)]
+
+
+class Location(ctypes.Structure):
+    """`dyncollate_location` of dyncollate.h."""
+    _fields_ = [(name, ctypes.c_size_t) for name in ("document", "letter", "number", "list", "target", "index", "line", "item", "entry",
+                                                     "offset")]
 
 
 @functools.lru_cache(None)
@@ -55,6 +62,16 @@ def linked_version() -> int:
         return 10100
     function.restype = ctypes.c_uint32
     return int(function())
+
+
+def located(line: bytes) -> Location:
+    """Where the error of a line is, and which error it is. The library of version 1.1.0 does not know."""
+    function = getattr(library(), "dyncollate_locate", None)
+    if function is None:
+        return Location(0, 0, 0, 0, *[ABSENT] * 6)
+    function.argtypes, function.restype = STRING, Location
+    found: Location = function(line, len(line))
+    return found
 
 
 def bytes_of(file: File) -> bytes:

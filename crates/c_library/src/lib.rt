@@ -5,10 +5,11 @@
 //! and of the system `malloc`, `realloc` and `free`.
 #![tactic(auto)]
 
-ghost use Rattle.std.specs.Prelude.{◌≡◌, [], IsUtf8, ⊤};
+ghost use Rattle.std.specs.Prelude.{◌≡◌, ℕ, [], IsUtf8, Option, ⊤};
 ghost use Rattle.in_memory.specs.CollateCommand.{CollateRun};
 ghost use Rattle.in_memory.specs.Cuts.{IsCut, OfCut};
 ghost use Rattle.in_memory.specs.Effect.{EffectRun};
+ghost use Rattle.in_memory.specs.Locations.{CommandError, IsLineOf, location};
 ghost use Rattle.in_memory.specs.One.{OneRun};
 ghost use Rattle.in_memory.specs.Order.{OrderRun};
 ghost use Rattle.in_memory.specs.ProjectCommand.{ProjectRun};
@@ -18,8 +19,8 @@ ghost use Rattle.in_memory.specs.Show.{ShowRun};
 ghost use Rattle.in_memory.specs.Statements.{Tells};
 
 use in_memory::{
-    Outcome, collate_into, effect_into, one_into, order_into, project_into, show_into,
-    statements_into,
+    Location, Outcome, collate_into, effect_into, locate, one_into, order_into, project_into,
+    show_into, statements_into,
 };
 use std::alloc::Global;
 
@@ -128,6 +129,15 @@ pub extern "C" fn dyncollate_statements(
     ensures { Puts ⊤ (Tells dyndep.now) numbers.old text.old numbers.new text.new result }
 {
     statements_into(alloc, dyndep, numbers, text)
+}
+
+/// Returns where the error of a line is that a command prints on standard error, and which error it is.
+#[unsafe(no_mangle)]
+pub extern "C" fn dyncollate_locate(line: &[u8]) -> Location
+    ensures { (target : Option ℕ) (error : CommandError) → IsLineOf target error line.now
+        → result ≡ location target error }
+{
+    locate(line)
 }
 
 /// Returns the version of the library: 10000 times the major version, 100 times the minor one, and

@@ -13,7 +13,8 @@ use Rattle.in_memory.specs.Runs.{Answers}
 use Rattle.in_memory.specs.declared.reply.Outcome.{Outcome}
 
 -- what was passed is a call, and each of these replies is one of those
-pub put_as : (IsCall : Type 0) (Has IsReply : ReplyValue → Type 0) (numbers : List ℕ) (text : Bytes) (new_numbers : List ℕ) (new_text : Bytes) (outcome : Outcome) →
+pub put_as : (IsCall : Type 0) (Has IsReply : ReplyValue → Type 0) (numbers : List ℕ) (text : Bytes) (new_numbers : List ℕ) (new_text : Bytes)
+    (outcome : Outcome) →
     IsCall → ((reply : ReplyValue) → Has reply → IsReply reply) →
     Puts ⊤ Has numbers text new_numbers new_text outcome → Puts IsCall IsReply numbers text new_numbers new_text outcome
 put_as IsCall Has IsReply numbers text new_numbers new_text outcome call are (replies _ reply has is_put) = replies call reply (are reply has) is_put
@@ -21,8 +22,10 @@ put_as IsCall Has IsReply numbers text new_numbers new_text outcome call are (no
 put_as IsCall Has IsReply numbers text new_numbers new_text outcome call are (no_call none is unchanged) = absurd (none tt)
 
 -- a reply of which this holds, unless memory ran out
-pub put_ok : (IsReply : ReplyValue → Type 0) (result : Result ReplyValue AllocError) (numbers : List ℕ) (text : Bytes) (new_numbers : List ℕ) (new_text : Bytes) (outcome : Outcome) →
-    IfOk result IsReply → Puts ⊤ (λ reply. result ≡ Ok reply) numbers text new_numbers new_text outcome → Puts ⊤ IsReply numbers text new_numbers new_text outcome
+pub put_ok : (IsReply : ReplyValue → Type 0) (result : Result ReplyValue AllocError) (numbers : List ℕ) (text : Bytes) (new_numbers : List ℕ) (new_text : Bytes)
+    (outcome : Outcome) →
+    IfOk result IsReply → Puts ⊤ (λ reply. result ≡ Ok reply) numbers text new_numbers new_text outcome →
+    Puts ⊤ IsReply numbers text new_numbers new_text outcome
 put_ok IsReply result numbers text new_numbers new_text outcome holds =
     put_as ⊤ (λ reply. result ≡ Ok reply) IsReply numbers text new_numbers new_text outcome tt (λ reply is. subst (λ r. IfOk r IsReply) is holds)
 
@@ -36,8 +39,11 @@ pub replies_of : (IsOutcome : commands.Outcome OutputValue → Type 0) (answer :
 replies_of IsOutcome answer answers reply (it, is, e) = (it, subst (Answers IsOutcome) is answers, e)
 
 -- the numbers or bytes of a list's items so far, and of one more
-pub told_more : {X Y : Type 0} (tell : Y → List ℕ) (value : X → Y) (xs : List X) (i : ℕ) (x : X) (front old new more : List ℕ) → i < length xs → x ≡ get_or xs i x →
-    old ≡ front ++ flat_map tell (map value (take i xs)) → new ≡ old ++ more → more ≡ tell (value x) → new ≡ front ++ flat_map tell (map value (take (i + 1) xs))
+pub told_more : {X Y : Type 0} (tell : Y → List ℕ) (value : X → Y) (xs : List X) (i : ℕ) (x : X) (front old new more : List ℕ) → i < length xs →
+    x ≡ get_or xs i x →
+    old ≡ front ++ flat_map tell (map value (take i xs)) → new ≡ old ++ more → more ≡ tell (value x) →
+    new ≡ front ++ flat_map tell (map value (take (i + 1) xs))
 told_more tell value xs i x front old new more within is so_far appended told =
     appended ∙ ap₂ (λ a b. a ++ b) so_far told ∙ flat_map_more tell front (map value (take i xs)) (value x)
-    ∙ ap (λ ys. front ++ flat_map tell ys) (sym (ap (map value) (take_more xs i x within ∙ ap (λ y. take i xs ++ y ∷ []) (sym is)) ∙ map-append value (take i xs) (x ∷ [])))
+    ∙ ap (λ ys. front ++ flat_map tell ys)
+    (sym (ap (map value) (take_more xs i x within ∙ ap (λ y. take i xs ++ y ∷ []) (sym is)) ∙ map-append value (take i xs) (x ∷ [])))

@@ -24,12 +24,14 @@ flag_told true = refl
 flag_told false = refl
 
 -- the numbers of a statement, appended one after another
-pub numbers_told : (old : List ℕ) (s : StatementValue) (one four numbers : List ℕ) (paths : List PathText) → one ≡ old ++ four → numbers ≡ one ++ map length paths →
+pub numbers_told : (old : List ℕ) (s : StatementValue) (one four numbers : List ℕ) (paths : List PathText) → one ≡ old ++ four →
+    numbers ≡ one ++ map length paths →
     four ≡ as_number s.restat ∷ length s.implicit_outputs ∷ length s.implicit_inputs ∷ length s.output ∷ [] → paths ≡ s.implicit_outputs ++ s.implicit_inputs →
     numbers ≡ old ++ statement_numbers s
 numbers_told old s one four numbers paths is_one is is_four are =
     is ∙ ap₂ (λ ns ps. ns ++ map length ps) (is_one ∙ ap (λ ns. old ++ ns) is_four) are
-    ∙ append_assoc old (as_number s.restat ∷ length s.implicit_outputs ∷ length s.implicit_inputs ∷ length s.output ∷ []) (map length (s.implicit_outputs ++ s.implicit_inputs))
+    ∙ append_assoc old (as_number s.restat ∷ length s.implicit_outputs ∷ length s.implicit_inputs ∷ length s.output ∷ [])
+    (map length (s.implicit_outputs ++ s.implicit_inputs))
 
 -- and its paths
 pub text_told : (old : Text) (s : StatementValue) (one text output : Text) (paths : List PathText) →

@@ -1,6 +1,8 @@
 pub mod Cuts
 pub mod Given
+pub mod Locations
 pub mod Replies
+pub mod Reported
 pub mod Runs
 pub mod Statements
 pub mod inner

@@ -8,6 +8,9 @@
 //! - [`one_into`] and the like write what a command returns into memory of the caller
 //!   (`specs/Replies.antt`), also for files that lie in one text (`specs/Cuts.antt`).
 //!   [`statements_into`] writes the statements of a dyndep file (`specs/Statements.antt`).
+//! - [`locate`] returns where the error of a line is, and which error it is
+//!   (`specs/Locations.antt`). `laws` says that each line of a command is that of an error
+//!   (`specs/Reported.antt`).
 //! - `files` has the `Folder` of these files, and `history` what proofs know of its calls.
 #![tactic(auto)]
 
@@ -15,6 +18,8 @@ mod cut;
 mod files;
 mod history;
 mod into;
+pub mod laws;
+mod location;
 mod reply;
 mod runs;
 mod statements;
@@ -22,6 +27,7 @@ mod statements;
 pub use commands::Answer;
 pub use files::File;
 pub use into::{collate_into, effect_into, one_into, order_into, project_into, show_into};
+pub use location::{Location, locate};
 pub use reply::Outcome;
 pub use runs::{collate_run, effect_run, one_run, order_run, project_names, project_run, show_run};
 pub use statements::statements_into;

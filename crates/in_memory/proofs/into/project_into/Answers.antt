@@ -16,7 +16,8 @@ returns-in-Ok c =
     let ran = subst Run c.deref.ensures.value c.project_run.ensures in
     put_as (IsCut lengths files) (HasAnswer c.project_run.result)
     (λ reply. OfCut lengths files (λ fs. Replies (Over fs (ProjectRun c.args.document.now)) reply)) _ _ _ _ _
-    (given, c.in-Ok.ensures.files) (λ reply has. (given, c.in-Ok.ensures.files, replies_of (Over given (ProjectRun c.args.document.now)) c.project_run.result ran reply has))
+    (given, c.in-Ok.ensures.files)
+    (λ reply has. (given, c.in-Ok.ensures.files, replies_of (Over given (ProjectRun c.args.document.now)) c.project_run.result ran reply has))
     c.put_answer.ensures
 
 pub returns-in-Err : goal.returns-in-Err

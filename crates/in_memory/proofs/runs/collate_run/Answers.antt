@@ -13,7 +13,8 @@ returns c =
     let old = c.in_ok-folder.folder in
     let new = c.collate-outcome.new.folder in
     let over = run_over c.args.files.now old.files.now new.files.now old.history.calls new.history.calls
-    (CollateRun c.args.document.now) c.collate-outcome.result c.in_ok-folder.ensures.files c.in_ok-folder.ensures.calls new.got c.collate-outcome.ensures in
+    (CollateRun c.args.document.now) c.collate-outcome.result c.in_ok-folder.ensures.files c.in_ok-folder.ensures.calls new.got
+    c.collate-outcome.ensures in
     (c.collate-outcome.result, over, c.of.ensures)
 
 -- there was no memory for the folder, so no call was made

@@ -13,7 +13,8 @@ returns c =
     let old = c.in_ok-folder.folder in
     let new = c.project-outcome.new.folder in
     let over = run_over c.args.files.now old.files.now new.files.now old.history.calls new.history.calls
-    (ProjectRun c.args.document.now) c.project-outcome.result c.in_ok-folder.ensures.files c.in_ok-folder.ensures.calls new.got c.project-outcome.ensures in
+    (ProjectRun c.args.document.now) c.project-outcome.result c.in_ok-folder.ensures.files c.in_ok-folder.ensures.calls new.got
+    c.project-outcome.ensures in
     (c.project-outcome.result, over, c.of.ensures)
 
 -- there was no memory for the folder, so no call was made

@@ -8,7 +8,8 @@ use Rattle.in_memory.specs.Given.{GivenFile, bytes_named}
 use Rattle.in_memory.specs.inner.FirstFiles.{first_named, AreFirst}
 use Rattle.in_memory.proofs.files.Files.new.Goals as goal
 
-copied : (b : Bool) (value : Bor (List ℕ)) (other : Option (Bor (List ℕ))) → option_copied (cond b (Some value) other) ≡ cond b (Some value.now) (option_copied other)
+copied : (b : Bool) (value : Bor (List ℕ)) (other : Option (Bor (List ℕ))) →
+    option_copied (cond b (Some value) other) ≡ cond b (Some value.now) (option_copied other)
 copied true value other = refl
 copied false value other = refl
 
