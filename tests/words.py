@@ -74,9 +74,6 @@ CHECKED_IN_COMMENTS = len(TURNS) - 1
 EXCEPTIONS = [
     "tests: a run needs no random bytes but for names of new files", "FORMATS: fewer words once more", "must-fail edits: 3 refused",
 ]
-# Definitions whose comments have turns of scripts, or call a `Folder` a folder.
-EXCEPTED_DEFINITIONS = {"commands/specs/ProjectCommand.antt": 1, "dyndep_file/specs/Faults.antt": 1, "info_pool/specs/inner/Pools.antt": 1,
-                        "ninja_text/specs/Scanning.antt": 1, "ninja_text/specs/TokenLists.antt": 3}
 # The scripts and tests, and those of them that are not read yet. This file has the turns themselves.
 SCRIPTS = ["build", "dyncollate", "install", "release", "test", ".ci/run", "bench/**/*", "building/*", "cmake/*", "cross/*", "examples/generate",
            "examples/embed/*", "explain/*", "include/*", "python/**/*", "tests/**/*", "web/*"]
@@ -195,11 +192,11 @@ class Words(unittest.TestCase):
                 self.assertEqual(list(wrong(comments(path), FOUND[:CHECKED_IN_COMMENTS])), [])
 
     def test_definitions(self):
-        """The comments of definitions also have no turn of TURNS_OF_SCRIPTS, with some exceptions."""
+        """The comments of definitions also have no turn of TURNS_OF_SCRIPTS."""
         found = {path.relative_to(TOP / "crates").as_posix(): list(wrong(comments(path), FOUND + FOUND_IN_SCRIPTS))
                  for path in TOP.glob("crates/*/specs/**/*.antt")}
         self.assertGreater(len(found), 100)
-        self.assertEqual({name: it for name, it in found.items() if len(it) != EXCEPTED_DEFINITIONS.get(name, 0)}, {})
+        self.assertEqual({name: it for name, it in found.items() if it}, {})
 
     def test_scripts(self):
         said = scripts()

@@ -7,7 +7,7 @@ use Rattle.build_effect.specs.inner.Strings.{text_of, texts_of, IsWithin, AreWit
 use Rattle.build_effect.specs.declared.listing.rows.ListEnds.{ListEnds}
 use Rattle.build_effect.specs.declared.listing.strings.Span.{Span}
 
--- a part of the text stays the same if the text goes on behind it
+-- a part of the text stays the same if the text continues after it
 kept : (text more : List ℕ) (span : Span) → IsWithin text span → text_of (text ++ more) span ≡ text_of text span
 kept text more span within =
     let room : span.end - span.start ≤ length (drop span.start text) = omega (arith, within, length-drop span.start text) in
@@ -64,7 +64,7 @@ between {joined} {all} {from} {to} before part after both whole start end =
 longer : {joined all : List (List ℕ)} (before part after : List (List ℕ)) → joined ≡ before ++ part → all ≡ joined ++ after → all ≡ before ++ (part ++ after)
 longer before part after both whole = whole ∙ ap (λ xs. xs ++ after) both ∙ append_assoc before part after
 
--- a list ends behind the one before it
+-- a list ends after the one before it
 later : {joined : List (List ℕ)} {from to : ℕ} (before part : List (List ℕ)) → joined ≡ before ++ part → from ≡ length before → to ≡ length joined → from ≤ to
 later before part both start end = omega (arith, start, end, ap length both, length-append before part)
 

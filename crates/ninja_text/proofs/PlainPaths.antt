@@ -16,7 +16,7 @@ use Rattle.ninja_text.proofs.ReducedList.{IsFixed, names-fixed, fixed-reduced, r
 use Rattle.ninja_text.proofs.Components.{components-lack, components-some, components-at}
 use Rattle.ninja_text.proofs.Canonical.{IsClean, whole-path, clean-none, none-clean, clean-components}
 
--- whether the rest of a list goes on with names, if this is known of the component that is being read
+-- whether the rest of a list continues with names, if this is known of the component that is being read
 abbrev pub names_from : Begun → Bytes → Bool
 names_from begun [] = is_name begun
 names_from begun (b ∷ bs) =

@@ -14,7 +14,7 @@ use Rattle.ninja_text.proofs.Units.{units_byte, units_pair, units_feed, continue
 
 -- ---- what is read of gaps
 
--- all spaces at the front, and what is behind them
+-- all spaces at the front, and what follows them
 past_spaces : (n : ℕ) (text : Bytes) → spaces_at text ≡ 0 → drop (spaces_at (replicate n 32 ++ text)) (replicate n 32 ++ text) ≡ text
 past_spaces zero text none = ap (λ k. drop k text) none
 past_spaces (suc n) text none =
@@ -52,7 +52,7 @@ gap_read gap text g none = ap (λ gap. value_of (gap ++ text)) g.2 ∙ parts_rea
 
 -- ---- what is read of pieces
 
--- an escaped byte is none that is not escaped
+-- an escaped byte is not one that needs no escape
 differs : (b n : ℕ) → is_escaped b ≡ true → is_escaped n ≡ false → (b == n) ≡ false
 differs b n h k = elim (cases_Bool (b == n)) [
   | inl e ↦ cc (sym h ∙ ap is_escaped (eqb-true b n e) ∙ k)

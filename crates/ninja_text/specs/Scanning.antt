@@ -1,5 +1,5 @@
--- How a line's end is found byte by byte. The line's units say where it is; this says what is
--- remembered on the way.
+-- How a line's end is found byte by byte. The line's units say what the line is; this says what
+-- is remembered on the way.
 use Rattle.std.specs.Prelude.{ℕ, ◌+◌, ◌-◌, ◌==◌, if◌then◌else◌, [], ◌∷◌, Option, Some, None}
 use Rattle.ninja_text.specs.Bytes.{Bytes, line_feed, carriage_return, dollar, space, hash}
 use Rattle.ninja_text.specs.declared.scan.ScanState.{ScanState}

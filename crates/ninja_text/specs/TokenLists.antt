@@ -1,4 +1,4 @@
--- Lists of tokens, as divisions of units: tokens, each the longest that fits, and nothing but
+-- Lists of tokens, as divisions of units: tokens, each the longest that fits, and only
 -- spaces and continuations between them.
 use Rattle.std.specs.Prelude.{◌≡◌, ℕ, ◌+◌, Bool, true, false, ◌&&◌, if◌then◌else◌, List, [], ◌∷◌, ◌++◌}
 use Rattle.std.specs.List.{AllByRecursion}
@@ -55,14 +55,14 @@ pub record BeginsWithToken (index : ℕ) (us : List LineUnit) (t : TokenAt) (aft
   pub end : t.end ≡ t.start + total_len own
   pub token : IsToken t.kind own after
 
--- Units that begin at an index are these tokens, and nothing but blank units before, between and
+-- Units that begin at an index are these tokens, and only blank units before, between and
 -- after them.
 abbrev pub LexesAs : ℕ → List LineUnit → List TokenAt → Type 0
 LexesAs index us [] = AreBlank us
 LexesAs index us (t ∷ ts) =
     (after : List LineUnit) × BeginsWithToken index us t after × LexesAs t.end after ts
 
--- The text is these tokens, and nothing but spaces and continuations before, between and after
+-- The text is these tokens, and only spaces and continuations before, between and after
 -- them.
 abbrev pub AreTokens : Text → List TokenAt → Type 0
 AreTokens text ts = LexesAs 0 (units text) ts

@@ -9,7 +9,7 @@ use crate::reduction::is_unwritable;
 /// What is known of a component by its bytes so far.
 #[derive(Clone, Copy)]
 pub(crate) enum Begun {
-    /// There are none.
+    /// No byte.
     Nothing,
     /// `.`
     Dot,
