@@ -15,7 +15,7 @@ TOP = Path(__file__).resolve().parent.parent
 PAGE = TOP / "docs/ARCHITECTURE.md"
 # What a crate offers of a crate below it: items that its users need for its calls.
 OFFERED = {"scan_docs": ["document_values::{Info, InfoModule, Name, Rule, TargetName}"],
-           "collate_core": ["module_maps::{Clang, Gcc, MapEntry, MapFault, MapStyle, ModuleMap}"], "in_memory": ["commands::Answer"]}
+           "collate_core": ["module_maps::{Clang, Gcc, MapEntry, MapFault, MapStyle, ModuleMap, UnwritableMap}"], "in_memory": ["commands::Answer"]}
 PICTURE = re.compile(r"(?<=^```mermaid\n).*?(?=^```$)", re.M | re.S)
 
 
