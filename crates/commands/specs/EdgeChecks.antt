@@ -32,7 +32,7 @@ GraphPasses old name dyndep = do
   new ← TextEffectOf dyndep name old
   OrderableOf old new
 
--- the edges of a listing, if there is one, can be put in order after that effect
+-- the edges of an edge list, if there is one, can be put in order after that effect
 abbrev pub EdgesPass : Option ListingRead → PathText → Text → Part (Unit {0})
 EdgesPass None name dyndep = Done tt
 EdgesPass (Some listing) name dyndep = do

@@ -1,4 +1,4 @@
--- How faults of edge listings and of effects on edges are reported: edges by their first outputs.
+-- How faults of edge lists and of effects on edges are reported: edges by their first outputs.
 use Rattle.std.specs.Prelude.{ℕ, List, [], ◌∷◌, ◌++◌, slice_get, slice_index_or, Option, Some, None, codes}
 use Rattle.std.specs.List.{flat_map}
 use Rattle.std.specs.Option.{option_map_or}
@@ -20,7 +20,7 @@ abbrev pub first_output : List EdgeValue → ℕ → PathText
 first_output edges index =
     option_map_or (λ e. slice_index_or e.outputs 0 []) (slice_get edges index) []
 
--- why a listing gives no graph: the fault of a line, or the file that the edges' fault is about
+-- why an edge list gives no graph: the fault of a line, or the file that the edges' fault is about
 abbrev pub edges_fault_text : ListFault → Text
 edges_fault_text (AtLine fault) = codes "edges: " ++ listing_line_fault_text fault
 edges_fault_text (NoGraph fault) = graph_fault_text fault ++ codes " " ++ graph_fault_path fault
@@ -29,7 +29,7 @@ edges_fault_text (NoGraph fault) = graph_fault_text fault ++ codes " " ++ graph_
 abbrev pub name_fault_text : PathFault → Text
 name_fault_text fault = codes "name: " ++ path_fault_text fault
 
--- why the listing of edges can't be written: the edge whose line is too long
+-- why the edge list can't be written: the edge whose line is too long
 abbrev pub listing_write_text : List EdgeValue → ListingWriteFault → Text
 listing_write_text edges (ListingTooLong index) =
     codes "E9 ListingTooLong " ++ first_output edges index

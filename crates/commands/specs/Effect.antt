@@ -24,7 +24,7 @@ abbrev pub EffectOf : List EdgeValue → PathText → List StatementValue → Pa
 EffectOf edges name statements =
     Returns (OnlyEffect edges name statements) (IsWithoutEffect edges name statements) effect_text
 
--- the listing of edges, or the first of them whose line is too long
+-- the edge list of these edges, or the first of them whose line is too long
 abbrev pub ListingTextOf : List EdgeValue → Part Text
 ListingTextOf edges =
     Returns (λ text. listing_text_or_fault edges ≡ Ok text)
@@ -37,7 +37,7 @@ PrintsListing edges = do
   text ← ListingTextOf edges
   Prints text
 
--- What a run prints for a name, and for an edge listing and the dyndep file of that name that were
+-- What a run prints for a name, and for an edge list and the dyndep file of that name that were
 -- read.
 abbrev pub EffectOfRead : Text → ListingRead → DyndepRead → Part OutputValue
 EffectOfRead name listing dyndep = do
@@ -47,7 +47,7 @@ EffectOfRead name listing dyndep = do
   new ← EffectOf old path statements
   PrintsListing new
 
--- What a run prints for a name, and for these bytes of an edge listing and of the dyndep file of
+-- What a run prints for a name, and for these bytes of an edge list and of the dyndep file of
 -- that name.
 abbrev pub EffectRun : Text → Text → Text → Part OutputValue
 EffectRun name edges dyndep = do

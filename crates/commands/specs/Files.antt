@@ -11,7 +11,7 @@ use Rattle.commands.specs.Outcomes.{Part, Each, FileValue, ReadsAll, ReadsIfName
 -- ---- files that are read
 
 -- the files of a target: the bytes of its scan documents and of the info files that it links, and
--- the result of reading its listing of edges, if it names one
+-- the result of reading its edge list, if it names one
 pub record TargetFilesValue : Type 0 where
   pub scans : List Text
   pub infos : List Text

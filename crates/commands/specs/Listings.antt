@@ -1,4 +1,4 @@
--- What a part of a run gives that reads an edge listing.
+-- What a part of a run gives that reads an edge list.
 use Rattle.std.specs.Prelude.{◌≡◌, List, Some, Result}
 use Rattle.ninja_text.specs.Bytes.{Bytes, Text, PathText}
 use Rattle.ninja_text.specs.Failure.{ForFault}

@@ -32,13 +32,13 @@ OrderOf edges =
     (λ (cycle : Vec ℕ Global). IsSortingOf (length edges) (EdgeNeeds edges) (Cycle cycle))
     (λ cycle. cycle_text edges cycle.items)
 
--- What a run prints for an edge listing that was read.
+-- What a run prints for an edge list that was read.
 abbrev pub OrderOfRead : ListingRead → Part OutputValue
 OrderOfRead listing = do
   graph ← ListingOf listing
   OrderOf graph
 
--- What a run prints for these bytes of an edge listing.
+-- What a run prints for these bytes of an edge list.
 abbrev pub OrderRun : Text → Part OutputValue
 OrderRun edges = do
   listing ← Comes (IsListingRead (whole edges))

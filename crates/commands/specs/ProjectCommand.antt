@@ -55,7 +55,7 @@ At {V} index Holds calls outcome =
 -- ---- the targets that are read
 
 -- A target that was read: the members of its document, the indexes of the targets that it links,
--- the bytes of its scan documents, and the result of reading its listing of edges, if it names one.
+-- the bytes of its scan documents, and the result of reading its edge list, if it names one.
 pub record ReadTargetValue : Type 0 where
   pub spec : document.TargetDocumentValue
   pub linked : Numbers

@@ -84,7 +84,7 @@ fn listing_text(alloc: Global, graph: &Graph) -> Result<Vec<u8>, Stop>
     }
 }
 
-/// Runs `order EDGES` on the bytes of the edge listing. Each edge is named by its first output, in
+/// Runs `order EDGES` on the bytes of the edge list. Each edge is named by its first output, in
 /// which control bytes are printed as `?`.
 pub fn order(alloc: Global, edges: &[u8]) -> Result<Output, Stop>
     ensures { OrderRun edges.now [] result }
@@ -92,7 +92,7 @@ pub fn order(alloc: Global, edges: &[u8]) -> Result<Output, Stop>
     order_of_read(alloc, read_text(ListingReader::new(alloc), edges))
 }
 
-/// Runs `order EDGES` on the edge listing, once it was read.
+/// Runs `order EDGES` on the edge list, once it was read.
 pub(crate) fn order_of_read(alloc: Global, listing: ListingRead) -> Result<Output, Stop>
     ensures { OrderOfRead listing [] result }
 {

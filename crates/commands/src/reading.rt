@@ -94,7 +94,7 @@ pub(crate) struct TargetFiles {
     pub scans: Vec<Vec<u8>>,
     /// The bytes of the info files of targets that it links.
     pub infos: Vec<Vec<u8>>,
-    /// The result of reading the listing of edges, if its document names one.
+    /// The result of reading the edge list, if its document names one.
     pub listing: Option<ListingRead>,
 }
 

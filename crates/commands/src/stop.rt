@@ -124,7 +124,7 @@ pub(crate) fn of_fault<F: Display + Drop>(alloc: Global, prefix: &str, failure: 
     stopped(1, message.map(String::into_bytes))
 }
 
-/// Stops the run at a listing that gives no graph.
+/// Stops the run at an edge list that gives no graph.
 pub(crate) fn of_listing(alloc: Global, failure: &Failure<ListFault>) -> Stop
     ensures { Reports edges_fault_text failure.now result }
 {
