@@ -8,9 +8,13 @@ mod growths;
 mod lexing;
 
 use crate::failing::{Bytewise, Refusing, bytewise_reader, has_given, has_got, refusing_writer};
-use ninja_text::{Counted, Failure, Path, PathFault, ReadCall};
+use ninja_text::{
+    Counted, Failure, Line, LineCutter, Path, PathFault, ReadCall, assignment, words,
+};
+use std::alloc::{AllocError, Global};
 use std::io;
 use std::io::ErrorKind;
+use std::rc::RcSlice;
 use std::test::Fail;
 
 /// Whether a call returns that this many bytes went in or out.
@@ -110,4 +114,67 @@ fn each_read_is_one_call_and_counted_where_it_fails(rt: HostRuntime) {
 fn an_unwritable_byte_is_reported_with_its_offset(rt: HostRuntime) {
     let fault = Failure::Fault(PathFault::Unwritable { place: 1 });
     assert!(rt; Path::of(rt.alloc(), b"a|b/../c").err() == Some(fault));
+}
+
+/// Whether a call returns this path.
+fn is_path(path: Result<Path, Failure<PathFault>>, wanted: &[u8]) -> bool {
+    match path {
+        Ok(path) => path.bytes() == wanted,
+        Err(_) => false,
+    }
+}
+
+/// Whether a call returns these bytes.
+fn is_value(value: Result<Vec<u8>, AllocError>, wanted: &[u8]) -> bool {
+    match value {
+        Ok(value) => value.as_slice() == wanted,
+        Err(_) => false,
+    }
+}
+
+#[test]
+fn a_part_of_a_string_is_a_path(rt: HostRuntime) -> Result<(), Fail> {
+    let text = RcSlice::from_slice(rt.alloc(), b"a/b ./c a|b".as_slice())?;
+    assert!(rt; is_path(Path::within(rt.alloc(), &text, 0, 3), b"a/b"));
+    assert!(rt; is_path(Path::within(rt.alloc(), &text, 4, 7), b"c"));
+    let fault = Failure::Fault(PathFault::Unwritable { place: 1 });
+    assert!(rt; Path::within(rt.alloc(), &text, 8, 11).err() == Some(fault));
+    Ok(())
+}
+
+/// Whether this is the value of a line's first word, or of its assignment, and the word's path.
+fn has_value(alloc: Global, line: Line<'_>, text: &RcSlice<u8>, wanted: &[u8]) -> bool {
+    if line.is_comment() {
+        return false;
+    }
+    if let Ok(Some(found)) = assignment(line) {
+        return is_value(found.value(alloc), wanted);
+    }
+    let Ok(mut tokens) = words(line) else {
+        return false;
+    };
+    match tokens.next() {
+        Some(token) => is_value(token.value(alloc), wanted)
+            && is_path(token.path(alloc, text), wanted),
+        None => false,
+    }
+}
+
+#[test]
+fn words_and_assignments_have_values(rt: HostRuntime) -> Result<(), Fail> {
+    let rows: &[(&[u8], &[u8])] = &[
+        (b"a/b: c\n", b"a/b"),
+        (b"a$ b: c\n", b"a b"),
+        (b"  dyndep = a$ b\n", b"a b"),
+    ];
+    for (line, wanted) in rows {
+        let text = RcSlice::from_slice(rt.alloc(), *line)?;
+        let mut cutter = LineCutter::new(rt.alloc());
+        assert!(rt; cutter.feed(*line) == Ok(line.len()));
+        match cutter.next_line() {
+            Ok(Some(line)) => assert!(rt; has_value(rt.alloc(), line, &text, wanted)),
+            _ => return Err(Fail::new("no line")),
+        }
+    }
+    Ok(())
 }

@@ -1,7 +1,7 @@
 -- The rewriting of components ends in one list, whatever the choice of steps.
 use Rattle.ninja_text.specs.inner.ComponentLists.{Components}
 use Rattle.ninja_text.specs.Bytes.{Bytes}
-use Rattle.std.proofs.Common.{◌≡◌, ℕ, zero, suc, Bool, true, false, not, ◌||◌, ◌&&◌, ◌==◌, cond, IsTrue, List, [], ◌∷◌, ◌++◌, refl, sym, ◌∙◌, ap, subst, append_assoc, rules, ◌⊎◌, inl, inr}
+use Rattle.std.proofs.Common.{◌≡◌, ℕ, zero, suc, Bool, true, false, not, ◌||◌, ◌&&◌, ◌==◌, cond, IsTrue, [], ◌∷◌, ◌++◌, refl, sym, ◌∙◌, ap, subst, append_assoc, rules, ◌⊎◌, inl, inr}
 use Rattle.std.specs.List.{AllByRecursion, list_any}
 use Rattle.std.proofs.lemmas.Bool.{or_parts}
 use Rattle.ninja_text.specs.Reduction.{is_current, is_parent, is_named_component, IsDeletable, ReductionStep, Steps, IsReduced, ReducesTo, in_front, reduced}

@@ -1,6 +1,6 @@
 -- The scan of a line: it finds the end that the units have, and how far the line goes into a piece.
 use Rattle.ninja_text.specs.Bytes.{Bytes}
-use Rattle.std.proofs.Common.{inl, inr, subst, ◌≡◌, ℕ, ◌+◌, ◌-◌, List, [], ◌∷◌, map, refl, sym, ap, ◌∙◌, true, false, ◌==◌, arith, Some, None, zero, suc, ◌<◌, ◌≤◌, ◌++◌, length, take, add-zero, ◌⊎◌, min, length-append, Ok}
+use Rattle.std.proofs.Common.{inl, inr, subst, ◌≡◌, ℕ, ◌+◌, ◌-◌, [], ◌∷◌, map, refl, sym, ap, ◌∙◌, true, false, ◌==◌, arith, Some, None, zero, suc, ◌<◌, ◌≤◌, ◌++◌, length, take, add-zero, ◌⊎◌, min, length-append, Ok}
 use Rattle.std.specs.Prelude.{Option, Result, nat_le}
 use Rattle.std.proofs.lemmas.Bool.{cases_Bool, eqb-true}
 use Rattle.ninja_text.specs.Units.{units}

@@ -3,7 +3,6 @@ use Rattle.std.proofs.Common.{◌≡◌, ℕ, ◌+◌, true, false, List, [], �
 use Rattle.std.specs.List.{list_all}
 use Rattle.std.proofs.lemmas.List.{append-nil, take_at}
 use Rattle.ninja_text.specs.Units.{LineUnits, units}
-use Rattle.ninja_text.specs.declared.unit.LineUnit.{LineUnit}
 use Rattle.ninja_text.specs.declared.unit.LineUnit.TheVariants.{Byte}
 use Rattle.ninja_text.specs.Lines.{is_comment, end_from, line_end, IsLine, text_before, text_of_line}
 use Rattle.ninja_text.specs.Lexical.{first_fault, lexical_fault}

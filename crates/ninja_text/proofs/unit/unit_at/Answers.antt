@@ -1,5 +1,5 @@
 use Rattle.ninja_text.specs.Bytes.{Bytes}
-use Rattle.std.proofs.Common.{◌==◌, false, ◌≡◌, ℕ, ◌+◌, ◌-◌, ◌<◌, List, [], ◌∷◌, length, take, drop, slice_index_or, arith, length-drop, ap, sym, ◌∙◌}
+use Rattle.std.proofs.Common.{◌==◌, false, ◌≡◌, ℕ, ◌+◌, ◌-◌, ◌<◌, [], ◌∷◌, length, take, drop, slice_index_or, arith, length-drop, ap, sym, ◌∙◌}
 use Rattle.std.proofs.lemmas.List.{drop-drop}
 use Rattle.std.proofs.lemmas.Bool.Decides.{nat_tests}
 use Rattle.ninja_text.specs.Units.{units}
