@@ -1,9 +1,9 @@
 //! The name and the value of an assignment.
-ghost use Rattle.std.specs.Prelude.{◌≡◌, ◌++◌, true, IfOk, OnOk, OnErr};
-ghost use Rattle.ninja_text.specs.Tokens.{value_of, is_literal};
+ghost use Rattle.std.specs.Prelude.{◌≡◌, ◌++◌, IfOk, OnOk, OnErr};
+ghost use Rattle.ninja_text.specs.Tokens.{value_of};
 ghost use Rattle.ninja_text.specs.AssignmentViews.{seen_assignment};
 
-use crate::unit::{append_meaning, is_literal, meaning};
+use crate::unit::{append_meaning, meaning};
 use std::alloc::{AllocError, Global};
 
 /// The name and the value of an assignment, as slices of the line's text.
@@ -35,16 +35,6 @@ impl<'a> Assignment<'a> {
         ensures { result.now ≡ (seen_assignment self.now).raw_value }
     {
         self.raw_value
-    }
-
-    /// Returns whether the value has no escapes and no continuations. Then it is its bytes.
-    pub fn is_literal(&self) -> bool
-        ensures exact { result ≡ is_literal (seen_assignment self.now).raw_value }
-        ensures value { result ≡ true
-            → value_of (seen_assignment self.now).raw_value
-            ≡ (seen_assignment self.now).raw_value }
-    {
-        is_literal(self.raw_value)
     }
 
     /// Returns the value, with escapes resolved, as [`Assignment::value_into`] does.

@@ -17,8 +17,7 @@
 //! - `specs/LineFormats.antt` defines, for all formats whose lines fall into classes, which value a
 //!   text stands for and which error it has, and `specs/FormatReading.antt` what a reader has read.
 //! - [`words`] returns the tokens of a line (`specs/Tokens.antt`), and [`assignment`] its name and value
-//!   (`specs/Assignments.antt`), or the first lexical error (`specs/Lexical.antt`). [`Token::path`] returns
-//!   the path of a word, which shares a copy of the line if it can.
+//!   (`specs/Assignments.antt`), or the first lexical error (`specs/Lexical.antt`).
 //! - [`laws`] proves that a text is divided into lines, and a line into tokens, in one way only, and
 //!   that readers and writers of words agree (`specs/Meanings.antt`).
 //! - [`Counted`] counts the failed calls of a reader or a writer (`specs/Counting.antt`).

@@ -1,13 +1,9 @@
 //! Tokens, and an iterator over the tokens of a line.
 ghost use Rattle.std.specs.Prelude.{◌≡◌, ◌≤◌, length};
 
-use crate::failure::Failure;
-use crate::fault::PathFault;
 use crate::lexing::{blank_end, token_at};
-use crate::paths::Path;
-use crate::unit::{append_meaning, is_literal, meaning};
+use crate::unit::{append_meaning, meaning};
 use std::alloc::{AllocError, Global};
-use std::rc::RcSlice;
 
 /// The kind of a token.
 #[derive(Clone, Copy, Debug, PartialEq, Eq)]
@@ -34,10 +30,8 @@ pub struct Token<'a> {
 }
 
 impl<'a> Token<'a> {
-    ghost use Rattle.std.specs.Prelude.{◌≡◌, ◌++◌, true, IfOk, OnOk, OnErr};
-    ghost use Rattle.ninja_text.specs.Failure.{Gives};
-    ghost use Rattle.ninja_text.specs.Paths.{path_of};
-    ghost use Rattle.ninja_text.specs.Tokens.{value_of, is_literal, is_keyword};
+    ghost use Rattle.std.specs.Prelude.{◌≡◌, ◌++◌, IfOk, OnOk, OnErr};
+    ghost use Rattle.ninja_text.specs.Tokens.{value_of, is_keyword};
     ghost use Rattle.ninja_text.specs.TokenViews.{seen_token};
 
     /// Returns the kind of the token.
@@ -75,15 +69,6 @@ impl<'a> Token<'a> {
         matches!(self.kind, TokenKind::Word) && self.raw == word
     }
 
-    /// Returns whether it has no escapes and no continuations. Then its value is its bytes.
-    pub fn is_literal(&self) -> bool
-        ensures exact { result ≡ is_literal (seen_token self.now).raw }
-        ensures value { result ≡ true
-            → value_of (seen_token self.now).raw ≡ (seen_token self.now).raw }
-    {
-        is_literal(self.raw)
-    }
-
     /// Returns its value, with escapes resolved, as [`Token::value_into`] does.
     ///
     /// # Errors
@@ -93,26 +78,6 @@ impl<'a> Token<'a> {
         ensures { IfOk result (λ value. value.items ≡ value_of (seen_token self.now).raw) }
     {
         meaning(alloc, self.raw)
-    }
-
-    /// Returns the canonical path of its value, as [`Path::of`] does. The path shares the string
-    /// `line` and needs no allocation if the token is literal, canonical, and at its offsets in
-    /// `line`, as in a copy of the line's text.
-    ///
-    /// # Errors
-    ///
-    /// Those of [`Path::of`].
-    pub fn path(&self, alloc: Global, line: &RcSlice<u8>) -> Result<Path, Failure<PathFault>>
-        ensures { Gives (λ path. path) result (path_of (value_of (seen_token self.now).raw)) }
-    {
-        if !self.is_literal() {
-            let value = self.value(alloc)?;
-            return Path::of(alloc, &value);
-        }
-        match line.as_slice().get(self.start..self.end) {
-            Some(part) if part == self.raw => Path::within(alloc, line, self.start, self.end),
-            _ => Path::of(alloc, self.raw),
-        }
     }
 
     /// Appends its value to a vector, with escapes resolved: an escape stands for its second byte, and
