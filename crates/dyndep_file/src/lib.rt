@@ -14,10 +14,10 @@
 //!
 //! `must-fail/` has a wrong body of each public function, or of one that it calls, with these
 //! exceptions. Laws have no body. [`DyndepText::new`] and [`DyndepText::finish`] fill or return
-//! fields, and their clauses determine the bytes. `restat_under_every_statement` and
-//! `line_limit_one_byte_more` change [`DyndepText::add_writable`], which [`DyndepText::add`] and so
-//! [`Dyndep::to_text`] call. `first_byte_out_before_a_fault_is_reported` shows that nothing is written
-//! before an error, and `rest_of_a_statement_is_left_after_an_error` what a text has after one.
+//! fields, and their clauses determine the bytes. `line_limit_one_byte_more` changes
+//! [`DyndepText::add_writable`], which [`DyndepText::add`] and so [`Dyndep::to_text`] call.
+//! `first_byte_out_before_a_fault_is_reported` shows that nothing is written before an error, and
+//! `rest_of_a_statement_is_left_after_an_error` what a text has after one.
 #![tactic(auto)]
 
 mod build_line;
