@@ -6,9 +6,9 @@ mod growths;
 
 use crate::common::{path, value};
 use crate::dyndep_file_tests::TWO_STATEMENTS;
-use build_effect::{Edge, Graph, ListingReader, apply, edge_order, listing_write};
+use build_effect::{Edge, Graph, apply, edge_order, listing_write};
 use dep_order::Sorting;
-use dyndep_file::{Dyndep, DyndepReader};
+use dyndep_file::Dyndep;
 use ninja_text::{Counted, Path};
 use std::alloc::Global;
 use std::test::Fail;
@@ -23,9 +23,7 @@ pub(crate) const LIBRARY_AFTER: &[u8] =
 
 /// The graph of an edge list.
 pub(crate) fn graph_of(alloc: Global, listing: &[u8]) -> Result<Graph, Fail> {
-    let mut reader = ListingReader::new(alloc);
-    value(reader.feed(listing))?;
-    value(reader.finish())
+    value(Graph::of(alloc, listing))
 }
 
 /// An edge with an output and no other path.
@@ -80,9 +78,7 @@ pub(crate) fn listing_of(alloc: Global, graph: &Graph) -> Result<Vec<u8>, Fail> 
 
 /// The statements of the dyndep text.
 fn statements(alloc: Global) -> Result<Dyndep, Fail> {
-    let mut reader = DyndepReader::new(alloc);
-    value(reader.feed(TWO_STATEMENTS))?;
-    value(reader.finish())
+    value(Dyndep::of(alloc, TWO_STATEMENTS))
 }
 
 /// The library's edges after the effect of the statements.
