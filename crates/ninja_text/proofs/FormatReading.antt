@@ -113,7 +113,8 @@ module _ {C V S E : Type 0} (format : LineFormat C V) (leads : List C → S → 
       -- more lines that passed
       read_on : (lent more : List LogicalLine) (old new : S) → AreReadTo format leads lent old → LeadTo passes old more new →
           AreReadTo format leads (lent ++ more) new
-      read_on lent [] old new read same = subst (λ l. AreReadTo format leads l new) (sym (append-nil lent)) (subst (AreReadTo format leads lent) (sym same) read)
+      read_on lent [] old new read same =
+          subst (λ l. AreReadTo format leads l new) (sym (append-nil lent)) (subst (AreReadTo format leads lent) (sym same) read)
       read_on lent (line ∷ more) old new read (mid, passed, on) =
           let s = steps read.classes old mid line read.led passed in
           let next : AreReadTo format leads (lent ++ line ∷ []) mid =
