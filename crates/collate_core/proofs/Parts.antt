@@ -4,11 +4,10 @@ use Rattle.ninja_text.specs.Failure.{ForFault, Turns}
 use Rattle.ninja_text.specs.declared.failure.Failure.{Failure}
 use Rattle.ninja_text.specs.declared.failure.Failure.TheVariants.{Memory, Fault}
 use Rattle.dyndep_file.specs.Reading.{HasReadFault, StandsForOnly}
-use Rattle.dyndep_file.specs.Reader.{IsReadFailureIn}
+use Rattle.dyndep_file.specs.Reader.{IsReadFailureIn, IsReadFaultOf}
 use Rattle.dyndep_file.specs.Laws.{FaultStays, FirstFault}
 use Rattle.dyndep_file.specs.declared.fault.ReadFault.{ReadFault}
 use Rattle.dyndep_file.specs.declared.fault.ReadFault.TheVariants.{AtLine, Io}
-use Rattle.collate_core.specs.Rehearsal.{IsReadFaultOf}
 use Rattle.std.specs.List.{AllByRecursion}
 use Rattle.std.proofs.lemmas.List.Elements.{All-weaker, recursion_from_All, All-append, All-cons}
 use Rattle.ninja_text.specs.Paths.{IsPath, path_of}

@@ -5,9 +5,9 @@ use Rattle.dep_order.specs.Numbers.{Numbers}
 use Rattle.dep_order.specs.declared.Sorting.{Sorting}
 use Rattle.dep_order.specs.declared.Sorting.TheVariants.{Order, Cycle}
 use Rattle.dyndep_file.specs.StatementValue.{StatementValue}
-use Rattle.dyndep_file.specs.Reading.{StandsFor, StandsForOnly, HasReadFault}
+use Rattle.dyndep_file.specs.Reader.{IsReadFaultOf}
+use Rattle.dyndep_file.specs.Reading.{StandsFor, StandsForOnly}
 use Rattle.dyndep_file.specs.declared.fault.ReadFault.{ReadFault}
-use Rattle.dyndep_file.specs.declared.fault.ReadFault.TheVariants.{AtLine, Io}
 use Rattle.build_effect.specs.EdgeValue.{EdgeValue}
 use Rattle.build_effect.specs.Effect.{OnlyEffect, HasNoEffect}
 use Rattle.build_effect.specs.Faults.{IsEffectFault}
@@ -38,11 +38,6 @@ abbrev pub LacksEffect : Text → PathText → List EdgeValue → EffectFault �
 LacksEffect text name old fault =
     (statements : List StatementValue) × StandsForOnly text statements
     × IsWithoutEffect old name statements fault
-
--- the fault is the one that the reader of dyndep files reports of the text
-abbrev pub IsReadFaultOf : Text → ReadFault → Type 0
-IsReadFaultOf text (AtLine line fault) = HasReadFault text (record { line = line; fault = fault })
-IsReadFaultOf text Io = ⊥
 
 -- the text stands for no statements, for this reason
 abbrev pub IsUnreadable : Text → ReadFault → Type 0

@@ -2,10 +2,11 @@
 ghost use Rattle.std.specs.Prelude.{List, length, IfOk, IfErr};
 ghost use Rattle.ninja_text.specs.Failure.{ForFault};
 ghost use Rattle.dep_order.specs.Sortings.{IsSortingOf};
+ghost use Rattle.dyndep_file.specs.Reader.{IsReadFaultOf};
 ghost use Rattle.dyndep_file.specs.Reading.{StandsFor};
 ghost use Rattle.build_effect.specs.EdgeValue.{EdgeValue};
 ghost use Rattle.build_effect.specs.Graphs.{EdgeNeeds};
-ghost use Rattle.collate_core.specs.Rehearsal.{HasEffect, IsReadFaultOf, IsRehearseFault, LacksEffect, IsOrderedAt};
+ghost use Rattle.collate_core.specs.Rehearsal.{HasEffect, IsRehearseFault, LacksEffect, IsOrderedAt};
 
 use crate::collated::Collated;
 use crate::fault::RehearseFault;

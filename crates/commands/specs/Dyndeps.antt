@@ -3,13 +3,12 @@ use Rattle.std.specs.Prelude.{◌≡◌, List, Some, Result}
 use Rattle.ninja_text.specs.Bytes.{Bytes, PathText}
 use Rattle.ninja_text.specs.declared.failure.Failure.{Failure}
 use Rattle.dyndep_file.specs.StatementValue.{StatementValue}
-use Rattle.dyndep_file.specs.Reader.{DyndepReaderState, IsReadFaultIn, IsReadFailureIn}
+use Rattle.dyndep_file.specs.Reader.{DyndepReaderState, IsReadFaultIn, IsReadFailureIn, IsReadFaultOf}
 use Rattle.dyndep_file.specs.Reading.{StandsFor}
 use Rattle.dyndep_file.specs.FaultTexts.{read_fault_text}
 use Rattle.dyndep_file.specs.declared.fault.ReadFault.{ReadFault}
-use Rattle.collate_core.specs.Rehearsal.{IsReadFaultOf}
 use Rattle.commands.specs.Folder.{FileRead}
-use Rattle.commands.specs.Outcomes.{Part, IsReadOf, ReadsAs, ValueOf}
+use Rattle.commands.specs.Outcomes.{Part, IsResultOf, ReadsAs, ValueOf}
 
 -- a reader of dyndep files has failed: memory ran out, or a fault is in the bytes
 abbrev pub HasFailedDyndep : Bytes → DyndepReaderState → Type 0
@@ -22,7 +21,7 @@ DyndepRead = Result (List StatementValue) (Failure ReadFault)
 
 -- the result follows from what was read of the file
 abbrev pub IsDyndepRead : FileRead → DyndepRead → Type 0
-IsDyndepRead = IsReadOf StandsFor IsReadFaultIn IsReadFaultOf
+IsDyndepRead = IsResultOf StandsFor IsReadFaultIn IsReadFaultOf
 
 -- a part that reads the dyndep file of this name
 abbrev pub ReadsDyndep : PathText → Part DyndepRead

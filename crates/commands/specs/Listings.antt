@@ -5,15 +5,14 @@ use Rattle.ninja_text.specs.Failure.{ForFault}
 use Rattle.ninja_text.specs.declared.failure.Failure.{Failure}
 use Rattle.build_effect.specs.EdgeValue.{EdgeValue}
 use Rattle.build_effect.specs.Graphs.{IsGraph}
-use Rattle.build_effect.specs.Faults.{IsGraphFault}
-use Rattle.build_effect.specs.ListingReaders.{ListingReaderState, IsListingFaultIn}
-use Rattle.build_effect.specs.ListingReading.{Lists, HasListingFault}
+use Rattle.build_effect.specs.ListingReaders.{ListingReaderState, IsListingFaultIn, IsListingFault}
+use Rattle.build_effect.specs.ListingReading.{Lists}
 use Rattle.build_effect.specs.declared.fault.LineFault.{LineFault}
 use Rattle.build_effect.specs.declared.fault.ListFault.{ListFault}
 use Rattle.build_effect.specs.declared.fault.ListFault.TheVariants.{AtLine, NoGraph}
 use Rattle.commands.specs.EdgeFaults.{edges_fault_text}
 use Rattle.commands.specs.Folder.{FileRead}
-use Rattle.commands.specs.Outcomes.{Part, IsReadOf, ReadsAs, ValueOf}
+use Rattle.commands.specs.Outcomes.{Part, IsResultOf, ReadsAs, ValueOf}
 
 -- a reader of edge lists has failed: memory ran out, or a fault is in the bytes
 abbrev pub HasFailedListing : Bytes → ListingReaderState → Type 0
@@ -24,12 +23,6 @@ HasFailedListing bytes reader =
 -- the result of reading an edge list
 abbrev pub ListingRead : Type 0
 ListingRead = Result (List EdgeValue) (Failure ListFault)
-
--- why a whole text gives no graph
-abbrev pub IsListingFault : Text → ListFault → Type 0
-IsListingFault text (AtLine fault) = HasListingFault text fault
-IsListingFault text (NoGraph fault) =
-    (edges : List EdgeValue) × Lists text edges × IsGraphFault edges fault
 
 -- the fault is in the bytes, so every text that begins with them has it
 abbrev pub IsFaultIn : Bytes → ListFault → Type 0
@@ -42,7 +35,7 @@ ListsGraph text edges = Lists text edges × IsGraph edges
 
 -- the result follows from what was read of the file
 abbrev pub IsListingRead : FileRead → ListingRead → Type 0
-IsListingRead = IsReadOf ListsGraph IsFaultIn IsListingFault
+IsListingRead = IsResultOf ListsGraph IsFaultIn IsListingFault
 
 -- a part that reads the edge list of this name
 abbrev pub ReadsListing : PathText → Part ListingRead

@@ -135,11 +135,11 @@ ReadsAs Follows name calls (Err stop) = IsUnread name calls stop
 -- The result of reading a file of lines follows from what was read of it. A file that has a value
 -- was read to its end. A fault is in the bytes that were read, so every file that begins with them
 -- has it; or the file ended there, and it is the fault of the whole.
-abbrev pub IsReadOf : {V F : Type 0} → (Bytes → V → Type 0) → (Bytes → F → Type 0)
+abbrev pub IsResultOf : {V F : Type 0} → (Bytes → V → Type 0) → (Bytes → F → Type 0)
     → (Bytes → F → Type 0) → FileRead → Result V (Failure F) → Type 0
-IsReadOf Means IsFaultIn IsFaultOf file (Ok value) = (file.ended ≡ true) × Means file.bytes value
-IsReadOf Means IsFaultIn IsFaultOf file (Err Memory) = ⊤
-IsReadOf Means IsFaultIn IsFaultOf file (Err (Fault fault)) =
+IsResultOf Means IsFaultIn IsFaultOf file (Ok value) = (file.ended ≡ true) × Means file.bytes value
+IsResultOf Means IsFaultIn IsFaultOf file (Err Memory) = ⊤
+IsResultOf Means IsFaultIn IsFaultOf file (Err (Fault fault)) =
     IsFaultIn file.bytes fault ⊎ ((file.ended ≡ true) × IsFaultOf file.bytes fault)
 
 -- the value of a file that was read, or the message of its fault

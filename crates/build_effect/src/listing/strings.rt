@@ -27,10 +27,11 @@ pub(crate) struct Span {
 }
 
 impl Model for Strings {
-    ghost use Rattle.std.specs.Prelude.{List, ℕ};
+    ghost use Rattle.std.specs.Prelude.{List};
+    ghost use Rattle.ninja_text.specs.Bytes.{Text};
     ghost use Rattle.build_effect.specs.inner.Strings.{AreWithin, texts_of};
 
-    ghost Value = { List (List ℕ) };
+    ghost Value = { List Text };
 
     ghost view = { λ s. texts_of s.text.items s.spans.items };
 
@@ -92,7 +93,7 @@ impl Model for SharedStrings {
     ghost use Rattle.std.specs.Rc.{rc_slice_items};
     ghost use Rattle.build_effect.specs.inner.Strings.{AreWithin, texts_of};
 
-    ghost Value = { List (List ℕ) };
+    ghost Value = { List Text };
 
     ghost view = { λ s. texts_of (rc_slice_items s.text) s.spans.items };
 

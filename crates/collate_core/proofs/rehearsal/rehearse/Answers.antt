@@ -5,12 +5,13 @@ use Rattle.ninja_text.specs.declared.failure.Failure.{Failure}
 use Rattle.ninja_text.specs.declared.failure.Failure.TheVariants.{Memory, Fault}
 use Rattle.dyndep_file.specs.StatementValue.{StatementValue}
 use Rattle.dyndep_file.specs.Reading.{StandsFor, StandsForOnly}
+use Rattle.dyndep_file.specs.Reader.{IsReadFaultOf}
 use Rattle.dyndep_file.specs.Laws.{OneList, NotBoth}
 use Rattle.dyndep_file.specs.declared.fault.ReadFault.{ReadFault}
 use Rattle.dyndep_file.specs.declared.fault.ReadFault.TheVariants.{AtLine, Io}
 use Rattle.build_effect.specs.EdgeValue.{EdgeValue}
 use Rattle.build_effect.specs.Effect.{OnlyEffect}
-use Rattle.collate_core.specs.Rehearsal.{HasEffect, IsWithoutEffect, IsReadFaultOf, IsRehearseFault}
+use Rattle.collate_core.specs.Rehearsal.{HasEffect, IsWithoutEffect, IsRehearseFault}
 use Rattle.collate_core.specs.inner.Parts.{ForEffect}
 use Rattle.collate_core.specs.declared.fault.RehearseFault.{RehearseFault}
 use Rattle.collate_core.specs.declared.fault.RehearseFault.TheVariants.{Read, Effect}
