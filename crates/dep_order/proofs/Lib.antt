@@ -1,6 +1,7 @@
 pub mod Words
 pub mod Stuck
 pub mod Orders
+pub mod Spans
 pub mod Releases
 pub mod Orderings
 pub mod Greedy

@@ -1,4 +1,5 @@
 pub mod Users
+pub mod Spans
 pub mod Ordering
 pub mod Marks
 pub mod Steps

@@ -11,8 +11,8 @@
 //!
 //! # How it works
 //!
-//! - `users_of` reverses the needs. `order_ready` counts the missing needs of each node and keeps
-//!   the nodes that are ready in an ordered set.
+//! - `users_of` reverses the needs, by a counting sort into one vector. `order_ready` counts the
+//!   missing needs of each node and keeps the nodes that are ready in an ordered set.
 //! - If nodes are left over, one search tests whether the first node with needs and users is on a
 //!   cycle; then it is the least such node. If it is not, `components_of` numbers the strongly
 //!   connected components: a depth-first search with a stack of its own gives a postorder, and from
@@ -68,7 +68,7 @@ ghost use Rattle.dep_order.specs.Sortings.{IsSortingOf};
 use cycles::least_cycle;
 use ordering::order_ready;
 pub use reaching::Reaching;
-use rows::row_slices;
+use rows::{part_slices, row_slices};
 use std::alloc::{AllocError, Global};
 use std::marker::Model;
 use users::users_of;
@@ -135,8 +135,8 @@ pub fn order(alloc: Global, graph: &Digraph) -> Result<Sorting, AllocError>
 {
     let rows = row_slices(alloc, graph.needs.as_slice())?;
     let needs = rows.as_slice();
-    let user_rows = users_of(alloc, needs)?;
-    let users = row_slices(alloc, user_rows.as_slice())?;
+    let user_parts = users_of(alloc, needs)?;
+    let users = part_slices(alloc, &user_parts)?;
     let ordered = order_ready(alloc, needs, users.as_slice())?;
     if ordered.len() == needs.len() {
         return Ok(Sorting::Order(ordered));
