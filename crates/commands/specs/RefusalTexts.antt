@@ -9,8 +9,8 @@ use Rattle.scan_docs.specs.Scan.{SettingValue}
 use Rattle.document_values.specs.Rule.{RuleValue}
 use Rattle.scan_docs.specs.Values.{info_of}
 use Rattle.scan_docs.specs.declared.fault.DocFault.{DocFault}
-use Rattle.module_maps.specs.declared.fault.MapFault.{MapFault}
-use Rattle.module_maps.specs.declared.fault.MapFault.TheVariants.{MapPath, TwoProvided, BadMapLine}
+use Rattle.module_maps.specs.declared.fault.UnwritableMap.{UnwritableMap}
+use Rattle.module_maps.specs.declared.fault.UnwritableMap.TheVariants.{MapPath, TwoProvided}
 use Rattle.collate_core.specs.Values.{TargetValue}
 use Rattle.collate_core.specs.Documents.{all_rules}
 use Rattle.collate_core.specs.declared.fault.Refusal.{Refusal}
@@ -23,10 +23,9 @@ document_text kind index fault =
     kind ++ codes " " ++ decimal index ++ codes ": " ++ doc_fault_text fault
 
 -- why an object has no map: the path that a map can't have, or the object that provides two modules
-abbrev pub map_text : List RuleValue → ℕ → MapFault → Text
+abbrev pub map_text : List RuleValue → ℕ → UnwritableMap → Text
 map_text objects object (MapPath path) = codes "K1 MapPath " ++ path
 map_text objects object TwoProvided = codes "K2 TwoProvided " ++ object_path objects object
-map_text objects object (BadMapLine line) = codes "K4 BadMapLine line " ++ decimal line
 
 -- Why a target with this setting and these scan documents, which links targets of these names, is
 -- rejected. Objects are named by the paths in the scan documents, and info files by those names.

@@ -11,7 +11,7 @@ use build_effect::{Edge, EffectFault, ListFault};
 use collate_core::{Refusal, RefusedTarget};
 use document_values::{Name, Rule, TargetName};
 use dyndep_file::WriteFault;
-use module_maps::MapFault;
+use module_maps::UnwritableMap;
 use module_table::{Maker, TableFault};
 use std::alloc::{AllocError, Global};
 
@@ -55,12 +55,9 @@ pub(crate) fn refusal_line(
             Ok(format!(in alloc; "{fault}")?.into_bytes())
         }
         Refusal::Map { object, fault } => match fault {
-            MapFault::MapPath { path } => joined(alloc, &[b"K1 MapPath ", path.bytes()]),
-            MapFault::TwoProvided => {
+            UnwritableMap::MapPath { path } => joined(alloc, &[b"K1 MapPath ", path.bytes()]),
+            UnwritableMap::TwoProvided => {
                 joined(alloc, &[b"K2 TwoProvided ", object_path(objects, *object)])
-            }
-            MapFault::BadMapLine { line } => {
-                Ok(format!(in alloc; "K4 BadMapLine line {line}")?.into_bytes())
             }
         },
         Refusal::LinkedLater => Vec::from_slice(alloc, b"K3 LinkedLater"),
