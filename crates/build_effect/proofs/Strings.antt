@@ -7,7 +7,7 @@ use Rattle.build_effect.specs.inner.Strings.{text_of, texts_of, IsWithin, AreWit
 use Rattle.build_effect.specs.declared.listing.rows.ListEnds.{ListEnds}
 use Rattle.build_effect.specs.declared.listing.strings.Span.{Span}
 
--- a part of the text stays the same if the text goes on behind it
+-- a part of the text stays the same if the text continues behind it
 kept : (text more : List ℕ) (span : Span) → IsWithin text span → text_of (text ++ more) span ≡ text_of text span
 kept text more span within =
     let room : span.end - span.start ≤ length (drop span.start text) = omega (arith, within, length-drop span.start text) in

@@ -113,7 +113,7 @@ impl Graph {
     ///
     /// # Errors
     ///
-    /// - E3: the first faulty line, or else the last line has no end.
+    /// - E3: the first faulty line, or, without one, the last line has no end.
     /// - E1 or E2: otherwise, the edges listed are not a graph, as [`Graph::new`] reports it.
     /// - `Memory`: an allocation fails.
     pub fn of(alloc: Global, text: &[u8]) -> Result<Graph, Failure<ListFault>>

@@ -108,7 +108,7 @@ fn binding_row(alloc: Global, assignment: Option<Assignment<'_>>) -> Result<Row,
 }
 
 /// Returns what a build line says, by its tokens after `build`, or `None` if it is not a build line.
-/// Its strings have no more than so many bytes.
+/// Its strings have no more than that many bytes.
 fn edge_texts(
     alloc: Global,
     bytes: usize,

@@ -38,7 +38,7 @@ impl Model for Strings {
 }
 
 impl Strings {
-    /// Returns no strings. There is room for so many bytes.
+    /// Returns no strings. There is room for that many bytes.
     pub(crate) fn with_capacity(alloc: Global, bytes: usize) -> Result<Strings, AllocError>
         ensures { IfOk result (λ strings. strings ≡ []) }
     {
