@@ -123,7 +123,15 @@ right_at outputs implicit_outputs (Some (WordSymbol rule ∷ more)) t h =
           let p = and_parts (not (is_empty outputs) && is_rule_name rule) (is_empty (after_order more)) e in
           let q = and_parts (not (is_empty outputs)) (is_rule_name rule) p.0 in
           let same : said outputs implicit_outputs rule more ≡ t = cc in
-          record { rule = rule; more = more; at = refl; some = has_some (is_empty outputs) q.0; named = q.1; over = none_left (after_order more) p.1; is = same }
+          record {
+            rule = rule;
+            more = more;
+            at = refl;
+            some = has_some (is_empty outputs) q.0;
+            named = q.1;
+            over = none_left (after_order more) p.1;
+            is = same;
+          }
       | inr f ↦ none_some (rw f at h)
     ]
 

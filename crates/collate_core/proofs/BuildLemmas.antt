@@ -28,13 +28,21 @@ own_made : (e : EdgeValue) (provided needs : Modules) (file : List ℕ) → Make
 own_made e provided needs file h =
     elim (in_append e.outputs e.implicit_outputs h.0 file h.1) [
       | inl out ↦ (h.0, in_first e.outputs (e.implicit_outputs ++ module_files provided) h.0 file out)
-      | inr more ↦ (length e.outputs + more.0, in_second e.outputs (e.implicit_outputs ++ module_files provided) more.0 file (in_first e.implicit_outputs (module_files provided) more.0 file more.2))
+      | inr more ↦ (
+        length e.outputs + more.0,
+        in_second e.outputs (e.implicit_outputs ++ module_files provided) more.0 file
+            (in_first e.implicit_outputs (module_files provided) more.0 file more.2),
+      )
     ]
 
-added_made : (e : EdgeValue) (provided needs : Modules) (k : ℕ) (name file : List ℕ) → slice_get provided k ≡ Some (name, file) → Makes (with_modules e provided needs) file
+added_made : (e : EdgeValue) (provided needs : Modules) (k : ℕ) (name file : List ℕ) → slice_get provided k ≡ Some (name, file) →
+    Makes (with_modules e provided needs) file
 added_made e provided needs k name file at =
-    let here : slice_get (module_files provided) k ≡ Some file = to_map (λ (p : List ℕ × List ℕ). p.1) provided k (name, file) at in
-    (length e.outputs + (length e.implicit_outputs + k), in_second e.outputs (e.implicit_outputs ++ module_files provided) (length e.implicit_outputs + k) file (in_second e.implicit_outputs (module_files provided) k file here))
+    let here : slice_get (module_files provided) k ≡ Some file = to_map (λ (p : List ℕ × List ℕ). p.1) provided k (name, file) at in (
+      length e.outputs + (length e.implicit_outputs + k),
+      in_second e.outputs (e.implicit_outputs ++ module_files provided) (length e.implicit_outputs + k) file
+          (in_second e.implicit_outputs (module_files provided) k file here),
+    )
 
 -- a file of these modules, with its index and its name
 abbrev FileOf : Modules → List ℕ → Type 0
@@ -62,17 +70,26 @@ own_read e provided needs file h =
     elim (in_append e.inputs (e.implicit_inputs ++ e.order_only) h.0 file h.1) [
       | inl input ↦ (h.0, in_first e.inputs (implicit ++ e.order_only) h.0 file input)
       | inr more ↦ elim (in_append e.implicit_inputs e.order_only more.0 file more.2) [
-        | inl own ↦ (length e.inputs + more.0, in_second e.inputs (implicit ++ e.order_only) more.0 file (in_first implicit e.order_only more.0 file (in_first e.implicit_inputs (module_files needs) more.0 file own)))
-        | inr last ↦ (length e.inputs + (length implicit + last.0), in_second e.inputs (implicit ++ e.order_only) (length implicit + last.0) file (in_second implicit e.order_only last.0 file last.2))
+        | inl own ↦ (
+          length e.inputs + more.0,
+          in_second e.inputs (implicit ++ e.order_only) more.0 file
+              (in_first implicit e.order_only more.0 file (in_first e.implicit_inputs (module_files needs) more.0 file own)),
+        )
+        | inr last ↦ (
+          length e.inputs + (length implicit + last.0),
+          in_second e.inputs (implicit ++ e.order_only) (length implicit + last.0) file (in_second implicit e.order_only last.0 file last.2),
+        )
       ]
     ]
 
-added_read : (e : EdgeValue) (provided needs : Modules) (k : ℕ) (name file : List ℕ) → slice_get needs k ≡ Some (name, file) → HasInput (with_modules e provided needs) file
+added_read : (e : EdgeValue) (provided needs : Modules) (k : ℕ) (name file : List ℕ) → slice_get needs k ≡ Some (name, file) →
+    HasInput (with_modules e provided needs) file
 added_read e provided needs k name file at =
     let here : slice_get (module_files needs) k ≡ Some file = to_map (λ (p : List ℕ × List ℕ). p.1) needs k (name, file) at in
     let implicit : List (List ℕ) = e.implicit_inputs ++ module_files needs in (
       length e.inputs + (length e.implicit_inputs + k),
-      in_second e.inputs (implicit ++ e.order_only) (length e.implicit_inputs + k) file (in_first implicit e.order_only (length e.implicit_inputs + k) file (in_second e.implicit_inputs (module_files needs) k file here)),
+      in_second e.inputs (implicit ++ e.order_only) (length e.implicit_inputs + k) file
+          (in_first implicit e.order_only (length e.implicit_inputs + k) file (in_second e.implicit_inputs (module_files needs) k file here)),
     )
 
 read_from : (e : EdgeValue) (provided needs : Modules) (file : List ℕ) → HasInput (with_modules e provided needs) file → HasInput e file ⊎ FileOf needs file
@@ -82,10 +99,17 @@ read_from e provided needs file h =
       | inl input ↦ inl (h.0, in_first e.inputs (e.implicit_inputs ++ e.order_only) h.0 file input)
       | inr more ↦ elim (in_append implicit e.order_only more.0 file more.2) [
         | inl implicit_one ↦ elim (in_append e.implicit_inputs (module_files needs) more.0 file implicit_one) [
-          | inl own ↦ inl (length e.inputs + more.0, in_second e.inputs (e.implicit_inputs ++ e.order_only) more.0 file (in_first e.implicit_inputs e.order_only more.0 file own))
+          | inl own ↦ inl (
+            length e.inputs + more.0,
+            in_second e.inputs (e.implicit_inputs ++ e.order_only) more.0 file (in_first e.implicit_inputs e.order_only more.0 file own),
+          )
           | inr new ↦ inr (file_at needs new.0 file new.2)
         ]
-        | inr last ↦ inl (length e.inputs + (length e.implicit_inputs + last.0), in_second e.inputs (e.implicit_inputs ++ e.order_only) (length e.implicit_inputs + last.0) file (in_second e.implicit_inputs e.order_only last.0 file last.2))
+        | inr last ↦ inl (
+          length e.inputs + (length e.implicit_inputs + last.0),
+          in_second e.inputs (e.implicit_inputs ++ e.order_only) (length e.implicit_inputs + last.0) file
+              (in_second e.implicit_inputs e.order_only last.0 file last.2),
+        )
       ]
     ]
 
@@ -100,7 +124,8 @@ pub record Gained (tables : List TableValue) (g new : List EdgeValue) : Type 0 w
   pub same_edges : length new ≡ length g
   pub sound : (t : TableValue) → Contains tables t → IsSound t
   pub edges : (t : TableValue) (o : ℕ) (rule : RuleValue) → Contains tables t → slice_get t.objects o ≡ Some rule → (i : ℕ) × IsMaker g i rule.object
-  pub objects : (t : TableValue) (o : ℕ) (rule : RuleValue) (i : ℕ) (e : EdgeValue) → Contains tables t → slice_get t.objects o ≡ Some rule → slice_get g i ≡ Some e → Makes e rule.object →
+  pub objects : (t : TableValue) (o : ℕ) (rule : RuleValue) (i : ℕ) (e : EdgeValue) → Contains tables t → slice_get t.objects o ≡ Some rule →
+      slice_get g i ≡ Some e → Makes e rule.object →
       slice_get new i ≡ Some (with_modules e rule.provided (required_of t rule))
   pub each : (i : ℕ) (e : EdgeValue) → slice_get g i ≡ Some e → (slice_get new i ≡ Some e) ⊎ IsOfObject tables e
 
@@ -108,7 +133,8 @@ pub record Gained (tables : List TableValue) (g new : List EdgeValue) : Type 0 w
 needs_by : (g : List EdgeValue) (i maker : ℕ) (file : List ℕ) → IsReader g i file → IsMaker g maker file → EdgeNeeds g i maker
 needs_by g i maker file reader makes = (reader.0, file, makes.0, reader.1, reader.2, makes.1)
 
-module _ (required_files : RequiredFiles) (all_required : AllRequired) (one_file : OneFile) (tables : List TableValue) (g new : List EdgeValue) (gained : Gained tables g new) where
+module _ (required_files : RequiredFiles) (all_required : AllRequired) (one_file : OneFile) (tables : List TableValue) (g new : List EdgeValue)
+    (gained : Gained tables g new) where
   made : (i : ℕ) (file : List ℕ) → ProvidesFile tables g i file → IsMaker new i file
   made i file (t, o, k, name, inside, edge, provides) =
       let e : EdgeValue = edge.2.1.0 in
@@ -137,7 +163,11 @@ module _ (required_files : RequiredFiles) (all_required : AllRequired) (one_file
   keeps_reader i file (e, here, reads) =
       elim (gained.each i e here) [
         | inl same ↦ (e, same, reads)
-        | inr (t, o, rule, inside, at, makes) ↦ (with_modules e rule.provided (required_of t rule), gained.objects t o rule i e inside at here makes, own_read e rule.provided (required_of t rule) file reads)
+        | inr (t, o, rule, inside, at, makes) ↦ (
+          with_modules e rule.provided (required_of t rule),
+          gained.objects t o rule i e inside at here makes,
+          own_read e rule.provided (required_of t rule) file reads,
+        )
       ]
 
   keeps_maker : (i : ℕ) (file : List ℕ) → IsMaker g i file → IsMaker new i file
@@ -168,7 +198,8 @@ module _ (required_files : RequiredFiles) (all_required : AllRequired) (one_file
             ]
       ]
     where
-      of_pair : (t : TableValue) (o : ℕ) (rule : RuleValue) (e : EdgeValue) (i : ℕ) (file : List ℕ) → Contains tables t → slice_get t.objects o ≡ Some rule → slice_get g i ≡ Some e → Makes e rule.object → FileOf (required_of t rule) file → RequiresFile tables g i file
+      of_pair : (t : TableValue) (o : ℕ) (rule : RuleValue) (e : EdgeValue) (i : ℕ) (file : List ℕ) → Contains tables t → slice_get t.objects o ≡ Some rule →
+          slice_get g i ≡ Some e → Makes e rule.object → FileOf (required_of t rule) file → RequiresFile tables g i file
       of_pair t o rule e i file inside at here makes (k, name, pair) =
           let known = required_files t rule k name file pair in
           (t, o, name, inside, (rule, at, (makes.0, (e, here, makes.1))), (rule, at, known.0), known.1)
@@ -187,7 +218,8 @@ module _ (required_files : RequiredFiles) (all_required : AllRequired) (one_file
             ]
       ]
     where
-      of_pair : (t : TableValue) (o : ℕ) (rule : RuleValue) (e : EdgeValue) (i : ℕ) (file : List ℕ) → Contains tables t → slice_get t.objects o ≡ Some rule → slice_get g i ≡ Some e → Makes e rule.object → FileOf rule.provided file → ProvidesFile tables g i file
+      of_pair : (t : TableValue) (o : ℕ) (rule : RuleValue) (e : EdgeValue) (i : ℕ) (file : List ℕ) → Contains tables t → slice_get t.objects o ≡ Some rule →
+          slice_get g i ≡ Some e → Makes e rule.object → FileOf rule.provided file → ProvidesFile tables g i file
       of_pair t o rule e i file inside at here makes (k, name, pair) =
           (t, o, k, name, inside, (rule, at, (makes.0, (e, here, makes.1))), (rule, at, pair))
 
@@ -269,7 +301,8 @@ needs_or_not g i j = by (slice_get g i) (slice_get g j) refl refl
         found (inl (k, file, at, makes)) = inl (e, file, makes.0, here, (k, at), (d, there, makes.1))
         found (inr none) = inr (λ need.
             let read : HasInput e need.1 = subst (λ (x : EdgeValue). HasInput x need.1) (same_some _ _ (sym need.3 ∙ here)) need.4 in
-            let made : slice_get (made_by d) need.2 ≡ Some need.1 = subst (λ (x : EdgeValue). slice_get (made_by x) need.2 ≡ Some need.1) (same_some _ _ (sym need.5.1 ∙ there)) need.5.2 in
+            let made : slice_get (made_by d) need.2 ≡ Some need.1 =
+            subst (λ (x : EdgeValue). slice_get (made_by x) need.2 ≡ Some need.1) (same_some _ _ (sym need.5.1 ∙ there)) need.5.2 in
             none (read.0, need.1, read.1, (need.2, made)))
 
 -- ---- without a cycle, needs can be ordered
@@ -317,11 +350,13 @@ abbrev IsRow : (ℕ → ℕ → Type 0) → ℕ → ℕ → List ℕ → Type 0
 IsRow Needs count i row = AreThose (Needs i) count row
 
 -- if there is no cycle, what can be decided can be ordered
-ordered : (count : ℕ) (Needs : ℕ → ℕ → Type 0) → AreWithin count Needs → ((i j : ℕ) → Decided (Needs i j)) → ((cycle : List ℕ) → IsCycle Needs cycle → ⊥) → IsOrderable count Needs
+ordered : (count : ℕ) (Needs : ℕ → ℕ → Type 0) → AreWithin count Needs → ((i j : ℕ) → Decided (Needs i j)) → ((cycle : List ℕ) → IsCycle Needs cycle → ⊥) →
+    IsOrderable count Needs
 ordered count Needs within decide acyclic =
     by (choose (IsRow Needs count) count (λ i less. those (Needs i) (decide i) count))
   where
-    by : (rows : List (List ℕ)) × (length rows ≡ count) × ((i : ℕ) (row : List ℕ) → slice_get rows i ≡ Some row → IsRow Needs count i row) → IsOrderable count Needs
+    by : (rows : List (List ℕ)) × (length rows ≡ count) × ((i : ℕ) (row : List ℕ) → slice_get rows i ≡ Some row → IsRow Needs count i row) →
+        IsOrderable count Needs
     by (rows, many, are) =
         elim (orderable_or_cycle rows nodes) [
           | inl o ↦ orderable_same count (NodeNeeds rows) Needs from (subst (λ n. IsOrderable n (NodeNeeds rows)) many o)
@@ -388,7 +423,8 @@ gained_stripped tables g new gained = record {
 
 -- ---- no false rebuild
 
-pub no_false_rebuild : RequiredFiles → AllRequired → OneFile → (tables : List TableValue) (g new : List EdgeValue) → Gained tables g new → HasNoFalseRebuild tables g new
+pub no_false_rebuild : RequiredFiles → AllRequired → OneFile → (tables : List TableValue) (g new : List EdgeValue) → Gained tables g new →
+    HasNoFalseRebuild tables g new
 no_false_rebuild required_files all_required one_file tables g new gained = record {
   waits = same_chains tables g new (no_false_wait required_files all_required one_file tables g new gained);
   rebuilds = same_chains tables (rebuild_graph g) (rebuild_graph new)

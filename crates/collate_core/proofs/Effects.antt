@@ -1,5 +1,5 @@
 -- What collates has the headline, the dyndep files of a project may be applied in any order, and its graph can be ordered.
-use Rattle.ninja_text.proofs.ForCallers.{from_map, to_map, same_some, element_at}
+use Rattle.ninja_text.proofs.ForCallers.{from_map, to_map, same_some, element_at, to_zip}
 use Rattle.std.proofs.Common.{◌≡◌, ℕ, List, [], ◌∷◌, ◌++◌, length, map, Option, Some, refl, ap, subst, sym, ◌∙◌, slice_get, All, zero, suc, zip, ◌<◌, ◌≤◌, inl, inr, arith, Contains}
 use Rattle.std.proofs.lemmas.List.{length-map}
 use Rattle.std.proofs.lemmas.List.Elements.{All-head, All-tail}
@@ -59,7 +59,8 @@ module _ (t : TableValue) (sound : IsSound t) (ordered : AddedOrderable) (once :
   task_of : RuleValue → Task
   task_of rule = (rule, required_of t rule)
 
-  task_at : (k : ℕ) (a : StatementValue) → slice_get statements k ≡ Some a → (rule : RuleValue) × (slice_get t.objects k ≡ Some rule) × (statement_of (rule, required_of t rule) ≡ a)
+  task_at : (k : ℕ) (a : StatementValue) → slice_get statements k ≡ Some a →
+      (rule : RuleValue) × (slice_get t.objects k ≡ Some rule) × (statement_of (rule, required_of t rule) ≡ a)
   unfolding task_of
   task_at k a e =
       let x = from_map statement_of (tasks_of t) k a e in
@@ -81,7 +82,8 @@ module _ (t : TableValue) (sound : IsSound t) (ordered : AddedOrderable) (once :
   needs : (a b : ℕ) → AdditionNeeds statements a b → AddedNeeds t a b
   needs a b h =
       let task = task_at a h.0 h.5 in
-      let p = from_map (λ (q : List ℕ × List ℕ). q.1) (required_of t task.0) h.3 h.2 (ap (λ (x : StatementValue). slice_get x.implicit_inputs h.3) task.2 ∙ h.7) in
+      let p = from_map (λ (q : List ℕ × List ℕ). q.1) (required_of t task.0) h.3 h.2 (ap (λ (x : StatementValue). slice_get x.implicit_inputs h.3) task.2 ∙ h.7)
+      in
       let r = required t task.0 h.3 p.0.0 h.2 (subst (λ (f : List ℕ). slice_get (required_of t task.0) h.3 ≡ Some (p.0.0, f)) p.2 p.1) in
       let out = provides_at b h.4 h.2 (h.1, h.6, h.8) in
       (h.2, (p.0.0, (task.0, task.1, r.0), r.1), (h.4, out.0, out.1))
@@ -93,10 +95,12 @@ module _ (t : TableValue) (sound : IsSound t) (ordered : AddedOrderable) (once :
       let count : length statements ≡ length t.objects = length-map (tasks_of t) statement_of ∙ length-map t.objects task_of in
       (given.0, record { one_each = given.1.one_each ∙ sym count; below = λ a b h. given.1.below a b (needs a b h) })
 
-  object_at : (o : ℕ) (object : List ℕ) → slice_get (map (λ (rule : RuleValue). rule.object) t.objects) o ≡ Some object → (rule : RuleValue) × (slice_get t.objects o ≡ Some rule) × (rule.object ≡ object)
+  object_at : (o : ℕ) (object : List ℕ) → slice_get (map (λ (rule : RuleValue). rule.object) t.objects) o ≡ Some object →
+      (rule : RuleValue) × (slice_get t.objects o ≡ Some rule) × (rule.object ≡ object)
   object_at o object e = from_map (λ (rule : RuleValue). rule.object) t.objects o object e
 
-  outputs_of : (rules : List RuleValue) → map (λ a. a.output) (map statement_of (map (λ rule. (rule, required_of t rule)) rules)) ≡ map (λ rule. rule.object) rules
+  outputs_of : (rules : List RuleValue) →
+      map (λ a. a.output) (map statement_of (map (λ rule. (rule, required_of t rule)) rules)) ≡ map (λ rule. rule.object) rules
   outputs_of [] = refl
   outputs_of (rule ∷ rules) = ap (λ xs. rule.object ∷ xs) (outputs_of rules)
 
@@ -120,7 +124,8 @@ module _ (t : TableValue) (sound : IsSound t) (ordered : AddedOrderable) (once :
       }
 
   -- the effect adds exactly what the objects add
-  pub adds_exactly : (g : List EdgeValue) (name : List ℕ) (new : List EdgeValue) → MeetsPremises g name statements → Extends g name statements new → AddsExactly t name g new
+  pub adds_exactly : (g : List EdgeValue) (name : List ℕ) (new : List EdgeValue) → MeetsPremises g name statements → Extends g name statements new →
+      AddsExactly t name g new
   unfolding task_of
   adds_exactly g name new meets gives =
       record {
@@ -139,7 +144,8 @@ module _ (t : TableValue) (sound : IsSound t) (ordered : AddedOrderable) (once :
       }
 
 -- whatever a target collates to has the headline
-pub headline : OneEffect → AddedOrderable → FilesOnce → FilesApart → RequiredFiles → (target : TargetValue) (style : Option Written) (c : CollatedValue) → Collates target style c → IsHeadline target c
+pub headline : OneEffect → AddedOrderable → FilesOnce → FilesApart → RequiredFiles → (target : TargetValue) (style : Option Written) (c : CollatedValue) →
+    Collates target style c → IsHeadline target c
 headline one ordered once apart required target style c k =
     let t : TableValue = table_of target in
     let sound : IsSound t = k.resolved.sound in
@@ -147,7 +153,8 @@ headline one ordered once apart required target style c k =
       no_fault = k.resolved;
       dyndep = k.dyndep;
       effect = λ g name meets.
-          let found = one g name (statements_of t) (statements_of t) (are_canonical (statements_of t) k.canonical) (added_once t sound ordered once apart required) meets in
+          let found = one g name (statements_of t) (statements_of t) (are_canonical (statements_of t) k.canonical)
+          (added_once t sound ordered once apart required) meets in
           (found.0, found.2, adds_exactly t sound ordered once apart required g name found.0 meets found.1);
       orderable = ordered t sound;
     }
@@ -172,11 +179,13 @@ module _ (ordered : AddedOrderable) (once : FilesOnce) (apart : FilesApart) (req
   table_facts : (n : ℕ) (t : TableValue) → slice_get tables n ≡ Some t → AreCanonical (statements_of t) (statements_of t) × AddedOnce (statements_of t)
   table_facts n t at =
       let all = collation_at style targets outs project n t at in (
-        subst (λ (v : TableValue). AreCanonical (statements_of v) (statements_of v)) all.5 (are_canonical (statements_of (table_of (target_of outs all.0))) all.4.canonical),
+        subst (λ (v : TableValue). AreCanonical (statements_of v) (statements_of v)) all.5
+            (are_canonical (statements_of (table_of (target_of outs all.0))) all.4.canonical),
         added_once t (sound_of style targets outs project n t at) ordered once apart required,
       )
 
-  file_at : (names : List (List ℕ)) (n : ℕ) (f : NamedFile) → slice_get (dyndep_files names tables) n ≡ Some f → AreCanonical f.statements f.additions × AddedOnce f.additions
+  file_at : (names : List (List ℕ)) (n : ℕ) (f : NamedFile) → slice_get (dyndep_files names tables) n ≡ Some f →
+      AreCanonical f.statements f.additions × AddedOnce f.additions
   file_at names n f at =
       let pair = from_map as_file (zip names tables) n f at in
       let known = table_facts n pair.0.1 (in_zip names tables n pair.0 pair.1) in
@@ -188,48 +197,56 @@ module _ (ordered : AddedOrderable) (once : FilesOnce) (apart : FilesApart) (req
   pub orders : AllOrders (project_tables targets outs)
   orders = record {
     gains = λ g names order count meets indices. any (dyndep_files names tables) g order (are_files names) meets indices;
-    alike = λ g names order other new last count meets indices more same p q. alike (dyndep_files names tables) g order other new last (are_files names) meets indices more same p q;
+    alike = λ g names order other new last count meets indices more same p q.
+        alike (dyndep_files names tables) g order other new last (are_files names) meets indices more same p q;
   }
 
 -- ---- the graph after all targets of a project can be ordered
 
-pub to_zip : {A B : Type 0} (xs : List A) (ys : List B) (k : ℕ) (x : A) (y : B) → slice_get xs k ≡ Some x → slice_get ys k ≡ Some y → slice_get (zip xs ys) k ≡ Some (x, y)
-to_zip [] ys k x y e f = cc
-to_zip (a ∷ xs) [] k x y e f = cc
-to_zip (a ∷ xs) (b ∷ ys) zero x y e f = let p : a ≡ x = same_some _ _ e in let q : b ≡ y = same_some _ _ f in cc
-to_zip (a ∷ xs) (b ∷ ys) (suc k) x y e f = to_zip xs ys k x y e f
-
 -- the task of an addition, and the name of one of its inputs
-task_input : (row : List Task) (k i : ℕ) (a : StatementValue) (file : List ℕ) → slice_get (map statement_of row) k ≡ Some a → slice_get a.implicit_inputs i ≡ Some file → (x : Task) × (name : List ℕ) × (slice_get row k ≡ Some x) × Contains x.1 (name, file)
+task_input : (row : List Task) (k i : ℕ) (a : StatementValue) (file : List ℕ) → slice_get (map statement_of row) k ≡ Some a →
+    slice_get a.implicit_inputs i ≡ Some file → (x : Task) × (name : List ℕ) × (slice_get row k ≡ Some x) × Contains x.1 (name, file)
 task_input row k i a file e input =
     let x = from_map statement_of row k a e in
     let q = from_map (λ (p : List ℕ × List ℕ). p.1) x.0.1 i file (ap (λ (z : StatementValue). slice_get z.implicit_inputs i) x.2 ∙ input) in
     (x.0, q.0.0, x.1, contained x.0.1 i (q.0.0, file) (subst (λ (f : List ℕ). slice_get x.0.1 i ≡ Some (q.0.0, f)) q.2 q.1))
 
-module _ (files_order : FilesOrder) (required : RequiredFiles) (style : Option Written) (targets : List ProjectTargetValue) (outs : List CollatedValue) (project : CollatesProject style targets outs) (orders : AllOrders (project_tables targets outs)) (ordered : IsProjectOrdered targets (project_tables targets outs))
+module _ (files_order : FilesOrder) (required : RequiredFiles) (style : Option Written) (targets : List ProjectTargetValue) (outs : List CollatedValue)
+    (project : CollatesProject style targets outs) (orders : AllOrders (project_tables targets outs))
+    (ordered : IsProjectOrdered targets (project_tables targets outs))
     (single : (n : ℕ) (t : TableValue) → slice_get (project_tables targets outs) n ≡ Some t → AddedOnce (statements_of t))
-    (g : List EdgeValue) (names : List (List ℕ)) (count : length names ≡ length (project_tables targets outs)) (meets : FilesMeet g (dyndep_files names (project_tables targets outs))) where
+    (g : List EdgeValue) (names : List (List ℕ)) (count : length names ≡ length (project_tables targets outs))
+    (meets : FilesMeet g (dyndep_files names (project_tables targets outs))) where
   abbrev files : List NamedFile
   files = dyndep_files names (project_tables targets outs)
 
-  from_file : (n : ℕ) (f : NamedFile) → slice_get files n ≡ Some f → (t : TableValue) × (slice_get (project_tables targets outs) n ≡ Some t) × (f.additions ≡ statements_of t)
+  from_file : (n : ℕ) (f : NamedFile) → slice_get files n ≡ Some f →
+      (t : TableValue) × (slice_get (project_tables targets outs) n ≡ Some t) × (f.additions ≡ statements_of t)
   from_file n f at =
       let pair = from_map as_file (zip names (project_tables targets outs)) n f at in
       (pair.0.1, in_zip names (project_tables targets outs) n pair.0 pair.1, sym (ap (λ (z : NamedFile). z.additions) pair.2))
 
-  to_file : (n : ℕ) (row : TableValue) → slice_get (project_tables targets outs) n ≡ Some row → (f : NamedFile) × (slice_get files n ≡ Some f) × (f.additions ≡ statements_of row)
+  to_file : (n : ℕ) (row : TableValue) → slice_get (project_tables targets outs) n ≡ Some row →
+      (f : NamedFile) × (slice_get files n ≡ Some f) × (f.additions ≡ statements_of row)
   to_file n row at =
       let within : n < length (project_tables targets outs) = slice_get_within _ _ _ at in
-      let name : (x : List ℕ) × (slice_get names n ≡ Some x) = element_at names n (omega (arith, count)) in
-      (as_file (name.0, row), to_map as_file (zip names (project_tables targets outs)) n (name.0, row) (to_zip names (project_tables targets outs) n name.0 row name.1 at), refl)
+      let name : (x : List ℕ) × (slice_get names n ≡ Some x) = element_at names n (omega (arith, count)) in (
+        as_file (name.0, row),
+        to_map as_file (zip names (project_tables targets outs)) n (name.0, row) (to_zip names (project_tables targets outs) n name.0 row name.1 at),
+        refl,
+      )
 
   -- who provides the file in the project adds it
-  adds_at : (n m p : ℕ) (name : List ℕ) (file : List ℕ) → ProjectProvides targets (project_tables targets outs) n m p name file → (f : NamedFile) × (j : ℕ) × (slice_get files m ≡ Some f) × AddsAt f.additions p j file × AddedOnce f.additions
+  adds_at : (n m p : ℕ) (name : List ℕ) (file : List ℕ) → ProjectProvides targets (project_tables targets outs) n m p name file →
+      (f : NamedFile) × (j : ℕ) × (slice_get files m ≡ Some f) × AddsAt f.additions p j file × AddedOnce f.additions
   adds_at n m p name file (u, j, sees, at_u, provides) =
       let f = to_file m u at_u in
       let x : Task = task_in u provides.0 in
-      let adds : AddsAt (statements_of u) p j file =
-      (statement_of x, to_map statement_of (tasks_of u) p x (to_map (task_in u) u.objects p provides.0 provides.1), to_map (λ (q : List ℕ × List ℕ). q.1) provides.0.provided j (name, file) provides.2) in
+      let adds : AddsAt (statements_of u) p j file = (
+        statement_of x,
+        to_map statement_of (tasks_of u) p x (to_map (task_in u) u.objects p provides.0 provides.1),
+        to_map (λ (q : List ℕ × List ℕ). q.1) provides.0.provided j (name, file) provides.2,
+      ) in
       (f.0, j, f.1, subst (λ xs. AddsAt xs p j file) (sym f.2) adds, subst AddedOnce (sym f.2) (single m u at_u))
 
   not_later : (n m : ℕ) → Sees targets n m → m ≤ n
@@ -241,14 +258,17 @@ module _ (files_order : FilesOrder) (required : RequiredFiles) (style : Option W
       omega arith
 
   -- the provider of an added input
-  provider : (n k i : ℕ) (f : NamedFile) (a : StatementValue) (file : List ℕ) → slice_get files n ≡ Some f → slice_get f.additions k ≡ Some a → slice_get a.implicit_inputs i ≡ Some file →
-      (name : List ℕ) × (m : ℕ) × (p : ℕ) × ProjectProvides targets (project_tables targets outs) n m p name file × (rank_at ordered.ranks m p < rank_at ordered.ranks n k)
+  provider : (n k i : ℕ) (f : NamedFile) (a : StatementValue) (file : List ℕ) → slice_get files n ≡ Some f → slice_get f.additions k ≡ Some a →
+      slice_get a.implicit_inputs i ≡ Some file →
+      (name : List ℕ) × (m : ℕ) × (p : ℕ) × ProjectProvides targets (project_tables targets outs) n m p name file ×
+      (rank_at ordered.ranks m p < rank_at ordered.ranks n k)
   provider n k i f a file at here input =
       let t = from_file n f at in
       let x = task_input (tasks_of t.0) k i a file (subst (λ xs. slice_get xs k ≡ Some a) t.2 here) input in
       let rule = from_map (task_in t.0) t.0.objects k x.0 x.2 in
       let index = index_of x.0.1 (x.1, file) x.3 in
-      let pair : slice_get (required_of t.0 rule.0) index.0 ≡ Some (x.1, file) = subst (λ (z : Task). slice_get z.1 index.0 ≡ Some (x.1, file)) (sym rule.2) index.1 in
+      let pair : slice_get (required_of t.0 rule.0) index.0 ≡ Some (x.1, file) =
+      subst (λ (z : Task). slice_get z.1 index.0 ≡ Some (x.1, file)) (sym rule.2) index.1 in
       let known = required t.0 rule.0 index.0 x.1 file pair in
       let low = ordered.below n k t.0 x.1 file t.1 (rule.0, rule.1, known.0) known.1 in
       (x.1, low.0, low.1, low.2, low.3)
@@ -263,7 +283,8 @@ module _ (files_order : FilesOrder) (required : RequiredFiles) (style : Option W
         let same : d ≡ there.0 = same_some _ _ (sym at_d ∙ ap (slice_get files) target ∙ there.2) in
         let object : l ≡ by.2 = (there.4 l j by.2 there.1 file (subst (λ (z : NamedFile). AddsAt z.additions l j file) same adds) there.3).0 in (
           subst (λ v. v ≤ n) (sym target) (not_later n by.1 by.3.2),
-          subst (λ v. rank_at ordered.ranks v l < rank_at ordered.ranks n k) (sym target) (subst (λ v. rank_at ordered.ranks by.1 v < rank_at ordered.ranks n k) (sym object) by.4),
+          subst (λ v. rank_at ordered.ranks v l < rank_at ordered.ranks n k) (sym target)
+              (subst (λ v. rank_at ordered.ranks by.1 v < rank_at ordered.ranks n k) (sym object) by.4),
         );
   }
 
@@ -273,11 +294,14 @@ module _ (files_order : FilesOrder) (required : RequiredFiles) (style : Option W
       let there = adds_at n by.1 by.2 by.0 file by.3 in
       absurd (none by.1 by.2 there.1 there.0 there.2 there.3)
 
-  pub end_orderable : (order : List ℕ) (h : List EdgeValue) (ranks : List ℕ) (new : List EdgeValue) → HasOutputsOnly files g h → IsRisingNumbering files g h ranks →
-      ((n : ℕ) → n < length (project_tables targets outs) → Contains order n) → AreFileIndices files order → Applies files g order new → IsOrderable (length new) (EdgeNeeds new)
+  pub end_orderable : (order : List ℕ) (h : List EdgeValue) (ranks : List ℕ) (new : List EdgeValue) → HasOutputsOnly files g h →
+      IsRisingNumbering files g h ranks →
+      ((n : ℕ) → n < length (project_tables targets outs) → Contains order n) → AreFileIndices files order → Applies files g order new →
+      IsOrderable (length new) (EdgeNeeds new)
   end_orderable order h ranks new outputs level all indices applies =
       let gained = orders.gains g names order count meets indices in
-      let same : gained.0 ≡ new = orders.alike g names order order gained.0 new count meets indices indices ((λ p n e. (p, e)), (λ p n e. (p, e))) gained.1 applies in
+      let same : gained.0 ≡ new =
+      orders.alike g names order order gained.0 new count meets indices indices ((λ p n e. (p, e)), (λ p n e. (p, e))) gained.1 applies in
       let gains : GainsExactly files g order new = subst (λ x. GainsExactly files g order x) same gained.2 in
       let every : (n : ℕ) → n < length files → Contains order n =
       λ n within.

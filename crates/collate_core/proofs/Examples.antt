@@ -42,13 +42,23 @@ before = edge (codes "a.o") [] (codes "a.cpp") [] ∷ edge (codes "b.o") [] (cod
 
 -- the edges after the effect, with these added inputs
 abbrev with_inputs : List (List ℕ) → List (List ℕ) → List EdgeValue
-with_inputs of_a of_b = edge (codes "a.o") (codes "A.bmi" ∷ []) (codes "a.cpp") of_a ∷ edge (codes "b.o") (codes "B.bmi" ∷ []) (codes "b.cpp") of_b ∷ edge (codes "copy") [] (codes "B.bmi") [] ∷ []
+with_inputs of_a of_b =
+    edge (codes "a.o") (codes "A.bmi" ∷ []) (codes "a.cpp") of_a ∷ edge (codes "b.o") (codes "B.bmi" ∷ []) (codes "b.cpp") of_b ∷ edge (codes "copy")
+    [] (codes "B.bmi") [] ∷ []
 
 abbrev after : List EdgeValue
 after = with_inputs (codes "B.bmi" ∷ []) []
 
 a_requires : RequiresFile tables before 0 (codes "B.bmi")
-a_requires = (two_objects, 0, codes "B", contained tables 0 two_objects refl, (_, refl, (0, (_, refl, refl))), (_, refl, contained (codes "B" ∷ []) 0 (codes "B") refl), (Object 1, (0, (_, refl, refl))))
+a_requires = (
+  two_objects,
+  0,
+  codes "B",
+  contained tables 0 two_objects refl,
+  (_, refl, (0, (_, refl, refl))),
+  (_, refl, contained (codes "B" ∷ []) 0 (codes "B") refl),
+  (Object 1, (0, (_, refl, refl))),
+)
 
 b_provides : ProvidesFile tables before 1 (codes "B.bmi")
 b_provides = (two_objects, 1, 0, codes "B", contained tables 0 two_objects refl, (_, refl, (0, (_, refl, refl))), (_, refl, refl))
@@ -81,22 +91,27 @@ reads_of : (g : List EdgeValue) (i : ℕ) (e : EdgeValue) (file : List ℕ) → 
 reads_of g i e file here reader = subst (λ (d : EdgeValue). HasInput d file) (same_some _ _ (sym reader.1 ∙ here)) reader.2
 
 makes_of : (g : List EdgeValue) (i : ℕ) (e : EdgeValue) (file : List ℕ) → slice_get g i ≡ Some e → IsMaker g i file → Makes e file
-makes_of g i e file here maker = (maker.0, subst (λ (d : EdgeValue). slice_get (made_by d) maker.0 ≡ Some file) (same_some _ _ (sym maker.1.1 ∙ here)) maker.1.2)
+makes_of g i e file here maker =
+    (maker.0, subst (λ (d : EdgeValue). slice_get (made_by d) maker.0 ≡ Some file) (same_some _ _ (sym maker.1.1 ∙ here)) maker.1.2)
 
 b_reads : (file : List ℕ) → IsReader before 1 file → codes "b.cpp" ≡ file
-b_reads file reader = let reads : HasInput (edge (codes "b.o") [] (codes "b.cpp") []) file = reads_of before 1 _ file refl reader in one_of (codes "b.cpp") file reads.0 reads.1
+b_reads file reader = let reads : HasInput (edge (codes "b.o") [] (codes "b.cpp") []) file = reads_of before 1 _ file refl reader in
+    one_of (codes "b.cpp") file reads.0 reads.1
 
 a_makes : (file : List ℕ) → IsMaker before 0 file → codes "a.o" ≡ file
-a_makes file maker = let makes : Makes (edge (codes "a.o") [] (codes "a.cpp") []) file = makes_of before 0 _ file refl maker in one_of (codes "a.o") file makes.0 makes.1
+a_makes file maker = let makes : Makes (edge (codes "a.o") [] (codes "a.cpp") []) file = makes_of before 0 _ file refl maker in
+    one_of (codes "a.o") file makes.0 makes.1
 
 b_makes : (file : List ℕ) → IsMaker before 1 file → codes "b.o" ≡ file
-b_makes file maker = let makes : Makes (edge (codes "b.o") [] (codes "b.cpp") []) file = makes_of before 1 _ file refl maker in one_of (codes "b.o") file makes.0 makes.1
+b_makes file maker = let makes : Makes (edge (codes "b.o") [] (codes "b.cpp") []) file = makes_of before 1 _ file refl maker in
+    one_of (codes "b.o") file makes.0 makes.1
 
 -- `b.o` has no reason to wait for `a.o`, whatever comes after
 b_not_for_a : (new : List EdgeValue) → HasReason tables before new 1 0 → ⊥
 b_not_for_a new (inl (e, file, j, here, reads, makes)) =
     differ (codes "b.cpp") (codes "a.o") file refl (b_reads file (e, here, reads)) (a_makes file (j, makes))
-b_not_for_a new (inr (required {file} (t, o, name, inside, is_edge, requires, provided) makes)) = at o is_edge requires (one_of two_objects t (index_of tables t inside).0 (index_of tables t inside).1)
+b_not_for_a new (inr (required {file} (t, o, name, inside, is_edge, requires, provided) makes)) =
+    at o is_edge requires (one_of two_objects t (index_of tables t inside).0 (index_of tables t inside).1)
   where
     at : (o : ℕ) → IsEdgeOf before 1 t o → Requires t o name → two_objects ≡ t → ⊥
     at zero edge_at requires same =
@@ -110,13 +125,15 @@ b_not_for_a new (inr (required {file} (t, o, name, inside, is_edge, requires, pr
     at (suc (suc o)) edge_at requires same =
         let mine : IsEdgeOf before 1 two_objects (suc (suc o)) = subst (λ (u : TableValue). IsEdgeOf before 1 u (suc (suc o))) (sym same) edge_at in
         nothing mine.0 mine.1
-b_not_for_a new (inr (listed {file} reader (t, o, k, name, inside, is_edge, provides))) = at o is_edge provides (one_of two_objects t (index_of tables t inside).0 (index_of tables t inside).1)
+b_not_for_a new (inr (listed {file} reader (t, o, k, name, inside, is_edge, provides))) =
+    at o is_edge provides (one_of two_objects t (index_of tables t inside).0 (index_of tables t inside).1)
   where
     at : (o : ℕ) → IsEdgeOf before 0 t o → Provides t o k name file → two_objects ≡ t → ⊥
     at zero edge_at provides same =
         let mine : Provides two_objects 0 k name file = subst (λ (u : TableValue). Provides u 0 k name file) (sym same) provides in
         let rule : (codes "A", codes "A.bmi") ∷ [] ≡ mine.0.provided = ap (λ (r : RuleValue). r.provided) (same_some _ _ mine.1) in
-        let pair : (codes "A", codes "A.bmi") ≡ (name, file) = one_of _ _ k (subst (λ (ps : List (List ℕ × List ℕ)). slice_get ps k ≡ Some (name, file)) (sym rule) mine.2) in
+        let pair : (codes "A", codes "A.bmi") ≡ (name, file) =
+        one_of _ _ k (subst (λ (ps : List (List ℕ × List ℕ)). slice_get ps k ≡ Some (name, file)) (sym rule) mine.2) in
         differ (codes "A.bmi") (codes "b.cpp") file refl (ap (λ (p : List ℕ × List ℕ). p.1) pair) (b_reads file reader)
     at (suc zero) edge_at provides same =
         let mine : IsEdgeOf before 0 two_objects 1 = subst (λ (u : TableValue). IsEdgeOf before 0 u 1) (sym same) edge_at in
@@ -133,11 +150,13 @@ false_wait h = b_not_for_a _ ((h 1 0).0 (_, codes "A.bmi", 1, refl, (1, refl), (
 
 -- and closes a false cycle
 false_cycle : HasNoFalseCycle tables before (with_inputs (codes "B.bmi" ∷ []) (codes "A.bmi" ∷ [])) → ⊥
-false_cycle h = b_not_for_a _ (h.steps (0 ∷ 1 ∷ []) ((_, codes "B.bmi", 1, refl, (1, refl), (_, refl, refl)), (_, codes "A.bmi", 1, refl, (1, refl), (_, refl, refl)))).1
+false_cycle h = b_not_for_a _
+    (h.steps (0 ∷ 1 ∷ []) ((_, codes "B.bmi", 1, refl, (1, refl), (_, refl, refl)), (_, codes "A.bmi", 1, refl, (1, refl), (_, refl, refl)))).1
 
 -- and one too few leaves `a.o` without a wait that it has a reason for
 a_reads : (file : List ℕ) → IsReader (with_inputs [] []) 0 file → codes "a.cpp" ≡ file
-a_reads file reader = let reads : HasInput (edge (codes "a.o") (codes "A.bmi" ∷ []) (codes "a.cpp") []) file = reads_of (with_inputs [] []) 0 _ file refl reader in one_of (codes "a.cpp") file reads.0 reads.1
+a_reads file reader = let reads : HasInput (edge (codes "a.o") (codes "A.bmi" ∷ []) (codes "a.cpp") []) file =
+    reads_of (with_inputs [] []) 0 _ file refl reader in one_of (codes "a.cpp") file reads.0 reads.1
 
 too_few : HasNoFalseWait tables before (with_inputs [] []) → ⊥
 too_few h = by ((h 0 1).1 (inr (required {file = codes "B.bmi"} a_requires (1, (_, refl, refl)))))
@@ -223,4 +242,12 @@ race : HasNoRace tables two_before two_after → ⊥
 race h = nothing 1 (index_of [] 1 (h.after_makers (0 ∷ 1 ∷ []) 0 1 (codes "B.bmi") any_runs requires (1, (_, refl, refl)) 0 refl)).1
   where
     requires : RequiresFile tables two_before 0 (codes "B.bmi")
-    requires = (two_objects, 0, codes "B", contained tables 0 two_objects refl, (_, refl, (0, (_, refl, refl))), (_, refl, contained (codes "B" ∷ []) 0 (codes "B") refl), (Object 1, (0, (_, refl, refl))))
+    requires = (
+      two_objects,
+      0,
+      codes "B",
+      contained tables 0 two_objects refl,
+      (_, refl, (0, (_, refl, refl))),
+      (_, refl, contained (codes "B" ∷ []) 0 (codes "B") refl),
+      (Object 1, (0, (_, refl, refl))),
+    )

@@ -1,5 +1,5 @@
 -- What the edges of objects gain, after a target and after targets of a project.
-use Rattle.ninja_text.proofs.ForCallers.{same_some, from_map, to_map, element_at}
+use Rattle.ninja_text.proofs.ForCallers.{same_some, from_map, to_map, element_at, to_zip}
 use Rattle.std.proofs.Common.{◌≡◌, ◌≢◌, ◌⊎◌, ℕ, zero, suc, List, [], ◌∷◌, map, Option, Some, None, refl, ap, subst, sym, ◌∙◌, inl, inr, slice_get, Contains, ◌<◌, length, arith, zip, filter_map}
 use Rattle.dyndep_file.specs.StatementValue.{StatementValue}
 use Rattle.document_values.specs.Rule.{RuleValue}
@@ -26,7 +26,7 @@ use Rattle.std.proofs.lemmas.Option.{slice_get_within}
 use Rattle.build_effect.specs.Files.{NamedFile, GainsExactly}
 use Rattle.collate_core.specs.Projects.{project_tables}
 use Rattle.collate_core.specs.ProjectOrders.{dyndep_files, AllOrders, IsProjectOrdered}
-use Rattle.collate_core.proofs.Effects.{in_zip, as_file, to_zip}
+use Rattle.collate_core.proofs.Effects.{in_zip, as_file}
 
 -- an edge names the file, or it does not
 pub names_or_not : (e : EdgeValue) (name : List ℕ) → Names name e ⊎ (e.dyndep ≢ Some name)
@@ -40,7 +40,8 @@ names_or_not e name = by e.dyndep
     ]
 
 -- the rule of an object of the statements
-rule_at : (t : TableValue) (o : ℕ) (object : List ℕ) → slice_get (map (λ (a : StatementValue). a.output) (statements_of t)) o ≡ Some object → (rule : RuleValue) × (slice_get t.objects o ≡ Some rule) × (rule.object ≡ object)
+rule_at : (t : TableValue) (o : ℕ) (object : List ℕ) → slice_get (map (λ (a : StatementValue). a.output) (statements_of t)) o ≡ Some object →
+    (rule : RuleValue) × (slice_get t.objects o ≡ Some rule) × (rule.object ≡ object)
 rule_at t o object at =
     let a = from_map (λ (a : StatementValue). a.output) (statements_of t) o object at in
     let x = from_map statement_of (tasks_of t) o a.0 a.1 in
@@ -48,16 +49,19 @@ rule_at t o object at =
     (rule.0, rule.1, ap (λ (z : Task). z.0.object) rule.2 ∙ ap (λ (s : StatementValue). s.output) x.2 ∙ a.2)
 
 -- an edge that names the file of a table makes one of its objects
-pub of_named : (tables : List TableValue) (t : TableValue) → Contains tables t → (g : List EdgeValue) (name : List ℕ) → MeetsPremises g name (statements_of t) → (i : ℕ) (e : EdgeValue) → slice_get g i ≡ Some e → Names name e → IsOfObject tables e
+pub of_named : (tables : List TableValue) (t : TableValue) → Contains tables t → (g : List EdgeValue) (name : List ℕ) → MeetsPremises g name (statements_of t) →
+    (i : ℕ) (e : EdgeValue) → slice_get g i ≡ Some e → Names name e → IsOfObject tables e
 of_named tables t inside g name meets i e here names =
     let o = meets.names.one_object i e here names in
     let rule = rule_at t o.0 o.1 o.2 in
     (t, o.0, rule.0, inside, rule.1, (o.3.0, o.3.1 ∙ ap Some (sym rule.2)))
 
 -- each object of the statements has an edge
-pub edge_of : (t : TableValue) (g : List EdgeValue) (name : List ℕ) → MeetsPremises g name (statements_of t) → (o : ℕ) (rule : RuleValue) → slice_get t.objects o ≡ Some rule → (i : ℕ) × IsMaker g i rule.object
+pub edge_of : (t : TableValue) (g : List EdgeValue) (name : List ℕ) → MeetsPremises g name (statements_of t) → (o : ℕ) (rule : RuleValue) →
+    slice_get t.objects o ≡ Some rule → (i : ℕ) × IsMaker g i rule.object
 edge_of t g name meets o rule there =
-    let at : slice_get (statements_of t) o ≡ Some (statement_of (rule, required_of t rule)) = to_map statement_of (tasks_of t) o (rule, required_of t rule) (to_map (task_in t) t.objects o rule there) in
+    let at : slice_get (statements_of t) o ≡ Some (statement_of (rule, required_of t rule)) =
+    to_map statement_of (tasks_of t) o (rule, required_of t rule) (to_map (task_in t) t.objects o rule there) in
     let bound = meets.names.bound o rule.object (to_map (λ (a : StatementValue). a.output) (statements_of t) o (statement_of (rule, required_of t rule)) at) in
     (bound.0, (bound.4.0, (bound.1, bound.2, bound.4.1)))
 
@@ -70,14 +74,17 @@ only_one t u inside = by (index_of (t ∷ []) u inside)
     by (zero, at) = sym (same_some _ _ at)
     by (suc k, at) = cc
 
-gained_exactly : (t : TableValue) → IsSound t → (g new : List EdgeValue) (name : List ℕ) → MeetsPremises g name (statements_of t) → AddsExactly t name g new → Gained (t ∷ []) g new
+gained_exactly : (t : TableValue) → IsSound t → (g new : List EdgeValue) (name : List ℕ) → MeetsPremises g name (statements_of t) → AddsExactly t name g new →
+    Gained (t ∷ []) g new
 gained_exactly t sound g new name meets adds = record {
   same_edges = adds.same_edges;
   sound = λ u inside. subst IsSound (sym (only_one t u inside)) sound;
   edges = λ u o rule inside at.
-      subst (λ (v : TableValue). slice_get v.objects o ≡ Some rule → (i : ℕ) × IsMaker g i rule.object) (sym (only_one t u inside)) (edge_of t g name meets o rule) at;
+      subst (λ (v : TableValue). slice_get v.objects o ≡ Some rule → (i : ℕ) × IsMaker g i rule.object) (sym (only_one t u inside))
+      (edge_of t g name meets o rule) at;
   objects = λ u o rule i e inside at here makes.
-      subst (λ (v : TableValue). slice_get v.objects o ≡ Some rule → slice_get new i ≡ Some (with_modules e rule.provided (required_of v rule))) (sym (only_one t u inside))
+      subst (λ (v : TableValue). slice_get v.objects o ≡ Some rule → slice_get new i ≡ Some (with_modules e rule.provided (required_of v rule)))
+      (sym (only_one t u inside))
       (λ there. adds.objects o rule i e there here makes) at;
   each = λ i e here.
       elim (names_or_not e name) [
@@ -105,24 +112,28 @@ AtIndex tables applied t = (p : ℕ) × (n : ℕ) × (slice_get applied p ≡ So
 one_later : (tables : List TableValue) (m : ℕ) (applied : List ℕ) (t : TableValue) → AtIndex tables applied t → AtIndex tables (m ∷ applied) t
 one_later tables m applied t (p, n, at, there) = (suc p, n, at, there)
 
-from_tables : (tables : List TableValue) (applied : List ℕ) (k : ℕ) (t : TableValue) → slice_get (filter_map (λ n. slice_get tables n) applied) k ≡ Some t → AtIndex tables applied t
+from_tables : (tables : List TableValue) (applied : List ℕ) (k : ℕ) (t : TableValue) → slice_get (filter_map (λ n. slice_get tables n) applied) k ≡ Some t →
+    AtIndex tables applied t
 from_tables tables [] k t e = cc
 from_tables tables (n ∷ applied) k t e = by (slice_get tables n) refl (λ j at. one_later tables n applied t (from_tables tables applied j t at)) k e
   where
-    by : (found : Option TableValue) → slice_get tables n ≡ found → ((j : ℕ) → slice_get (filter_map (λ m. slice_get tables m) applied) j ≡ Some t → AtIndex tables (n ∷ applied) t) →
+    by : (found : Option TableValue) → slice_get tables n ≡ found →
+        ((j : ℕ) → slice_get (filter_map (λ m. slice_get tables m) applied) j ≡ Some t → AtIndex tables (n ∷ applied) t) →
         (k : ℕ) → slice_get (cons_option found (filter_map (λ m. slice_get tables m) applied)) k ≡ Some t → AtIndex tables (n ∷ applied) t
     by None none later k at = later k at
     by (Some u) there later zero at = (0, n, refl, there ∙ at)
     by (Some u) there later (suc k) at = later k at
 
-to_tables : (tables : List TableValue) (applied : List ℕ) (p n : ℕ) (t : TableValue) → slice_get applied p ≡ Some n → slice_get tables n ≡ Some t → (k : ℕ) × (slice_get (filter_map (λ n. slice_get tables n) applied) k ≡ Some t)
+to_tables : (tables : List TableValue) (applied : List ℕ) (p n : ℕ) (t : TableValue) → slice_get applied p ≡ Some n → slice_get tables n ≡ Some t →
+    (k : ℕ) × (slice_get (filter_map (λ n. slice_get tables n) applied) k ≡ Some t)
 to_tables tables [] p n t at there = cc
 to_tables tables (m ∷ applied) zero n t at there =
     let here : slice_get tables m ≡ Some t = ap (slice_get tables) (same_some _ _ at) ∙ there in
     (0, rw here refl)
 to_tables tables (m ∷ applied) (suc p) n t at there = by (slice_get tables m) refl (to_tables tables applied p n t at there)
   where
-    by : (found : Option TableValue) → slice_get tables m ≡ found → (k : ℕ) × (slice_get (filter_map (λ n. slice_get tables n) applied) k ≡ Some t) → (k : ℕ) × (slice_get (filter_map (λ n. slice_get tables n) (m ∷ applied)) k ≡ Some t)
+    by : (found : Option TableValue) → slice_get tables m ≡ found → (k : ℕ) × (slice_get (filter_map (λ n. slice_get tables n) applied) k ≡ Some t) →
+        (k : ℕ) × (slice_get (filter_map (λ n. slice_get tables n) (m ∷ applied)) k ≡ Some t)
     by None none (k, later) = (k, rw none later)
     by (Some u) found (k, later) = (suc k, rw found later)
 
@@ -144,7 +155,8 @@ one_or_none files (m ∷ applied) e = by (slice_get files m) refl (one_or_none f
     none_of_all rest first zero n f at there = first f (ap (slice_get files) (same_some _ _ at) ∙ there)
     none_of_all rest first (suc p) n f at there = rest p n f at there
 
-    by : (found : Option NamedFile) → slice_get files m ≡ found → NamesOne files applied e ⊎ NamesNone files applied e → NamesOne files (m ∷ applied) e ⊎ NamesNone files (m ∷ applied) e
+    by : (found : Option NamedFile) → slice_get files m ≡ found → NamesOne files applied e ⊎ NamesNone files applied e →
+        NamesOne files (m ∷ applied) e ⊎ NamesNone files (m ∷ applied) e
     by found is (inl (p, n, f, at, there, names)) = inl (suc p, n, f, at, there, names)
     by None is (inr rest) = inr (none_of_all rest (λ f there. let no : None ≡ Some f = sym is ∙ there in cc))
     by (Some d) is (inr rest) =
@@ -153,7 +165,8 @@ one_or_none files (m ∷ applied) e = by (slice_get files m) refl (one_or_none f
           | inr not ↦ inr (none_of_all rest (λ f there same. not (same ∙ ap (λ (x : NamedFile). Some x.name) (same_some _ _ (sym there ∙ is)))))
         ]
 
-module _ (targets : List ProjectTargetValue) (outs : List CollatedValue) (orders : AllOrders (project_tables targets outs)) (applied : List ℕ) (g new : List EdgeValue) (after : IsAfterProject targets outs applied g new) where
+module _ (targets : List ProjectTargetValue) (outs : List CollatedValue) (orders : AllOrders (project_tables targets outs)) (applied : List ℕ)
+    (g new : List EdgeValue) (after : IsAfterProject targets outs applied g new) where
   abbrev tables : List TableValue
   tables = project_tables targets outs
 
@@ -163,7 +176,9 @@ module _ (targets : List ProjectTargetValue) (outs : List CollatedValue) (orders
   gains : GainsExactly files g applied new
   gains =
       let gained = orders.gains g after.names applied after.count after.meets after.indices in
-      let same : gained.0 ≡ new = orders.alike g after.names applied applied gained.0 new after.count after.meets after.indices after.indices ((λ p n e. (p, e)), (λ p n e. (p, e))) gained.1 after.applies in
+      let same : gained.0 ≡ new =
+      orders.alike g after.names applied applied gained.0 new after.count after.meets after.indices after.indices ((λ p n e. (p, e)), (λ p n e. (p, e)))
+      gained.1 after.applies in
       subst (λ x. GainsExactly files g applied x) same gained.2
 
   -- the dyndep file of a table
@@ -173,13 +188,15 @@ module _ (targets : List ProjectTargetValue) (outs : List CollatedValue) (orders
       let name : (x : List ℕ) × (slice_get after.names n ≡ Some x) = element_at after.names n (omega (arith, after.count)) in
       (name.0, to_map as_file (zip after.names tables) n (name.0, t) (to_zip after.names tables n name.0 t name.1 at))
 
-  objects_of : (p n : ℕ) (t : TableValue) → slice_get applied p ≡ Some n → slice_get tables n ≡ Some t → (o : ℕ) (rule : RuleValue) (i : ℕ) (e : EdgeValue) → slice_get t.objects o ≡ Some rule →
+  objects_of : (p n : ℕ) (t : TableValue) → slice_get applied p ≡ Some n → slice_get tables n ≡ Some t → (o : ℕ) (rule : RuleValue) (i : ℕ) (e : EdgeValue) →
+      slice_get t.objects o ≡ Some rule →
       slice_get g i ≡ Some e → Makes e rule.object → slice_get new i ≡ Some (with_modules e rule.provided (required_of t rule))
   objects_of p n t listed at_n o rule i e there here makes =
       let file = file_of n t at_n in
       let f : NamedFile = as_file (file.0, t) in
       let s : StatementValue = statement_of (rule, required_of t rule) in
-      let at : slice_get (statements_of t) o ≡ Some s = to_map statement_of (tasks_of t) o (rule, required_of t rule) (to_map (task_in t) t.objects o rule there) in
+      let at : slice_get (statements_of t) o ≡ Some s =
+      to_map statement_of (tasks_of t) o (rule, required_of t rule) (to_map (task_in t) t.objects o rule there) in
       let meets : MeetsPremises g f.name (statements_of t) = after.meets.each n f file.1 in
       let bound = meets.names.bound o rule.object (to_map (λ (a : StatementValue). a.output) (statements_of t) o s at) in
       let index = meets.made_once i makes.0 bound.0 bound.4.0 rule.object (e, here, makes.1) (bound.1, bound.2, bound.4.1) in
@@ -196,8 +213,10 @@ module _ (targets : List ProjectTargetValue) (outs : List CollatedValue) (orders
       let t : TableValue = pair.0.1 in
       let at_n : slice_get tables n ≡ Some t = in_zip after.names tables n pair.0 pair.1 in
       let inside = to_tables tables applied p n t listed at_n in
-      let meets : MeetsPremises g pair.0.0 (statements_of t) = subst (λ (x : NamedFile). MeetsPremises g x.name x.additions) (sym pair.2) (after.meets.each n f at) in
-      of_named (tables_of targets outs applied) t (contained (tables_of targets outs applied) inside.0 t inside.1) g pair.0.0 meets i e here (names ∙ ap (λ (x : NamedFile). Some x.name) (sym pair.2))
+      let meets : MeetsPremises g pair.0.0 (statements_of t) =
+      subst (λ (x : NamedFile). MeetsPremises g x.name x.additions) (sym pair.2) (after.meets.each n f at) in
+      of_named (tables_of targets outs applied) t (contained (tables_of targets outs applied) inside.0 t inside.1) g pair.0.0 meets i e here
+      (names ∙ ap (λ (x : NamedFile). Some x.name) (sym pair.2))
 
   at_index : (t : TableValue) → Contains (tables_of targets outs applied) t → AtIndex tables applied t
   at_index t inside = let at = index_of (tables_of targets outs applied) t inside in from_tables tables applied at.0 t at.1
@@ -219,7 +238,8 @@ module _ (targets : List ProjectTargetValue) (outs : List CollatedValue) (orders
   }
 
   -- after the files of targets and of those that they link, each file that an object requires is made
-  module _ (ordered : IsProjectOrdered targets (project_tables targets outs)) (race : HasNoRace (tables_of targets outs applied) g new) (closed : HasLinked targets applied) where
+  module _ (ordered : IsProjectOrdered targets (project_tables targets outs)) (race : HasNoRace (tables_of targets outs applied) g new)
+      (closed : HasLinked targets applied) where
     pub all_made : (i : ℕ) (file : List ℕ) → RequiresFile (tables_of targets outs applied) g i file → (maker : ℕ) × IsMaker new maker file
     all_made i file (t, o, name, inside, edge, requires, provided) =
         let at = at_index t inside in

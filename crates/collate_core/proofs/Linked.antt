@@ -38,7 +38,8 @@ InfoIs = (bytes : List ℕ) (info : InfoValue) → IsAccepted info_checks IsInfo
 
 -- the info is that of target k, which is earlier than target n
 abbrev pub IsInfoOf : List TableValue → ℕ → ℕ → InfoValue → Type 0
-IsInfoOf tables n k info = (u : TableValue) × (name : List ℕ) × (kept : List (List ℕ)) × (k < n) × (slice_get tables k ≡ Some u) × (info_of_table name kept u ≡ info)
+IsInfoOf tables n k info = (u : TableValue) × (name : List ℕ) × (kept : List (List ℕ)) × (k < n) × (slice_get tables k ≡ Some u) ×
+    (info_of_table name kept u ≡ info)
 
 module _ (style : Option Written) (targets : List ProjectTargetValue) (outs : List CollatedValue) (project : CollatesProject style targets outs) where
   abbrev tables : List TableValue
@@ -47,7 +48,9 @@ module _ (style : Option Written) (targets : List ProjectTargetValue) (outs : Li
   abbrev table_at : ProjectTargetValue → TableValue
   table_at p = table_of (target_of outs p)
 
-  pub collation_at : (n : ℕ) (t : TableValue) → slice_get tables n ≡ Some t → (p : ProjectTargetValue) × (c : CollatedValue) × (slice_get targets n ≡ Some p) × (slice_get outs n ≡ Some c) × Collates (target_of outs p) style c × (table_of (target_of outs p) ≡ t)
+  pub collation_at : (n : ℕ) (t : TableValue) → slice_get tables n ≡ Some t →
+      (p : ProjectTargetValue) × (c : CollatedValue) × (slice_get targets n ≡ Some p) × (slice_get outs n ≡ Some c) × Collates (target_of outs p) style c ×
+      (table_of (target_of outs p) ≡ t)
   collation_at n t at =
       let p = from_map table_at targets n t at in
       let within : n < length targets = slice_get_within _ _ _ p.1 in
@@ -83,11 +86,13 @@ module _ (style : Option Written) (targets : List ProjectTargetValue) (outs : Li
       let low = project.each k q.0 c.0 q.1 c.1 in
       let same_text : text.0 ≡ c.0.info = sym link.2 ∙ ap (λ (z : Option CollatedValue). option_map_or (λ (x : CollatedValue). x.info) z []) c.1 in
       let mine : IsInfoAccepted c.0.info = subst IsInfoAccepted same_text accepted in
-      let same_info : info_of_table q.0.name q.0.kept u ≡ info_of c.0.info = info_is c.0.info (info_of_table q.0.name q.0.kept u) (low.info_reads.same mine.small) in
+      let same_info : info_of_table q.0.name q.0.kept u ≡ info_of c.0.info =
+      info_is c.0.info (info_of_table q.0.name q.0.kept u) (low.info_reads.same mine.small) in
       (p, k, all.2, link.1, (u, q.0.name, q.0.kept, earlier, at_u, same_info ∙ ap info_of (sym same_text) ∙ text.2))
 
   -- and each linked target has its info in the table
-  pub info_of_link : InfoIs → (n : ℕ) (t : TableValue) (p : ProjectTargetValue) (i k : ℕ) → slice_get tables n ≡ Some t → slice_get targets n ≡ Some p → slice_get p.linked i ≡ Some k →
+  pub info_of_link : InfoIs → (n : ℕ) (t : TableValue) (p : ProjectTargetValue) (i k : ℕ) → slice_get tables n ≡ Some t → slice_get targets n ≡ Some p →
+      slice_get p.linked i ≡ Some k →
       (info : InfoValue) × (slice_get t.infos i ≡ Some info) × IsInfoOf tables n k info
   info_of_link info_is n t p i k at target link =
       let all = collation_at n t at in
@@ -96,7 +101,8 @@ module _ (style : Option Written) (targets : List ProjectTargetValue) (outs : Li
       let infos : List (List ℕ) = linked_infos outs all.0.linked in
       let text : slice_get infos i ≡ Some (bytes_of k) = to_map bytes_of all.0.linked i k there in
       let info : InfoValue = info_of (bytes_of k) in
-      let here : slice_get t.infos i ≡ Some info = subst (λ (v : TableValue). slice_get v.infos i ≡ Some info) all.5 (to_map info_of infos i (bytes_of k) text) in
+      let here : slice_get t.infos i ≡ Some info =
+      subst (λ (v : TableValue). slice_get v.infos i ≡ Some info) all.5 (to_map info_of infos i (bytes_of k) text) in
       let back = info_at info_is n t i info at here in
       let is_p2 : back.0 ≡ all.0 = same_some _ _ (sym back.2 ∙ all.2) in
       let is_k : back.1 ≡ k = same_some _ _ (sym back.3 ∙ subst (λ (z : ProjectTargetValue). slice_get z.linked i ≡ Some k) (sym is_p2) there) in
@@ -108,12 +114,15 @@ all_from : {X : Type 0} (P : X → Type 0) (xs : List X) → ((k : ℕ) (x : X) 
 all_from P xs h k d lt = let e = element_at xs k lt in subst P (sym (get_or_from_slice_get xs k e.0 d e.1)) (h k e.0 e.1)
 
 module _ (outs : List CollatedValue) (known : List (Option InfoValue)) (are : AreKnown outs known) where
-  linked_one : (k : ℕ) (info : InfoValue) → k < length outs → get_or known k None ≡ Some info → IsReadAs (option_map_or (λ (c : CollatedValue). c.info) (slice_get outs k) []) info
+  linked_one : (k : ℕ) (info : InfoValue) → k < length outs → get_or known k None ≡ Some info →
+      IsReadAs (option_map_or (λ (c : CollatedValue). c.info) (slice_get outs k) []) info
   linked_one k info within at =
       let out = element_at outs k within in
-      subst (λ (d : List ℕ). IsReadAs d info) (ap (λ (o : Option CollatedValue). option_map_or (λ (c : CollatedValue). c.info) o []) (sym out.1)) (are.each k out.0 info out.1 (known_there known k info at))
+      subst (λ (d : List ℕ). IsReadAs d info) (ap (λ (o : Option CollatedValue). option_map_or (λ (c : CollatedValue). c.info) o []) (sym out.1))
+      (are.each k out.0 info out.1 (known_there known k info at))
 
-  linked_read : (linked : List ℕ) (infos : List InfoValue) → AreLinked known linked infos → All (λ k. k < length outs) linked → AreReadAs (linked_infos outs linked) infos
+  linked_read : (linked : List ℕ) (infos : List InfoValue) → AreLinked known linked infos → All (λ k. k < length outs) linked →
+      AreReadAs (linked_infos outs linked) infos
   linked_read [] [] e all = record { accepted = λ k d lt. absurd (omega (arith, lt)); values = refl; text = λ k d lt. absurd (omega (arith, lt)) }
   linked_read [] (info ∷ infos) e all = cc
   linked_read (k ∷ ks) [] e all = cc
@@ -146,20 +155,28 @@ module _ (part infos : List InfoValue) (is : IsPartOf part infos) (text : All Is
 
 -- the table of a target's objects and of a part that is enough of the known info files that it
 -- links
-pub enough_for_target : (style : Option Written) (target : TargetValue) (outs : List CollatedValue) (known : List (Option InfoValue)) (linked : List ℕ) (objects : List RuleValue) (part infos : List InfoValue) → AreKnown outs known → All (λ k. k < length outs) linked →
-    target.infos ≡ linked_infos outs linked → AreScansAccepted target.setting target.scans → objects ≡ all_rules target.setting target.scans → All IsRuleText objects →
-    AreLinked known linked infos → IsEnough objects part infos → IfSome style (λ _. KeepsRequired part infos) → IsEnoughFor target style (table_with objects part)
+pub enough_for_target :
+    (style : Option Written) (target : TargetValue) (outs : List CollatedValue) (known : List (Option InfoValue)) (linked : List ℕ) (objects : List RuleValue)
+    (part infos : List InfoValue) → AreKnown outs known → All (λ k. k < length outs) linked →
+    target.infos ≡ linked_infos outs linked → AreScansAccepted target.setting target.scans → objects ≡ all_rules target.setting target.scans →
+    All IsRuleText objects →
+    AreLinked known linked infos → IsEnough objects part infos → IfSome style (λ _. KeepsRequired part infos) →
+    IsEnoughFor target style (table_with objects part)
 enough_for_target style target outs known linked objects part infos are earlier documents scans same text links enough keeps =
-    let read : AreReadAs target.infos infos = subst (λ (ds : List (List ℕ)). AreReadAs ds infos) (sym documents) (linked_read outs known are linked infos links earlier) in
+    let read : AreReadAs target.infos infos =
+    subst (λ (ds : List (List ℕ)). AreReadAs ds infos) (sym documents) (linked_read outs known are linked infos links earlier) in
     record {
       accepted = record { scans = scans; infos = read.accepted };
       objects = same;
-      enough = subst (λ (os : List RuleValue). IsEnough os part (map info_of target.infos)) same (subst (λ (is : List InfoValue). IsEnough objects part is) read.values enough);
+      enough = subst (λ (os : List RuleValue). IsEnough os part (map info_of target.infos)) same
+          (subst (λ (is : List InfoValue). IsEnough objects part is) read.values enough);
       keeps = subst (λ (is : List InfoValue). IfSome style (λ _. KeepsRequired part is)) read.values keeps;
       text = record { objects = text; infos = part_text part infos enough.is_part read.text };
     }
 
 -- a part keeps what its modules require if there is a style
-pub keeps_for_style : {S : Type 0} (style : Option (Bor S)) (written : S → Written) (is_kept : Type 0) (part infos : List InfoValue) → ((s : Bor S) → style ≡ Some s → is_kept) → (is_kept → KeepsRequired part infos) → IfSome (option_map written (option_copied style)) (λ _. KeepsRequired part infos)
+pub keeps_for_style : {S : Type 0} (style : Option (Bor S)) (written : S → Written) (is_kept : Type 0) (part infos : List InfoValue) →
+    ((s : Bor S) → style ≡ Some s → is_kept) → (is_kept → KeepsRequired part infos) →
+    IfSome (option_map written (option_copied style)) (λ _. KeepsRequired part infos)
 keeps_for_style None written is_kept part infos is h = tt
 keeps_for_style (Some s) written is_kept part infos is h = h (is s refl)

@@ -38,12 +38,14 @@ all_mapped P f [] all = All-nil (λ x. P (f x))
 all_mapped P f (x ∷ xs) all = All-cons (λ x. P (f x)) x xs (All-head P (f x) (map f xs) all) (all_mapped P f xs (All-tail P (f x) (map f xs) all))
 
 -- each element of each part
-pub all_parts : {A B : Type 0} (P : B → Type 0) (f : A → List B) (Q : A → Type 0) → ((x : A) → Q x → All P (f x)) → (xs : List A) → AllByRecursion Q xs → All P (flat_map f xs)
+pub all_parts : {A B : Type 0} (P : B → Type 0) (f : A → List B) (Q : A → Type 0) → ((x : A) → Q x → All P (f x)) → (xs : List A) → AllByRecursion Q xs →
+    All P (flat_map f xs)
 all_parts P f Q each [] h = All-nil P
 all_parts P f Q each (x ∷ xs) h = All-append P (f x) (flat_map f xs) (each x h.0) (all_parts P f Q each xs h.1)
 
 -- the same by recursion on a mapped list
-pub map_recursion : {A B : Type 0} (Q : A → Type 0) (P : B → Type 0) (f : A → B) → ((x : A) → Q x → P (f x)) → (xs : List A) → AllByRecursion Q xs → AllByRecursion P (map f xs)
+pub map_recursion : {A B : Type 0} (Q : A → Type 0) (P : B → Type 0) (f : A → B) → ((x : A) → Q x → P (f x)) → (xs : List A) → AllByRecursion Q xs →
+    AllByRecursion P (map f xs)
 map_recursion Q P f to [] h = tt
 map_recursion Q P f to (x ∷ xs) h = (to x h.0, map_recursion Q P f to xs h.1)
 
@@ -87,13 +89,16 @@ two_levels bound r s p q lq (inr same) ls = let first : r * bound ≡ p * bound 
 
 -- ---- what the info files of a project's targets are read as: one more target
 
-module _ (outs : List CollatedValue) (known : List (Option InfoValue)) (are : AreKnown outs known) (out : CollatedValue) (entry : Option InfoValue) (read : IfSome entry (IsReadAs out.info)) where
+module _ (outs : List CollatedValue) (known : List (Option InfoValue)) (are : AreKnown outs known) (out : CollatedValue) (entry : Option InfoValue)
+    (read : IfSome entry (IsReadAs out.info)) where
   -- the target is an earlier one, and so is what is known, or both are the last
-  each_more : (k : ℕ) (o : CollatedValue) (info : InfoValue) → (slice_get outs k ≡ Some o) ⊎ ((k ≡ length outs) × (out ≡ o)) → (slice_get known k ≡ Some (Some info)) ⊎ ((k ≡ length known) × (entry ≡ Some info)) → IsReadAs o.info info
+  each_more : (k : ℕ) (o : CollatedValue) (info : InfoValue) → (slice_get outs k ≡ Some o) ⊎ ((k ≡ length outs) × (out ≡ o)) →
+      (slice_get known k ≡ Some (Some info)) ⊎ ((k ≡ length known) × (entry ≡ Some info)) → IsReadAs o.info info
   each_more k o info (inl at) (inl also) = are.each k o info at also
   each_more k o info (inl at) (inr also) = absurd (let within : k < length outs = slice_get_within _ _ _ at in omega (arith, also.0, are.count))
   each_more k o info (inr at) (inl also) = absurd (let within : k < length known = slice_get_within _ _ _ also in omega (arith, at.0, are.count))
-  each_more k o info (inr at) (inr also) = subst (λ (x : CollatedValue). IsReadAs x.info info) at.1 (subst (λ (e : Option InfoValue). IfSome e (IsReadAs out.info)) also.1 read)
+  each_more k o info (inr at) (inr also) =
+      subst (λ (x : CollatedValue). IsReadAs x.info info) at.1 (subst (λ (e : Option InfoValue). IfSome e (IsReadAs out.info)) also.1 read)
 
   known_push : AreKnown (outs ++ out ∷ []) (known ++ entry ∷ [])
   known_push = record {
@@ -102,7 +107,8 @@ module _ (outs : List CollatedValue) (known : List (Option InfoValue)) (are : Ar
   }
 
 -- so it is when the pool has the info, or nothing in its place
-pub known_added : (outs : List CollatedValue) (known : List (Option InfoValue)) → AreKnown outs known → (out : CollatedValue) (info : Option InfoValue) → IfSome info (IsReadAs out.info) → (new : List (Option InfoValue)) → IsAdded known info new → AreKnown (outs ++ out ∷ []) new
+pub known_added : (outs : List CollatedValue) (known : List (Option InfoValue)) → AreKnown outs known → (out : CollatedValue) (info : Option InfoValue) →
+    IfSome info (IsReadAs out.info) → (new : List (Option InfoValue)) → IsAdded known info new → AreKnown (outs ++ out ∷ []) new
 known_added outs known are out info read new (inl same) = subst (AreKnown (outs ++ out ∷ [])) (sym same) (known_push outs known are out info read)
 known_added outs known are out info read new (inr same) = subst (AreKnown (outs ++ out ∷ [])) (sym same) (known_push outs known are out None tt)
 
@@ -130,20 +136,26 @@ absorbed false false from = refl
 inserted : (keys : List (List ℕ)) (key name : List ℕ) → is_private_name (insert_key bytes_eq keys key) name ≡ (is_private_name keys name || bytes_eq name key)
 inserted keys key name = by (list_any (bytes_eq key) keys) refl
   where
-    by : (t : Bool) → list_any (bytes_eq key) keys ≡ t → is_private_name (cond t keys (keys ++ key ∷ [])) name ≡ (is_private_name keys name || bytes_eq name key)
-    by true there = absorbed (is_private_name keys name) (bytes_eq name key) (λ same. ap (λ n. list_any (bytes_eq n) keys) ((bytes_eq-Decides name key).0 same) ∙ there)
+    by : (t : Bool) → list_any (bytes_eq key) keys ≡ t →
+        is_private_name (cond t keys (keys ++ key ∷ [])) name ≡ (is_private_name keys name || bytes_eq name key)
+    by true there = absorbed (is_private_name keys name) (bytes_eq name key)
+        (λ same. ap (λ n. list_any (bytes_eq n) keys) ((bytes_eq-Decides name key).0 same) ∙ there)
     by false absent = any_last (bytes_eq name) keys key
 
-pub one_more_name : (names keys : List (List ℕ)) (k : ℕ) (key : List ℕ) → slice_get names k ≡ Some key → ((name : List ℕ) → is_private_name keys name ≡ is_private_name (take k names) name)
+pub one_more_name : (names keys : List (List ℕ)) (k : ℕ) (key : List ℕ) → slice_get names k ≡ Some key →
+    ((name : List ℕ) → is_private_name keys name ≡ is_private_name (take k names) name)
     → (name : List ℕ) → is_private_name (insert_key bytes_eq keys key) name ≡ is_private_name (take (k + 1) names) name
 one_more_name names keys k key here so_far name =
-    inserted keys key name ∙ ap (λ t. t || bytes_eq name key) (so_far name) ∙ sym (any_last (bytes_eq name) (take k names) key) ∙ ap (λ xs. is_private_name xs name) (sym (take_next names k key here))
+    inserted keys key name ∙ ap (λ t. t || bytes_eq name key) (so_far name) ∙ sym (any_last (bytes_eq name) (take k names) key) ∙
+    ap (λ xs. is_private_name xs name) (sym (take_next names k key here))
 
 -- lists that have the same names make the same modules
-pub modules_same : (kept other : List (List ℕ)) → ((name : List ℕ) → is_private_name kept name ≡ is_private_name other name) → (required pairs : List (List ℕ × List ℕ)) → map (module_of kept required) pairs ≡ map (module_of other required) pairs
+pub modules_same : (kept other : List (List ℕ)) → ((name : List ℕ) → is_private_name kept name ≡ is_private_name other name) →
+    (required pairs : List (List ℕ × List ℕ)) → map (module_of kept required) pairs ≡ map (module_of other required) pairs
 modules_same kept other same required [] = refl
 modules_same kept other same required (pair ∷ pairs) =
-    ap₂ (λ (b : Bool) (ms : List ModuleValue). record { name = pair.0; file = pair.1; required = required; is_private = b } ∷ ms) (same pair.0) (modules_same kept other same required pairs)
+    ap₂ (λ (b : Bool) (ms : List ModuleValue). record { name = pair.0; file = pair.1; required = required; is_private = b } ∷ ms) (same pair.0)
+    (modules_same kept other same required pairs)
 
 -- what holds where there is no value
 pub of_none : {T : Type 0} (No : Type 0) (P : T → Type 0) (found : Option T) → found ≡ None → MatchOption found No P → No

@@ -56,26 +56,33 @@ pub record OneAnswer : Type 0 where
 
 module _ (answers : OneAnswer) where
   -- accepted scan documents have no rejection
-  pub no_scan : (s : SettingValue) (scans : List (List ℕ)) (i : ℕ) (fault : DocFault) → AreScansAccepted s scans → (r : IsScanRefusal s scans i fault) → IsScanFault s scans i r.scan fault → ⊥
-  no_scan s scans i fault all r (inl refused) = (answers.scan s r.scan).not_both (rules_of s r.scan) fault (all_at (IsScanAccepted s) scans i r.scan all.each r.here) refused
+  pub no_scan : (s : SettingValue) (scans : List (List ℕ)) (i : ℕ) (fault : DocFault) → AreScansAccepted s scans → (r : IsScanRefusal s scans i fault) →
+      IsScanFault s scans i r.scan fault → ⊥
+  no_scan s scans i fault all r (inl refused) =
+      (answers.scan s r.scan).not_both (rules_of s r.scan) fault (all_at (IsScanAccepted s) scans i r.scan all.each r.here) refused
   no_scan s scans i fault all r (inr (accepted, past, is)) =
-      let next : all_rules s (take (i + 1) scans) ≡ all_rules s (take i scans) ++ rules_of s r.scan = ap (all_rules s) (take_next scans i r.scan r.here) ∙ flat_map_last (rules_of s) (take i scans) r.scan in
+      let next : all_rules s (take (i + 1) scans) ≡ all_rules s (take i scans) ++ rules_of s r.scan = ap (all_rules s) (take_next scans i r.scan r.here) ∙
+      flat_map_last (rules_of s) (take i scans) r.scan in
       let within : i < length scans = slice_get_within _ _ _ r.here in
       let part = length-flat_map-take (rules_of s) scans i r.scan within in
-      let same : length (rules_of s (get_or scans i r.scan)) ≡ length (rules_of s r.scan) = ap (λ x. length (rules_of s x)) (get_or_from_slice_get scans i r.scan r.scan r.here) in
-      let longer : length (all_rules s (take (i + 1) scans)) ≡ length (all_rules s (take i scans)) + length (rules_of s r.scan) = ap length next ∙ length-append (all_rules s (take i scans)) (rules_of s r.scan) in
+      let same : length (rules_of s (get_or scans i r.scan)) ≡ length (rules_of s r.scan) =
+      ap (λ x. length (rules_of s x)) (get_or_from_slice_get scans i r.scan r.scan r.here) in
+      let longer : length (all_rules s (take (i + 1) scans)) ≡ length (all_rules s (take i scans)) + length (rules_of s r.scan) = ap length next ∙
+      length-append (all_rules s (take i scans)) (rules_of s r.scan) in
       omega (arith, past, all.limit, part, same, longer)
 
   pub no_info : (infos : List (List ℕ)) (i : ℕ) (fault : DocFault) → All IsInfoAccepted infos → IsInfoRefusal infos i fault → ⊥
   no_info infos i fault all r = (answers.info r.info).not_both (info_of r.info) fault (all_at IsInfoAccepted infos i r.info all r.here) r.faulty
 
   -- a map that is written is not rejected
-  pub no_map_fault : (t : TableValue) (written : Written) (o : ℕ) (rule : RuleValue) (fault : UnwritableMap) → IsMapWritten t written o rule → IsMapFault t written o rule fault → ⊥
+  pub no_map_fault : (t : TableValue) (written : Written) (o : ℕ) (rule : RuleValue) (fault : UnwritableMap) → IsMapWritten t written o rule →
+      IsMapFault t written o rule fault → ⊥
   no_map_fault t written o rule fault good bad =
       let both : Ok good.0 ≡ Err (map_fault fault) = sym good.1.2 ∙ ap written (one_map t o rule good.1.0 bad.0 good.1.1 bad.1) ∙ bad.2 in
       cc
 
-  no_map : (t : TableValue) (written : Written) (texts : List (List ℕ)) (o : ℕ) (fault : UnwritableMap) → AreMaps t (Some written) texts → IsMapRefusal t written o fault → ⊥
+  no_map : (t : TableValue) (written : Written) (texts : List (List ℕ)) (o : ℕ) (fault : UnwritableMap) → AreMaps t (Some written) texts →
+      IsMapRefusal t written o fault → ⊥
   no_map t written texts o fault maps r =
       let within : o < length t.objects = slice_get_within _ _ _ r.here in
       let text : (x : List ℕ) × (slice_get texts o ≡ Some x) = element_at texts o (omega (arith, maps.0, within)) in
@@ -85,7 +92,8 @@ module _ (answers : OneAnswer) where
   not_refused target style c (Scan i fault) k r = no_scan target.setting target.scans i fault k.resolved.documents.scans r r.faulty
   not_refused target style c (Info i fault) k (before, r) = no_info target.infos i fault k.resolved.documents.infos r
   not_refused target style c (Table fault) k r = k.resolved.no_fault fault r.1.present
-  not_refused target style c (StatementTooLong n) k r = let both : None ≡ Some (write.StatementTooLong n) = sym (no_fault (statements_of (table_of target)) c.dyndep k.text) ∙ r.1 in cc
+  not_refused target style c (StatementTooLong n) k r = let both : None ≡ Some (write.StatementTooLong n) =
+      sym (no_fault (statements_of (table_of target)) c.dyndep k.text) ∙ r.1 in cc
   not_refused target None c (Map o fault) k r = r
   not_refused target (Some written) c (Map o fault) k r = no_map (table_of target) written c.maps o fault k.maps r.2
   not_refused target style c LinkedLater k r = r
@@ -107,33 +115,39 @@ module _ (answers : OneAnswer) (one_fault : OneTableFault) where
   -- ---- scan documents
 
   -- the first faulty scan document is so among those before a later one
-  scan_before : (s : SettingValue) (scans : List (List ℕ)) (i j : ℕ) (fault : DocFault) → i < j → IsScanRefusal s scans i fault → IsScanRefusal s (take j scans) i fault
+  scan_before : (s : SettingValue) (scans : List (List ℕ)) (i j : ℕ) (fault : DocFault) → i < j → IsScanRefusal s scans i fault →
+      IsScanRefusal s (take j scans) i fault
   scan_before s scans i j fault less r = record {
     before = subst (AreScansAccepted s) (sym (take_less i j scans (omega arith))) r.before;
     scan = r.scan;
     here = in_take scans j i r.scan r.here less;
-    faulty = subst (λ (xs : List (List ℕ)). IsRefused (scan_checks s) r.scan fault ⊎ (IsScanAccepted s r.scan × (rule_limit < length (all_rules s xs)) × (fault ≡ TooLarge Document)))
+    faulty = subst (λ (xs : List (List ℕ)). IsRefused (scan_checks s) r.scan fault ⊎
+        (IsScanAccepted s r.scan × (rule_limit < length (all_rules s xs)) × (fault ≡ TooLarge Document)))
         (sym (take_less (i + 1) j scans (omega (arith, less)))) r.faulty;
   }
 
-  scan_later : (s : SettingValue) (scans : List (List ℕ)) (i j : ℕ) (fault other : DocFault) → i < j → IsScanRefusal s scans i fault → IsScanRefusal s scans j other → ⊥
+  scan_later : (s : SettingValue) (scans : List (List ℕ)) (i j : ℕ) (fault other : DocFault) → i < j → IsScanRefusal s scans i fault →
+      IsScanRefusal s scans j other → ⊥
   scan_later s scans i j fault other less r q =
       let first = scan_before s scans i j fault less r in
       no_scan answers s (take j scans) i fault q.before first first.faulty
 
-  scan_faults : (s : SettingValue) (scans : List (List ℕ)) (i : ℕ) (scan : List ℕ) (fault other : DocFault) → IsScanFault s scans i scan fault → IsScanFault s scans i scan other → fault ≡ other
+  scan_faults : (s : SettingValue) (scans : List (List ℕ)) (i : ℕ) (scan : List ℕ) (fault other : DocFault) → IsScanFault s scans i scan fault →
+      IsScanFault s scans i scan other → fault ≡ other
   scan_faults s scans i scan fault other (inl a) (inl b) = (answers.scan s scan).one_fault fault other a b
   scan_faults s scans i scan fault other (inl a) (inr b) = absurd ((answers.scan s scan).not_both (rules_of s scan) fault b.0 a)
   scan_faults s scans i scan fault other (inr a) (inl b) = absurd ((answers.scan s scan).not_both (rules_of s scan) other a.0 b)
   scan_faults s scans i scan fault other (inr a) (inr b) = a.2 ∙ sym b.2
 
-  one_scan : (s : SettingValue) (scans : List (List ℕ)) (i j : ℕ) (fault other : DocFault) → IsScanRefusal s scans i fault → IsScanRefusal s scans j other → Scan i fault ≡ Scan j other
+  one_scan : (s : SettingValue) (scans : List (List ℕ)) (i j : ℕ) (fault other : DocFault) → IsScanRefusal s scans i fault → IsScanRefusal s scans j other →
+      Scan i fault ≡ Scan j other
   one_scan s scans i j fault other r q = elim (three_ways i j) [
     | inl less ↦ absurd (scan_later s scans i j fault other less r q)
     | inr more ↦ elim more [
       | inl same ↦
           let scan : q.scan ≡ r.scan = same_some _ _ (sym q.here ∙ ap (slice_get scans) (sym same) ∙ r.here) in
-          let theirs : IsScanFault s scans i r.scan other = subst (λ x. IsScanFault s scans i x other) scan (subst (λ n. IsScanFault s scans n q.scan other) (sym same) q.faulty) in
+          let theirs : IsScanFault s scans i r.scan other =
+          subst (λ x. IsScanFault s scans i x other) scan (subst (λ n. IsScanFault s scans n q.scan other) (sym same) q.faulty) in
           ap₂ (λ n f. Scan n f) same (scan_faults s scans i r.scan fault other r.faulty theirs)
       | inr above ↦ absurd (scan_later s scans j i other fault above q r)
     ]
@@ -150,7 +164,8 @@ module _ (answers : OneAnswer) (one_fault : OneTableFault) where
         faulty = r.faulty;
       })
 
-  one_info : (infos : List (List ℕ)) (i j : ℕ) (fault other : DocFault) → IsInfoRefusal infos i fault → IsInfoRefusal infos j other → Info i fault ≡ Info j other
+  one_info : (infos : List (List ℕ)) (i j : ℕ) (fault other : DocFault) → IsInfoRefusal infos i fault → IsInfoRefusal infos j other →
+      Info i fault ≡ Info j other
   one_info infos i j fault other r q = elim (three_ways i j) [
     | inl less ↦ absurd (info_later infos i j fault other less r q)
     | inr more ↦ elim more [
@@ -163,21 +178,25 @@ module _ (answers : OneAnswer) (one_fault : OneTableFault) where
 
   -- ---- maps
 
-  map_later : (t : TableValue) (written : Written) (o p : ℕ) (fault other : UnwritableMap) → o < p → IsMapRefusal t written o fault → IsMapRefusal t written p other → ⊥
+  map_later : (t : TableValue) (written : Written) (o p : ℕ) (fault other : UnwritableMap) → o < p → IsMapRefusal t written o fault →
+      IsMapRefusal t written p other → ⊥
   map_later t written o p fault other less r q = no_map_fault answers t written o r.rule fault (q.before o r.rule less r.here) r.faulty
 
-  map_faults : (t : TableValue) (written : Written) (o : ℕ) (rule : RuleValue) (fault other : UnwritableMap) → IsMapFault t written o rule fault → IsMapFault t written o rule other → fault ≡ other
+  map_faults : (t : TableValue) (written : Written) (o : ℕ) (rule : RuleValue) (fault other : UnwritableMap) → IsMapFault t written o rule fault →
+      IsMapFault t written o rule other → fault ≡ other
   map_faults t written o rule fault other a b =
       let both : Err (map_fault fault) ≡ Err (map_fault other) = sym a.2 ∙ ap written (one_map t o rule a.0 b.0 a.1 b.1) ∙ b.2 in
       one_unwritable fault other cc
 
-  one_map_refusal : (t : TableValue) (written : Written) (o p : ℕ) (fault other : UnwritableMap) → IsMapRefusal t written o fault → IsMapRefusal t written p other → Map o fault ≡ Map p other
+  one_map_refusal : (t : TableValue) (written : Written) (o p : ℕ) (fault other : UnwritableMap) → IsMapRefusal t written o fault →
+      IsMapRefusal t written p other → Map o fault ≡ Map p other
   one_map_refusal t written o p fault other r q = elim (three_ways o p) [
     | inl less ↦ absurd (map_later t written o p fault other less r q)
     | inr more ↦ elim more [
       | inl same ↦
           let rule : q.rule ≡ r.rule = same_some _ _ (sym q.here ∙ ap (slice_get t.objects) (sym same) ∙ r.here) in
-          let theirs : IsMapFault t written o r.rule other = subst (λ x. IsMapFault t written o x other) rule (subst (λ n. IsMapFault t written n q.rule other) (sym same) q.faulty) in
+          let theirs : IsMapFault t written o r.rule other =
+          subst (λ x. IsMapFault t written o x other) rule (subst (λ n. IsMapFault t written n q.rule other) (sym same) q.faulty) in
           ap₂ (λ n f. Map n f) same (map_faults t written o r.rule fault other r.faulty theirs)
       | inr above ↦ absurd (map_later t written p o other fault above q r)
     ]
@@ -186,7 +205,8 @@ module _ (answers : OneAnswer) (one_fault : OneTableFault) where
   -- ---- all rejections
 
   -- with accepted scan documents, none of them is rejected
-  scan_excluded : {X : Type 0} (target : TargetValue) (i : ℕ) (fault : DocFault) → AreScansAccepted target.setting target.scans → IsScanRefusal target.setting target.scans i fault → X
+  scan_excluded : {X : Type 0} (target : TargetValue) (i : ℕ) (fault : DocFault) → AreScansAccepted target.setting target.scans →
+      IsScanRefusal target.setting target.scans i fault → X
   scan_excluded target i fault all r = absurd (no_scan answers target.setting target.scans i fault all r r.faulty)
 
   info_excluded : {X : Type 0} (target : TargetValue) (i : ℕ) (fault : DocFault) → All IsInfoAccepted target.infos → IsInfoRefusal target.infos i fault → X
@@ -217,7 +237,8 @@ module _ (answers : OneAnswer) (one_fault : OneTableFault) where
   one_refusal target style (StatementTooLong k) (Scan j g) r q = scan_excluded target j g r.0.documents.scans q
   one_refusal target style (StatementTooLong k) (Info j g) r q = info_excluded target j g r.0.documents.infos q.1
   one_refusal target style (StatementTooLong k) (Table g) r q = absurd (r.0.no_fault g q.1.present)
-  one_refusal target style (StatementTooLong k) (StatementTooLong l) r q = let both : Some (write.StatementTooLong k) ≡ Some (write.StatementTooLong l) = sym r.1 ∙ q.1 in let same : k ≡ l = cc in equal _ _ (ap (λ n. StatementTooLong n) same)
+  one_refusal target style (StatementTooLong k) (StatementTooLong l) r q = let both : Some (write.StatementTooLong k) ≡ Some (write.StatementTooLong l) =
+      sym r.1 ∙ q.1 in let same : k ≡ l = cc in equal _ _ (ap (λ n. StatementTooLong n) same)
   one_refusal target None (StatementTooLong k) (Map o g) r q = absurd q
   one_refusal target (Some written) (StatementTooLong k) (Map o g) r q = absurd (let both : None ≡ Some (write.StatementTooLong k) = sym q.1 ∙ r.1 in cc)
   one_refusal target style (StatementTooLong k) LinkedLater r q = absurd q
@@ -236,7 +257,8 @@ at_first : {X : Type 0} (xs : List X) (x : X) (k : ℕ) (y : X) → k < length x
 at_first xs x k y within e = elim (from_push xs x k y e) [ inl h ↦ h | inr h ↦ absurd (omega (arith, h.0, within)) ]
 
 at_last : {X : Type 0} (xs : List X) (x : X) (k : ℕ) (y : X) → k ≡ length xs → slice_get (xs ++ x ∷ []) k ≡ Some y → x ≡ y
-at_last xs x k y is e = elim (from_push xs x k y e) [ inl h ↦ absurd (let within : k < length xs = slice_get_within _ _ _ h in omega (arith, is)) | inr h ↦ h.1 ]
+at_last xs x k y is e = elim (from_push xs x k y e)
+    [ inl h ↦ absurd (let within : k < length xs = slice_get_within _ _ _ h in omega (arith, is)) | inr h ↦ h.1 ]
 
 abbrev pub bytes_at : List CollatedValue → ℕ → List ℕ
 bytes_at outs k = option_map_or (λ (c : CollatedValue). c.info) (slice_get outs k) []
@@ -247,15 +269,18 @@ same_bytes outs more k within =
     let c : (x : CollatedValue) × (slice_get outs k ≡ Some x) = element_at outs k within in
     ap (λ (z : Option CollatedValue). option_map_or (λ (c : CollatedValue). c.info) z []) (in_first outs more k c.0 c.1 ∙ sym c.1)
 
-same_infos : (outs more : List CollatedValue) (linked : List ℕ) → All (λ k. k < length outs) linked → linked_infos (outs ++ more) linked ≡ linked_infos outs linked
+same_infos : (outs more : List CollatedValue) (linked : List ℕ) → All (λ k. k < length outs) linked →
+    linked_infos (outs ++ more) linked ≡ linked_infos outs linked
 same_infos outs more [] all = refl
 same_infos outs more (k ∷ ks) all =
     let head : bytes_at (outs ++ more) k ≡ bytes_at outs k = same_bytes outs more k (all 0 0 (omega arith)) in
     let tail : linked_infos (outs ++ more) ks ≡ linked_infos outs ks = same_infos outs more ks (λ j d within. all (suc j) d (omega (arith, within))) in
     cc
 
-pub same_target : (outs more : List CollatedValue) (p : ProjectTargetValue) → All (λ k. k < length outs) p.linked → target_of outs p ≡ target_of (outs ++ more) p
-same_target outs more p all = ap (λ infos. record { name = p.name; setting = p.setting; scans = p.scans; infos = infos; kept = p.kept }) (sym (same_infos outs more p.linked all))
+pub same_target : (outs more : List CollatedValue) (p : ProjectTargetValue) → All (λ k. k < length outs) p.linked →
+    target_of outs p ≡ target_of (outs ++ more) p
+same_target outs more p all =
+    ap (λ infos. record { name = p.name; setting = p.setting; scans = p.scans; infos = infos; kept = p.kept }) (sym (same_infos outs more p.linked all))
 
 pub lower : (a b : ℕ) (linked : List ℕ) → a ≤ b → All (λ k. k < a) linked → All (λ k. k < b) linked
 lower a b linked le all i d within = let less : get_or linked i d < a = all i d within in omega arith
@@ -264,9 +289,11 @@ module _ (style : Option Written) (targets : List ProjectTargetValue) (outs : Li
     (p : ProjectTargetValue) (c : CollatedValue) (all : All (λ k. k < length outs) p.linked) (collates : Collates (target_of outs p) style c) where
   earlier_more : (n : ℕ) (q : ProjectTargetValue) → (slice_get targets n ≡ Some q) ⊎ ((n ≡ length targets) × (p ≡ q)) → All (λ k. k < n) q.linked
   earlier_more n q (inl h) = project.earlier n q h
-  earlier_more n q (inr h) = subst (λ (z : ProjectTargetValue). All (λ k. k < n) z.linked) h.1 (lower (length outs) n p.linked (omega (arith, h.0, project.count)) all)
+  earlier_more n q (inr h) =
+      subst (λ (z : ProjectTargetValue). All (λ k. k < n) z.linked) h.1 (lower (length outs) n p.linked (omega (arith, h.0, project.count)) all)
 
-  each_more : (n : ℕ) (q : ProjectTargetValue) (d : CollatedValue) → (slice_get targets n ≡ Some q) ⊎ ((n ≡ length targets) × (p ≡ q)) → slice_get (outs ++ c ∷ []) n ≡ Some d → Collates (target_of (outs ++ c ∷ []) q) style d
+  each_more : (n : ℕ) (q : ProjectTargetValue) (d : CollatedValue) → (slice_get targets n ≡ Some q) ⊎ ((n ≡ length targets) × (p ≡ q)) →
+      slice_get (outs ++ c ∷ []) n ≡ Some d → Collates (target_of (outs ++ c ∷ []) q) style d
   each_more n q d (inl h) at_d =
       let within : n < length targets = slice_get_within _ _ _ h in
       let known = project.each n q d h (at_first outs c n d (omega (arith, project.count, within)) at_d) in
@@ -275,7 +302,8 @@ module _ (style : Option Written) (targets : List ProjectTargetValue) (outs : Li
   each_more n q d (inr h) at_d =
       let is_c : c ≡ d = at_last outs c n d (omega (arith, h.0, project.count)) at_d in
       let here : Collates (target_of (outs ++ c ∷ []) p) style c = subst (λ z. Collates z style c) (same_target outs (c ∷ []) p all) collates in
-      subst (λ (z : ProjectTargetValue). Collates (target_of (outs ++ c ∷ []) z) style d) h.1 (subst (λ z. Collates (target_of (outs ++ c ∷ []) p) style z) is_c here)
+      subst (λ (z : ProjectTargetValue). Collates (target_of (outs ++ c ∷ []) z) style d) h.1
+      (subst (λ z. Collates (target_of (outs ++ c ∷ []) p) style z) is_c here)
 
   pub project_push : CollatesProject style (targets ++ p ∷ []) (outs ++ c ∷ [])
   project_push = record {
@@ -285,8 +313,10 @@ module _ (style : Option Written) (targets : List ProjectTargetValue) (outs : Li
   }
 
 -- a style, if one is given, reads the maps back
-pub maps_of_style : {S : Type 0} (o : Option S) (written : S → Written) (kept : S → ModuleMapValue → List MapEntry) (entries : S → List ℕ → Result (List MapEntry) MapFault) →
-    ((s : S) → AreStyleLaws (written s) (kept s) (entries s)) → ProjectMaps → (targets : List ProjectTargetValue) (outs : List CollatedValue) → CollatesProject (option_map written o) targets outs →
+pub maps_of_style : {S : Type 0} (o : Option S) (written : S → Written) (kept : S → ModuleMapValue → List MapEntry)
+    (entries : S → List ℕ → Result (List MapEntry) MapFault) →
+    ((s : S) → AreStyleLaws (written s) (kept s) (entries s)) → ProjectMaps → (targets : List ProjectTargetValue) (outs : List CollatedValue) →
+    CollatesProject (option_map written o) targets outs →
     IfSome o (λ s. MapsReadBack (entries s) targets (project_tables targets outs) outs)
 maps_of_style None written kept entries laws maps targets outs project = tt
 maps_of_style (Some s) written kept entries laws maps targets outs project = maps (written s) (kept s) (entries s) (laws s) targets outs project
@@ -295,7 +325,8 @@ pub map_push : {A B : Type 0} (f : A → B) (xs : List A) (x : A) (ys : List B) 
 map_push f xs x ys y e h = rw (map-append, e, h) refl
 
 -- the rejection of a target whose predecessors all collate is that of the project
-pub refused_here : (style : Option Written) (targets : List ProjectTargetValue) (n : ℕ) (outs : List CollatedValue) (p : ProjectTargetValue) → CollatesProject style (take n targets) outs → slice_get targets n ≡ Some p →
+pub refused_here : (style : Option Written) (targets : List ProjectTargetValue) (n : ℕ) (outs : List CollatedValue) (p : ProjectTargetValue) →
+    CollatesProject style (take n targets) outs → slice_get targets n ≡ Some p →
     (refusal : Refusal) → IsLinkedRefusal style outs (length outs) p refusal → IsProjectRefusal style targets n refusal
 refused_here style targets n outs p project at refusal h =
     let within : n < length targets = slice_get_within _ _ _ at in
@@ -305,20 +336,25 @@ refused_here style targets n outs p project at refusal h =
 -- ---- a project whose targets all collate has no rejection
 
 -- the info files are the same if the linked targets wrote the same
-infos_agree : (outs others : List CollatedValue) (bound : ℕ) → ((k : ℕ) → k < bound → bytes_at outs k ≡ bytes_at others k) → (linked : List ℕ) → All (λ k. k < bound) linked → linked_infos outs linked ≡ linked_infos others linked
+infos_agree : (outs others : List CollatedValue) (bound : ℕ) → ((k : ℕ) → k < bound → bytes_at outs k ≡ bytes_at others k) → (linked : List ℕ) →
+    All (λ k. k < bound) linked → linked_infos outs linked ≡ linked_infos others linked
 infos_agree outs others bound same [] all = refl
 infos_agree outs others bound same (k ∷ ks) all =
     let head : bytes_at outs k ≡ bytes_at others k = same k (all 0 0 (omega arith)) in
     let tail : linked_infos outs ks ≡ linked_infos others ks = infos_agree outs others bound same ks (λ j d within. all (suc j) d (omega (arith, within))) in
     cc
 
-pub targets_agree : (outs others : List CollatedValue) (bound : ℕ) → ((k : ℕ) → k < bound → bytes_at outs k ≡ bytes_at others k) → (p : ProjectTargetValue) → All (λ k. k < bound) p.linked → target_of others p ≡ target_of outs p
-targets_agree outs others bound same p all = ap (λ infos. record { name = p.name; setting = p.setting; scans = p.scans; infos = infos; kept = p.kept }) (sym (infos_agree outs others bound same p.linked all))
+pub targets_agree : (outs others : List CollatedValue) (bound : ℕ) → ((k : ℕ) → k < bound → bytes_at outs k ≡ bytes_at others k) → (p : ProjectTargetValue) →
+    All (λ k. k < bound) p.linked → target_of others p ≡ target_of outs p
+targets_agree outs others bound same p all =
+    ap (λ infos. record { name = p.name; setting = p.setting; scans = p.scans; infos = infos; kept = p.kept })
+    (sym (infos_agree outs others bound same p.linked all))
 
 written_at : (outs : List CollatedValue) (k : ℕ) (c : CollatedValue) → slice_get outs k ≡ Some c → bytes_at outs k ≡ c.info
 written_at outs k c at = ap (λ (z : Option CollatedValue). option_map_or (λ (x : CollatedValue). x.info) z []) at
 
-module _ (answers : OneAnswer) (style : Option Written) (targets : List ProjectTargetValue) (outs : List CollatedValue) (project : CollatesProject style targets outs)
+module _ (answers : OneAnswer) (style : Option Written) (targets : List ProjectTargetValue) (outs : List CollatedValue)
+    (project : CollatesProject style targets outs)
     (n : ℕ) (inside : n ≤ length targets) (others : List CollatedValue) (part : CollatesProject style (take n targets) others) where
   same_at : (k : ℕ) → k < n → ((j : ℕ) → j < k → bytes_at outs j ≡ bytes_at others j) → bytes_at outs k ≡ bytes_at others k
   same_at k less before =
@@ -329,7 +365,8 @@ module _ (answers : OneAnswer) (style : Option Written) (targets : List ProjectT
       let one = project.each k p.0 c.0 p.1 c.1 in
       let two = part.each k p.0 d.0 (in_take targets n k p.0 p.1 less) d.1 in
       let same : target_of others p.0 ≡ target_of outs p.0 = targets_agree outs others k before p.0 (project.earlier k p.0 p.1) in
-      written_at outs k c.0 c.1 ∙ one.info ∙ ap (λ (v : TargetValue). info_text (info_of_table v.name v.kept (table_of v))) (sym same) ∙ sym two.info ∙ sym (written_at others k d.0 d.1)
+      written_at outs k c.0 c.1 ∙ one.info ∙ ap (λ (v : TargetValue). info_text (info_of_table v.name v.kept (table_of v))) (sym same) ∙ sym two.info ∙
+      sym (written_at others k d.0 d.1)
 
   pub up_to : (m : ℕ) → m ≤ n → (j : ℕ) → j < m → bytes_at outs j ≡ bytes_at others j
   up_to zero le j less = absurd (omega arith)
@@ -362,21 +399,29 @@ module _ (answers : OneAnswer) (one_fault : OneTableFault) (style : Option Writt
   -- the first rejected target is so among those before a later one, which all collate
   later : (n m : ℕ) (refusal other : Refusal) → n < m → IsProjectRefusal style targets n refusal → IsProjectRefusal style targets m other → ⊥
   later n m refusal other less (outs, p, project, at, refused) (others, q, part, at_q, refused_q) =
-      let first : IsProjectRefusal style (take m targets) n refusal =
-      (outs, p, subst (λ (xs : List ProjectTargetValue). CollatesProject style xs outs) (sym (take_less n m targets (omega arith))) project, in_take targets m n p at less, refused) in
+      let first : IsProjectRefusal style (take m targets) n refusal = (
+        outs,
+        p,
+        subst (λ (xs : List ProjectTargetValue). CollatesProject style xs outs) (sym (take_less n m targets (omega arith))) project,
+        in_take targets m n p at less,
+        refused,
+      ) in
       project_not_refused answers style (take m targets) others n refusal part first
 
   -- the rejections of one target with the info files that the same earlier targets wrote are one
-  linked : (n : ℕ) (p : ProjectTargetValue) (outs others : List CollatedValue) (refusal other : Refusal) → n ≤ length targets → CollatesProject style (take n targets) outs → CollatesProject style (take n targets) others
+  linked : (n : ℕ) (p : ProjectTargetValue) (outs others : List CollatedValue) (refusal other : Refusal) → n ≤ length targets →
+      CollatesProject style (take n targets) outs → CollatesProject style (take n targets) others
       → IsLinkedRefusal style outs n p refusal → IsLinkedRefusal style others n p other → IsSameRefusal refusal other
   linked n p outs others refusal other inside project part (inl (later, is)) (inl (later_q, is_q)) = equal refusal other (is ∙ sym is_q)
   linked n p outs others refusal other inside project part (inl (later, is)) (inr (all, refused)) = absurd (later all)
   linked n p outs others refusal other inside project part (inr (all, refused)) (inl (later, is)) = absurd (later all)
   linked n p outs others refusal other inside project part (inr (all, refused)) (inr (all_q, refused_q)) =
       let whole : take n (take n targets) ≡ take n targets = take_less n n targets (omega arith) in
-      let again : CollatesProject style (take n (take n targets)) others = subst (λ (xs : List ProjectTargetValue). CollatesProject style xs others) (sym whole) part in
+      let again : CollatesProject style (take n (take n targets)) others =
+      subst (λ (xs : List ProjectTargetValue). CollatesProject style xs others) (sym whole) part in
       let count : length (take n targets) ≡ n = length-take-le n targets inside in
-      let same : target_of others p ≡ target_of outs p = targets_agree outs others n (up_to answers style (take n targets) outs project n (omega (arith, count)) others again n (omega arith)) p all in
+      let same : target_of others p ≡ target_of outs p =
+      targets_agree outs others n (up_to answers style (take n targets) outs project n (omega (arith, count)) others again n (omega arith)) p all in
       one_refusal answers one_fault (target_of outs p) style refusal other refused (subst (λ z. IsRefusal z style other) same refused_q)
 
 pub one_project_refusal : OneAnswer → OneTableFault → OneProjectRefusal
@@ -386,8 +431,11 @@ one_project_refusal answers one_fault style targets n m refusal other r q = elim
     | inl same ↦
         let there : IsProjectRefusal style targets n other = subst (λ k. IsProjectRefusal style targets k other) (sym same) q in
         let target : there.1 ≡ r.1 = same_some _ _ (sym there.3 ∙ r.3) in
-        let within : n < length targets = slice_get_within _ _ _ r.3 in
-        (same, linked answers one_fault style targets n r.1 r.0 there.0 refusal other (omega (arith, within)) r.2 there.2 r.4 (subst (λ (p : ProjectTargetValue). IsLinkedRefusal style there.0 n p other) target there.4))
+        let within : n < length targets = slice_get_within _ _ _ r.3 in (
+          same,
+          linked answers one_fault style targets n r.1 r.0 there.0 refusal other (omega (arith, within)) r.2 there.2 r.4
+              (subst (λ (p : ProjectTargetValue). IsLinkedRefusal style there.0 n p other) target there.4),
+        )
     | inr above ↦ absurd (later answers one_fault style targets m n other refusal above q r)
   ]
 ]

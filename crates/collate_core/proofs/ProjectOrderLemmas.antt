@@ -18,7 +18,8 @@ use Rattle.collate_core.proofs.NeededLemmas.{provided_from, same_provides}
 
 -- the ranks of a table's objects
 abbrev IsBase : List TableValue → ℕ → List ℕ → Type 0
-IsBase tables n xs = (t : TableValue) → slice_get tables n ≡ Some t → (length xs ≡ length t.objects) × ((o p : ℕ) → DependsOn t o p → slice_index xs p < slice_index xs o)
+IsBase tables n xs = (t : TableValue) → slice_get tables n ≡ Some t →
+    (length xs ≡ length t.objects) × ((o p : ℕ) → DependsOn t o p → slice_index xs p < slice_index xs o)
 
 -- the ranks of a row, each above all of the rows before
 abbrev IsRow : ℕ → List (List ℕ) → ℕ → List ℕ → Type 0
@@ -38,7 +39,8 @@ row_of bound xss n within =
           get_or_from_slice_get ys.0 o z.0 0 z.1 ∙ ys.2 o z.0 z.1 ∙ ap (λ v. n * bound + v) (get_or_from_slice_get xs.0 o x 0 here),
     )
 
-module _ (required : RequiredFiles) (all_required : AllRequired) (one_file : OneFile) (once : FilesOnce) (info_is : InfoIs) (style : Option Written) (targets : List ProjectTargetValue) (outs : List CollatedValue) (project : CollatesProject style targets outs) where
+module _ (required : RequiredFiles) (all_required : AllRequired) (one_file : OneFile) (once : FilesOnce) (info_is : InfoIs) (style : Option Written)
+    (targets : List ProjectTargetValue) (outs : List CollatedValue) (project : CollatesProject style targets outs) where
   abbrev tables : List TableValue
   tables = project_tables targets outs
 
@@ -54,17 +56,20 @@ module _ (required : RequiredFiles) (all_required : AllRequired) (one_file : One
   base : (xs : List (List ℕ)) × (length xs ≡ length tables) × ((n : ℕ) (ys : List ℕ) → slice_get xs n ≡ Some ys → IsBase tables n ys)
   base = choose (IsBase tables) (length tables) base_of
 
-  module _ (bound : ℕ) (bases rows : List (List ℕ)) (bases_count : length bases ≡ length tables) (is_base : (n : ℕ) (xs : List ℕ) → slice_get bases n ≡ Some xs → IsBase tables n xs)
+  module _ (bound : ℕ) (bases rows : List (List ℕ)) (bases_count : length bases ≡ length tables)
+      (is_base : (n : ℕ) (xs : List ℕ) → slice_get bases n ≡ Some xs → IsBase tables n xs)
       (count : length rows ≡ length bases) (is_row : (n : ℕ) (ys : List ℕ) → slice_get rows n ≡ Some ys → IsRow bound bases n ys)
       (small : (n : ℕ) (xs : List ℕ) (o x : ℕ) → slice_get bases n ≡ Some xs → slice_get xs o ≡ Some x → x < bound) where
-    rank_of : (n o : ℕ) (t : TableValue) (xs : List ℕ) → slice_get tables n ≡ Some t → slice_get bases n ≡ Some xs → o < length t.objects → (rank_at rows n o ≡ n * bound + slice_index xs o) × (slice_index xs o < bound)
+    rank_of : (n o : ℕ) (t : TableValue) (xs : List ℕ) → slice_get tables n ≡ Some t → slice_get bases n ≡ Some xs → o < length t.objects →
+        (rank_at rows n o ≡ n * bound + slice_index xs o) × (slice_index xs o < bound)
     rank_of n o t xs at base_at within =
         let long : length xs ≡ length t.objects = (is_base n xs base_at t at).0 in
         let x : (y : ℕ) × (slice_get xs o ≡ Some y) = element_at xs o (omega (arith, long, within)) in
         let inside : n < length bases = slice_get_within _ _ _ base_at in
         let ys : (zs : List ℕ) × (slice_get rows n ≡ Some zs) = element_at rows n (omega (arith, count, inside)) in
         let value : slice_index xs o ≡ x.0 = get_or_from_slice_get xs o x.0 0 x.1 in (
-          ap (λ (z : Option (List ℕ)). option_map_or (λ row. slice_index row o) z 0) ys.1 ∙ is_row n ys.0 ys.1 xs base_at o x.0 x.1 ∙ ap (λ v. n * bound + v) (sym value),
+          ap (λ (z : Option (List ℕ)). option_map_or (λ row. slice_index row o) z 0) ys.1 ∙ is_row n ys.0 ys.1 xs base_at o x.0 x.1 ∙
+              ap (λ v. n * bound + v) (sym value),
           subst (λ v. v < bound) (sym value) (small n xs o x.0 base_at x.1),
         )
 
@@ -72,9 +77,11 @@ module _ (required : RequiredFiles) (all_required : AllRequired) (one_file : One
     base_at n t at = let within : n < length tables = slice_get_within _ _ _ at in element_at bases n (omega (arith, bases_count, within))
 
     -- who provides a required name, seen from the target of its user, is below the user
-    provider_below : (n o m p : ℕ) (t : TableValue) (name file : List ℕ) → slice_get tables n ≡ Some t → Requires t o name → ProjectProvides targets tables n m p name file → rank_at rows m p < rank_at rows n o
+    provider_below : (n o m p : ℕ) (t : TableValue) (name file : List ℕ) → slice_get tables n ≡ Some t → Requires t o name →
+        ProjectProvides targets tables n m p name file → rank_at rows m p < rank_at rows n o
     provider_below n o m p t name file at needs (u, j, inl same, at_u, provides) =
-        let provided : Provides t p j name file = same_provides required all_required one_file once info_is style targets outs project n m p j t u name file at same at_u provides in
+        let provided : Provides t p j name file =
+        same_provides required all_required one_file once info_is style targets outs project n m p j t u name file at same at_u provides in
         let xs = base_at n t at in
         let inside_o : o < length t.objects = slice_get_within _ _ _ needs.1 in
         let inside_p : p < length t.objects = slice_get_within _ _ _ provided.1 in
@@ -103,7 +110,8 @@ module _ (required : RequiredFiles) (all_required : AllRequired) (one_file : One
   ordered =
       let b = base in
       let top = above (flat_map (λ (xs : List ℕ). xs) b.0) in
-      let rows : (yss : List (List ℕ)) × (length yss ≡ length b.0) × ((n : ℕ) (ys : List ℕ) → slice_get yss n ≡ Some ys → IsRow top.0 b.0 n ys) = choose (IsRow top.0 b.0) (length b.0) (row_of top.0 b.0) in
+      let rows : (yss : List (List ℕ)) × (length yss ≡ length b.0) ×
+      ((n : ℕ) (ys : List ℕ) → slice_get yss n ≡ Some ys → IsRow top.0 b.0 n ys) = choose (IsRow top.0 b.0) (length b.0) (row_of top.0 b.0) in
       let small : (n : ℕ) (xs : List ℕ) (o x : ℕ) → slice_get b.0 n ≡ Some xs → slice_get xs o ≡ Some x → x < top.0
       = λ n xs o x at e. top.1 (offset (λ (ys : List ℕ). ys) b.0 n + o) x (in_flat_map (λ (ys : List ℕ). ys) b.0 n o x (xs, at, e)) in
       record {

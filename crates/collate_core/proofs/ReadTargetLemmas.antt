@@ -28,19 +28,24 @@ use Rattle.collate_core.proofs.Linked.{InfoIs}
 use Rattle.collate_core.proofs.Lists.{all_front, all_back}
 
 -- one more target was read
-pub one_more_target : (targets : List ProjectTargetValue) (n : ℕ) (p : ProjectTargetValue) (rules : List RuleValue) → slice_get targets n ≡ Some p → rules ≡ all_rules p.setting p.scans → (project_entries (take n targets) ++ p.name ∷ []) ++ flat_map object_entries rules ≡ project_entries (take (n + 1) targets)
+pub one_more_target : (targets : List ProjectTargetValue) (n : ℕ) (p : ProjectTargetValue) (rules : List RuleValue) → slice_get targets n ≡ Some p →
+    rules ≡ all_rules p.setting p.scans →
+    (project_entries (take n targets) ++ p.name ∷ []) ++ flat_map object_entries rules ≡ project_entries (take (n + 1) targets)
 one_more_target targets n p rules at same =
     append_assoc (project_entries (take n targets)) (p.name ∷ []) (flat_map object_entries rules)
     ∙ ap (λ (rs : List RuleValue). project_entries (take n targets) ++ (p.name ∷ flat_map object_entries rs)) same
     ∙ ap (λ (es : List (List ℕ)). project_entries (take n targets) ++ es) (sym (append-nil (target_entries p)))
     ∙ sym (ap project_entries (take_next targets n p at) ∙ flat_map-append target_entries (take n targets) (p ∷ []))
 
-pub rules_of_one_more : (targets : List ProjectTargetValue) (all : List (Vec RuleValue Global)) (n : ℕ) (p : ProjectTargetValue) (rules : Vec RuleValue Global) → length all ≡ n → slice_get targets n ≡ Some p → AreRulesOf p.setting p.scans rules.items → AreRulesOfEach targets all → AreRulesOfEach targets (all ++ rules ∷ [])
+pub rules_of_one_more :
+    (targets : List ProjectTargetValue) (all : List (Vec RuleValue Global)) (n : ℕ) (p : ProjectTargetValue) (rules : Vec RuleValue Global) → length all ≡ n →
+    slice_get targets n ≡ Some p → AreRulesOf p.setting p.scans rules.items → AreRulesOfEach targets all → AreRulesOfEach targets (all ++ rules ∷ [])
 rules_of_one_more targets all n p rules count here is before k q found at_q at =
     ⊎_elim (λ earlier. before k q found at_q earlier)
     (λ last.
     let same : p ≡ q = same_some _ _ (sym here ∙ subst (λ m. slice_get targets m ≡ Some q) (last.0 ∙ count) at_q) in
-    subst (λ (x : ProjectTargetValue). AreRulesOf x.setting x.scans found.items) same (subst (λ (v : Vec RuleValue Global). AreRulesOf p.setting p.scans v.items) last.1 is))
+    subst (λ (x : ProjectTargetValue). AreRulesOf x.setting x.scans found.items) same
+    (subst (λ (v : Vec RuleValue Global). AreRulesOf p.setting p.scans v.items) last.1 is))
     (from_push all rules k found at)
 
 -- ---- what holds of all elements of a list that is made of parts
@@ -48,7 +53,8 @@ rules_of_one_more targets all n p rules count here is before k q found at_q at =
 all_none : {X : Type 0} (P : X → Type 0) → All P []
 all_none P k d lt = absurd (omega (arith, lt))
 
-all_of_parts : {A B : Type 0} (P : B → Type 0) (f : A → List B) (xs : List A) → ((k : ℕ) (x : A) → slice_get xs k ≡ Some x → All P (f x)) → All P (flat_map f xs)
+all_of_parts : {A B : Type 0} (P : B → Type 0) (f : A → List B) (xs : List A) → ((k : ℕ) (x : A) → slice_get xs k ≡ Some x → All P (f x)) →
+    All P (flat_map f xs)
 all_of_parts P f [] h = all_none P
 all_of_parts P f (x ∷ xs) h = All-append P (f x) (flat_map f xs) (h 0 x refl) (all_of_parts P f xs (λ k y at. h (suc k) y at))
 
@@ -62,11 +68,13 @@ all_of_part P f (y ∷ xs) (suc k) x at h = all_of_part P f xs k x at (all_back 
 abbrev entries_of_module : ModuleValue → TableEntries
 entries_of_module m = m.name ∷ m.file ∷ []
 
-module _ (known : List (Option InfoValue)) (linked : List ℕ) (part infos : List InfoValue) (links : AreLinked known linked infos) (is : IsPartOf part infos) (all : TableEntries) (held : AreInfosHeld all known) where
+module _ (known : List (Option InfoValue)) (linked : List ℕ) (part infos : List InfoValue) (links : AreLinked known linked infos) (is : IsPartOf part infos)
+    (all : TableEntries) (held : AreInfosHeld all known) where
   -- of a linked info file
   held_info : (i : ℕ) (w : InfoValue) → slice_get infos i ≡ Some w → AreHeld all (info_entries w)
   held_info i w at =
-      let there : slice_get (map (λ k. get_or known k None) linked) i ≡ Some (Some w) = subst (λ (os : List (Option InfoValue)). slice_get os i ≡ Some (Some w)) links (to_map (λ (v : InfoValue). Some v) infos i w at) in
+      let there : slice_get (map (λ k. get_or known k None) linked) i ≡ Some (Some w) =
+      subst (λ (os : List (Option InfoValue)). slice_get os i ≡ Some (Some w)) links (to_map (λ (v : InfoValue). Some v) infos i w at) in
       let k = from_map (λ k. get_or known k None) linked i (Some w) there in
       held k.0 w (known_there known k.0 w k.2)
 
@@ -74,52 +82,74 @@ module _ (known : List (Option InfoValue)) (linked : List ℕ) (part infos : Lis
   held_module i j m has =
       let w = is.modules i j m has in
       let whole = held_info i w.2.0 w.2.1 in
-      let one = all_of_part (Contains all) entries_of_module w.2.0.modules w.0 w.1 w.2.2 (All-tail (Contains all) w.2.0.target (flat_map entries_of_module w.2.0.modules) whole) in
-      subst (λ (name : List ℕ). AreHeld all (name ∷ m.file ∷ [])) (sym w.3.name) (subst (λ (file : List ℕ). AreHeld all (w.1.name ∷ file ∷ [])) (sym w.3.file) one)
+      let one = all_of_part (Contains all) entries_of_module w.2.0.modules w.0 w.1 w.2.2
+      (All-tail (Contains all) w.2.0.target (flat_map entries_of_module w.2.0.modules) whole) in
+      subst (λ (name : List ℕ). AreHeld all (name ∷ m.file ∷ [])) (sym w.3.name)
+      (subst (λ (file : List ℕ). AreHeld all (w.1.name ∷ file ∷ [])) (sym w.3.file) one)
 
   held_part : AreHeld all (flat_map info_entries part)
   held_part = all_of_parts (Contains all) info_entries part (λ i v at.
-      let there : slice_get (map (λ (w : InfoValue). w.target) infos) i ≡ Some v.target = subst (λ (ts : List (List ℕ)). slice_get ts i ≡ Some v.target) is.targets (to_map (λ (w : InfoValue). w.target) part i v at) in
+      let there : slice_get (map (λ (w : InfoValue). w.target) infos) i ≡ Some v.target =
+      subst (λ (ts : List (List ℕ)). slice_get ts i ≡ Some v.target) is.targets (to_map (λ (w : InfoValue). w.target) part i v at) in
       let w = from_map (λ (w : InfoValue). w.target) infos i v.target there in
       All-cons (Contains all) v.target (flat_map entries_of_module v.modules)
       (subst (Contains all) w.2 (All-head (Contains all) w.0.target (flat_map entries_of_module w.0.modules) (held_info i w.0 w.1)))
       (all_of_parts (Contains all) entries_of_module v.modules (λ j m here. held_module i j m (v, at, here))))
 
 -- the key of the project covers the table of a part
-pub covers_part : (key : TableKey) (known : List (Option InfoValue)) (linked : List ℕ) (objects : List RuleValue) (part infos : List InfoValue) → CoversLinked key known objects → AreLinked known linked infos → IsPartOf part infos → Covers key (table_entries (table_with objects part))
-covers_part key known linked objects part infos covers links is = (covers.all, covers.made_of, All-append (Contains covers.all) (flat_map object_entries objects) (flat_map info_entries part) covers.own (held_part known linked part infos links is covers.all covers.infos))
+pub covers_part : (key : TableKey) (known : List (Option InfoValue)) (linked : List ℕ) (objects : List RuleValue) (part infos : List InfoValue) →
+    CoversLinked key known objects → AreLinked known linked infos → IsPartOf part infos → Covers key (table_entries (table_with objects part))
+covers_part key known linked objects part infos covers links is = (
+  covers.all,
+  covers.made_of,
+  All-append (Contains covers.all) (flat_map object_entries objects) (flat_map info_entries part) covers.own
+      (held_part known linked part infos links is covers.all covers.infos),
+)
 
 -- ---- what a table holds of a target's info file is among what it holds of the target
 
-modules_of_pairs : (kept : List (List ℕ)) (required : List (List ℕ × List ℕ)) (pairs : List (List ℕ × List ℕ)) → flat_map entries_of_module (map (module_of kept required) pairs) ≡ flat_map (λ pair. pair.0 ∷ pair.1 ∷ []) pairs
+modules_of_pairs : (kept : List (List ℕ)) (required : List (List ℕ × List ℕ)) (pairs : List (List ℕ × List ℕ)) →
+    flat_map entries_of_module (map (module_of kept required) pairs) ≡ flat_map (λ pair. pair.0 ∷ pair.1 ∷ []) pairs
 modules_of_pairs kept required [] = refl
 modules_of_pairs kept required (p ∷ ps) = ap (λ (es : TableEntries). p.0 ∷ p.1 ∷ es) (modules_of_pairs kept required ps)
 
-held_modules : (P : List ℕ → Type 0) (kept : List (List ℕ)) (required : RuleValue → List (List ℕ × List ℕ)) (rules : List RuleValue) → All P (flat_map object_entries rules) → All P (flat_map entries_of_module (flat_map (modules_of kept) (map (λ rule. (rule, required rule)) rules)))
+held_modules : (P : List ℕ → Type 0) (kept : List (List ℕ)) (required : RuleValue → List (List ℕ × List ℕ)) (rules : List RuleValue) →
+    All P (flat_map object_entries rules) → All P (flat_map entries_of_module (flat_map (modules_of kept) (map (λ rule. (rule, required rule)) rules)))
 held_modules P kept required [] h = all_none P
 held_modules P kept required (r ∷ rs) h =
-    subst (All P) (sym (flat_map-append entries_of_module (modules_of kept (r, required r)) (flat_map (modules_of kept) (map (λ rule. (rule, required rule)) rs))))
+    subst (All P) (sym (flat_map-append entries_of_module (modules_of kept (r, required r))
+    (flat_map (modules_of kept) (map (λ rule. (rule, required rule)) rs))))
     (All-append P _ _
-    (subst (All P) (sym (modules_of_pairs kept (required r) r.provided)) (All-tail P r.object _ (all_front P (object_entries r) (flat_map object_entries rs) h)))
+    (subst (All P) (sym (modules_of_pairs kept (required r) r.provided))
+    (All-tail P r.object _ (all_front P (object_entries r) (flat_map object_entries rs) h)))
     (held_modules P kept required rs (all_back P (object_entries r) (flat_map object_entries rs) h)))
 
 -- what the info file of a target is read as
-pub held_read : (all : TableEntries) (name : List ℕ) (kept : List (List ℕ)) (t : TableValue) (document : List ℕ) (info : InfoValue) → InfoIs → ReadsBack (info_of_table name kept t) document → IsReadAs document info → AreHeld all (name ∷ flat_map object_entries t.objects) → AreHeld all (info_entries info)
+pub held_read : (all : TableEntries) (name : List ℕ) (kept : List (List ℕ)) (t : TableValue) (document : List ℕ) (info : InfoValue) → InfoIs →
+    ReadsBack (info_of_table name kept t) document → IsReadAs document info → AreHeld all (name ∷ flat_map object_entries t.objects) →
+    AreHeld all (info_entries info)
 held_read all name kept t document info info_is back read held =
     let same : info_of_table name kept t ≡ info = info_is document (info_of_table name kept t) (back.same read.accepted.small) ∙ sym read.value in
     subst (λ (i : InfoValue). AreHeld all (info_entries i)) same
-    (All-cons (Contains all) name _ (All-head (Contains all) name _ held) (held_modules (Contains all) kept (required_of t) t.objects (All-tail (Contains all) name _ held)))
+    (All-cons (Contains all) name _ (All-head (Contains all) name _ held)
+    (held_modules (Contains all) kept (required_of t) t.objects (All-tail (Contains all) name _ held)))
 
 -- what was read of a target is among what was read of all
-pub held_target : (targets : List ProjectTargetValue) (n count : ℕ) (p : ProjectTargetValue) → n < count → slice_get targets n ≡ Some p → AreHeld (project_entries (take count targets)) (target_entries p)
-held_target targets n count p lt at = all_of_part (Contains (project_entries (take count targets))) target_entries (take count targets) n p (in_take count targets n p lt at) (All-contains_itself (project_entries (take count targets)))
+pub held_target : (targets : List ProjectTargetValue) (n count : ℕ) (p : ProjectTargetValue) → n < count → slice_get targets n ≡ Some p →
+    AreHeld (project_entries (take count targets)) (target_entries p)
+held_target targets n count p lt at =
+    all_of_part (Contains (project_entries (take count targets))) target_entries (take count targets) n p (in_take count targets n p lt at)
+    (All-contains_itself (project_entries (take count targets)))
 
 -- one more info file is added to a pool
-pub held_added : (all : TableEntries) (known : List (Option InfoValue)) (info : Option InfoValue) (new : List (Option InfoValue)) → AreInfosHeld all known → IfSome info (λ i. AreHeld all (info_entries i)) → IsAdded known info new → AreInfosHeld all new
+pub held_added : (all : TableEntries) (known : List (Option InfoValue)) (info : Option InfoValue) (new : List (Option InfoValue)) → AreInfosHeld all known →
+    IfSome info (λ i. AreHeld all (info_entries i)) → IsAdded known info new → AreInfosHeld all new
 held_added all known info new held own added k i at =
     ⊎_elim
-    (λ same. ⊎_elim (λ before. held k i before) (λ last. subst (λ (o : Option InfoValue). IfSome o (λ i. AreHeld all (info_entries i))) last.1 own) (from_push known info k (Some i) (subst (λ (os : List (Option InfoValue)). slice_get os k ≡ Some (Some i)) same at)))
-    (λ same. ⊎_elim (λ before. held k i before) (λ last. cc) (from_push known None k (Some i) (subst (λ (os : List (Option InfoValue)). slice_get os k ≡ Some (Some i)) same at)))
+    (λ same. ⊎_elim (λ before. held k i before) (λ last. subst (λ (o : Option InfoValue). IfSome o (λ i. AreHeld all (info_entries i))) last.1 own)
+    (from_push known info k (Some i) (subst (λ (os : List (Option InfoValue)). slice_get os k ≡ Some (Some i)) same at)))
+    (λ same. ⊎_elim (λ before. held k i before) (λ last. cc)
+    (from_push known None k (Some i) (subst (λ (os : List (Option InfoValue)). slice_get os k ≡ Some (Some i)) same at)))
     added
 
 -- ---- the rules are taken one after another
@@ -134,10 +164,12 @@ one_less : {X : Type 0} (own : Option X) (old new : List X) → old ≡ option_t
 one_less None old new is none = let nil : old ≡ [] = nil_from_length old (none refl) in sym is ∙ nil ∙ sym (ap (drop 1) nil)
 one_less (Some x) old new is none = sym (ap (drop 1) is)
 
-pub taken_next : {X : Type 0} (all old new : List X) (n : ℕ) (own : Option X) → old ≡ drop n all → old ≡ option_to_list own ++ new → (own ≡ None → length old ≡ 0) → new ≡ drop (n + 1) all
+pub taken_next : {X : Type 0} (all old new : List X) (n : ℕ) (own : Option X) → old ≡ drop n all → old ≡ option_to_list own ++ new →
+    (own ≡ None → length old ≡ 0) → new ≡ drop (n + 1) all
 taken_next all old new n own was is none = one_less own old new is none ∙ ap (drop 1) was ∙ drop-drop 1 n all
 
-module _ (targets : List ProjectTargetValue) (rules : List (Vec RuleValue Global)) (each : AreRulesOfEach targets rules) (n : ℕ) (p : ProjectTargetValue) (at : slice_get targets n ≡ Some p) (old new : List (Vec RuleValue Global)) (was : old ≡ drop n rules) where
+module _ (targets : List ProjectTargetValue) (rules : List (Vec RuleValue Global)) (each : AreRulesOfEach targets rules) (n : ℕ) (p : ProjectTargetValue)
+    (at : slice_get targets n ≡ Some p) (old new : List (Vec RuleValue Global)) (was : old ≡ drop n rules) where
   abbrev all : TableEntries
   all = project_entries (take (length rules) targets)
 
@@ -150,13 +182,15 @@ module _ (targets : List ProjectTargetValue) (rules : List (Vec RuleValue Global
   own_rules (Some r) is = each n p r at (left_at rules n r new (sym was ∙ is))
 
   -- the key covers what a table holds of them
-  pub own_covered : (key : TableKey) (known : List (Option InfoValue)) → IsKeyOf key all → AreInfosHeld all known → (own : Option (Vec RuleValue Global)) → old ≡ option_to_list own ++ new → IfSome own (λ r. CoversLinked key known r.items)
+  pub own_covered : (key : TableKey) (known : List (Option InfoValue)) → IsKeyOf key all → AreInfosHeld all known → (own : Option (Vec RuleValue Global)) →
+      old ≡ option_to_list own ++ new → IfSome own (λ r. CoversLinked key known r.items)
   own_covered key known made infos None is = tt
   own_covered key known made infos (Some r) is = record {
     all = all;
     made_of = made;
     infos = infos;
-    own = subst (λ (rs : List RuleValue). AreHeld all (flat_map object_entries rs)) (sym (own_rules (Some r) is).same) (All-tail (Contains all) p.name (flat_map object_entries (all_rules p.setting p.scans)) (held_here r is));
+    own = subst (λ (rs : List RuleValue). AreHeld all (flat_map object_entries rs)) (sym (own_rules (Some r) is).same)
+        (All-tail (Contains all) p.name (flat_map object_entries (all_rules p.setting p.scans)) (held_here r is));
   }
 
   pub own_held : (own : Option (Vec RuleValue Global)) → old ≡ option_to_list own ++ new → is_some own ≡ true → AreHeld all (target_entries p)
@@ -164,10 +198,14 @@ module _ (targets : List ProjectTargetValue) (rules : List (Vec RuleValue Global
   own_held (Some r) is h = held_here r is
 
 -- what is known of a target's info file, if it is read
-pub known_held : (entries : TableEntries) (is_read : Bool) (name : List ℕ) (kept : List (List ℕ)) (t : TableValue) (document : List ℕ) (info : Option InfoValue) → InfoIs → ReadsBack (info_of_table name kept t) document → (IsTrue is_read → AreHeld entries (name ∷ flat_map object_entries t.objects)) → IfSome info (λ i. IsTrue is_read × IsReadAs document i) → IfSome info (λ i. AreHeld entries (info_entries i))
+pub known_held : (entries : TableEntries) (is_read : Bool) (name : List ℕ) (kept : List (List ℕ)) (t : TableValue) (document : List ℕ)
+    (info : Option InfoValue) → InfoIs → ReadsBack (info_of_table name kept t) document →
+    (IsTrue is_read → AreHeld entries (name ∷ flat_map object_entries t.objects)) → IfSome info (λ i. IsTrue is_read × IsReadAs document i) →
+    IfSome info (λ i. AreHeld entries (info_entries i))
 known_held entries is_read name kept t document None info_is back held read = tt
 known_held entries is_read name kept t document (Some i) info_is back held read = held_read entries name kept t document i info_is back read.1 (held read.0)
 
-pub known_read : (is_read : Bool) (document : List ℕ) (info : Option InfoValue) → IfSome info (λ i. IsTrue is_read × IsReadAs document i) → IfSome info (IsReadAs document)
+pub known_read : (is_read : Bool) (document : List ℕ) (info : Option InfoValue) → IfSome info (λ i. IsTrue is_read × IsReadAs document i) →
+    IfSome info (IsReadAs document)
 known_read is_read document None h = tt
 known_read is_read document (Some i) h = h.1

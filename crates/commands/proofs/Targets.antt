@@ -260,13 +260,6 @@ pub same_at : {A B C : Type 0} (f : A → C) (h : B → C) (xs : List A) (ys : L
 same_at f h xs ys i x y e at here =
     some_same (sym (slice_get-map f xs i ∙ ap (option_map f) at) ∙ ap (λ zs. slice_get zs i) e ∙ slice_get-map h ys i ∙ ap (option_map h) here)
 
-pub zip_at : {A B : Type 0} (xs : List A) (ys : List B) (i : ℕ) (x : A) (y : B) → slice_get xs i ≡ Some x → slice_get ys i ≡ Some y →
-    slice_get (zip xs ys) i ≡ Some (x, y)
-zip_at [] ys i x y e f = cc
-zip_at (a ∷ xs) [] i x y e f = cc
-zip_at (a ∷ xs) (b ∷ ys) zero x y e f = ap₂ (λ c d. Some (c, d)) (some_same e) (some_same f)
-zip_at (a ∷ xs) (b ∷ ys) (suc i) x y e f = zip_at xs ys i x y e f
-
 pub second_all : {A B : Type 0} (P : B → Type 0) (xs : List A) (ys : List B) → All P ys → All (λ (p : A × B). P p.1) (zip xs ys)
 second_all {A} {B} P xs ys h = λ k d lt.
     let right : k < length ys = omega (arith, lt, length-zip xs ys) in

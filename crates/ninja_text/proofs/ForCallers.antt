@@ -53,7 +53,7 @@ pub use Rattle.ninja_text.proofs.SpelledTexts.{written_line, written_text}
 -- The first token of one that begins with a word is at its beginning.
 pub use Rattle.ninja_text.proofs.SpelledTexts.{First, written_first}
 -- The elements of lists, by index: of mapped lists, of two lists, and of the first few of a list.
-pub use Rattle.ninja_text.proofs.Lists.{same_some, same_cons, element_at, contained, placed, from_map, to_map, in_append, in_first, in_second, from_push, from_take, in_take, map_take, take_next, to_the_end, zip_is_map}
+pub use Rattle.ninja_text.proofs.Lists.{same_some, same_cons, element_at, contained, placed, from_map, to_map, in_append, in_first, in_second, from_push, to_zip, from_take, in_take, map_take, take_next, to_the_end, zip_is_map}
 -- The elements of lists put one after another: the parts of a list that `flat_map` makes.
 pub use Rattle.ninja_text.proofs.Lists.{offset, InPart, in_flat_map, FromPart, from_flat_map}
 -- The elements of a list that `filter_map` makes, and those that they are made of.

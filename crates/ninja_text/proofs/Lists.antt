@@ -1,6 +1,6 @@
 -- Lists by their indexes, and the results of calls that extend them one after another.
 use Rattle.ninja_text.specs.Bytes.{Bytes}
-use Rattle.std.proofs.Common.{◌≡◌, ℕ, ◌<◌, Bool, ◌&&◌, ◌==◌, true, false, cond, List, ◌++◌, ◌∙◌, ap, append_assoc, Option, Some, None, arith, Ok, Err, IfOk, sym, subst, zero, suc, ◌+◌, [], ◌∷◌, drop, length, refl, slice_get, ◌-◌, ◌⊎◌, map, take, ap₂, inl, inr, ⊎_elim, length-drop, get_or, true≢false, bytes_eq, not}
+use Rattle.std.proofs.Common.{◌≡◌, ℕ, ◌<◌, Bool, ◌&&◌, ◌==◌, true, false, cond, List, ◌++◌, ◌∙◌, ap, append_assoc, Option, Some, None, arith, Ok, Err, IfOk, sym, subst, zero, suc, ◌+◌, [], ◌∷◌, drop, length, refl, slice_get, ◌-◌, ◌⊎◌, map, take, ap₂, inl, inr, ⊎_elim, length-drop, get_or, true≢false, bytes_eq, not, zip}
 use Rattle.std.specs.Io.KnownBytes.{Appends}
 use Rattle.std.specs.Prelude.{Result, MatchResult, is_ok}
 use Rattle.ninja_text.specs.Counting.{Call, TakesInTurn, IsTakenInTurn}
@@ -102,6 +102,14 @@ in_first (y ∷ xs) ys (suc k) x e = in_first xs ys k x e
 pub in_second : {X : Type 0} (xs ys : List X) (k : ℕ) (x : X) → slice_get ys k ≡ Some x → slice_get (xs ++ ys) (length xs + k) ≡ Some x
 in_second [] ys k x e = let at : 0 + k ≡ k = omega arith in rw at e
 in_second (y ∷ xs) ys k x e = let at : suc (length xs) + k ≡ suc (length xs + k) = omega arith in rw at (in_second xs ys k x e)
+
+-- two lists in parallel
+pub to_zip : {A B : Type 0} (xs : List A) (ys : List B) (k : ℕ) (x : A) (y : B) → slice_get xs k ≡ Some x → slice_get ys k ≡ Some y →
+    slice_get (zip xs ys) k ≡ Some (x, y)
+to_zip [] ys k x y e f = cc
+to_zip (a ∷ xs) [] k x y e f = cc
+to_zip (a ∷ xs) (b ∷ ys) zero x y e f = let p : a ≡ x = same_some _ _ e in let q : b ≡ y = same_some _ _ f in cc
+to_zip (a ∷ xs) (b ∷ ys) (suc k) x y e f = to_zip xs ys k x y e f
 
 -- an element of a list that is one longer is in the list, or it is the last one
 pub from_push : {X : Type 0} (xs : List X) (y : X) (k : ℕ) (x : X) → slice_get (xs ++ y ∷ []) k ≡ Some x →

@@ -28,8 +28,10 @@ returns-clause-refused c =
     let target : TargetValue = c.args.target.now in
     let table = c.in_ok-table.ensures in
     let refused = texts_refused target None c.in_ok-table.table table.table table.resolved _
-    (write_refused None c.in_ok-table.table (statements_of c.into_resolved-resolved.result) (ap statements_of c.into_resolved-resolved.ensures) _ c.in-Err.ensures.refused) in
-    turned (λ refusal (refused : RefusedTarget). refused.refusal ≡ refusal) (IsRefusal target None) (λ (refused : RefusedTarget). IsRefusal target None refused.refusal)
+    (write_refused None c.in_ok-table.table (statements_of c.into_resolved-resolved.result) (ap statements_of c.into_resolved-resolved.ensures) _
+    c.in-Err.ensures.refused) in
+    turned (λ refusal (refused : RefusedTarget). refused.refusal ≡ refusal) (IsRefusal target None)
+    (λ (refused : RefusedTarget). IsRefusal target None refused.refusal)
     (λ refusal refused same h. subst (IsRefusal target None) (sym same) h) c.in-Err.failure c.nothing_read.result c.nothing_read.ensures refused
 
 -- what the target collates to has the text, and the info that is not written
@@ -43,8 +45,10 @@ returns-in-Ok-clause-dyndep c =
     let are : statements ≡ statements_of t = ap statements_of c.into_resolved-resolved.ensures in
     let info : InfoValue = info_of_table target.name target.kept t in
     let named : IsTargetName target.name =
-    subst IsTargetName (ap (λ (t : TargetValue). t.name) c.target.view_is) (record { accepted = c.target_names.ensures.accepted; utf8 = c.target_names.ensures.utf8 }) in
-    let sound = info_is_sound t table.text c.added_files_can_be_ordered.ensures.required target.name target.kept named (subst (All HasPaths) are (has_paths statements text.spelled)) in
+    subst IsTargetName (ap (λ (t : TargetValue). t.name) c.target.view_is)
+    (record { accepted = c.target_names.ensures.accepted; utf8 = c.target_names.ensures.utf8 }) in
+    let sound = info_is_sound t table.text c.added_files_can_be_ordered.ensures.required target.name target.kept named
+    (subst (All HasPaths) are (has_paths statements text.spelled)) in
     let collated : CollatedValue = record { dyndep = c.in-Ok.dyndep.items; info = info_text info; objects = map (λ rule. rule.object) t.objects; maps = [] } in
     let is : Collates target None collated =
     collates target None t collated table.table table.resolved (record {

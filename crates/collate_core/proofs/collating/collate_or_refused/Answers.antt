@@ -26,7 +26,9 @@ pub written_of-requires-clause-text : goal.written_of-requires-clause-text
 written_of-requires-clause-text g c = c.in_ok-table.ensures.text
 
 pub returns-in-Ok-clause-collated : goal.returns-in-Ok-clause-collated
-returns-in-Ok-clause-collated g c = collates c.args.target.now (option_map g.M.MapStyle.written (option_copied c.args.style)) c.in_ok-table.table c.in-Ok.collated c.in_ok-table.ensures.table c.in_ok-table.ensures.resolved c.in-Ok.ensures.written
+returns-in-Ok-clause-collated g c =
+    collates c.args.target.now (option_map g.M.MapStyle.written (option_copied c.args.style)) c.in_ok-table.table c.in-Ok.collated c.in_ok-table.ensures.table
+    c.in_ok-table.ensures.resolved c.in-Ok.ensures.written
 
 pub returns-in-Ok-clause-headline : goal.returns-in-Ok-clause-headline
 returns-in-Ok-clause-headline g c =
@@ -36,9 +38,11 @@ pub returns-in-Err-clause-refused : goal.returns-in-Err-clause-refused
 returns-in-Err-clause-refused g c =
     let style : Option Written = option_map g.M.MapStyle.written (option_copied c.args.style) in
     let table = c.in_ok-table.ensures in
-    turned (λ refusal (refused : RefusedTarget). refused.refusal ≡ refusal) (IsRefusal c.args.target.now style) (λ (refused : RefusedTarget). IsRefusal c.args.target.now style refused.refusal)
+    turned (λ refusal (refused : RefusedTarget). refused.refusal ≡ refusal) (IsRefusal c.args.target.now style)
+    (λ (refused : RefusedTarget). IsRefusal c.args.target.now style refused.refusal)
     (λ refusal refused same h. subst (IsRefusal c.args.target.now style) (sym same) h) c.in-Err.failure c.map.result
-    (turns_weaker _ (λ refusal (refused : RefusedTarget). refused.refusal ≡ refusal) (λ refusal refused post. search rules) c.in-Err.failure c.map.result c.map.ensures)
+    (turns_weaker _ (λ refusal (refused : RefusedTarget). refused.refusal ≡ refusal) (λ refusal refused post. search rules) c.in-Err.failure c.map.result
+    c.map.ensures)
     (texts_refused c.args.target.now style c.in_ok-table.table table.table table.resolved c.in-Err.failure c.in-Err.ensures.refused)
 
 -- said here, so that a body which does something else is rejected soon
@@ -46,6 +50,8 @@ pub returns-in-Err-clause-read : goal.returns-in-Err-clause-read
 returns-in-Err-clause-read g c =
     let style : Option Written = option_map g.M.MapStyle.written (option_copied c.args.style) in
     let read : RefusedTarget → TableValue = λ refused. table_with refused.objects.items refused.infos.items in
-    turned (λ refusal (refused : RefusedTarget). read refused ≡ c.in_ok-table.table) (IsTextsRefusal c.in_ok-table.table style) (λ (refused : RefusedTarget). WasRead c.args.target.now refused.refusal (read refused))
+    turned (λ refusal (refused : RefusedTarget). read refused ≡ c.in_ok-table.table) (IsTextsRefusal c.in_ok-table.table style)
+    (λ (refused : RefusedTarget). WasRead c.args.target.now refused.refusal (read refused))
     (λ refusal refused same h. was_read c.args.target.now refused.refusal (read refused) (same ∙ c.in_ok-table.ensures.table)) c.in-Err.failure c.map.result
-    (turns_weaker _ (λ refusal (refused : RefusedTarget). read refused ≡ c.in_ok-table.table) (λ refusal refused post. search rules) c.in-Err.failure c.map.result c.map.ensures) c.in-Err.ensures.refused
+    (turns_weaker _ (λ refusal (refused : RefusedTarget). read refused ≡ c.in_ok-table.table) (λ refusal refused post. search rules) c.in-Err.failure
+    c.map.result c.map.ensures) c.in-Err.ensures.refused

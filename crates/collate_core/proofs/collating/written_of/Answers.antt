@@ -21,15 +21,23 @@ pub returns-in_err-maps-clause-refused : goal.returns-in_err-maps-clause-refused
 returns-in_err-maps-clause-refused g c =
     let statements = statements_of c.resolved.result.now in
     let p = err_from_is_err_and c.from_residual-in_err-maps.result c.from_residual-in_err-maps.ensures.1 in
-    rw (p.1, p.2) (maps_refused _ c.args.table.now statements (ap statements_of c.resolved.ensures) (no_fault statements c.in_ok-text.text.items c.in_ok-text.ensures.text) _ c.in_err-maps.ensures.refused)
+    rw (p.1, p.2) (maps_refused _ c.args.table.now statements (ap statements_of c.resolved.ensures)
+    (no_fault statements c.in_ok-text.text.items c.in_ok-text.ensures.text) _ c.in_err-maps.ensures.refused)
 
 pub lent_info_write-requires : goal.lent_info_write-requires
-lent_info_write-requires g c = subst IsInfoText (sym c.in_ok-info.ensures) (info_is_text c.args.table.now c.requires.text c.added_files_can_be_ordered.ensures.required c.target.inside.name.now c.target.inside.kept.now)
+lent_info_write-requires g c =
+    subst IsInfoText (sym c.in_ok-info.ensures)
+    (info_is_text c.args.table.now c.requires.text c.added_files_can_be_ordered.ensures.required c.target.inside.name.now c.target.inside.kept.now)
 
 pub new-requires : goal.new-requires
 new-requires g c =
-    let are = ap statements_of c.resolved.ensures in
-    (statements_of c.args.table.now, collated_text c.args.table.now c.requires.sound c.added_files_can_be_ordered.ensures.orderable c.added_files_can_be_ordered.ensures.once c.added_files_can_be_ordered.ensures.apart c.added_files_can_be_ordered.ensures.required c.in_ok-objects.objects.items c.in_ok-text.text.items c.in_ok-objects.ensures (subst (StandsForOnly c.in_ok-text.text.items) are c.in_ok-text.ensures.meaning) (has_paths (statements_of c.args.table.now) (subst (All HasSpelled) are c.in_ok-text.ensures.spelled)))
+    let are = ap statements_of c.resolved.ensures in (
+      statements_of c.args.table.now,
+      collated_text c.args.table.now c.requires.sound c.added_files_can_be_ordered.ensures.orderable c.added_files_can_be_ordered.ensures.once
+          c.added_files_can_be_ordered.ensures.apart c.added_files_can_be_ordered.ensures.required c.in_ok-objects.objects.items c.in_ok-text.text.items
+          c.in_ok-objects.ensures (subst (StandsForOnly c.in_ok-text.text.items) are c.in_ok-text.ensures.meaning)
+          (has_paths (statements_of c.args.table.now) (subst (All HasSpelled) are c.in_ok-text.ensures.spelled)),
+    )
 
 pub returns-clause-written : goal.returns-clause-written
 returns-clause-written g c =

@@ -11,6 +11,9 @@ loop-pair-preserved c =
     let pairs : List (List ℕ × List ℕ) = c.deref-pair-items.result.now in
     let i : ℕ = c.loop-pair.pair-index in
     let pair : List ℕ × List ℕ = c.pair-item.result in
-    let next : take (i + 1) pairs ≡ take i pairs ++ pair ∷ [] = take_next pairs i pair (slice_get_read pairs _ i pair refl c.loop-pair-test.true c.pair-item.is) in
+    let next : take (i + 1) pairs ≡ take i pairs ++ pair ∷ [] =
+    take_next pairs i pair (slice_get_read pairs _ i pair refl c.loop-pair-test.true c.pair-item.is) in
     rw (c.in_ok-push.ensures.items, c.loop-pair.invariant, append_assoc, next)
-    (ap (λ ms. c.args.modules.now.items ++ ms) (map_push (module_of c.args.private_names.now.keys c.args.required.now) (take i pairs) pair (map (module_of c.args.private_names.now.keys c.args.required.now) (take i pairs)) _ refl (search rules)))
+    (ap (λ ms. c.args.modules.now.items ++ ms)
+    (map_push (module_of c.args.private_names.now.keys c.args.required.now) (take i pairs) pair
+    (map (module_of c.args.private_names.now.keys c.args.required.now) (take i pairs)) _ refl (search rules)))

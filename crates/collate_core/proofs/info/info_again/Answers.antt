@@ -19,6 +19,7 @@ returns c =
       record {
         accepted = subst (IsAccepted info_checks IsInfo c.args.text.now) value accepted;
         value = copy ∙ value;
-        text = subst IsInfoText (sym copy) (info_is_text c.args.table.now c.requires.table c.added_files_can_be_ordered.ensures.required c.args.name.now c.args.kept.now);
+        text = subst IsInfoText (sym copy)
+            (info_is_text c.args.table.now c.requires.table c.added_files_can_be_ordered.ensures.required c.args.name.now c.args.kept.now);
       },
     )

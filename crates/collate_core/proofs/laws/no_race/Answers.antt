@@ -20,7 +20,8 @@ pub returns-clause-all_made : goal.returns-clause-all_made
 returns-clause-all_made c = λ targets outs applied g new after.
     let laws = c.added_files_can_be_ordered.ensures in
     let orders = c.project_orders.ensures.orders after.style targets outs after.project in
-    let race = build.no_race laws.required laws.all_required laws.one_file (tables_of targets outs applied) g new (gained_after_project targets outs orders applied g new after) in
+    let race = build.no_race laws.required laws.all_required laws.one_file (tables_of targets outs applied) g new
+    (gained_after_project targets outs orders applied g new after) in
     all_made targets outs orders applied g new after (c.project_orders.ensures.numbered after.style targets outs after.project) race
 
 pub returns-clause-order : goal.returns-clause-order

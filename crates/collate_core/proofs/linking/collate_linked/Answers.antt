@@ -12,20 +12,23 @@ of_some : {T : Type 0} (No : Type 0) (P : T → Type 0) (found : Option T) (valu
 of_some No P found value is h = subst (λ o. MatchOption o No P) is h
 
 -- what holds of the fault, and that all linked targets are earlier
-refused_linked : {F : Type 0} (Later : F → Type 0) (Earlier : Type 0) (P : F → Type 0) → Earlier → (failure : Failure F) → ForFault P failure → ForFault (λ fault. Later fault ⊎ (Earlier × P fault)) failure
+refused_linked : {F : Type 0} (Later : F → Type 0) (Earlier : Type 0) (P : F → Type 0) → Earlier → (failure : Failure F) → ForFault P failure →
+    ForFault (λ fault. Later fault ⊎ (Earlier × P fault)) failure
 refused_linked Later Earlier P earlier Memory h = tt
 refused_linked Later Earlier P earlier (Fault fault) h = inr (earlier, h)
 
 pub collate_by_part-requires-clause-infos : goal.collate_by_part-requires-clause-infos
 collate_by_part-requires-clause-infos g c =
     let wrote = of_some _ _ _ _ c.in-Some.is c.in_ok-infos.ensures in
-    let infos : map (λ info. info.now) c.deref.result.now ≡ linked_infos c.args.outs.now c.target.inside.linked.now = ap (map (λ info. info.now)) c.deref.ensures.value ∙ wrote.1 in
+    let infos : map (λ info. info.now) c.deref.result.now ≡ linked_infos c.args.outs.now c.target.inside.linked.now =
+    ap (map (λ info. info.now)) c.deref.ensures.value ∙ wrote.1 in
     (c.args.outs.now, c.requires.known, wrote.0, infos)
 
 pub returns-in-Some-found-clause-collated : goal.returns-in-Some-found-clause-collated
 returns-in-Some-found-clause-collated g c =
     let wrote = of_some _ _ _ _ c.in-Some.is c.in_ok-infos.ensures in
-    let infos : map (λ info. info.now) c.deref.result.now ≡ linked_infos c.args.outs.now c.target.inside.linked.now = ap (map (λ info. info.now)) c.deref.ensures.value ∙ wrote.1 in
+    let infos : map (λ info. info.now) c.deref.result.now ≡ linked_infos c.args.outs.now c.target.inside.linked.now =
+    ap (map (λ info. info.now)) c.deref.ensures.value ∙ wrote.1 in
     rw (← c.target.view_is, ← infos) (wrote.0, (of_some _ _ _ _ c.in-Some-found.is c.in_ok-found.ensures).0)
 
 pub returns-in-Some-found-clause-known : goal.returns-in-Some-found-clause-known
@@ -35,25 +38,29 @@ returns-in-Some-found-clause-known g c =
 pub returns-in_err-out-clause-refused : goal.returns-in_err-out-clause-refused
 returns-in_err-out-clause-refused g c =
     let wrote = of_some _ _ _ _ c.in-Some.is c.in_ok-infos.ensures in
-    let infos : map (λ info. info.now) c.deref.result.now ≡ linked_infos c.args.outs.now c.target.inside.linked.now = ap (map (λ info. info.now)) c.deref.ensures.value ∙ wrote.1 in
+    let infos : map (λ info. info.now) c.deref.result.now ≡ linked_infos c.args.outs.now c.target.inside.linked.now =
+    ap (map (λ info. info.now)) c.deref.ensures.value ∙ wrote.1 in
     let p = err_from_is_err_and c.from_residual-in_err-out.result c.from_residual-in_err-out.ensures.1 in
     rw (p.1, p.2, ← c.target.view_is, ← infos) (refused_linked _ _ _ wrote.0 _ c.in_err-out.ensures.refused)
 
 pub returns-in_err-out-clause-read : goal.returns-in_err-out-clause-read
 returns-in_err-out-clause-read g c =
     let wrote = of_some _ _ _ _ c.in-Some.is c.in_ok-infos.ensures in
-    let infos : map (λ info. info.now) c.deref.result.now ≡ linked_infos c.args.outs.now c.target.inside.linked.now = ap (map (λ info. info.now)) c.deref.ensures.value ∙ wrote.1 in
+    let infos : map (λ info. info.now) c.deref.result.now ≡ linked_infos c.args.outs.now c.target.inside.linked.now =
+    ap (map (λ info. info.now)) c.deref.ensures.value ∙ wrote.1 in
     let p = err_from_is_err_and c.from_residual-in_err-out.result c.from_residual-in_err-out.ensures.1 in
     rw (p.1, p.2, ← c.target.view_is, ← infos) c.in_err-out.ensures.read
 
 pub returns-clause-collated : goal.returns-clause-collated
 returns-clause-collated g c =
     let wrote = of_some _ _ _ _ c.in-Some.is c.in_ok-infos.ensures in
-    let infos : map (λ info. info.now) c.deref.result.now ≡ linked_infos c.args.outs.now c.target.inside.linked.now = ap (map (λ info. info.now)) c.deref.ensures.value ∙ wrote.1 in
+    let infos : map (λ info. info.now) c.deref.result.now ≡ linked_infos c.args.outs.now c.target.inside.linked.now =
+    ap (map (λ info. info.now)) c.deref.ensures.value ∙ wrote.1 in
     rw (← c.target.view_is, ← infos) (wrote.0, c.in_ok-out.ensures.collated)
 
 pub returns-clause-known : goal.returns-clause-known
-returns-clause-known g c = subst (λ (text : List ℕ). IfSome c.in_ok-info.info (λ info. IsTrue c.args.is_read × IsReadAs text info)) c.info.ensures c.in_ok-info.ensures
+returns-clause-known g c =
+    subst (λ (text : List ℕ). IfSome c.in_ok-info.info (λ info. IsTrue c.args.is_read × IsReadAs text info)) c.info.ensures c.in_ok-info.ensures
 
 pub returns-in_default-clause-refused : goal.returns-in_default-clause-refused
 returns-in_default-clause-refused g c =

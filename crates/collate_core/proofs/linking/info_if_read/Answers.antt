@@ -9,7 +9,8 @@ use Rattle.collate_core.specs.inner.ReadInfos.{IsReadAs}
 use Rattle.collate_core.proofs.linking.info_if_read.Goals as goal
 
 -- the info in the result of reading a text, if there is one, is what the text is read as
-read_as : {E : Type 0} (text : List ℕ) (result : Result InfoValue E) (found : Option InfoValue) → IfSome found (λ info. result ≡ Ok info) → IfOk result (IsAccepted info_checks IsInfo text) → IfOk result (λ info. info ≡ info_of text) → IfOk result IsInfoText →
+read_as : {E : Type 0} (text : List ℕ) (result : Result InfoValue E) (found : Option InfoValue) → IfSome found (λ info. result ≡ Ok info) →
+    IfOk result (IsAccepted info_checks IsInfo text) → IfOk result (λ info. info ≡ info_of text) → IfOk result IsInfoText →
     IfSome found (IsReadAs text)
 read_as text result None same accepted value is = tt
 read_as text result (Some found) same accepted value is =
@@ -28,4 +29,5 @@ with_both P (Some value) a h = (a, h)
 pub returns : goal.returns
 returns c =
     let read = c.info_read.ensures in
-    with_both (IsReadAs c.args.text.now) c.in_ok-info.info c.if-not-is_read.false (read_as c.args.text.now c.info_read.result c.in_ok-info.info c.in_ok-info.ensures read.accepted read.value read.text)
+    with_both (IsReadAs c.args.text.now) c.in_ok-info.info c.if-not-is_read.false
+    (read_as c.args.text.now c.info_read.result c.in_ok-info.info c.in_ok-info.ensures read.accepted read.value read.text)

@@ -18,11 +18,13 @@ loop-target-preserved c =
     let found = c.in-Some.ensures.lookup in
     let next : take (i + 1) linked ≡ take i linked ++ k ∷ [] = take_next linked i k (slice_get-get_or linked i 0 c.loop-target-test.true) in
     let out : slice_get outs k ≡ Some c.in-Some.out.now = slice_get_read outs _ k c.in-Some.out.now refl found.3.0 found.1 in
-    let value : c.info.result.now ≡ option_map_or (λ (x : CollatedValue). x.info) (slice_get outs k) [] = c.info.ensures ∙ ap (λ (z : Option CollatedValue). option_map_or (λ (x : CollatedValue). x.info) z []) (sym out) in
+    let value : c.info.result.now ≡ option_map_or (λ (x : CollatedValue). x.info) (slice_get outs k) [] = c.info.ensures ∙
+    ap (λ (z : Option CollatedValue). option_map_or (λ (x : CollatedValue). x.info) z []) (sym out) in
     record {
       earlier = rw next (All-push (λ k. k < length outs) (take i linked) k c.loop-target.invariant.earlier found.3.0);
       infos = rw (c.in_ok-push.ensures.items, next, map-append)
-          (map_push (λ (x : ℕ). option_map_or (λ (y : CollatedValue). y.info) (slice_get outs x) []) (take i linked) k _ c.info.result.now c.loop-target.invariant.infos value);
+          (map_push (λ (x : ℕ). option_map_or (λ (y : CollatedValue). y.info) (slice_get outs x) []) (take i linked) k _ c.info.result.now
+          c.loop-target.invariant.infos value);
     }
 
 -- said here, so that a loop over something else is rejected soon

@@ -10,7 +10,8 @@ provided : (c : goal.After-of_rising) → map lent c.in_ok-provided.provided.ite
 provided c =
     let pairs : List (List ℕ × List ℕ) = c.provided.result.now in
     map_from_collect {E = AllocError} (Ok c.in_ok-provided.provided) c.in_ok-provided.ensures.ran
-    (YieldsList-from_map_by _ lent (λ pair. pair) (YieldsList-at c.map.ensures.source (YieldsList-from_slice pairs c.iter-provided.ensures.rest)) c.map.ensures.closure (λ x r q k. search (rules, tests)))
+    (YieldsList-from_map_by _ lent (λ pair. pair) (YieldsList-at c.map.ensures.source (YieldsList-from_slice pairs c.iter-provided.ensures.rest))
+    c.map.ensures.closure (λ x r q k. search (rules, tests)))
     ∙ map-id pairs
 
 pub returns-clause-map : goal.returns-clause-map

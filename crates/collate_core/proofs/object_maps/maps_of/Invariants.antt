@@ -9,5 +9,6 @@ invariant-loop-object g l =
     record {
       needs : l.needs ≡ l.table;
       count : length l.texts.items ≡ l.object;
-      each : (o : ℕ) (rule : RuleValue) (text : List ℕ) → slice_get l.table.objects o ≡ Some rule → slice_get (map (λ m. m.items) l.texts.items) o ≡ Some text → IsMapText l.table (g.M.MapStyle.written l.style) o rule text;
+      each : (o : ℕ) (rule : RuleValue) (text : List ℕ) → slice_get l.table.objects o ≡ Some rule → slice_get (map (λ m. m.items) l.texts.items) o ≡ Some text →
+          IsMapText l.table (g.M.MapStyle.written l.style) o rule text;
     }

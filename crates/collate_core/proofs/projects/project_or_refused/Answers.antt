@@ -40,9 +40,16 @@ returns-in-Err-clause-refused g c =
     let n : ℕ = c.loop-index.index-counter in
     let p : ProjectTargetValue = c.index-targets-index.result in
     let here : slice_get targets n ≡ Some p = slice_get_read targets _ n _ refl c.loop-index-test.true c.index-targets-index.is in
-    turned (λ refused (found : ℕ × RefusedTarget). found ≡ (n, refused)) (λ (refused : RefusedTarget). IsLinkedRefusal style outs (length outs) p refused.refusal) (λ (found : ℕ × RefusedTarget). IsProjectRefusal style targets found.0 found.1.refusal)
-    (λ refused found same h. subst (λ (f : ℕ × RefusedTarget). IsProjectRefusal style targets f.0 f.1.refusal) (sym same) (refused_here style targets n outs p c.loop-index.invariant.collated here refused.refusal h))
-    c.in-Err.failure c.map.result (turns_weaker _ (λ refused (found : ℕ × RefusedTarget). found ≡ (n, refused)) (λ refused found post. search rules) c.in-Err.failure c.map.result c.map.ensures) (subst (λ os. ForFault (λ (refused : RefusedTarget). IsLinkedRefusal style os (length os) p refused.refusal) c.in-Err.failure) c.as_slice.ensures.value c.in-Err.ensures.refused)
+    turned (λ refused (found : ℕ × RefusedTarget). found ≡ (n, refused))
+    (λ (refused : RefusedTarget). IsLinkedRefusal style outs (length outs) p refused.refusal)
+    (λ (found : ℕ × RefusedTarget). IsProjectRefusal style targets found.0 found.1.refusal)
+    (λ refused found same h.
+    subst (λ (f : ℕ × RefusedTarget). IsProjectRefusal style targets f.0 f.1.refusal) (sym same)
+    (refused_here style targets n outs p c.loop-index.invariant.collated here refused.refusal h))
+    c.in-Err.failure c.map.result
+    (turns_weaker _ (λ refused (found : ℕ × RefusedTarget). found ≡ (n, refused)) (λ refused found post. search rules) c.in-Err.failure c.map.result
+    c.map.ensures) (subst (λ os. ForFault (λ (refused : RefusedTarget). IsLinkedRefusal style os (length os) p refused.refusal) c.in-Err.failure)
+    c.as_slice.ensures.value c.in-Err.ensures.refused)
 
 pub returns-in-Err-clause-read : goal.returns-in-Err-clause-read
 returns-in-Err-clause-read g c =
@@ -53,9 +60,15 @@ returns-in-Err-clause-read g c =
     let p : ProjectTargetValue = c.index-targets-index.result in
     let here : slice_get targets n ≡ Some p = slice_get_read targets _ n _ refl c.loop-index-test.true c.index-targets-index.is in
     let read : RefusedTarget → TableValue = λ refused. table_with refused.objects.items refused.infos.items in
-    turned (λ refused (found : ℕ × RefusedTarget). found ≡ (n, refused)) (λ (refused : RefusedTarget). WasRead (target_of outs p) refused.refusal (read refused)) (λ (found : ℕ × RefusedTarget). WasReadAt style targets found.0 found.1.refusal (read found.1))
-    (λ refused found same h. subst (λ (f : ℕ × RefusedTarget). WasReadAt style targets f.0 f.1.refusal (read f.1)) (sym same) (outs, p, c.loop-index.invariant.collated, here, h))
-    c.in-Err.failure c.map.result (turns_weaker _ (λ refused (found : ℕ × RefusedTarget). found ≡ (n, refused)) (λ refused found post. search rules) c.in-Err.failure c.map.result c.map.ensures) (subst (λ os. ForFault (λ (refused : RefusedTarget). WasRead (target_of os p) refused.refusal (read refused)) c.in-Err.failure) c.as_slice.ensures.value c.in-Err.ensures.read)
+    turned (λ refused (found : ℕ × RefusedTarget). found ≡ (n, refused))
+    (λ (refused : RefusedTarget). WasRead (target_of outs p) refused.refusal (read refused))
+    (λ (found : ℕ × RefusedTarget). WasReadAt style targets found.0 found.1.refusal (read found.1))
+    (λ refused found same h.
+    subst (λ (f : ℕ × RefusedTarget). WasReadAt style targets f.0 f.1.refusal (read f.1)) (sym same) (outs, p, c.loop-index.invariant.collated, here, h))
+    c.in-Err.failure c.map.result
+    (turns_weaker _ (λ refused (found : ℕ × RefusedTarget). found ≡ (n, refused)) (λ refused found post. search rules) c.in-Err.failure c.map.result
+    c.map.ensures) (subst (λ os. ForFault (λ (refused : RefusedTarget). WasRead (target_of os p) refused.refusal (read refused)) c.in-Err.failure)
+    c.as_slice.ensures.value c.in-Err.ensures.read)
 
 pub collate_linked-requires-clause-rules : goal.collate_linked-requires-clause-rules
 collate_linked-requires-clause-rules g c =
@@ -75,8 +88,10 @@ collate_linked-requires-clause-key g c =
     let here : slice_get targets n ≡ Some p = slice_get_read targets _ n _ refl c.loop-index-test.true c.index-targets-index.is in
     let all = into_iter_items c.into_iter-rules.result in
     let each = subst (AreRulesOfEach targets) (sym c.into_iter-rules.ensures.rest) c.in_ok-read.ensures.rules in
-    let made = subst (λ (rs : List (Vec RuleValue Global)). IsKeyOf c.in_ok-read.read.key (project_entries (take (length rs) targets))) (sym c.into_iter-rules.ensures.rest) c.in_ok-read.ensures.key in
-    own_covered targets all each n p here _ _ c.loop-index.invariant.rules c.in_ok-read.read.key c.loop-index.pool made c.loop-index.invariant.held c.next-own.result c.next-own.ensures.items
+    let made = subst (λ (rs : List (Vec RuleValue Global)). IsKeyOf c.in_ok-read.read.key (project_entries (take (length rs) targets)))
+    (sym c.into_iter-rules.ensures.rest) c.in_ok-read.ensures.key in
+    own_covered targets all each n p here _ _ c.loop-index.invariant.rules c.in_ok-read.read.key c.loop-index.pool made c.loop-index.invariant.held
+    c.next-own.result c.next-own.ensures.items
 
 pub loop-index-preserved : goal.loop-index-preserved
 loop-index-preserved g c =
@@ -86,22 +101,33 @@ loop-index-preserved g c =
     let p : ProjectTargetValue = c.index-targets-index.result in
     let here : slice_get targets n ≡ Some p = slice_get_read targets _ n _ refl c.loop-index-test.true c.index-targets-index.is in
     let outs : List CollatedValue = c.loop-index.outs.items in
-    let linked : CollatesLinked style outs p c.in-Ok.out = subst (λ (os : List CollatedValue). CollatesLinked style os p c.in-Ok.out) c.as_slice.ensures.value c.in-Ok.ensures.collated in
+    let linked : CollatesLinked style outs p c.in-Ok.out =
+    subst (λ (os : List CollatedValue). CollatesLinked style os p c.in-Ok.out) c.as_slice.ensures.value c.in-Ok.ensures.collated in
     let all = into_iter_items c.into_iter-rules.result in
     let each = subst (AreRulesOfEach targets) (sym c.into_iter-rules.ensures.rest) c.in_ok-read.ensures.rules in
-    let none : c.next-own.result ≡ None → length (into_iter_items c.loop-index.rules) ≡ 0 = λ is. sym c.loop-index.rules.rest.ok.0 ∙ (of_none _ _ _ is c.next-own.ensures.cases).0 in
-    let read : IsTrue c.if-is_some.is_read → is_some c.next-own.result ≡ true = λ is. elim c.if-is_some.branch [ then-is_some w ↦ sym c.is_some.ensures ∙ w.if-is_some.true | else-is_some w ↦ absurd (cc (is, w.is_read-is)) ] in
-    let own_info = known_held (project_entries (take (length all) targets)) c.if-is_some.is_read p.name p.kept (table_of (target_of outs p)) c.in-Ok.out.info c.in-Ok.info c.value_of_bytes.ensures.info linked.1.info_reads (λ is. own_held targets all each n p here _ _ c.loop-index.invariant.rules c.next-own.result c.next-own.ensures.items (read is)) c.in-Ok.ensures.known in
+    let none : c.next-own.result ≡ None → length (into_iter_items c.loop-index.rules) ≡ 0 = λ is. sym c.loop-index.rules.rest.ok.0 ∙
+    (of_none _ _ _ is c.next-own.ensures.cases).0 in
+    let read : IsTrue c.if-is_some.is_read →
+    is_some c.next-own.result ≡ true = λ is. elim c.if-is_some.branch
+    [ then-is_some w ↦ sym c.is_some.ensures ∙ w.if-is_some.true | else-is_some w ↦ absurd (cc (is, w.is_read-is)) ] in
+    let own_info = known_held (project_entries (take (length all) targets)) c.if-is_some.is_read p.name p.kept (table_of (target_of outs p)) c.in-Ok.out.info
+    c.in-Ok.info c.value_of_bytes.ensures.info linked.1.info_reads
+    (λ is. own_held targets all each n p here _ _ c.loop-index.invariant.rules c.next-own.result c.next-own.ensures.items (read is)) c.in-Ok.ensures.known
+    in
     record {
-      collated = rw (take_next targets n p here, c.in_ok-push-in-Ok.ensures.items) (project_push style (take n targets) outs c.loop-index.invariant.collated p c.in-Ok.out linked.0 linked.1);
+      collated = rw (take_next targets n p here, c.in_ok-push-in-Ok.ensures.items)
+          (project_push style (take n targets) outs c.loop-index.invariant.collated p c.in-Ok.out linked.0 linked.1);
       rules = taken_next all _ _ n c.next-own.result c.loop-index.invariant.rules c.next-own.ensures.items none;
       held = held_added _ c.loop-index.pool c.in-Ok.info c.in_ok-pool-in-Ok.pool c.loop-index.invariant.held own_info c.in_ok-pool-in-Ok.ensures;
       known = subst (λ (os : List CollatedValue). AreKnown os c.in_ok-pool-in-Ok.pool) (sym c.in_ok-push-in-Ok.ensures.items)
-          (known_added outs c.loop-index.pool c.loop-index.invariant.known c.in-Ok.out c.in-Ok.info (known_read _ _ c.in-Ok.info c.in-Ok.ensures.known) c.in_ok-pool-in-Ok.pool c.in_ok-pool-in-Ok.ensures);
+          (known_added outs c.loop-index.pool c.loop-index.invariant.known c.in-Ok.out c.in-Ok.info (known_read _ _ c.in-Ok.info c.in-Ok.ensures.known)
+          c.in_ok-pool-in-Ok.pool c.in_ok-pool-in-Ok.ensures);
     }
 
 pub returns-clause-collated : goal.returns-clause-collated
-returns-clause-collated g c = subst (λ (ts : List ProjectTargetValue). CollatesProject (option_map g.M.MapStyle.written (option_copied c.args.style)) ts c.loop-index.outs.items) (take_all c.loop-index.index-counter c.args.targets.now c.loop-index-test.false) c.loop-index.invariant.collated
+returns-clause-collated g c =
+    subst (λ (ts : List ProjectTargetValue). CollatesProject (option_map g.M.MapStyle.written (option_copied c.args.style)) ts c.loop-index.outs.items)
+    (take_all c.loop-index.index-counter c.args.targets.now c.loop-index-test.false) c.loop-index.invariant.collated
 
 pub returns-clause-orders : goal.returns-clause-orders
 returns-clause-orders g c = c.project_orders.ensures.orders _ _ _ (returns-clause-collated g c)

@@ -25,7 +25,8 @@ loop-target-preserved c =
       same = without_fault (λ rules. rules.items ≡ all_rules c.target.inside.setting.now _) _ _ _ c.in-Some.is c.in_ok-rules.ensures read.rules;
       text = without_fault (λ rules. All IsRuleText rules.items) _ _ _ c.in-Some.is c.in_ok-rules.ensures read.text;
     }) in
-    let count : length c.push.new.self.items ≡ n + 1 = ap length c.in_ok-push.ensures.items ∙ length-append c.loop-target.all.items (rules ∷ []) ∙ ap (λ m. m + 1) c.loop-target.invariant.count in
+    let count : length c.push.new.self.items ≡ n + 1 = ap length c.in_ok-push.ensures.items ∙ length-append c.loop-target.all.items (rules ∷ []) ∙
+    ap (λ m. m + 1) c.loop-target.invariant.count in
     let before : List (List ℕ) = project_entries (take (length c.loop-target.all.items) targets) in
     let name : c.as_bytes.result.now ≡ p.name = c.as_bytes.ensures.value ∙ c.text.ensures.text ∙ ap (λ (q : ProjectTargetValue). q.name) c.target.view_is in
     let added : (before ++ c.as_bytes.result.now ∷ []) ++ flat_map object_entries c.deref.result.now ≡ project_entries (take (n + 1) targets) =
@@ -36,6 +37,8 @@ loop-target-preserved c =
     in
     record {
       count = count;
-      rules = subst (AreRulesOfEach targets) (sym c.in_ok-push.ensures.items) (rules_of_one_more targets c.loop-target.all.items n p rules c.loop-target.invariant.count here is c.loop-target.invariant.rules);
-      key = subst (λ (m : ℕ). HasAdded c.add_objects.new.digest (project_entries (take m targets))) (sym count) (subst (HasAdded c.add_objects.new.digest) added (c.add_objects.ensures _ (c.add.ensures _ c.loop-target.invariant.key)));
+      rules = subst (AreRulesOfEach targets) (sym c.in_ok-push.ensures.items)
+          (rules_of_one_more targets c.loop-target.all.items n p rules c.loop-target.invariant.count here is c.loop-target.invariant.rules);
+      key = subst (λ (m : ℕ). HasAdded c.add_objects.new.digest (project_entries (take m targets))) (sym count)
+          (subst (HasAdded c.add_objects.new.digest) added (c.add_objects.ensures _ (c.add.ensures _ c.loop-target.invariant.key)));
     }

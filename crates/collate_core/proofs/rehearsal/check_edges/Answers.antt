@@ -30,15 +30,18 @@ returns-clause-ordered c = λ statements text meets level.
     let here : StandsFor c.args.collated.now.dyndep found.0 = found.1.stands in
     let same : found.0 ≡ statements = text.dyndep.only found.0 here in
     let effect : Effect old c.args.name.now statements new = subst (λ xs. Effect old c.args.name.now xs new) same found.2.effect in
-    let gives : Extends old c.args.name.now statements new = c.one_effect.ensures.gives old new c.args.name.now statements statements (are_canonical statements text.canonical) effect in
+    let gives : Extends old c.args.name.now statements new =
+    c.one_effect.ensures.gives old new c.args.name.now statements statements (are_canonical statements text.canonical) effect in
     let orderable : IsOrderable (length new) (EdgeNeeds new) =
-    c.level_orders.ensures (dyndep_file c.args.name.now statements) old level.outputs new level.ranks meets gives level.has_outputs level.level text.orderable in
+    c.level_orders.ensures (dyndep_file c.args.name.now statements) old level.outputs new level.ranks meets gives level.has_outputs level.level text.orderable
+    in
     ordered (length new) (EdgeNeeds new) orderable c.in_ok-sorting.sorting c.in_ok-sorting.ensures
 
 pub unreachable-requires : goal.unreachable-requires
 unreachable-requires c =
     let text : List ℕ = c.dyndep.result.now in
     let fault = subst (ForFault (IsRehearseFault text c.args.name.now c.args.graph.now)) c.in-Err-Fault.field-0-is c.in-Err-Fault.ensures.fault in
-    let unread = subst (IsRehearseFault text c.args.name.now c.args.graph.now) c.in-Read.is (subst (IsRehearseFault text c.args.name.now c.args.graph.now) (sym c.in-Err-Fault.fault-is) fault) in
+    let unread = subst (IsRehearseFault text c.args.name.now c.args.graph.now) c.in-Read.is
+    (subst (IsRehearseFault text c.args.name.now c.args.graph.now) (sym c.in-Err-Fault.fault-is) fault) in
     let statements = c.dyndep.ensures.statements in
     unread.1 statements.0 (rw c.dyndep.ensures.bytes statements.1.dyndep.stands)

@@ -13,17 +13,20 @@ returns-in_err-feed-clause-refused c =
     let fed = c.loop-cut.invariant in
     let piece : List ℕ = c.split_at.result.0.now in
     let more : List ℕ = c.split_at.result.1.now in
-    let parts : c.loop-cut.rest.now ≡ piece ++ more = rw (c.split_at.ensures.front, c.split_at.ensures.back) (sym (take-append-drop c.if-cut-rest.len c.loop-cut.rest.now)) in
+    let parts : c.loop-cut.rest.now ≡ piece ++ more =
+    rw (c.split_at.ensures.front, c.split_at.ensures.back) (sym (take-append-drop c.if-cut-rest.len c.loop-cut.rest.now)) in
     let reads = c.in_err-feed.ensures.all fed.0 fed.2 in
     let p = err_from_is_err_and c.from_residual.result c.from_residual.ensures.1 in
-    rw (p.1, p.2) (reported c.fault_stays.ensures (fed.0 ++ piece) more c.args.text.now c.in_err-feed.field-0.0 (whole c.args.text.now fed.0 c.loop-cut.rest.now piece more fed.1 parts) reads.1)
+    rw (p.1, p.2) (reported c.fault_stays.ensures (fed.0 ++ piece) more c.args.text.now c.in_err-feed.field-0.0
+    (whole c.args.text.now fed.0 c.loop-cut.rest.now piece more fed.1 parts) reads.1)
 
 pub loop-cut-preserved : goal.loop-cut-preserved
 loop-cut-preserved c =
     let fed = c.loop-cut.invariant in
     let piece : List ℕ = c.split_at.result.0.now in
     let more : List ℕ = c.split_at.result.1.now in
-    let parts : c.loop-cut.rest.now ≡ piece ++ more = rw (c.split_at.ensures.front, c.split_at.ensures.back) (sym (take-append-drop c.if-cut-rest.len c.loop-cut.rest.now)) in
+    let parts : c.loop-cut.rest.now ≡ piece ++ more =
+    rw (c.split_at.ensures.front, c.split_at.ensures.back) (sym (take-append-drop c.if-cut-rest.len c.loop-cut.rest.now)) in
     (fed.0 ++ piece, whole c.args.text.now fed.0 c.loop-cut.rest.now piece more fed.1 parts, c.in_ok-feed.ensures.all fed.0 fed.2)
 
 pub returns-in_err-feed-2-clause-refused : goal.returns-in_err-feed-2-clause-refused
@@ -31,4 +34,5 @@ returns-in_err-feed-2-clause-refused c =
     let fed = c.loop-cut.invariant in
     let reads = c.in_err-feed-2.ensures.all fed.0 fed.2 in
     let p = err_from_is_err_and c.from_residual-in_err-feed-2.result c.from_residual-in_err-feed-2.ensures.1 in
-    rw (p.1, p.2) (reported c.fault_stays.ensures (fed.0 ++ c.loop-cut.rest.now) [] c.args.text.now c.in_err-feed-2.field-0.0 (fed.1 ∙ sym (append-nil (fed.0 ++ c.loop-cut.rest.now))) reads.1)
+    rw (p.1, p.2) (reported c.fault_stays.ensures (fed.0 ++ c.loop-cut.rest.now)
+    [] c.args.text.now c.in_err-feed-2.field-0.0 (fed.1 ∙ sym (append-nil (fed.0 ++ c.loop-cut.rest.now))) reads.1)

@@ -42,11 +42,14 @@ pub returns-in-Ok-clause-fault : goal.returns-in-Ok-clause-fault
 returns-in-Ok-clause-fault c =
     let statements : List StatementValue = c.in-Ok.dyndep in
     let fault : IfErr c.map_err.result (ForFault (ForEffect (IsWithoutEffect c.args.graph.now c.args.name.now statements))) = search rules in
-    IfErr-weaker c.map_err.result (ForFault (ForEffect (IsWithoutEffect c.args.graph.now c.args.name.now statements))) (ForFault (IsRehearseFault c.args.text.now c.args.name.now c.args.graph.now))
+    IfErr-weaker c.map_err.result (ForFault (ForEffect (IsWithoutEffect c.args.graph.now c.args.name.now statements)))
+    (ForFault (IsRehearseFault c.args.text.now c.args.name.now c.args.graph.now))
     (lacks c.args.text.now c.args.name.now c.args.graph.now statements (only c.one_list.ensures c.args.text.now statements c.in-Ok.ensures.read))
     fault
 
 pub returns-in-Err-Fault-clause-fault : goal.returns-in-Err-Fault-clause-fault
 returns-in-Err-Fault-clause-fault c =
-    let reported = subst (ForFault (IsReadFaultOf c.args.text.now)) c.in-Err-Fault.field-0-is c.in-Err-Fault.ensures.refused in
-    (subst (IsReadFaultOf c.args.text.now) (sym c.in-Err-Fault.fault-is) reported, none c.list_or_fault.ensures.not_both c.args.text.now c.in-Err-Fault.fault reported)
+    let reported = subst (ForFault (IsReadFaultOf c.args.text.now)) c.in-Err-Fault.field-0-is c.in-Err-Fault.ensures.refused in (
+      subst (IsReadFaultOf c.args.text.now) (sym c.in-Err-Fault.fault-is) reported,
+      none c.list_or_fault.ensures.not_both c.args.text.now c.in-Err-Fault.fault reported,
+    )

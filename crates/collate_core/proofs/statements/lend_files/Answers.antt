@@ -13,11 +13,15 @@ loop-module-preserved c =
     let modules : List (List ℕ × List ℕ) = c.args.modules.now in
     let i : ℕ = c.loop-module.module-index in
     let pair : List ℕ × List ℕ = c.module-item.result in
-    let next : take (i + 1) modules ≡ take i modules ++ pair ∷ [] = take_next modules i pair (slice_get_read modules _ i pair refl c.loop-module-test.true c.module-item.is) in
+    let next : take (i + 1) modules ≡ take i modules ++ pair ∷ [] =
+    take_next modules i pair (slice_get_read modules _ i pair refl c.loop-module-test.true c.module-item.is) in
     let file = c.bytes.ensures in
     record {
-      files = rw (c.in_ok-push.ensures.items, next, map-append) (map_push (λ (pair : List ℕ × List ℕ). pair.1) (take i modules) pair _ c.bytes.result.now c.loop-module.invariant.files file.text);
-      spelled = rw (c.in_ok-push.ensures.items, map-append) (All-push IsSpelled (lent_files c.loop-module.files.items) c.bytes.result.now c.loop-module.invariant.spelled (record { canonical = file.canonical ∙ ap Ok (sym file.text); writable = file.writable }));
+      files = rw (c.in_ok-push.ensures.items, next, map-append)
+          (map_push (λ (pair : List ℕ × List ℕ). pair.1) (take i modules) pair _ c.bytes.result.now c.loop-module.invariant.files file.text);
+      spelled = rw (c.in_ok-push.ensures.items, map-append)
+          (All-push IsSpelled (lent_files c.loop-module.files.items) c.bytes.result.now c.loop-module.invariant.spelled
+          (record { canonical = file.canonical ∙ ap Ok (sym file.text); writable = file.writable }));
     }
 
 pub returns-clause-files : goal.returns-clause-files

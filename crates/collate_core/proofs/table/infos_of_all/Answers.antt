@@ -12,7 +12,8 @@ pub returns-in-Err-Fault-clause-refused : goal.returns-in-Err-Fault-clause-refus
 returns-in-Err-Fault-clause-refused c =
     let i : ℕ = c.loop-index.index in
     subst (IsInfoRefusal (map (λ info. info.now) c.args.documents.now) i) (sym c.in-Err-Fault.fault-is)
-    (refused_info (λ info. info.now) c.args.documents.now i _ c.loop-index.infos.items c.in-Err-Fault.field-0 c.in-Err-Fault.fault c.loop-index-test.true c.loop-index.invariant c.in-Err-Fault.field-0-is c.in-Err-Fault.ensures.refused)
+    (refused_info (λ info. info.now) c.args.documents.now i _ c.loop-index.infos.items c.in-Err-Fault.field-0 c.in-Err-Fault.fault c.loop-index-test.true
+    c.loop-index.invariant c.in-Err-Fault.field-0-is c.in-Err-Fault.ensures.refused)
 
 pub loop-index-preserved : goal.loop-index-preserved
 loop-index-preserved c =
@@ -27,4 +28,6 @@ loop-index-preserved c =
 pub returns-clause-read : goal.returns-clause-read
 returns-clause-read c =
     let documents = map (λ info. info.now) c.args.documents.now in
-    subst (λ ds. AreReadAs ds c.loop-index.infos.items) (take_all c.loop-index.index documents (subst (λ n. n ≤ c.loop-index.index) (sym (length-map c.args.documents.now (λ info. info.now))) c.loop-index-test.false)) c.loop-index.invariant
+    subst (λ ds. AreReadAs ds c.loop-index.infos.items)
+    (take_all c.loop-index.index documents
+    (subst (λ n. n ≤ c.loop-index.index) (sym (length-map c.args.documents.now (λ info. info.now))) c.loop-index-test.false)) c.loop-index.invariant

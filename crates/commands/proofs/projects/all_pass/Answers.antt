@@ -8,7 +8,7 @@ use Rattle.commands.specs.Listings.{ListingRead}
 use Rattle.commands.specs.Outcomes.{Outcome, stops}
 use Rattle.commands.specs.ProjectCommand.{ReadTargetValue, AllEdgesPass, At, IsTargetOutcome}
 use Rattle.commands.proofs.Outcomes.{at_index, drop_next, next, passed}
-use Rattle.commands.proofs.Targets.{zip_at}
+use Rattle.ninja_text.proofs.ForCallers.{to_zip}
 use Rattle.commands.proofs.projects.all_pass.Goals as goal
 use Rattle.commands.proofs.projects.all_pass.Goals.{After-pass_edges-passed}
 
@@ -26,7 +26,7 @@ left : (c : After-pass_edges-passed) → drop c.loop-index.index (zip c.args.tar
 left c =
     let within : c.loop-index.index < length c.args.targets.now = c.loop-index-test.true in
     drop_next (zip c.args.targets.now c.args.outs.now) _ _
-    (zip_at c.args.targets.now c.args.outs.now _ _ _ (at_index c.args.targets.now _ _ within c.index-targets-index.is)
+    (to_zip c.args.targets.now c.args.outs.now _ _ _ (at_index c.args.targets.now _ _ within c.index-targets-index.is)
     (at_index c.args.outs.now _ _ (omega (arith, within, c.requires)) c.index-outs-index.is))
 
 -- the check of the first of them
