@@ -89,8 +89,9 @@ pub(crate) struct SharedStrings {
 }
 
 impl Model for SharedStrings {
-    ghost use Rattle.std.specs.Prelude.{List, ℕ};
+    ghost use Rattle.std.specs.Prelude.{List};
     ghost use Rattle.std.specs.Rc.{rc_slice_items};
+    ghost use Rattle.ninja_text.specs.Bytes.{Text};
     ghost use Rattle.build_effect.specs.inner.Strings.{AreWithin, texts_of};
 
     ghost Value = { List Text };
