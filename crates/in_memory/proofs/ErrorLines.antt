@@ -23,8 +23,8 @@ use Rattle.scan_docs.specs.declared.fault.DocFault.{DocFault}
 use Rattle.scan_docs.specs.declared.fault.DocFault.TheVariants as doc
 use Rattle.scan_docs.specs.declared.fault.Place.{Place}
 use Rattle.scan_docs.specs.declared.fault.Place.TheVariants as place
-use Rattle.module_maps.specs.declared.fault.MapFault.{MapFault}
-use Rattle.module_maps.specs.declared.fault.MapFault.TheVariants as maps
+use Rattle.module_maps.specs.declared.fault.UnwritableMap.{UnwritableMap}
+use Rattle.module_maps.specs.declared.fault.UnwritableMap.TheVariants as maps
 use Rattle.module_table.specs.declared.fault.TableFault.{TableFault}
 use Rattle.module_table.specs.declared.fault.TableFault.TheVariants as table
 use Rattle.build_effect.specs.EdgeValue.{EdgeValue}
@@ -269,10 +269,9 @@ reads_table objects names (table.ImportCycle cycle) = (refl, refl)
 reads_table objects names (table.ModulePrivate name info user) = (refl, refl)
 reads_table objects names (table.PrivateUnknown name) = (refl, refl)
 
-reads_map : (objects : List RuleValue) (object : ℕ) (fault : MapFault) → Reads (of_map objects object fault)
+reads_map : (objects : List RuleValue) (object : ℕ) (fault : UnwritableMap) → Reads (of_map objects object fault)
 reads_map objects object (maps.MapPath path) = (refl, refl)
 reads_map objects object maps.TwoProvided = (refl, refl)
-reads_map objects object (maps.BadMapLine line) = (refl, refl)
 
 reads_name : (fault : PathFault) → Reads (of_name fault)
 reads_name path.Empty = (refl, refl)

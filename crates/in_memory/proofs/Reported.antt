@@ -22,9 +22,9 @@ use Rattle.commands.specs.Folder.{FileCall, FileRead}
 use Rattle.commands.specs.Listings.{IsListingRead, ListingOf, ListingRead, ReadsListing}
 use Rattle.commands.specs.One.{OneRun, one_setting, one_target}
 use Rattle.commands.specs.Order.{OrderOf, OrderRun}
-use Rattle.commands.specs.Outcomes.{Comes, Done, LineValue, Outcome, OutputValue, Part, Prints, ReadsAll, ReadsAs, ReadsDocument, ReadsIfNamed, Returns, Writes, goes_on, stops, ◌>>=◌}
+use Rattle.commands.specs.Outcomes.{Comes, Done, Each, LineValue, Outcome, OutputValue, Part, Prints, ReadsAll, ReadsAs, ReadsDocument, ReadsIfNamed, ReadsNext, Returns, Writes, goes_on, stops, ◌>>=◌}
 use Rattle.commands.specs.Outcomes as outcomes
-use Rattle.commands.specs.ProjectCommand.{AllEdgesPass, At, FormOf, LinksAndFiles, LinksOf, ProjectDocumentOf, ProjectOf, ProjectRun, ReadTargetValue, TargetOfFile, TargetsAfter, names_at, target_text}
+use Rattle.commands.specs.ProjectCommand.{AllEdgesPass, At, FormOf, LinksOf, ProjectDocumentOf, ProjectOf, ProjectRun, ReadTargetValue, ReadsTarget, TargetAfter, names_at, target_text}
 use Rattle.commands.specs.RefusalTexts.{refusal_by_names}
 use Rattle.commands.specs.Show.{DyndepTextOf, ShowRun}
 use Rattle.commands.specs.Targets.{TargetOf}
@@ -56,6 +56,10 @@ module _ (Is : LineValue → Type 0) where
 
   reads : (name : PathText) → Is (outcomes.failed 3 (codes "cannot read " ++ name)) → All (ReadsDocument name)
   reads name unread calls stop (call, is) = subst Is (sym is) unread
+
+  each : {V X : Type 0} (Next : V → X → Part V) → ((value : V) (x : X) → All (Next value x)) → (value : V) (xs : List X) → All (Each Next value xs)
+  each Next are value [] = λ calls stop is. absurd is
+  each Next are value (x ∷ xs) = in_turn (are value x) λ next. each Next are next xs
 
 -- ---- what is plain
 
@@ -123,10 +127,11 @@ edges_pass : (listing : Option ListingRead) (name : PathText) (dyndep : Text) �
 edges_pass None name dyndep = λ calls stop is. absurd is.1.0
 edges_pass (Some listing) name dyndep = in_turn IsPlain (listing_of listing) λ old. in_turn IsPlain (text_effect_of dyndep name old) (orderable_of old)
 
+reads_next : (before : List Bytes) (name : PathText) → Plain (ReadsNext before name)
+reads_next before name = in_turn IsPlain (reads IsPlain name (unread name)) λ bytes calls stop is. absurd is.1.0
+
 reads_all : (names : List PathText) → Plain (ReadsAll names)
-reads_all [] = λ calls stop is. absurd is.1.0
-reads_all (name ∷ names) =
-    in_turn IsPlain (reads IsPlain name (unread name)) λ bytes. in_turn IsPlain (reads_all names) λ others calls stop is. absurd is.1.0
+reads_all names = each IsPlain ReadsNext reads_next [] names
 
 reads_if_named : (name : Option PathText) → Plain (ReadsIfNamed ReadsListing name)
 reads_if_named None = λ calls stop is. absurd is.1.0
@@ -187,21 +192,16 @@ at_target index Run are calls stop (Err (Fault own), holds, is) =
     let (error, same) = are calls own holds in
     (Some index, error, ap (λ (l : LineValue). l.message) is ∙ ap (target_text index) same)
 
-links_and_files : (earlier : List ReadTargetValue) (spec : document.TargetDocumentValue) → Reported (LinksAndFiles earlier spec)
-links_and_files earlier spec =
+target_after : (earlier : List ReadTargetValue) (name : PathText) → Reported (TargetAfter earlier name)
+target_after earlier name =
+    in_turn IsErrorMessage (reported (ReadsDocument name) (reads IsPlain name (unread name))) λ bytes.
+    in_turn IsErrorMessage (at_target (length earlier) (SpecOf bytes) (spec_of bytes)) λ spec.
     in_turn IsErrorMessage (at_target (length earlier) (FormOf earlier spec) (form_of earlier spec)) λ form.
     in_turn IsErrorMessage (at_target (length earlier) (LinksOf earlier spec.linked) (links_of earlier spec.linked)) λ linked.
     in_turn IsErrorMessage (reported (FilesOf spec []) (files spec [])) λ read calls stop is. absurd is.1.0
 
-target_of_file : (earlier : List ReadTargetValue) (name : PathText) → Reported (TargetOfFile earlier name)
-target_of_file earlier name =
-    in_turn IsErrorMessage (reported (ReadsDocument name) (reads IsPlain name (unread name))) λ bytes.
-    in_turn IsErrorMessage (at_target (length earlier) (SpecOf bytes) (spec_of bytes)) λ spec.
-    in_turn IsErrorMessage (links_and_files earlier spec) λ read calls stop is. absurd is.1.0
-
-targets_after : (earlier : List ReadTargetValue) (names : List PathText) → Reported (TargetsAfter earlier names)
-targets_after earlier [] = λ calls stop is. absurd is.1.0
-targets_after earlier (name ∷ names) = in_turn IsErrorMessage (target_of_file earlier name) λ target. targets_after (earlier ++ target ∷ []) names
+reads_target : (earlier : List ReadTargetValue) (name : PathText) → Reported (ReadsTarget earlier name)
+reads_target earlier name = in_turn IsErrorMessage (target_after earlier name) λ target calls stop is. absurd is.1.0
 
 project_of : (targets : List ReadTargetValue) → Reported (ProjectOf targets)
 project_of targets calls stop (none, (at, is, says)) =
@@ -219,7 +219,7 @@ all_pass index ((t, c) ∷ others) =
 project_run : (bytes : Bytes) → Reported (ProjectRun bytes)
 project_run bytes =
     in_turn IsErrorMessage (reported (ProjectDocumentOf bytes) (project_document_of bytes)) λ project.
-    in_turn IsErrorMessage (targets_after [] project.targets) λ targets.
+    in_turn IsErrorMessage (each IsErrorMessage ReadsTarget reads_target [] project.targets) λ targets.
     in_turn IsErrorMessage (project_of targets) λ outs.
     in_turn IsErrorMessage (all_pass 0 (zip targets outs)) λ passed calls stop is. absurd is.1.0
 

@@ -18,8 +18,8 @@ use Rattle.scan_docs.specs.declared.fault.DocFault.{DocFault}
 use Rattle.scan_docs.specs.declared.fault.DocFault.TheVariants as doc
 use Rattle.scan_docs.specs.declared.fault.Place.{Place}
 use Rattle.scan_docs.specs.declared.fault.Place.TheVariants as place
-use Rattle.module_maps.specs.declared.fault.MapFault.{MapFault}
-use Rattle.module_maps.specs.declared.fault.MapFault.TheVariants as maps
+use Rattle.module_maps.specs.declared.fault.UnwritableMap.{UnwritableMap}
+use Rattle.module_maps.specs.declared.fault.UnwritableMap.TheVariants as maps
 use Rattle.module_table.specs.declared.fault.TableFault.{TableFault}
 use Rattle.module_table.specs.declared.fault.TableFault.TheVariants as table
 use Rattle.build_effect.specs.EdgeValue.{EdgeValue}
@@ -51,7 +51,7 @@ pub data CommandError : Type 0 where
   in_info : (index : ℕ) → DocFault → CommandError
   of_modules : List RuleValue → List Name → TableFault → CommandError
   of_statement : WriteFault → CommandError
-  of_map : List RuleValue → (object : ℕ) → MapFault → CommandError
+  of_map : List RuleValue → (object : ℕ) → UnwritableMap → CommandError
   of_link : CommandError
   of_name : PathFault → CommandError
   in_dyndep : ReadFault → CommandError
@@ -195,10 +195,9 @@ table_which (table.ImportCycle objects) = M 8 no_spot
 table_which (table.ModulePrivate name info user) = M 9 no_spot
 table_which (table.PrivateUnknown name) = M 10 no_spot
 
-abbrev pub map_which : MapFault → Which
+abbrev pub map_which : UnwritableMap → Which
 map_which (maps.MapPath path) = K 1 no_spot
 map_which maps.TwoProvided = K 2 no_spot
-map_which (maps.BadMapLine line) = K 4 no_spot
 
 abbrev pub cause_which : LineCause → Which
 cause_which cause.LineTooLong = N 5 no_spot
