@@ -15,8 +15,8 @@ const COMMANDS = ["collate", "project", "one", "effect", "order", "show", "state
 const NO_MEMORY = 4, MISUSED = 5;
 
 // What has an error, and the lists that an entry can be in, by their numbers in dyncollate.h.
-const DOCUMENTS = [undefined, "target", "project", "scan", "info", "edges", "name", "dyndep"];
-const LISTS = [undefined, "provides", "requires", "path"];
+const DOCUMENT_KINDS = [undefined, "target", "project", "scan", "info", "edges", "name", "dyndep"];
+const ENTRY_LISTS = [undefined, "provides", "requires", "path"];
 const ABSENT = 2n ** 64n - 1n;
 
 /** A command that fails: its exit status, its line on standard error, and the location of the error. */
@@ -140,8 +140,8 @@ function locationOf(instance, line) {
     const at = allocate(80);
     instance.dyncollate_locate(at, ...put(encoded(line)));
     const [document, letter, number, list, ...indexes] = new BigUint64Array(instance.memory.buffer, Number(at), 10);
-    const kind = DOCUMENTS[document], item = { scan: "rule", info: "module" }[kind] ?? "statement";
-    const names = ["target", "index", "line", item, LISTS[list], "offset"];
+    const kind = DOCUMENT_KINDS[document], item = { scan: "rule", info: "module" }[kind] ?? "statement";
+    const names = ["target", "index", "line", item, ENTRY_LISTS[list], "offset"];
     const found = names.map((name, index) => [name, indexes[index]]).filter(([, it]) => it !== ABSENT).map(([name, it]) => [name, Number(it)]);
     return { document: kind, code: letter ? `${String.fromCharCode(Number(letter))}${number}` : undefined, ...Object.fromEntries(found) };
   } finally {
