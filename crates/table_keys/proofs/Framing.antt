@@ -1,29 +1,32 @@
 -- The digested bytes are read back as the entries.
-use Rattle.std.proofs.Common.{◌≡◌, ℕ, ◌<◌, ◌^◌, List, [], ◌∷◌, ◌++◌, length, refl, sym, ap, ◌∙◌, arith, take, drop, All}
+use Rattle.std.proofs.Common.{◌≡◌, ℕ, ◌<◌, ◌^◌, Bool, true, false, nat_lt, List, [], ◌∷◌, ◌++◌, length, refl, sym, ap, ◌∙◌, arith, take, drop, get_or, All}
+use Rattle.std.specs.Prelude.{if◌then◌else◌}
 use Rattle.std.proofs.lemmas.List.{append_assoc, append-nil}
 use Rattle.std.proofs.lemmas.List.Concat.{flat_map-append}
 use Rattle.std.proofs.lemmas.List.Elements.{All-head, All-tail}
 use Rattle.std.proofs.lemmas.Nat.{from_le_bytes-to_le_bytes_8}
 use Rattle.std.proofs.Math.Seq.{take-append_seam, drop-append_seam}
 use Rattle.std.specs.Int.{w64, to_le_bytes, from_le_bytes}
-use Rattle.table_keys.specs.Entries.{TableEntries, framed, digested}
+use Rattle.table_keys.specs.Entries.{TableEntries, length_bytes, framed, digested}
 
 -- what is digested of one more entry
-pub one_more : (entries : TableEntries) (entry : List ℕ) → digested entries ++ to_le_bytes w64 (length entry) ++ entry ≡ digested (entries ++ entry ∷ [])
+pub one_more : (entries : TableEntries) (entry : List ℕ) → (digested entries ++ length_bytes (length entry)) ++ entry ≡ digested (entries ++ entry ∷ [])
 one_more entries entry =
-    append_assoc (digested entries) (to_le_bytes w64 (length entry)) entry
+    append_assoc (digested entries) (length_bytes (length entry)) entry
     ∙ ap (λ last. digested entries ++ last) (sym (append-nil (framed entry)))
     ∙ sym (flat_map-append framed entries (entry ∷ []))
 
 abbrev short : List ℕ → Type 0
 short entry = length entry < 2 ^ 64
 
--- the first of two lists that are put before others and are as long
-same_first : (x y s t : List ℕ) → length x ≡ length y → x ++ s ≡ y ++ t → x ≡ y
-same_first x y s t n same = sym (take-append_seam x s) ∙ ap (take (length x)) same ∙ rw n (take-append_seam y t)
-
-same_rest : (x y s t : List ℕ) → length x ≡ length y → x ++ s ≡ y ++ t → s ≡ t
-same_rest x y s t n same = sym (drop-append_seam x s) ∙ ap (drop (length x)) same ∙ rw n (drop-append_seam y t)
+-- lengths are read back from their bytes, and so is what follows
+read_length : (a b : Bool) (m n : ℕ) (s t : List ℕ) → nat_lt m 255 ≡ a → nat_lt n 255 ≡ b → m < 2 ^ 64 → n < 2 ^ 64
+    → (if a then m ∷ [] else 255 ∷ to_le_bytes w64 m) ++ s ≡ (if b then n ∷ [] else 255 ∷ to_le_bytes w64 n) ++ t → (m ≡ n) × (s ≡ t)
+read_length true true m n s t d e p q same = (ap (λ l. get_or l 0 0) same, ap (drop 1) same)
+read_length true false m n s t d e p q same = let full : m ≡ 255 = ap (λ l. get_or l 0 0) same in grind arith
+read_length false true m n s t d e p q same = let full : 255 ≡ n = ap (λ l. get_or l 0 0) same in grind arith
+read_length false false m n s t d e p q same =
+    (sym (from_le_bytes-to_le_bytes_8 m p) ∙ ap (λ l. from_le_bytes w64 (take 8 (drop 1 l))) same ∙ from_le_bytes-to_le_bytes_8 n q, ap (drop 9) same)
 
 -- the digested bytes are those of one list of entries
 pub one_list : (a b : TableEntries) → All short a → All short b → digested a ≡ digested b → a ≡ b
@@ -31,12 +34,9 @@ one_list [] [] p q same = refl
 one_list [] (y ∷ ys) p q same = grind arith
 one_list (x ∷ xs) [] p q same = grind arith
 one_list (x ∷ xs) (y ∷ ys) p q same =
-    let size : length x ≡ length y =
-    sym (from_le_bytes-to_le_bytes_8 (length x) (All-head short x xs p))
-    ∙ ap (λ s. from_le_bytes w64 (take 8 s)) same
-    ∙ from_le_bytes-to_le_bytes_8 (length y) (All-head short y ys q)
-    in
-    let rest : x ++ digested xs ≡ y ++ digested ys = ap (drop 8) same in
-    let tails = same_rest x y (digested xs) (digested ys) size rest in
-    let others = one_list xs ys (All-tail short x xs p) (All-tail short y ys q) tails in
-    rw (same_first x y (digested xs) (digested ys) size rest, others) refl
+    let (size, rest) = read_length (nat_lt (length x) 255) (nat_lt (length y) 255) (length x) (length y) (x ++ digested xs) (y ++ digested ys) refl refl
+    (All-head short x xs p) (All-head short y ys q)
+    (sym (append_assoc (length_bytes (length x)) x (digested xs)) ∙ same ∙ append_assoc (length_bytes (length y)) y (digested ys)) in
+    let first : x ≡ y = sym (take-append_seam x (digested xs)) ∙ ap (take (length x)) rest ∙ rw size (take-append_seam y (digested ys)) in
+    let others = sym (drop-append_seam x (digested xs)) ∙ ap (drop (length x)) rest ∙ rw size (drop-append_seam y (digested ys)) in
+    rw (first, one_list xs ys (All-tail short x xs p) (All-tail short y ys q) others) refl

@@ -77,7 +77,13 @@ impl KeyDigest {
         ensures { (entries : TableEntries) → HasAdded self.old entries
             → HasAdded self.new (entries ++ entry.now ∷ []) }
     {
-        self.digest.update(&entry.len().to_le_bytes());
+        let length = entry.len();
+        if length < 255 {
+            self.digest.update(&[length as u8]);
+        } else {
+            self.digest.update(&[255]);
+            self.digest.update(&length.to_le_bytes());
+        }
         self.digest.update(entry);
     }
 
