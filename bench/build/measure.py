@@ -1,9 +1,9 @@
 """bench/run build [--policy NAME].. [--crate NAME]..: how long the first command takes by each policy, and what it costs.
 
-    today        the policy of ./build
-    one          one job per crate
-    today-pinned the policy of ./build, and each prover keeps to as many processors as it has jobs
-    one-pinned   one job per crate, each on one processor
+    today        the policy of ./build, by which each prover keeps to as many processors as it has jobs
+    one          one job per crate, each on one processor
+    today-free   the policy of ./build, but a prover may use all processors
+    one-free     one job per crate, which may use all processors
 
 Without --policy each of them proves a copy of the checkout from scratch and builds the program, one after another, for an hour or so.
 With --crate only these crates and those below them are proved. Run it alone on the machine; `taskset -c 0,1 bench/run build` measures
@@ -23,7 +23,7 @@ import time
 from pathlib import Path
 
 TOP = Path(__file__).resolve().parent.parent.parent
-POLICIES = "today", "one", "today-pinned", "one-pinned"
+POLICIES = "today", "one", "today-free", "one-free"
 FORM = "{:13} {:16} {:>4} {:>8} {:>10} {:>10}"
 
 
@@ -48,7 +48,7 @@ def prove(policy, names, room):
     build = importlib.util.module_from_spec(importlib.util.spec_from_loader("build", loader))
     loader.exec_module(build)
     os.environ.setdefault("MIMALLOC_PURGE_DELAY", "-1")
-    build.PINNED = policy.endswith("-pinned")
+    build.PINNED = not policy.endswith("-free")
     if policy.startswith("one"):
         build.jobs_and_nice = lambda crate, waiting, running, longest, processors: (1 if len(running) < processors else 0, 0)
 
