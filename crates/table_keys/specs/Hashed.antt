@@ -8,3 +8,7 @@ Entry = List ℕ
 -- the bytes that are digested
 abbrev pub Digested : Type 0
 Digested = List ℕ
+
+-- the byte before a length that takes eight bytes
+abbrev pub long : ℕ
+long = 255
