@@ -12,10 +12,10 @@ use Rattle.table_keys.specs.Keys.{Covers, IsKeyOf}
 use Rattle.table_keys.specs.declared.TableKey.{TableKey}
 use Rattle.document_values.specs.Rule.{RuleValue}
 use Rattle.document_values.specs.Info.{InfoValue, ModuleValue}
-use Rattle.document_values.specs.Parts.{HasModule, IsPartOf}
+use Rattle.module_table.specs.Parts.{HasModule, IsPartOf}
 use Rattle.scan_docs.specs.InfoText.{ReadsBack}
-use Rattle.info_pool.specs.Pool.{AreLinked, IsAdded}
-use Rattle.info_pool.proofs.ForCallers.{known_there}
+use Rattle.module_table.specs.Pool.{AreLinked, IsAdded}
+use Rattle.module_table.proofs.ForCallers.{known_there}
 use Rattle.module_table.specs.TableValue.{TableValue, table_with}
 use Rattle.module_table.specs.Added.{required_of}
 use Rattle.module_table.specs.Entries.{object_entries, info_entries, table_entries}

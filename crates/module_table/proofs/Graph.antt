@@ -16,7 +16,7 @@ use Rattle.module_table.proofs.Lists.{zip_append, zip_flat_map, zip_numbered, zi
 use Rattle.ninja_text.proofs.ForCallers.{from_map, in_append}
 use Rattle.std.proofs.lemmas.List.Elements.{filter_map-append}
 use Rattle.dep_order.specs.Needs.{NeedsAreNodes}
-use Rattle.module_table.specs.inner.Numbered.{AreIndexes}
+use Rattle.module_table.specs.inner.Numbered.{AreRequiredIndexes}
 use Rattle.module_table.specs.inner.Graph.{IsModuleGraph, IsModuleRow, AreModuleRows, indexes_in, object_row, info_rows}
 use Rattle.module_table.proofs.IndexRows.{length_mapped, only_one, from_numbers, many_rows, rule_of, name_of_index}
 use Rattle.module_table.proofs.Words.{Pair, name_of, own_module, infos_module, names_wanted, own_modules, infos_modules, At, name_in_pair}
@@ -195,7 +195,7 @@ module _ (t : TableValue) where
 
 -- ---- the graph
 
-module _ (t : TableValue) (modules rows : List (List ℕ)) (made : AreModuleRows t modules) (indexes : AreIndexes t rows) where
+module _ (t : TableValue) (modules rows : List (List ℕ)) (made : AreModuleRows t modules) (indexes : AreRequiredIndexes t rows) where
   abbrev known : List (List ℕ)
   known = names_of (provisions t)
 

@@ -10,7 +10,7 @@ use Rattle.document_values.specs.Rule.{RuleValue}
 use Rattle.module_table.specs.TableValue.{TableValue, table_with}
 use Rattle.module_table.specs.Modules.{Provides, IsProvidedBy, DependsOn, Provision, provisions}
 use Rattle.module_table.specs.inner.Views.{names_of}
-use Rattle.module_table.specs.inner.Numbered.{IsNumbered, object_of, maker_at, AreIndexes}
+use Rattle.module_table.specs.inner.Numbered.{IsNumbered, object_of, maker_at, AreRequiredIndexes}
 use Rattle.module_table.specs.declared.fault.Maker.{Maker}
 use Rattle.module_table.specs.declared.fault.Maker.TheVariants.{Object, Info}
 use Rattle.module_table.proofs.Places.{object_provision, neither_less, Has, from_provisions}
@@ -194,7 +194,7 @@ of_vectors keys (v ∷ vectors) = ap (λ ys. map (slice_get keys) v.items ∷ ys
 
 -- the rows of the names that the objects require
 pub are_indexes : (t : TableValue) (keys : List Name) (vectors : List (Vec ℕ Global)) → keys ≡ names_of (provisions t) →
-    map (λ row. map (slice_get keys) row.items) vectors ≡ map names_wanted t.objects → AreIndexes t (rows vectors)
+    map (λ row. map (slice_get keys) row.items) vectors ≡ map names_wanted t.objects → AreRequiredIndexes t (rows vectors)
 are_indexes t keys vectors named is =
     subst (λ ks. map (λ row. map (slice_get ks) row) (rows vectors) ≡ map names_wanted t.objects) named (of_vectors keys vectors ∙ is)
 
@@ -205,7 +205,7 @@ take_all xs n h = taken n xs h
 pub map_take_all : {X Y : Type 0} (f : X → Y) (xs : List X) (n : ℕ) → length xs ≤ n → take n (map f xs) ≡ map f xs
 map_take_all f xs n h = take_all (map f xs) n (omega (arith, length_mapped f xs))
 
-pub numbered : (t : TableValue) (rows : List (List ℕ)) → AllDiffer (names_of (provisions t)) → AreIndexes t rows → IsNumbered t (provisions t) rows
+pub numbered : (t : TableValue) (rows : List (List ℕ)) → AllDiffer (names_of (provisions t)) → AreRequiredIndexes t rows → IsNumbered t (provisions t) rows
 numbered t rows differ is = record { all_provided = refl; differ = differ; numbers = is }
 
 pub same_table : (objects others : List RuleValue) (infos more : List InfoValue) → objects ≡ others → infos ≡ more →
@@ -214,7 +214,7 @@ same_table objects others infos more eo ei =
     ap (λ (os : List RuleValue). let t = table_with os infos in t) eo ∙ ap (λ (is : List InfoValue). let t = table_with others is in t) ei
 
 -- the rule that a row of indexes is of
-pub rule_of : (t : TableValue) (rows : List (List ℕ)) → AreIndexes t rows → (object : ℕ) (row : List ℕ) → At rows object row →
+pub rule_of : (t : TableValue) (rows : List (List ℕ)) → AreRequiredIndexes t rows → (object : ℕ) (row : List ℕ) → At rows object row →
     (rule : RuleValue) × (At t.objects object rule) × (map (slice_get (names_of (provisions t))) row ≡ map Some rule.required)
 rule_of t rows is object row at =
     let names = names_of (provisions t) in
@@ -231,13 +231,14 @@ name_of_index names row required same k index at =
     (n.0, n.1, sym n.2)
 
 -- there is a row for each object
-pub many_rows : (t : TableValue) (rows : List (List ℕ)) → AreIndexes t rows → length t.objects ≡ length rows
+pub many_rows : (t : TableValue) (rows : List (List ℕ)) → AreRequiredIndexes t rows → length t.objects ≡ length rows
 many_rows t rows is =
     sym (length_mapped names_wanted t.objects) ∙ ap length (sym is)
     ∙ length_mapped (λ row. map (slice_get (names_of (provisions t))) row) rows
 
 -- what a row has is the index of a module
-pub index_within : (t : TableValue) (vectors : List (Vec ℕ Global)) → AreIndexes t (rows vectors) → (object : ℕ) (row : Vec ℕ Global) → At vectors object row →
+pub index_within : (t : TableValue) (vectors : List (Vec ℕ Global)) → AreRequiredIndexes t (rows vectors) → (object : ℕ)
+    (row : Vec ℕ Global) → At vectors object row →
     (k index : ℕ) → At row.items k index → index < length (provisions t)
 index_within t vectors is object row at k index here =
     let rule = rule_of t (rows vectors) is object row.items (to_map items_of vectors object row at) in

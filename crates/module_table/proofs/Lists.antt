@@ -1,4 +1,4 @@
--- What loops push, lists that differ or have the same indexes, and what is the first to be rejected.
+-- What loops push, lists that differ or have the same indexes, and the first that is rejected.
 use Rattle.std.proofs.Common.{◌≡◌, ℕ, ◌+◌, List, [], ◌∷◌, ◌++◌, map, take, Some, ap, sym, ◌∙◌, append_assoc, slice_get, zero, suc, length, refl, subst, arith, ◌<◌, Bool, true, false, ⊎_elim, MatchBool, not, Option, None, position, get_or, append-nil, bytes_eq, cond, IfSome, IfNone, is_some}
 use Rattle.std.proofs.lemmas.List.{map-append, length-take-le}
 use Rattle.ninja_text.proofs.ForCallers.{take_next, same_some, from_push, in_take, to_map, from_map, from_take, differ_push, not_among, found_if, new_if}
@@ -93,7 +93,8 @@ zip_length R xs ys h = sym (AllZip-long R xs ys h)
 
 -- ---- what is asked of each requirement, and the first that is rejected
 
--- what a loop that checks a list knows after the next element: so far all are accepted, or this is the first that is rejected
+-- what a loop that checks a list knows after the next element: all are accepted so far, or this is
+-- the first that is rejected
 module _ {X : Type 0} (Accepted Refused : X → Type 0) (xs : List X) (k : ℕ) (x : X) (at : At xs k x) (before : AcceptsAll Accepted (take k xs)) where
   pub first_rejected : (b : Bool) → MatchBool b (Accepted x) (Refused x) → MatchBool b (AcceptsAll Accepted (take (k + 1) xs)) (RefusesAt Accepted Refused xs k)
   first_rejected true good = subst (AcceptsAll Accepted) (sym (take_next xs k x at)) (record { each = each })

@@ -10,8 +10,8 @@ use Rattle.module_table.specs.Faults.{Claim, claims, own_claims, Collides, HasPr
 use Rattle.module_table.specs.Sound.{IsSound}
 use Rattle.module_table.specs.Needed.{LeadsTo, Leads, IsNeeded}
 use Rattle.module_table.specs.Added.{first_mentions, file_of, pair_of, required_of, tasks_of}
-use Rattle.module_table.specs.Parts.{PartIsSound, PartHasTasks, PartIsNeeded}
-use Rattle.document_values.specs.Parts.{HasModule, KeepsRequired, IsEnough}
+use Rattle.module_table.specs.EnoughParts.{PartIsSound, PartHasTasks, PartIsNeeded}
+use Rattle.module_table.specs.Parts.{HasModule, KeepsRequired, IsEnough}
 use Rattle.module_table.specs.declared.fault.Maker.{Maker}
 use Rattle.module_table.specs.declared.fault.Maker.TheVariants.{Object, Info}
 use Rattle.module_table.proofs.Places.{one_file, provision_by, from_numbered, from_mentions, module_from, sound_names}

@@ -20,7 +20,7 @@ use Rattle.ninja_text.specs.Failure.{ForFault}
 use Rattle.ninja_text.specs.declared.failure.Failure.{Failure}
 use Rattle.dep_order.specs.Needs.{IsOrderable}
 use Rattle.dep_order.proofs.ForCallers.{no_cycle}
-use Rattle.module_table.specs.inner.Numbered.{AreIndexes}
+use Rattle.module_table.specs.inner.Numbered.{AreRequiredIndexes}
 use Rattle.module_table.specs.inner.Passed.{Lacks, Passed}
 use Rattle.module_table.proofs.Words.{name_of, maker_of, path_of, target_of, claimed, privacy_of, names_wanted, At}
 use Rattle.ninja_text.specs.Bytes.{Name}
@@ -246,7 +246,7 @@ module _ (t : TableValue) (kept : List Name) where
   kept_lack own fault e h = absurd (omega (arith, e))
 
   -- what has an index is provided
-  rows_known : (rows : List (List ℕ)) → AreIndexes t rows → (object : ℕ) (name : Name) → Requires t object name → (file : Name) × IsProvided t name file
+  rows_known : (rows : List (List ℕ)) → AreRequiredIndexes t rows → (object : ℕ) (name : Name) → Requires t object name → (file : Name) × IsProvided t name file
   rows_known rows is object name (rule, at, has) =
       let names = names_of (provisions t) in
       let row = from_map (map (slice_get names)) rows object (map Some rule.required) (same_reads object is ∙ to_map names_wanted t.objects object rule at) in
@@ -267,7 +267,7 @@ module _ (t : TableValue) (kept : List Name) where
   pub after_files : AllDiffer (map path_of t.objects ++ files_of (provisions t)) → Passed 4 t kept → Passed 5 t kept
   after_files files passed = next_passed 4 passed (files_lack files)
 
-  pub after_known : (rows : List (List ℕ)) → AreIndexes t rows → Passed 5 t kept → Passed 6 t kept
+  pub after_known : (rows : List (List ℕ)) → AreRequiredIndexes t rows → Passed 5 t kept → Passed 6 t kept
   after_known rows is passed = next_passed 5 passed (requirements_lack (rows_known rows is))
 
   after_infos_known : AcceptsAll (IsByInfo (provisions t)) (info_requirements t) → Passed 6 t kept → Passed 7 t kept
@@ -287,7 +287,7 @@ module _ (t : TableValue) (kept : List Name) where
   after_kept own passed = next_passed 10 passed (kept_lack own)
 
   -- what has passed by some of the checks M5 to M9
-  module _ (rows : List (List ℕ)) (indexes : AreIndexes t rows) (by_infos : AcceptsAll (IsByInfo (provisions t)) (info_requirements t))
+  module _ (rows : List (List ℕ)) (indexes : AreRequiredIndexes t rows) (by_infos : AcceptsAll (IsByInfo (provisions t)) (info_requirements t))
       (before : Passed 5 t kept) where
     pub seven_passed : Passed 7 t kept
     seven_passed = after_infos_known by_infos (after_known rows indexes before)

@@ -1,32 +1,63 @@
--- A table of a part of what a target links: all linked targets by name, each with only some of its
--- modules. If the part is enough (`IsEnough`), what holds of its table holds of the table of the
--- whole.
-use Rattle.std.specs.Prelude.{◌≡◌, ◌↔◌, ℕ, List}
+-- A part of the info files that a target links: all of the files, but each with only some modules.
+use Rattle.std.specs.Prelude.{◌≡◌, ◌⊎◌, ℕ, true, List, map, slice_get, Some, Contains}
 use Rattle.ninja_text.specs.Bytes.{PathText, Name}
 use Rattle.document_values.specs.Rule.{RuleValue}
-use Rattle.document_values.specs.Info.{InfoValue}
-use Rattle.document_values.specs.Parts.{KeepsRequired, IsEnough}
-use Rattle.module_table.specs.TableValue.{table_with}
-use Rattle.module_table.specs.Sound.{IsSound}
-use Rattle.module_table.specs.Added.{tasks_of}
-use Rattle.module_table.specs.Needed.{IsNeeded}
+use Rattle.document_values.specs.Info.{InfoValue, ModuleValue}
 
--- if the table of the part is sound, so is the table of the whole
-abbrev pub PartIsSound : Type 0
-PartIsSound = (objects : List RuleValue) (part infos : List InfoValue) →
-    IsEnough objects part infos → IsSound (table_with objects part) →
-    IsSound (table_with objects infos)
+-- info file i has the module m at index j
+abbrev pub HasModule : List InfoValue → ℕ → ℕ → ModuleValue → Type 0
+HasModule infos i j m = (value : InfoValue) × (slice_get infos i ≡ Some value)
+    × (slice_get value.modules j ≡ Some m)
 
--- then the objects require the same modules, with the same files
-abbrev pub PartHasTasks : Type 0
-PartHasTasks = (objects : List RuleValue) (part infos : List InfoValue) →
-    IsEnough objects part infos → IsSound (table_with objects part) →
-    tasks_of (table_with objects part) ≡ tasks_of (table_with objects infos)
+-- The modules have the same name and file and are both private or both public. What m requires, w
+-- also requires.
+pub record IsAlike (m w : ModuleValue) : Type 0 where
+  pub name : m.name ≡ w.name
+  pub file : m.file ≡ w.file
+  pub is_private : m.is_private ≡ w.is_private
+  pub fewer : (name : Name) (file : PathText) → Contains m.required (name, file)
+      → Contains w.required (name, file)
 
--- and they need the same modules, if the part keeps what its modules require
-abbrev pub PartIsNeeded : Type 0
-PartIsNeeded = (objects : List RuleValue) (part infos : List InfoValue) →
-    IsEnough objects part infos → KeepsRequired part infos → IsSound (table_with objects part) →
-    (object : ℕ) (name : Name) (file : PathText) →
-    IsNeeded (table_with objects part) object name file
-    ↔ IsNeeded (table_with objects infos) object name file
+-- The targets are the same, in the same order. Each module of the part is like one of the same
+-- target.
+pub record IsPartOf (part infos : List InfoValue) : Type 0 where
+  pub targets : map (λ info. info.target) part ≡ map (λ info. info.target) infos
+  pub modules : (i j : ℕ) (m : ModuleValue) → HasModule part i j m
+      → (k : ℕ) × (w : ModuleValue) × HasModule infos i k w × IsAlike m w
+
+-- each module of the part is one of the same target, with all that it requires
+abbrev pub KeepsRequired : List InfoValue → List InfoValue → Type 0
+KeepsRequired part infos = (i j : ℕ) (m : ModuleValue) → HasModule part i j m
+    → (k : ℕ) × HasModule infos i k m
+
+-- no two modules of the info files have the same name or the same file
+abbrev pub InfosApart : List InfoValue → Type 0
+InfosApart infos = (i j k l : ℕ) (a b : ModuleValue) → HasModule infos i j a
+    → HasModule infos k l b → (a.name ≡ b.name) ⊎ (a.file ≡ b.file) → (i ≡ k) × (j ≡ l)
+
+-- no object provides a module with the name or the file of a module of the info files, and no
+-- object is such a file
+pub record OwnApart (objects : List RuleValue) (infos : List InfoValue) : Type 0 where
+  pub names : (o j i k : ℕ) (rule : RuleValue) (name : Name) (file : PathText) (m : ModuleValue)
+      → slice_get objects o ≡ Some rule → slice_get rule.provided j ≡ Some (name, file)
+      → HasModule infos i k m → name ≡ m.name → ⊥
+  pub files : (o j i k : ℕ) (rule : RuleValue) (name : Name) (file : PathText) (m : ModuleValue)
+      → slice_get objects o ≡ Some rule → slice_get rule.provided j ≡ Some (name, file)
+      → HasModule infos i k m → file ≡ m.file → ⊥
+  pub paths : (o i k : ℕ) (rule : RuleValue) (m : ModuleValue)
+      → slice_get objects o ≡ Some rule → HasModule infos i k m → rule.object ≡ m.file → ⊥
+
+-- If a module of the info files requires a name with a file, a module of the info files has this
+-- name and this file. It is private only if both are of the same info file.
+abbrev pub AreClosed : List InfoValue → Type 0
+AreClosed infos = (i j : ℕ) (m : ModuleValue) (name : Name) (file : PathText)
+    → HasModule infos i j m → Contains m.required (name, file)
+    → (k : ℕ) × (l : ℕ) × (w : ModuleValue) × HasModule infos k l w × (w.name ≡ name)
+    × (w.file ≡ file) × (w.is_private ≡ true → k ≡ i)
+
+-- The part has enough of the info files for a table of these objects.
+pub record IsEnough (objects : List RuleValue) (part infos : List InfoValue) : Type 0 where
+  pub is_part : IsPartOf part infos
+  pub infos_apart : InfosApart infos
+  pub own_apart : OwnApart objects infos
+  pub closed : AreClosed infos

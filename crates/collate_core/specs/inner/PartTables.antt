@@ -1,7 +1,7 @@
 -- A table of a part of what a target links: definitions for private clauses.
 use Rattle.std.specs.Prelude.{◌≡◌, Option, IfSome}
 use Rattle.module_table.specs.TableValue.{TableValue}
-use Rattle.document_values.specs.Parts.{IsEnough, KeepsRequired}
+use Rattle.module_table.specs.Parts.{IsEnough, KeepsRequired}
 use Rattle.module_maps.specs.Maps.{Written}
 use Rattle.collate_core.specs.Values.{TargetValue}
 use Rattle.collate_core.specs.Documents.{table_of, AreAccepted}

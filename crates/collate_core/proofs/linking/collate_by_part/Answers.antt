@@ -1,9 +1,9 @@
 use Rattle.std.proofs.Common.{◌≡◌, ◌∙◌, List, Option, Vec, Global, None, Some, subst, sym, IfSome, option_copied, option_map}
 use Rattle.document_values.specs.Rule.{RuleValue}
 use Rattle.document_values.specs.Info.{InfoValue}
-use Rattle.info_pool.specs.Pool.{AreLinked}
-use Rattle.info_pool.specs.declared.requirements.Requirements.TheVariants.{Kept}
-use Rattle.document_values.specs.Parts.{IsEnough, KeepsRequired}
+use Rattle.module_table.specs.Pool.{AreLinked}
+use Rattle.module_table.specs.declared.pool.requirements.Requirements.TheVariants.{Kept}
+use Rattle.module_table.specs.Parts.{IsEnough, KeepsRequired}
 use Rattle.module_table.specs.Sound.{IsSound, PrivateAreProvided}
 use Rattle.collate_core.specs.Values.{TargetValue}
 use Rattle.collate_core.specs.inner.PartTables.{IsEnoughFor}

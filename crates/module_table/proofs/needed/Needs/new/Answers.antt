@@ -7,7 +7,7 @@ use Rattle.module_table.specs.Modules.{provisions}
 use Rattle.module_table.specs.Needed.{lent}
 use Rattle.module_table.specs.inner.Origins.{origins_of, Origin}
 use Rattle.module_table.specs.inner.Graph.{IsModuleGraph}
-use Rattle.module_table.specs.inner.Ranks.{pairs_of, AreListed, AreByName, AreNumbers, AreRanks}
+use Rattle.module_table.specs.inner.Ranks.{pairs_of, AreByNumber, AreByName, AreNumbers, AreRanks}
 use Rattle.module_table.specs.declared.fault.Maker.TheVariants.{Object}
 use Rattle.module_table.proofs.Lists.{zip_length, read_at}
 use Rattle.module_table.proofs.Graph.{IsPlaceOf, module_places, named_there, pair_there}
@@ -27,18 +27,18 @@ loop-index-preserved c =
     let k = c.loop-index.index in
     let pair = pair_there t c.args.origins.now c.requires.origins k (get_or c.args.origins.now k (Object 0, 0)) (lent c.named_at.result)
     (slice_get-get_or c.args.origins.now k (Object 0, 0) c.loop-index-test.true) c.named_at.ensures in
-    subst (AreListed (provisions t) (k + 1)) (sym c.in_ok-push.ensures.items)
+    subst (AreByNumber (provisions t) (k + 1)) (sym c.in_ok-push.ensures.items)
     (listed_more (provisions t) k c.loop-index.modules.items (record { name = c.named_at.result.0; file = c.named_at.result.1; index = k }) refl pair
     c.loop-index.invariant)
 
 -- all modules, once they are sorted
 sorted_modules : (t : TableValue) → IsSound t → (origins : List (Origin)) → origins ≡ origins_of t → (i : ℕ) → length origins ≤ i → i ≤ length origins →
-    (made sorted : List Numbered) → AreListed (provisions t) i made → length sorted ≡ length made → IsPermutation made sorted → IsSorted module_cmp sorted →
+    (made sorted : List Numbered) → AreByNumber (provisions t) i made → length sorted ≡ length made → IsPermutation made sorted → IsSorted module_cmp sorted →
     AreByName (provisions t) sorted
 sorted_modules t sound origins are i over under made sorted listed long permuted rising =
     let all : i ≡ length (provisions t) =
     omega (arith, over, under, (zip_length (IsPlaceOf t) (provisions t) (origins_of t) (module_places t)), ap length are) in
-    by_name t sound made (subst (λ n. AreListed (provisions t) n made) all listed) sorted long permuted rising
+    by_name t sound made (subst (λ n. AreByNumber (provisions t) n made) all listed) sorted long permuted rising
 
 pub index_mut-requires : goal.index_mut-requires
 index_mut-requires c =

@@ -1,0 +1,42 @@
+use Rattle.std.proofs.Common.{List, ◌≡◌, ◌∙◌, ◌++◌, ◌∷◌, [], ap, inl, inr, sym, true, Option, Some, None, is_some}
+use Rattle.document_values.specs.Info.{InfoValue}
+use Rattle.module_table.specs.inner.Pools.{StillListed, IsRelated}
+use Rattle.module_table.specs.declared.pool.related.Related.{Related}
+use Rattle.module_table.proofs.PoolLemmas.{pool_grown, same_row, there_is}
+use Rattle.ninja_text.proofs.ForCallers.{same_some}
+use Rattle.module_table.proofs.pool.Pool.push.Goals as goal
+use Rattle.module_table.proofs.pool.Pool.push.Goals.{in-Some+in_ok-relations-in-Some, in-None, then-is_some, else-is_some}
+
+pub invariant_of-result : goal.invariant_of-result
+invariant_of-result c =
+    let pool = c.self.inside in
+    let listed = c.match-info.listed in
+    let found = c.match-info.relations in
+    let still : StillListed pool.listed listed = elim c.match-info.branch [
+      | in-Some+in_ok-relations-in-Some v ↦ rw v.listed-is v.in_ok-relations-in-Some.ensures.still
+      | in-None v ↦ rw v.listed-is
+          (λ by key r h. (r, h, same_row r))
+    ] in
+    let is : (info : InfoValue) → c.if-is_some.push ≡ Some info → (r : Related) × (found ≡ Some r) × IsRelated pool.infos.items info listed r = λ info e.
+    elim c.if-is_some.branch [
+      | then-is_some w ↦ elim c.match-info.branch [
+        | in-Some+in_ok-relations-in-Some v ↦
+            let same : info ≡ v.in-Some.info = same_some _ _ (sym e ∙ w.push-is ∙ v.in-Some.is) in
+            there_is (IsRelated pool.infos.items info listed) found (sym c.is_some.ensures ∙ w.if-is_some.true)
+            (rw (v.relations-is, v.listed-is, same, sym v.deref.ensures.value) v.in_ok-relations-in-Some.ensures.related)
+        | in-None v ↦ let some : is_some found ≡ true = sym c.is_some.ensures ∙ w.if-is_some.true in absurd cc
+      ]
+      | else-is_some w ↦ let none : None ≡ Some info = sym w.push-is ∙ e in absurd cc
+    ] in
+    rw (c.in_ok-push.ensures.items, c.in_ok-push-2.ensures.items)
+    (pool_grown pool.infos.items pool.listed listed pool.related.items c.self.invariant still c.if-is_some.push found is)
+
+-- said here, so that a body which adds nothing is rejected soon
+pub returns : goal.returns
+returns c =
+    let added = c.in_ok-push.ensures.items ∙ ap (λ (known : List (Option InfoValue)). known ++ c.if-is_some.push ∷ []) c.self.view_is in
+    elim c.if-is_some.branch [
+      | then-is_some w ↦ inl (added ∙ ap (λ (x : Option InfoValue). c.args.self ++ x ∷ []) w.push-is)
+      | else-is_some w ↦
+          inr (added ∙ ap (λ (x : Option InfoValue). c.args.self ++ x ∷ []) w.push-is)
+    ]

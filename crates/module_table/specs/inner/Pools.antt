@@ -1,0 +1,174 @@
+-- What a pool lists of the known info files, and what it checks when some of them are linked.
+use Rattle.std.specs.Prelude.{◌≡◌, ◌⊎◌, ◌++◌, ◌∷◌, ◌<◌, [], ℕ, Bool, true, if◌then◌else◌, List, length, slice_get, get_or, bytes_eq, Option, Some, None}
+use Rattle.indexmap.specs.IndexMap.{get}
+use Rattle.ninja_text.specs.Bytes.{PathText, Name}
+use Rattle.document_values.specs.Rule.{RuleValue}
+use Rattle.document_values.specs.Info.{InfoValue, ModuleValue}
+use Rattle.module_table.specs.declared.pool.rows.ModuleAt.{ModuleAt}
+use Rattle.module_table.specs.declared.pool.rows.Row.{Row}
+use Rattle.module_table.specs.declared.pool.rows.Shared.{Shared}
+use Rattle.module_table.specs.declared.pool.rows.Listed.{Listed}
+use Rattle.module_table.specs.declared.pool.related.Related.{Related}
+use Rattle.module_table.specs.Parts.{IsAlike}
+use Rattle.module_table.specs.Indexes.{Indexes}
+
+-- x is at some index of the list
+abbrev pub Has : {X : Type 0} → List X → X → Type 0
+Has xs x = (k : ℕ) × (slice_get xs k ≡ Some x)
+
+-- modules are listed by name and by file
+pub data By : Type 0 where
+  by_name : By
+  by_file : By
+
+abbrev pub key_of : By → ModuleValue → Name
+key_of by_name m = m.name
+key_of by_file m = m.file
+
+-- the row of each key
+abbrev pub Rows : Type 0
+Rows = Name → Option Row
+
+abbrev pub rows_of : Listed → By → Rows
+rows_of listed by_name = get bytes_eq listed.names
+rows_of listed by_file = get bytes_eq listed.files
+
+-- the module at index j of info i
+abbrev pub module_at : ℕ → ℕ → ModuleAt
+module_at i j = record { info = i; «module» = j }
+
+-- The row that was found lists the module: the module is its first, or its info file shares the
+-- number of the row with the info file of the first module.
+abbrev pub InRow : (Shared → Type 0) → Option Row → ModuleAt → Type 0
+InRow Shares found at = (row : Row) × (found ≡ Some row) × ((row.first ≡ at) ⊎ ((s : Shared)
+    × Shares s × (row.number ≡ Some s.number) × (s.module ≡ at.module)
+    × (s.first ≡ row.first.info)))
+
+-- the row keeps its first module, and its number if it has one
+abbrev pub IsSameRow : Row → Row → Type 0
+IsSameRow old new = (new.first ≡ old.first)
+    × ((x : ℕ) → old.number ≡ Some x → new.number ≡ Some x)
+
+-- What becomes of the rows at the key: its row stays the same, and the module is listed in it.
+pub record IsPut {K : Type 0} (eq : K → K → Bool) (old new : K → Option Row) (key : K)
+    (at : ModuleAt) (shared : List Shared) : Type 0 where
+  pub row : Row
+  pub updates : (q : K) → new q ≡ (if eq key q then Some row else old q)
+  pub kept : (r : Row) → old key ≡ Some r → IsSameRow r row
+  pub listed : InRow (Has shared) (Some row) at
+
+-- the rows that were there still are
+abbrev pub StillListed : Listed → Listed → Type 0
+StillListed old new = (by : By) (key : Name) (r : Row) → rows_of old by key ≡ Some r
+    → (row : Row) × (rows_of new by key ≡ Some row) × IsSameRow r row
+
+-- the modules of info `number` are listed in the rows of their keys
+abbrev pub AreListed : (ModuleValue → Name) → ℕ → List ModuleValue → Rows → List Shared → Type 0
+AreListed key number modules rows shared = (j : ℕ) (m : ModuleValue) → slice_get modules j ≡ Some m
+    → InRow (Has shared) (rows (key m)) (module_at number j)
+
+-- info file i is known, and m is its module j
+abbrev pub IsKnownModule : List (Option InfoValue) → ℕ → ℕ → ModuleValue → Type 0
+IsKnownModule known i j m = (value : InfoValue) × (slice_get known i ≡ Some (Some value))
+    × (slice_get value.modules j ≡ Some m)
+
+-- Info file k has what a module of info file i requires: a module of that name and file. Only info
+-- file i itself may have it as a private module.
+abbrev pub IsSource : List (Option InfoValue) → ℕ → Name × PathText → ℕ → Type 0
+IsSource known i pair k = (l : ℕ) × (w : ModuleValue) × IsKnownModule known k l w
+    × (w.name ≡ pair.0) × (w.file ≡ pair.1) × (w.is_private ≡ true → k ≡ i)
+
+-- How an info file that is added is related to the known ones: its modules are listed, and some
+-- info file among its sources has what they require.
+pub record IsRelated (known : List (Option InfoValue)) (info : InfoValue) (listed : Listed)
+    (r : Related) : Type 0 where
+  pub are_listed : (by : By) → AreListed (key_of by) (length known) info.modules
+      (rows_of listed by) r.shared.items
+  pub sources : (j : ℕ) (m : ModuleValue) (pair : Name × PathText)
+      → slice_get info.modules j ≡ Some m → Has m.required pair
+      → (k : ℕ) × Has r.sources.items k
+      × IsSource (known ++ Some info ∷ []) (length known) pair k
+
+-- info file k is among the sources of info file i
+abbrev pub HasSource : List (Option Related) → ℕ → ℕ → Type 0
+HasSource related i k =
+    (r : Related) × (slice_get related i ≡ Some (Some r)) × Has r.sources.items k
+
+-- info file i shares this with an earlier module
+abbrev pub HasShared : List (Option Related) → ℕ → Shared → Type 0
+HasShared related i s =
+    (r : Related) × (slice_get related i ≡ Some (Some r)) × Has r.shared.items s
+
+-- What a pool keeps of the known info files. Each module is listed in the rows of its name and its
+-- file. What a module requires is in a source of its info file.
+pub record IsPool (known : List (Option InfoValue)) (listed : Listed)
+    (related : List (Option Related)) : Type 0 where
+  pub are_listed : (by : By) (i j : ℕ) (m : ModuleValue) → IsKnownModule known i j m
+      → InRow (HasShared related i) (rows_of listed by (key_of by m)) (module_at i j)
+  pub sources : (i j : ℕ) (m : ModuleValue) (pair : Name × PathText) → IsKnownModule known i j m
+      → Has m.required pair → (k : ℕ) × HasSource related i k × IsSource known i pair k
+  pub many : length related ≡ length known
+
+-- `indexes` has the index in `linked` of each linked info file, so none is linked twice
+abbrev pub AreIndexes : Indexes → Indexes → Type 0
+AreIndexes linked indexes =
+    (i n : ℕ) → slice_get linked i ≡ Some n → slice_get indexes n ≡ Some i
+
+-- The sources of linked info files are linked. No linked info file shares a name or file with the
+-- first module that had it, and the stamp of its number is the module of the linked info file.
+pub record AreFit (linked : Indexes) (related : List (Option Related)) (stamps : List ModuleAt)
+    : Type 0 where
+  pub closed : (n k : ℕ) → Has linked n → HasSource related n k → Has linked k
+  pub first : (n : ℕ) (s : Shared) → Has linked n → HasShared related n s → Has linked s.first → ⊥
+  pub stamped : (n : ℕ) (s : Shared) → Has linked n → HasShared related n s
+      → slice_get stamps s.number ≡ Some (module_at n s.module)
+
+-- no linked info file has a module of the row: neither the first, nor the one of the stamp
+pub record IsRowUnlinked (linked : Indexes) (stamps : List ModuleAt) (row : Row) : Type 0 where
+  pub first : Has linked row.first.info → ⊥
+  pub stamped : (x : ℕ) (at : ModuleAt) → row.number ≡ Some x → slice_get stamps x ≡ Some at
+      → Has linked at.info → ⊥
+
+-- no linked info file has a module in the row of the key
+abbrev pub IsUnlinked : Indexes → List ModuleAt → Rows → Name → Type 0
+IsUnlinked linked stamps rows key =
+    (row : Row) → rows key ≡ Some row → IsRowUnlinked linked stamps row
+
+-- no linked info file has the path, a name or a file of the object
+pub record IsApart (linked : Indexes) (stamps : List ModuleAt) (listed : Listed)
+    (rule : RuleValue) : Type 0 where
+  pub path : IsUnlinked linked stamps (rows_of listed by_file) rule.object
+  pub provided : (pair : Name × PathText) → Has rule.provided pair
+      → IsUnlinked linked stamps (rows_of listed by_name) pair.0
+      × IsUnlinked linked stamps (rows_of listed by_file) pair.1
+
+-- m is a copy of a module of the info file, with what that requires or without
+abbrev pub IsCopied : Type 0 → InfoValue → ModuleValue → Type 0
+IsCopied keeps info m = (k : ℕ) × (w : ModuleValue) × (slice_get info.modules k ≡ Some w)
+    × IsAlike m w × (keeps → m ≡ w)
+
+-- the target of an info file, with copies of some of its modules
+abbrev pub IsPicked : Type 0 → InfoValue → InfoValue → Type 0
+IsPicked keeps info part = (part.target ≡ info.target)
+    × ((m : ModuleValue) → Has part.modules m → IsCopied keeps info m)
+
+-- it holds of each of the elements before index i
+abbrev pub Below : {X : Type 0} → (X → Type 0) → List X → ℕ → Type 0
+Below {X} P xs i = (k : ℕ) (x : X) → k < i → slice_get xs k ≡ Some x → P x
+
+-- No other linked info file has what info file n shares: the first that had it is not linked, and
+-- the stamp is the module of n.
+abbrev pub IsAlone : Indexes → List ModuleAt → ℕ → Shared → Type 0
+IsAlone linked stamps n s = (Has linked s.first → ⊥)
+    × (slice_get stamps s.number ≡ Some (module_at n s.module))
+
+-- what is checked of one linked info file
+abbrev pub IsFitAt : Indexes → List (Option Related) → List ModuleAt → ℕ → Type 0
+IsFitAt linked related stamps n = (r : Related) × (slice_get related n ≡ Some (Some r))
+    × ((k : ℕ) → Has r.sources.items k → Has linked k)
+    × ((s : Shared) → Has r.shared.items s → IsAlone linked stamps n s)
+
+-- the picked modules of the known info file at this index
+abbrev pub IsPickedOf : Type 0 → List (Option InfoValue) → ℕ → InfoValue → Type 0
+IsPickedOf keeps known n part = (info : InfoValue) × (get_or known n None ≡ Some info)
+    × IsPicked keeps info part
