@@ -1,4 +1,4 @@
--- Statements have an effect if and only if they have no fault.
+-- Laws: statements have an effect if and only if they have no error.
 use Rattle.std.specs.Prelude.{List}
 use Rattle.ninja_text.specs.Bytes.{PathText}
 use Rattle.dyndep_file.specs.StatementValue.{StatementValue}
@@ -8,7 +8,7 @@ use Rattle.build_effect.specs.Effect.{AreCanonical, AllBound, Extends, OnlyEffec
 use Rattle.build_effect.specs.Faults.{IsEffectFault, NoneRepeated, AllMentioned, NoneMadeBefore}
 use Rattle.build_effect.specs.declared.fault.EffectFault.{EffectFault}
 
--- statements without a fault have exactly one effect
+-- statements without an error have exactly one effect
 abbrev pub ChecksSuffice : Type 0
 ChecksSuffice =
     (g : List EdgeValue) (name : PathText) (statements additions : List StatementValue) →
@@ -16,7 +16,7 @@ ChecksSuffice =
     NoneRepeated g additions → AllMentioned g name additions → NoneMadeBefore g additions →
     (new : List EdgeValue) × Extends g name additions new × OnlyEffect g name statements new
 
--- statements with a fault have no effect
+-- statements with an error have no effect
 abbrev pub FaultsExclude : Type 0
 FaultsExclude =
     (g : List EdgeValue) (name : PathText) (statements : List StatementValue)

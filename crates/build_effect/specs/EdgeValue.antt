@@ -1,8 +1,8 @@
--- What a contract sees of a build edge. A graph is the list of its edges.
+-- The view of a build edge. The view of a graph is the list of its edges.
 use Rattle.std.specs.Prelude.{Bool, List, Option}
 use Rattle.ninja_text.specs.Bytes.{PathText, Name}
 
--- The rule and each path are strings; `dyndep` is the file that the edge's binding names.
+-- `dyndep` is the dyndep file that the edge names, if it names one.
 pub record EdgeValue : Type 0 where
   pub rule : Name
   pub outputs : List PathText

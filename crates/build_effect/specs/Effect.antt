@@ -1,5 +1,5 @@
--- The effect of a dyndep file on a graph, as a relation of two graphs (Ninja 1.11 manual, "Dynamic
--- dependencies").
+-- The effect of a dyndep file on a graph, as a relation between two graphs (Ninja 1.11 manual,
+-- "Dynamic dependencies").
 use Rattle.std.specs.Prelude.{◌≡◌, ◌≢◌, ℕ, ◌||◌, List, ◌++◌, length, map, slice_get, Some, Ok}
 use Rattle.ninja_text.specs.Bytes.{Text, PathText}
 use Rattle.ninja_text.specs.Paths.{path_of}
@@ -24,23 +24,23 @@ pub record AreCanonical (statements additions : List StatementValue) : Type 0 wh
   pub each : (k : ℕ) (s a : StatementValue) → slice_get statements k ≡ Some s →
       slice_get additions k ≡ Some a → IsCanonical s a
 
--- the statement is on the edge: its output is one that the edge makes
+-- the statement belongs to the edge, which produces its output
 abbrev pub IsOn : StatementValue → EdgeValue → Type 0
 IsOn a e = (j : ℕ) × (slice_get (made_by e) j ≡ Some a.output)
 
--- statement k is on the edge, and no other is
+-- statement k belongs to the edge, and no other statement does
 pub record IsTheOneOn (additions : List StatementValue) (e : EdgeValue) (k : ℕ)
     (a : StatementValue) : Type 0 where
   pub is : slice_get additions k ≡ Some a
   pub on : IsOn a e
   pub only : (l : ℕ) (b : StatementValue) → slice_get additions l ≡ Some b → IsOn b e → l ≡ k
 
--- the statement is on an edge that names the file
+-- the statement belongs to an edge that names the file
 abbrev pub IsBound : List EdgeValue → PathText → StatementValue → Type 0
 IsBound g name a =
     (i : ℕ) × (e : EdgeValue) × (slice_get g i ≡ Some e) × Names name e × IsOn a e
 
--- each statement is on an edge that names the file
+-- each statement belongs to an edge that names the file
 abbrev pub AllBound : List EdgeValue → PathText → List StatementValue → Type 0
 AllBound g name additions =
     (k : ℕ) (a : StatementValue) → slice_get additions k ≡ Some a → IsBound g name a
@@ -53,41 +53,42 @@ extended e a = record e {
   restat = e.restat || a.restat;
 }
 
--- what the statements, with canonical paths, make of a graph whose edges name the file
+-- The new graph is the old one with what the statements add to the edges that name the file. The
+-- paths of the statements are canonical.
 pub record Extends (old : List EdgeValue) (name : PathText) (additions : List StatementValue)
     (new : List EdgeValue) : Type 0 where
-  -- both have the same edges by index
+  -- both graphs have the same number of edges
   pub same_edges : length new ≡ length old
   -- an edge that does not name the file stays as it is
   pub others : (i : ℕ) (e : EdgeValue) → slice_get old i ≡ Some e → e.dyndep ≢ Some name →
       slice_get new i ≡ Some e
-  -- an edge that names it has exactly one statement, and gains what the statement adds
+  -- an edge that names the file has exactly one statement, and gains what it adds
   pub named : (i : ℕ) (e : EdgeValue) → slice_get old i ≡ Some e → Names name e →
       (k : ℕ) × (a : StatementValue) × IsTheOneOn additions e k a
       × (slice_get new i ≡ Some (extended e a))
-  -- each statement is on such an edge
+  -- each statement belongs to such an edge
   pub bound : AllBound old name additions
-  -- no file is made twice
+  -- no file is produced twice
   pub made_once : MadeOnce new
 
--- the effect of the dyndep file `name`, which holds these statements, on a graph
+-- the new graph is the effect of the dyndep file `name`, with these statements, on the old graph
 pub record Effect (old : List EdgeValue) (name : PathText) (statements : List StatementValue)
     (new : List EdgeValue) : Type 0 where
   pub additions : List StatementValue
   pub canonical : AreCanonical statements additions
   pub gives : Extends old name additions new
 
--- the graph is the effect, and no other graph is
+-- the new graph is the effect, and no other graph is
 pub record OnlyEffect (old : List EdgeValue) (name : PathText) (statements : List StatementValue)
     (new : List EdgeValue) : Type 0 where
   pub effect : Effect old name statements new
   pub only : (other : List EdgeValue) → Effect old name statements other → other ≡ new
 
--- no graph is an effect
+-- no graph is the effect
 abbrev pub HasNoEffect : List EdgeValue → PathText → List StatementValue → Type 0
 HasNoEffect old name statements = (new : List EdgeValue) → Effect old name statements new → ⊥
 
--- an effect of statements is what they give when their paths are made canonical
+-- Law: the effect of statements is what their canonical forms add to the graph.
 abbrev pub EffectGives : Type 0
 EffectGives =
     (g new : List EdgeValue) (name : PathText) (statements additions : List StatementValue) →

@@ -1,4 +1,4 @@
--- How faults are printed: code and name; for an invalid path also its index and its own fault.
+-- How errors are printed: code and name. An invalid path is printed with its indexes and its error.
 use Rattle.std.specs.Prelude.{◌++◌, Option, Some, None, codes}
 use Rattle.std.specs.Fmt.{decimal}
 use Rattle.ninja_text.specs.Bytes.{Text, PathText}
@@ -13,13 +13,13 @@ abbrev pub graph_fault_text : GraphFault → Text
 graph_fault_text (ProducedTwice path) = codes "E1 ProducedTwice"
 graph_fault_text (DyndepNotInput edge output) = codes "E2 DyndepNotInput"
 
--- the file that is reported with it
+-- the file that is reported with the error
 abbrev pub graph_fault_path : GraphFault → PathText
 graph_fault_path (ProducedTwice path) = path
 graph_fault_path (DyndepNotInput edge output) = output
 
--- why a dyndep file has no effect; an invalid path has the index of its statement, its own index in
--- the statement, and its fault
+-- Why a dyndep file has no effect. An invalid path is printed with the index of its statement, its
+-- own index in the statement, and its error.
 abbrev pub effect_fault_text : EffectFault → Text
 effect_fault_text (BadPath statement path cause) =
     codes "E8 BadPath statement " ++ decimal statement ++ codes " path " ++ decimal path
@@ -29,7 +29,7 @@ effect_fault_text (StatementTwice output) = codes "E4 StatementTwice"
 effect_fault_text (NotMentioned output) = codes "E6 NotMentioned"
 effect_fault_text (AddedTwice path) = codes "E7 AddedTwice"
 
--- the file that is reported with it; no file is reported with an invalid path
+-- the file that is reported with the error, if any
 abbrev pub effect_fault_path : EffectFault → Option PathText
 effect_fault_path (BadPath statement path fault) = None
 effect_fault_path (NotBound output) = Some output

@@ -1,4 +1,4 @@
--- The faults of a list of edges, and the faults of statements on a graph.
+-- The errors of a list of edges, and the errors of statements on a graph.
 use Rattle.std.specs.Prelude.{◌≡◌, ◌⊎◌, ℕ, ◌<◌, List, ◌∷◌, ◌++◌, slice_get, Some, Err}
 use Rattle.std.specs.List.{flat_map}
 use Rattle.ninja_text.specs.Bytes.{Text, PathText}
@@ -14,11 +14,11 @@ use Rattle.build_effect.specs.declared.fault.GraphFault.TheVariants.{ProducedTwi
 use Rattle.build_effect.specs.declared.fault.EffectFault.{EffectFault}
 use Rattle.build_effect.specs.declared.fault.EffectFault.TheVariants.{BadPath, NotBound, StatementTwice, NotMentioned, AddedTwice}
 
--- the files that the edges make, edge after edge
+-- the files that the edges produce, edge after edge
 abbrev pub made_files : List EdgeValue → List PathText
 made_files g = flat_map made_by g
 
--- an earlier index of the list also has the file
+-- the file is also at an index before k
 abbrev pub StandsBefore : List PathText → ℕ → PathText → Type 0
 StandsBefore files k file = (j : ℕ) × (j < k) × (slice_get files j ≡ Some file)
 
@@ -26,9 +26,9 @@ StandsBefore files k file = (j : ℕ) × (j < k) × (slice_get files j ≡ Some 
 abbrev pub NamesUnread : EdgeValue → Type 0
 NamesUnread e = (file : PathText) × Names file e × (HasInput e file → ⊥)
 
--- why a list of edges is not a graph; the second fault is reported only if the first is not there
+-- why a list of edges is not a graph; the second error is reported only if the first does not apply
 abbrev pub IsGraphFault : List EdgeValue → GraphFault → Type 0
--- the first file that is made a second time
+-- the first file that is produced a second time
 IsGraphFault g (ProducedTwice file) =
     (k : ℕ) × IsFirstAt (StandsBefore (made_files g)) (made_files g) k file
 -- the first edge that names a dyndep file that is not among its inputs, with its first output
@@ -48,18 +48,18 @@ IsNoPath text = (fault : PathFault) × (path_of text ≡ Err fault)
 abbrev pub HasRefused : StatementValue → Type 0
 HasRefused s = (j : ℕ) × (text : Text) × (slice_get (path_texts s) j ≡ Some text) × IsNoPath text
 
--- a statement before index k is on the same edge as this one
+-- a statement before index k belongs to the same edge as this one
 abbrev pub IsRepeated : List EdgeValue → List StatementValue → ℕ → StatementValue → Type 0
 IsRepeated g additions k a =
     (j : ℕ) × (b : StatementValue) × (i : ℕ) × (e : EdgeValue) × (j < k)
     × (slice_get additions j ≡ Some b) × (slice_get g i ≡ Some e) × IsOn a e × IsOn b e
 
--- no two statements are on one edge
+-- no two statements belong to the same edge
 abbrev pub NoneRepeated : List EdgeValue → List StatementValue → Type 0
 NoneRepeated g additions =
     (k : ℕ) (a : StatementValue) → slice_get additions k ≡ Some a → IsRepeated g additions k a → ⊥
 
--- some statement is on the edge
+-- some statement belongs to the edge
 abbrev pub IsMentioned : List StatementValue → EdgeValue → Type 0
 IsMentioned additions e =
     (k : ℕ) × (a : StatementValue) × (slice_get additions k ≡ Some a) × IsOn a e
@@ -73,28 +73,28 @@ AllMentioned g name additions =
 abbrev pub added_outputs : List StatementValue → List PathText
 added_outputs additions = flat_map (λ a. a.implicit_outputs) additions
 
--- an edge makes the file, or an earlier index of the added outputs has it
+-- an edge produces the file, or it is also at an index of the added outputs before k
 abbrev pub IsMadeBefore : List EdgeValue → List PathText → ℕ → PathText → Type 0
 IsMadeBefore g added k file = IsMade g file ⊎ StandsBefore added k file
 
--- no added output is made by an edge or added twice
+-- no added output is produced by an edge or added twice
 abbrev pub NoneMadeBefore : List EdgeValue → List StatementValue → Type 0
 NoneMadeBefore g additions =
     (k : ℕ) (file : PathText) → slice_get (added_outputs additions) k ≡ Some file →
     IsMadeBefore g (added_outputs additions) k file → ⊥
 
--- the fault that is reported: each is reported only if no fault above it is there
+-- the error that is reported; each is reported only if no error above it applies
 abbrev pub IsEffectFault : List EdgeValue → PathText → List StatementValue → EffectFault → Type 0
 -- the first statement with an invalid path, and in it the first such string
 IsEffectFault g name statements (BadPath k j fault) =
     (s : StatementValue) × (text : Text) × IsFirst HasRefused statements k s
     × IsFirst IsNoPath (path_texts s) j text × (path_of text ≡ Err fault)
--- the first statement that is on no edge that names the file
+-- the first statement that belongs to no edge that names the file
 IsEffectFault g name statements (NotBound output) =
     (additions : List StatementValue) × (k : ℕ) × (a : StatementValue)
     × AreCanonical statements additions × IsFirst (λ a. IsBound g name a → ⊥) additions k a
     × (a.output ≡ output)
--- the first statement that is on the edge of an earlier one
+-- the first statement that belongs to the edge of an earlier one
 IsEffectFault g name statements (StatementTwice output) =
     (additions : List StatementValue) × (k : ℕ) × (a : StatementValue)
     × AreCanonical statements additions × AllBound g name additions
@@ -105,7 +105,7 @@ IsEffectFault g name statements (NotMentioned output) =
     × AreCanonical statements additions × AllBound g name additions × NoneRepeated g additions
     × IsFirst (λ e. Names name e × (IsMentioned additions e → ⊥)) g i e
     × (slice_get e.outputs 0 ≡ Some output)
--- the first added output that is made by an edge or was added before
+-- the first added output that an edge produces or that was added before
 IsEffectFault g name statements (AddedTwice file) =
     (additions : List StatementValue) × (k : ℕ)
     × AreCanonical statements additions × AllBound g name additions × NoneRepeated g additions

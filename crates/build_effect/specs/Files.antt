@@ -8,19 +8,20 @@ use Rattle.build_effect.specs.Graphs.{Names}
 use Rattle.build_effect.specs.Effect.{AreCanonical, IsTheOneOn, OnlyEffect, extended}
 use Rattle.build_effect.specs.Premises.{AddsAt, AddedOnce, MeetsPremises}
 
--- a dyndep file: its name, its statements, and these with canonical paths
+-- a dyndep file: its name, its statements, and the statements with canonical paths
 pub record NamedFile : Type 0 where
   pub name : PathText
   pub statements : List StatementValue
   pub additions : List StatementValue
 
--- each file's statements have canonical paths, and add no file twice
+-- the additions of each file are its statements with canonical paths, and add no output twice
 pub record AreFiles (files : List NamedFile) : Type 0 where
   pub canonical : (n : ℕ) (f : NamedFile) → slice_get files n ≡ Some f →
       AreCanonical f.statements f.additions
   pub added_once : (n : ℕ) (f : NamedFile) → slice_get files n ≡ Some f → AddedOnce f.additions
 
--- each file may be applied to the graph, their names differ, and no two add one file
+-- the graph meets the premises of each file, the names of the files differ, and no two add the same
+-- output
 pub record FilesMeet (g : List EdgeValue) (files : List NamedFile) : Type 0 where
   pub each : (n : ℕ) (f : NamedFile) → slice_get files n ≡ Some f →
       MeetsPremises g f.name f.additions
@@ -30,16 +31,16 @@ pub record FilesMeet (g : List EdgeValue) (files : List NamedFile) : Type 0 wher
       slice_get files n ≡ Some f → slice_get files m ≡ Some h →
       AddsAt f.additions k i file → AddsAt h.additions l j file → n ≡ m
 
--- the files of these indices, applied one after the other, each with exactly one effect, lead from
--- a graph to another
+-- The files with these indexes, applied one after the other, lead from the old graph to the new
+-- one. Each has exactly one effect.
 abbrev pub Applies : List NamedFile → List EdgeValue → Numbers → List EdgeValue → Type 0
 Applies files old [] new = new ≡ old
 Applies files old (n ∷ order) new =
     (f : NamedFile) × (mid : List EdgeValue) × (slice_get files n ≡ Some f)
     × OnlyEffect old f.name f.statements mid × Applies files mid order new
 
--- Each edge that names one of these files has gained exactly what the one statement on it adds, and
--- every other edge stays as it is.
+-- Each edge that names one of these files has gained exactly what its one statement adds. Every
+-- other edge stays as it is.
 pub record GainsExactly (files : List NamedFile) (old : List EdgeValue) (order : Numbers)
     (new : List EdgeValue) : Type 0 where
   pub same_edges : length new ≡ length old
@@ -52,25 +53,25 @@ pub record GainsExactly (files : List NamedFile) (old : List EdgeValue) (order :
       e.dyndep ≢ Some f.name) →
       slice_get new i ≡ Some e
 
--- these are indices of files, and all different
+-- these are indexes of files, and all are different
 pub record AreFileIndices (files : List NamedFile) (order : Numbers) : Type 0 where
   pub within : (p n : ℕ) → slice_get order p ≡ Some n → n < length files
   pub differ : (p q n : ℕ) → slice_get order p ≡ Some n → slice_get order q ≡ Some n → p ≡ q
 
--- files may be applied in any order, and each edge gains exactly its own
+-- Law: the files may be applied in any order, and each edge gains exactly what its statement adds.
 abbrev pub AnyOrder : Type 0
 AnyOrder =
     (files : List NamedFile) (g : List EdgeValue) (order : Numbers) →
     AreFiles files → FilesMeet g files → AreFileIndices files order →
     (new : List EdgeValue) × Applies files g order new × GainsExactly files g order new
 
--- the orders have the same files
+-- both orders have the same files
 abbrev pub SameFiles : Numbers → Numbers → Type 0
 SameFiles order other =
     ((p n : ℕ) → slice_get order p ≡ Some n → (q : ℕ) × (slice_get other q ≡ Some n))
     × ((p n : ℕ) → slice_get other p ≡ Some n → (q : ℕ) × (slice_get order q ≡ Some n))
 
--- all orders of the same files end in the same graph
+-- Law: all orders of the same files lead to the same graph.
 abbrev pub OrdersEndAlike : Type 0
 OrdersEndAlike =
     (files : List NamedFile) (g : List EdgeValue) (order other : Numbers)

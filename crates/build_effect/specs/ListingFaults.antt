@@ -1,5 +1,5 @@
--- The cause of a faulty line of an edge listing, by the lines before it: lexical, then its form,
--- then its paths.
+-- The cause of a faulty line of an edge list, given the lines before it. Lexical errors come first,
+-- then its form, then its paths.
 use Rattle.std.specs.Prelude.{◌≡◌, ◌<◌, ◌≤◌, Bool, false, List, [], ◌∷◌, ◌++◌, length, Some, None, Err}
 use Rattle.ninja_text.specs.Bytes.{Text, PathText}
 use Rattle.ninja_text.specs.Lines.{line_limit, text_of_line, is_comment}
@@ -21,7 +21,7 @@ path_texts (BuildRow t) =
 path_texts (DyndepRow text) = text ∷ []
 path_texts (RestatRow flag) = []
 
--- The first of these strings that is not a valid path has this fault.
+-- The first of these strings that is not a valid path has this error.
 pub record IsFirstRefused (texts : List Text) (fault : PathFault) : Type 0 where
   pub before : List Text
   pub text : Text
@@ -39,13 +39,13 @@ as_class (BuildRow texts) = Build texts
 as_class (DyndepRow text) = Dyndep text
 as_class (RestatRow flag) = Restat flag
 
--- After lines of these classes a line of this row may come, whatever its strings are.
+-- A line of this row may come after lines of these classes, whatever its strings are.
 abbrev pub MayStand : List ListingClass → Row → Type 0
 MayStand classes row = BeginsListing (classes ++ as_class row ∷ [])
 
 -- The cause of a line after lines of these classes, given its text without the end, and whether it
--- is a comment: its first lexical fault; otherwise that it has no row that may come here; otherwise
--- the fault of its first string that is not a valid path.
+-- is a comment. It is the first that applies: a lexical error; `Form`, if the line has no row that
+-- may come here; the error of its first string that is not a valid path.
 abbrev pub IsTextCause : List ListingClass → Text → Bool → LineCause → Type 0
 IsTextCause classes text comment (Lexical fault) =
     (comment ≡ false) × (lexical_fault text ≡ Some fault)
@@ -57,8 +57,7 @@ IsTextCause classes text comment (BadPath fault) =
     × IsFirstRefused (path_texts row) fault
 IsTextCause classes text comment other = ⊥
 
--- The cause of a line, its end included: the line is longer than the limit; otherwise the cause of
--- its text.
+-- The cause of a line, including its end: the line is too long, or otherwise the cause of its text.
 abbrev pub IsLineCause : List ListingClass → Text → LineCause → Type 0
 IsLineCause classes line LineTooLong = line_limit < length line
 IsLineCause classes line cause =

@@ -1,4 +1,4 @@
--- The form of an edge list, over the classes of its lines:
+-- The grammar of an edge list, over the classes of its lines:
 --
 --     listing = ((Comment | Blank)* Build (Comment | Dyndep | Restat)*)* (Comment | Blank)*
 --
@@ -9,8 +9,8 @@ use Rattle.ninja_text.specs.Bytes.{PathText}
 use Rattle.build_effect.specs.EdgeValue.{EdgeValue}
 use Rattle.build_effect.specs.ListingLines.{EdgeTexts, ListingClass, Comment, Blank, Build, Dyndep, Restat}
 
--- The lines begin with comments and at most one binding of each name, which set these values. Other
--- lines follow.
+-- The lines begin with comments and at most one binding of each name, which set these values. The
+-- lines `more` follow.
 pub data HasBindings : List ListingClass → Option PathText → Option Bool → List ListingClass
     → Type 0 where
   no_more_bindings : {more : List ListingClass} → HasBindings more None None more
@@ -29,7 +29,7 @@ abbrev pub is_on : Option Bool → Bool
 is_on None = false
 is_on (Some flag) = flag
 
--- the edge of a build line with these paths, and with these bindings
+-- the edge with these paths and these bindings
 abbrev pub bound : EdgeTexts → Option PathText → Option Bool → EdgeValue
 bound t dyndep restat = record {
   rule = t.rule;
@@ -42,7 +42,7 @@ bound t dyndep restat = record {
   restat = is_on restat;
 }
 
--- The lines are a listing of these edges, one for each build line, in order.
+-- The lines are an edge list with these edges, one for each build line, in order.
 pub data IsListing : List ListingClass → List EdgeValue → Type 0 where
   listing_end : IsListing [] []
   listing_comment : {classes : List ListingClass} {edges : List EdgeValue}
@@ -54,7 +54,7 @@ pub data IsListing : List ListingClass → List EdgeValue → Type 0 where
       → HasBindings classes dyndep restat more → IsListing more edges
       → IsListing (Build paths ∷ classes) (bound paths dyndep restat ∷ edges)
 
--- Some listing begins with lines of these classes.
+-- Some edge list begins with lines of these classes.
 abbrev pub BeginsListing : List ListingClass → Type 0
 BeginsListing classes =
     (more : List ListingClass) × (edges : List EdgeValue) × IsListing (classes ++ more) edges

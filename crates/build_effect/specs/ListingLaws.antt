@@ -1,4 +1,4 @@
--- The laws that a written listing reads back, and that a fault stays.
+-- Laws: a written edge list reads back, and an error stays when more bytes follow.
 use Rattle.std.specs.Prelude.{◌≡◌, ◌++◌, IsTrue, List, All, None}
 use Rattle.ninja_text.specs.Bytes.{Bytes}
 use Rattle.ninja_text.specs.Paths.{IsPath}
@@ -10,7 +10,7 @@ use Rattle.build_effect.specs.ListingReading.{Lists, HasListingFault}
 use Rattle.build_effect.specs.ListingReaders.{IsListingFaultIn}
 use Rattle.build_effect.specs.declared.fault.LineFault.{LineFault}
 
--- An edge that a listing can have: its rule has a valid name, and its paths are canonical.
+-- An edge that an edge list can contain: its rule has a valid name, and its paths are canonical.
 pub record IsListable (e : EdgeValue) : Type 0 where
   pub rule : IsTrue (is_rule_name e.rule)
   pub made : All IsPath (made_by e)
@@ -22,7 +22,7 @@ WrittenListing =
     (g : List EdgeValue) → IsGraph g → All IsListable g → first_too_long g ≡ None
     → Lists (listing_text g) g
 
--- Law: a fault in the bytes so far is the fault of every text that begins with them.
+-- Law: an error in these bytes is the error of every text that begins with them.
 abbrev pub ListingFaultStays : Type 0
 ListingFaultStays =
     (bytes more : Bytes) (fault : LineFault)

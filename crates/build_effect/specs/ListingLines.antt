@@ -1,4 +1,4 @@
--- The kinds of lines of an edge listing (Ninja 1.11 manual, "Build statements", "Lexical syntax").
+-- The kinds of lines of an edge list (Ninja 1.11 manual, "Build statements", "Lexical syntax").
 use Rattle.std.specs.Prelude.{◌≡◌, ◌≢◌, ℕ, Bool, true, false, ◌&&◌, not, nat_lt, IsTrue, List, [], ◌∷◌, ◌++◌, length, map, codes, None, Ok}
 use Rattle.std.specs.List.{list_all}
 use Rattle.ninja_text.specs.Bytes.{Text, PathText, Name}
@@ -10,7 +10,7 @@ use Rattle.ninja_text.specs.declared.token.TokenKind.TheVariants.{Bar, DoubleBar
 use Rattle.dyndep_file.specs.Classes.{Symbol, WordSymbol, SignSymbol, symbols, begins_at_start, begins_with_space, Assigns, IsPart}
 use Rattle.build_effect.specs.Effect.{ArePaths}
 
--- What a build line says: the name of a rule, and five lists of words, strings or paths.
+-- The parts of a build line: the name of a rule, and five lists of raw words, strings or paths.
 pub record EdgeTexts : Type 0 where
   pub rule : Name
   pub outputs : List PathText
@@ -19,8 +19,7 @@ pub record EdgeTexts : Type 0 where
   pub implicit_inputs : List PathText
   pub order_only : List PathText
 
--- whether a rule may have this name: it has at least one letter, digit, `_`, `.` or `-`, and
--- nothing else
+-- whether a rule may have this name: one or more letters, digits, `_`, `.` and `-`
 abbrev pub is_rule_name : Name → Bool
 is_rule_name name = not (is_empty name) && list_all is_identifier_byte name
 
@@ -28,8 +27,8 @@ is_rule_name name = not (is_empty name) && list_all is_identifier_byte name
 --
 --     build outputs | implicit outputs : rule inputs | implicit inputs || order-only inputs
 --
--- and there is an output. A `|` or `||` may be missing together with its words. The words are in
--- their escaped form.
+-- and there is at least one output. A part with `|` or `||` may be missing or empty. The words are
+-- given by their raw bytes.
 abbrev pub IsEdgeLine : List Symbol → EdgeTexts → Type 0
 IsEdgeLine symbols words =
     (made needed waited_for : List Symbol) × IsPart Bar made words.implicit_outputs
@@ -40,7 +39,7 @@ IsEdgeLine symbols words =
     ++ SignSymbol Colon ∷ WordSymbol words.rule ∷ map WordSymbol words.inputs ++ needed
     ++ waited_for)
 
--- the strings of the words, without escapes; a rule's name has no escapes
+-- the build line with the values of its words; the name of a rule has no escapes
 abbrev pub meant : EdgeTexts → EdgeTexts
 meant words = record {
   rule = words.rule;
@@ -51,10 +50,9 @@ meant words = record {
   order_only = map value_of words.order_only;
 }
 
--- ---- rows: the kind of a line, with strings in the place of its paths
+-- ---- rows: the kind of a line, with strings instead of paths
 
--- A comment, a blank line, a build line, or an indented assignment to `dyndep`, with its value, or
--- to `restat`, on or off.
+-- A comment, a blank line, a build line with its strings, or a binding of `dyndep` or `restat`.
 pub data Row : Type 0 where
   CommentRow : Row
   BlankRow : Row
@@ -62,9 +60,9 @@ pub data Row : Type 0 where
   DyndepRow : Text → Row
   RestatRow : Bool → Row
 
--- A line has this row, given its text without the end, and whether it is a comment. A comment holds
--- any bytes; every other line has no lexical fault. A blank line has no token. A build line begins
--- at its first byte, and its strings are the values of its words. A binding is indented, and
+-- A line has this row, given its text without the end, and whether it is a comment. A comment may
+-- contain any bytes; every other line has no lexical error. A blank line has no token. A build line
+-- begins at its first byte, and its strings are the values of its words. A binding is indented, and
 -- `restat` is on if the value is not empty.
 abbrev pub TextIsOfRow : Text → Bool → Row → Type 0
 TextIsOfRow text comment CommentRow = comment ≡ true
@@ -91,7 +89,7 @@ pub data ListingClass : Type 0 where
   Dyndep : PathText → ListingClass
   Restat : Bool → ListingClass
 
--- The build line has this rule, and the canonical paths of these strings.
+-- `paths` has the rule of `texts` and the canonical paths of its strings.
 pub record AreEdgePaths (texts paths : EdgeTexts) : Type 0 where
   pub rule : paths.rule ≡ texts.rule
   pub outputs : ArePaths texts.outputs paths.outputs
@@ -110,6 +108,6 @@ RowIsOfClass (BuildRow texts) c =
 RowIsOfClass (DyndepRow text) c = (path : PathText) × (path_of text ≡ Ok path) × (c ≡ Dyndep path)
 RowIsOfClass (RestatRow flag) c = c ≡ Restat flag
 
--- A line of this text, which is a comment or not, has this class.
+-- A line has this class, given its text without the end, and whether it is a comment.
 abbrev pub IsListingLine : Text → Bool → ListingClass → Type 0
 IsListingLine text comment c = (row : Row) × TextIsOfRow text comment row × RowIsOfClass row c

@@ -1,5 +1,5 @@
--- What a reader of edge listings returns, by all bytes that it was fed, however they were cut into
--- pieces.
+-- What a reader of edge lists returns, given all bytes that it was fed. It does not matter how they
+-- were cut into pieces.
 use Rattle.std.specs.Prelude.{◌≡◌, ◌⊎◌, List, Some, Result, Ok, Err}
 use Rattle.ninja_text.specs.Bytes.{Bytes}
 use Rattle.ninja_text.specs.LineReading.{LinesRead}
@@ -18,28 +18,27 @@ use Rattle.build_effect.specs.declared.fault.ListFault.{ListFault}
 use Rattle.build_effect.specs.declared.fault.ListFault.TheVariants.{AtLine, NoGraph}
 use Rattle.build_effect.specs.declared.listing.state.Binding.TheVariants.{Closed}
 
--- Lines of these classes are a listing of the edges so far, and leave these bindings open.
+-- Lines of these classes list the edges so far and lead to this state of the bindings.
 abbrev pub LeadToEdges : List ListingClass → ListingValue → Type 0
 LeadToEdges classes value =
     IsListing classes value.edges × (value.binding ≡ open_from Closed classes)
 
--- a reader: the lines read, the edges so far, and the error that it reported, if it did
+-- the view of a reader: its cutter of lines, the edges so far, and the failure it returned, if any
 abbrev pub ListingReaderState : Type 0
 ListingReaderState = LinesRead ListingValue LineFault
 
--- The reader was fed these bytes in all, and has reported no error.
+-- The reader was fed these bytes in total and has returned no error.
 abbrev pub HasReadListing : Bytes → ListingReaderState → Type 0
 HasReadListing bytes r = lines.HasRead listing_format LeadToEdges bytes r
 
--- The fault is in the bytes: it is that of the first faulty line, or the bytes after the last line
--- have reached the limit of a line. Every text that begins with these bytes has this fault.
+-- The error is in these bytes: it is that of the first faulty line, or the bytes after the last
+-- line reach the limit of a line. Every text that begins with these bytes has this error.
 abbrev pub IsListingFaultIn : Bytes → LineFault → Type 0
 IsListingFaultIn bytes fault =
     HasFaultyLine bytes fault ⊎ (HasFaultyEnd bytes fault × (fault.cause ≡ LineTooLong))
 
--- What `feed` returns, and what the reader is then, by all bytes fed, including those of this call,
--- if no call failed before: it has read the bytes, or the fault is in them, or an allocation
--- failed.
+-- What `feed` returns and does, given all bytes fed, including this piece, if no earlier call
+-- failed: the reader has read the bytes, or the error is in them, or an allocation failed.
 abbrev pub FeedsListing : Bytes → Result Unit (Failure ListFault) → ListingReaderState → Type 0
 FeedsListing bytes (Ok u) new = HasReadListing bytes new
 FeedsListing bytes (Err (Fault (AtLine fault))) new =
@@ -52,8 +51,8 @@ abbrev pub line_failure : Failure LineFault → Failure ListFault
 line_failure Memory = Memory
 line_failure (Fault fault) = Fault (AtLine fault)
 
--- What `finish` returns, by all bytes fed to a reader that has reported no error: the graph of the
--- edges listed, or the fault of the text's end, or why the edges listed are not a graph, or an
+-- What `finish` returns, given all bytes fed, if no earlier call failed: the graph of the edges
+-- that the bytes list, or the error at their end, or why the edges are not a graph, or that an
 -- allocation failed.
 abbrev pub EndsListing : Bytes → Result (List EdgeValue) (Failure ListFault) → Type 0
 EndsListing bytes (Ok graph) = Lists bytes graph
@@ -62,7 +61,8 @@ EndsListing bytes (Err (Fault (NoGraph fault))) =
     (edges : List EdgeValue) × Lists bytes edges × IsGraphFault edges fault
 EndsListing bytes (Err Memory) = Unit {0}
 
--- Why a whole text gives no graph: it has this fault, or the edges that it lists are not a graph.
+-- Why a text is not the edge list of a graph: it has this error, or the edges that it lists are not
+-- a graph.
 abbrev pub IsListingFault : Bytes → ListFault → Type 0
 IsListingFault bytes (AtLine fault) = HasListingFault bytes fault
 IsListingFault bytes (NoGraph fault) =

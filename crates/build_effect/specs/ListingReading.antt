@@ -1,4 +1,4 @@
--- Which edges a text lists, and which fault a text has if it lists no edges.
+-- Which edges a text lists, and which error it has otherwise.
 use Rattle.std.specs.Prelude.{◌≡◌, ◌⊎◌, ◌<◌, ◌≤◌, Bool, List, [], ◌∷◌, ◌++◌, length}
 use Rattle.ninja_text.specs.Bytes.{Bytes, Text}
 use Rattle.ninja_text.specs.Lines.{line_limit}
@@ -12,27 +12,28 @@ use Rattle.build_effect.specs.declared.fault.LineCause.{LineCause}
 use Rattle.build_effect.specs.declared.fault.LineCause.TheVariants.{LineTooLong, Truncated, Form}
 use Rattle.build_effect.specs.declared.fault.LineFault.{LineFault}
 
--- An edge listing is a format of lines.
+-- Edge lists as a line format.
 abbrev pub listing_format : LineFormat ListingClass (List EdgeValue)
 listing_format = record { text_is_of = IsListingLine; grammar = IsListing }
 
--- The text lists the edges: it is divided into lines, with no bytes left over, and the lines are a
--- listing of these edges.
+-- The text lists these edges: it consists of lines, with no bytes left over, and the lines are an
+-- edge list with these edges.
 abbrev pub Lists : Bytes → List EdgeValue → Type 0
 Lists bytes edges = lines.StandsForValue listing_format bytes edges
 
--- What is wrong at the end of a text without a faulty line: the bytes left over hold no end of a
--- line. They reach the limit, or there are fewer, but at least one.
+-- The error at the end of a text without a faulty line, given the bytes after its last line: they
+-- reach the limit of a line, or they are fewer but not empty.
 abbrev pub IsEndCause : Bytes → LineCause → Type 0
 IsEndCause rest LineTooLong = line_limit ≤ length rest
 IsEndCause rest Truncated = (0 < length rest) × (length rest < line_limit)
 IsEndCause rest other = ⊥
 
+-- the errors of an edge list
 abbrev pub listing_faults : LineFaults ListingClass LineCause
 listing_faults =
     record { of_line = IsLineCause; of_end = λ classes rest cause. IsEndCause rest cause }
 
--- A line of the text is the first faulty one, with this number and cause.
+-- The first faulty line of the text has this number and this cause.
 abbrev pub HasFaultyLine : Bytes → LineFault → Type 0
 HasFaultyLine bytes fault =
     lines.FaultyLine listing_format listing_faults bytes fault.line fault.cause
@@ -42,7 +43,7 @@ abbrev pub HasFaultyEnd : Bytes → LineFault → Type 0
 HasFaultyEnd bytes fault =
     lines.FaultyEnd listing_format listing_faults bytes fault.line fault.cause
 
--- The text has this fault, in a line or at its end.
+-- The text has this error, in a line or at its end.
 abbrev pub HasListingFault : Bytes → LineFault → Type 0
 HasListingFault bytes fault = HasFaultyLine bytes fault ⊎ HasFaultyEnd bytes fault
 
@@ -52,20 +53,20 @@ OneListing =
     (bytes : Bytes) (edges others : List EdgeValue)
     → Lists bytes edges → Lists bytes others → others ≡ edges
 
--- Law: a text that lists edges has no fault.
+-- Law: a text that lists edges has no error.
 abbrev pub ListedIsFaultless : Type 0
 ListedIsFaultless =
     (bytes : Bytes) (edges : List EdgeValue) (fault : LineFault)
     → Lists bytes edges → HasListingFault bytes fault → ⊥
 
--- Law: a text lists edges, or has a fault.
+-- Law: a text lists edges, or has an error.
 abbrev pub ListingOrFault : Type 0
 ListingOrFault =
     (bytes : Bytes)
     → ((edges : List EdgeValue) × Lists bytes edges)
     ⊎ ((fault : LineFault) × HasListingFault bytes fault)
 
--- Law: a text has at most one fault, at one line and with one cause.
+-- Law: a text has at most one error, at one line and with one cause.
 abbrev pub OneListingFault : Type 0
 OneListingFault =
     (bytes : Bytes) (fault other : LineFault)
@@ -77,7 +78,7 @@ OneClass =
     (text : Text) (comment : Bool) (c d : ListingClass)
     → IsListingLine text comment c → IsListingLine text comment d → d ≡ c
 
--- Law: after lines with which some listing begins, a line has a class with which some listing
+-- Law: after lines with which some edge list begins, a line has a class with which some edge list
 -- continues, or it has a cause.
 abbrev pub LineOrCause : Type 0
 LineOrCause =
@@ -85,7 +86,7 @@ LineOrCause =
     → ((c : ListingClass) × IsOfClass listing_format line c × BeginsListing (classes ++ c ∷ []))
     ⊎ ((cause : LineCause) × IsLineCause classes line cause)
 
--- Law: after such lines, a line that has a cause has no class with which a listing continues.
+-- Law: after such lines, no edge list continues with a line that has a cause.
 abbrev pub CauseIsFaulty : Type 0
 CauseIsFaulty =
     (classes : List ListingClass) (line : Text) (cause : LineCause) → BeginsListing classes
@@ -97,7 +98,7 @@ OneCause =
     (classes : List ListingClass) (line : Text) (cause other : LineCause)
     → IsLineCause classes line cause → IsLineCause classes line other → other ≡ cause
 
--- Law: the only cause that a line with a class can have is its form: it may not come at this point.
+-- Law: if a line with a class has a cause, it is `Form`: the line may not come at this point.
 abbrev pub ClassHasForm : Type 0
 ClassHasForm =
     (classes : List ListingClass) (line : Text) (cause : LineCause) (c : ListingClass)

@@ -1,5 +1,5 @@
--- The text of an edge listing (Ninja 1.11 manual, "Build statements"), and what a call that writes
--- it returns and leaves.
+-- The text of an edge list (Ninja 1.11 manual, "Build statements"), and what a call that writes it
+-- returns and does.
 use Rattle.std.specs.Prelude.{◌≡◌, ℕ, ◌+◌, Bool, if◌then◌else◌, nat_lt, List, [], ◌∷◌, ◌++◌, length, codes, Option, Some, None, Result, Ok, Err, ⊤}
 use Rattle.std.specs.List.{flat_map}
 use Rattle.ninja_text.specs.Bytes.{Bytes, Text, PathText, line_feed}
@@ -14,30 +14,32 @@ use Rattle.build_effect.specs.EdgeValue.{EdgeValue}
 use Rattle.build_effect.specs.declared.fault.ListingWriteFault.{ListingWriteFault}
 use Rattle.build_effect.specs.declared.fault.ListingWriteFault.TheVariants.{ListingTooLong, Io}
 
--- the mark and each path after a space, if there are paths
+-- the mark and each path after a space; nothing if there are no paths
 abbrev pub marked_text : Text → List PathText → Text
 marked_text mark [] = []
 marked_text mark (path ∷ paths) = mark ++ flat_map spaced (path ∷ paths)
 
--- what is on the left of the colon, and on its right
+-- the build line before the colon
 abbrev pub left_text : EdgeValue → Text
 left_text e =
     codes "build" ++ flat_map spaced e.outputs ++ marked_text (codes " |") e.implicit_outputs
 
+-- the build line after the colon
 abbrev pub right_text : EdgeValue → Text
 right_text e =
     e.rule ++ flat_map spaced e.inputs ++ marked_text (codes " |") e.implicit_inputs
     ++ marked_text (codes " ||") e.order_only
 
--- the build line of an edge, its end included
+-- the build line of an edge, including its end
 abbrev pub edge_line : EdgeValue → Text
 edge_line e = left_text e ++ codes ": " ++ right_text e ++ line_feed ∷ []
 
--- the lines of its bindings
+-- the line of the binding `dyndep`, if the edge names a file
 abbrev pub dyndep_line : Option PathText → Text
 dyndep_line None = []
 dyndep_line (Some path) = codes "  dyndep = " ++ escaped path ++ line_feed ∷ []
 
+-- the line of the binding `restat`, if it is on
 abbrev pub restat_line : Bool → Text
 restat_line restat = if restat then codes "  restat = 1" ++ line_feed ∷ [] else []
 
@@ -53,24 +55,26 @@ listing_text edges = flat_map edge_text edges
 abbrev pub is_too_long : EdgeValue → Bool
 is_too_long e = nat_lt line_limit (length (edge_line e))
 
--- the index of the first edge whose build line is, if the first edge of the list has this index
+-- the index of the first edge whose build line is too long, if the first edge has this index
 abbrev pub too_long_from : ℕ → List EdgeValue → Option ℕ
 too_long_from index [] = None
 too_long_from index (e ∷ es) = if is_too_long e then Some index else too_long_from (index + 1) es
 
+-- the index of the first edge whose build line is too long
 abbrev pub first_too_long : List EdgeValue → Option ℕ
 first_too_long edges = too_long_from 0 edges
 
--- the text, or the first edge whose build line is too long
+-- the text of the edges, unless the build line of this edge is too long
 abbrev pub listing_text_unless : Option ℕ → List EdgeValue → Result Text ListingWriteFault
 listing_text_unless None edges = Ok (listing_text edges)
 listing_text_unless (Some edge) edges = Err (ListingTooLong edge)
 
+-- the text of the edges, or the error of the first edge whose build line is too long
 abbrev pub listing_text_or_fault : List EdgeValue → Result Text ListingWriteFault
 listing_text_or_fault edges = listing_text_unless (first_too_long edges) edges
 
--- what holds after a call that failed: `Io` means that a call of the writer failed; otherwise
--- nothing was written
+-- The writer after a call that failed. After `Io`, the first `written` bytes were written and one
+-- call of the writer failed. After any other failure the writer is unchanged.
 abbrev pub LeavesListingWriter : {W : Type 0} → (W → Option Bytes) → Counted W → Counted W → Text
     → Failure ListingWriteFault → Type 0
 LeavesListingWriter contents old new text Memory = new ≡ old
@@ -78,8 +82,8 @@ LeavesListingWriter contents old new text (Fault (ListingTooLong edge)) = new �
 LeavesListingWriter contents old new text (Fault (Io written)) =
     IsCutShort contents old new text written
 
--- which calls of the writer were made: on success, calls that took the whole text; with `Io`, calls
--- that took some bytes and the call that failed; otherwise no call
+-- The calls of the writer that were made. On success they took the whole text. With `Io`, calls
+-- took the first `written` bytes, and one more failed. With any other failure no call was made.
 abbrev pub WritesListingInTurn : {W T : Type 0} → Call W → W → W → Text
     → Result T (Failure ListingWriteFault) → Type 0
 WritesListingInTurn writes old new text (Ok done) = IsTakenInTurn writes old new text (length text)
@@ -88,8 +92,8 @@ WritesListingInTurn writes old new text (Err (Fault (ListingTooLong edge))) = ne
 WritesListingInTurn writes old new text (Err (Fault (Io written))) =
     IsStoppedInTurn writes old new text written
 
--- if no allocation and no call of the writer fails, the first edge whose build line is too long is
--- reported
+-- Unless an allocation fails, the first edge whose build line is too long is reported, if there is
+-- one. Success and `Io` mean that there is none.
 abbrev pub AnswersTooLong : {T : Type 0} → Option ℕ → Result T (Failure ListingWriteFault) → Type 0
 AnswersTooLong edge (Ok done) = edge ≡ None
 AnswersTooLong edge (Err Memory) = ⊤

@@ -1,5 +1,5 @@
--- No race, no false wait, no false rebuild and no false cycle after the dyndep file of a target,
--- and after the dyndep files of a project.
+-- After the dyndep file of a target, or the dyndep files of a project, there is no race, no false
+-- wait, no false rebuild and no false cycle.
 use Rattle.std.specs.Prelude.{◌≡◌, ℕ, List, [], ◌∷◌, length, slice_get, Option, Contains}
 use Rattle.std.specs.List.{filter_map}
 use Rattle.ninja_text.specs.Bytes.{PathText}
@@ -22,8 +22,8 @@ use Rattle.collate_core.specs.Builds.{IsMaker, RequiresFile, IsRunOrder, HasNoRa
 
 -- ---- after a target
 
--- `new` is the graph `g` after the dyndep text of a target that has the headline, and `g` meets the
--- premises of the headline.
+-- `new` is the graph `g` after the dyndep file of a target for which the main theorem
+-- (`IsHeadline`) holds, and `g` meets the premises of that theorem.
 pub record IsAfterTarget (target : TargetValue) (g new : List EdgeValue) : Type 0 where
   pub collated : CollatedValue
   pub headline : IsHeadline target collated
@@ -37,19 +37,19 @@ TargetHasNoRace =
     (target : TargetValue) (g new : List EdgeValue) → IsAfterTarget target g new →
     HasNoRace (table_of target ∷ []) g new
 
--- there is no false wait after it
+-- there is no false wait after the dyndep file of a target
 abbrev pub TargetHasNoFalseWait : Type 0
 TargetHasNoFalseWait =
     (target : TargetValue) (g new : List EdgeValue) → IsAfterTarget target g new →
     HasNoFalseWait (table_of target ∷ []) g new
 
--- there is no false rebuild after it
+-- there is no false rebuild after the dyndep file of a target
 abbrev pub TargetHasNoFalseRebuild : Type 0
 TargetHasNoFalseRebuild =
     (target : TargetValue) (g new : List EdgeValue) → IsAfterTarget target g new →
     HasNoFalseRebuild (table_of target ∷ []) g new
 
--- there is no false cycle after it
+-- there is no false cycle after the dyndep file of a target
 abbrev pub TargetHasNoFalseCycle : Type 0
 TargetHasNoFalseCycle =
     (target : TargetValue) (g new : List EdgeValue) → IsAfterTarget target g new →
@@ -57,8 +57,8 @@ TargetHasNoFalseCycle =
 
 -- ---- after targets of a project
 
--- `new` is the graph `g` after the dyndep files of targets of a project, applied in this order, and
--- `g` meets the premises of `AllOrders`.
+-- `new` is the graph `g` after the dyndep files of some targets of a project, loaded in this order,
+-- and `g` meets the premises of `AllOrders`.
 pub record IsAfterProject (targets : List ProjectTargetValue) (outs : List CollatedValue)
     (applied : Numbers) (g new : List EdgeValue) : Type 0 where
   pub style : Option Written
@@ -81,12 +81,12 @@ ProjectHasNoRace =
     (g new : List EdgeValue) → IsAfterProject targets outs applied g new →
     HasNoRace (tables_of targets outs applied) g new
 
--- with each of these targets there are those that it links
+-- the list has, with each target, all targets that it links
 abbrev pub HasLinked : List ProjectTargetValue → Numbers → Type 0
 HasLinked targets applied = (n m : ℕ) → Contains applied n → Sees targets n m → Contains applied m
 
--- After the files of targets and of those that they link, the file of each module that an object
--- of these targets requires is produced.
+-- After the dyndep files of some targets and of all targets that they link, some edge produces the
+-- BMI of each module that an object of these targets requires.
 abbrev pub ProjectMakesAll : Type 0
 ProjectMakesAll =
     (targets : List ProjectTargetValue) (outs : List CollatedValue) (applied : Numbers)

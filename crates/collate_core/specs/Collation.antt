@@ -25,7 +25,7 @@ abbrev pub IsMapText : TableValue → Written → ℕ → RuleValue → Text →
 IsMapText t written object rule text =
     (m : ModuleMapValue) × IsMapOf t object rule m × (written m ≡ Ok text)
 
--- with a style, the text of the map of each object; without one, no texts
+-- with a style, `texts` has the map of each object; without a style, it is empty
 abbrev pub AreMaps : TableValue → Option Written → List Text → Type 0
 AreMaps t None texts = texts ≡ []
 AreMaps t (Some written) texts =
@@ -34,20 +34,19 @@ AreMaps t (Some written) texts =
     slice_get t.objects o ≡ Some rule → slice_get texts o ≡ Some text →
     IsMapText t written o rule text)
 
--- The documents of the target are accepted, their table has no fault, and what is written is the
--- table's.
+-- The target has no error, and everything that is written comes from its table.
 pub record Collates (target : TargetValue) (style : Option Written)
     (c : CollatedValue) : Type 0 where
   pub resolved : IsResolved target
-  -- the dyndep text is that of one statement per object, in order, byte for byte: these have no
-  -- fault, so that every build line keeps the limit
+  -- the dyndep text is exactly that of one statement per object, in order; no build line is too
+  -- long
   pub text : text_or_fault (statements_of (table_of target)) ≡ Ok c.dyndep
-  -- it stands for these statements, and for no others
+  -- it is read as these statements, and as no others
   pub dyndep : StandsForOnly c.dyndep (statements_of (table_of target))
-  -- whose paths are canonical
+  -- all paths of the statements are canonical
   pub canonical : All HasPaths (statements_of (table_of target))
   pub objects : c.objects ≡ map (λ rule. rule.object) (table_of target).objects
   pub info : c.info ≡ info_text (info_of_table target.name target.kept (table_of target))
-  -- which is read as the same info, unless it is too long
+  -- the info file reads back, unless it is too long
   pub info_reads : ReadsBack (info_of_table target.name target.kept (table_of target)) c.info
   pub maps : AreMaps (table_of target) style c.maps

@@ -15,11 +15,11 @@ use Rattle.module_table.specs.declared.fault.TableFault.{TableFault}
 use Rattle.scan_docs.specs.Values.{rules_of, info_of}
 use Rattle.collate_core.specs.Values.{TargetValue}
 
--- the most rules of a target
+-- the maximum number of rules of a target
 abbrev pub rule_limit : ℕ
 rule_limit = 65536
 
--- the rules of scan documents, one document after another
+-- the rules of all scan documents, in order
 abbrev pub all_rules : SettingValue → List Text → List RuleValue
 all_rules s scans = flat_map (rules_of s) scans
 
@@ -30,15 +30,15 @@ table_of target = record {
   infos = map info_of target.infos;
 }
 
--- the scan document passes its checks, and these are its rules
+-- the scan document passes its checks, and means the rules that `rules_of` returns
 abbrev pub IsScanAccepted : SettingValue → Text → Type 0
 IsScanAccepted s scan = IsAccepted (scan_checks s) (AreRules s) scan (rules_of s scan)
 
--- the info document passes its checks, and this is its info
+-- the info document passes its checks, and means what `info_of` returns
 abbrev pub IsInfoAccepted : Text → Type 0
 IsInfoAccepted info = IsAccepted info_checks IsInfo info (info_of info)
 
--- The scan documents pass their checks, and have no more rules than a target may.
+-- The scan documents pass their checks, and together have at most `rule_limit` rules.
 pub record AreScansAccepted (s : SettingValue) (scans : List Text) : Type 0 where
   pub each : All (IsScanAccepted s) scans
   pub limit : length (all_rules s scans) ≤ rule_limit
@@ -48,10 +48,10 @@ pub record AreAccepted (target : TargetValue) : Type 0 where
   pub scans : AreScansAccepted target.setting target.scans
   pub infos : All IsInfoAccepted target.infos
 
--- The documents of the target are accepted, and their table has no fault.
+-- The documents of the target are accepted, and their table has no error.
 pub record IsResolved (target : TargetValue) : Type 0 where
   pub documents : AreAccepted target
   pub no_fault : (fault : TableFault) → IsFault (table_of target) target.kept fault → ⊥
-  -- and so it is sound, and has every module that is to be private
+  -- so the table is sound, and its objects provide all names that are to be private
   pub sound : IsSound (table_of target)
   pub kept : PrivateAreProvided (table_of target) target.kept

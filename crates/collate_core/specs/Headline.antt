@@ -1,4 +1,4 @@
--- The headline: what a collated target does to a build.
+-- The main theorem, called the headline: what a collated target does to a build.
 use Rattle.std.specs.Prelude.{◌≡◌, ◌≢◌, ℕ, not, ◌==◌, ◌||◌, List, ◌++◌, length, map, slice_get, Some, None, All}
 use Rattle.ninja_text.specs.Bytes.{Text, PathText, Name}
 use Rattle.dep_order.specs.Needs.{IsOrderable}
@@ -16,12 +16,12 @@ use Rattle.collate_core.specs.Documents.{table_of, IsResolved}
 use Rattle.collate_core.specs.Statements.{module_files, statements_of}
 use Rattle.collate_core.specs.Collation.{HasPaths, Collates}
 
--- modules: pairs of a name and a file
+-- modules: pairs of a name and a BMI
 abbrev pub Modules : Type 0
 Modules = List (Name × PathText)
 
--- The edge after an object added its modules: the files of the modules that it provides as implicit
--- outputs, with `restat`, and the files of the modules that it requires as implicit inputs.
+-- The edge gains the modules of its object: the BMIs of provided modules as implicit outputs, with
+-- `restat` if there are any, and the BMIs of required modules as implicit inputs.
 abbrev pub with_modules : EdgeValue → Modules → Modules → EdgeValue
 with_modules e provided required = record e {
   implicit_outputs = e.implicit_outputs ++ module_files provided;
@@ -29,8 +29,8 @@ with_modules e provided required = record e {
   restat = e.restat || not (length provided == 0);
 }
 
--- The edge of each object gains exactly what the object provides and requires, and every edge that
--- does not name the file stays as it is.
+-- The edge of each object gains exactly what the object provides and requires. Every edge that does
+-- not name the file stays as it is.
 pub record AddsExactly (t : TableValue) (name : PathText) (old new : List EdgeValue) : Type 0 where
   pub same_edges : length new ≡ length old
   pub objects : (o : ℕ) (rule : RuleValue) (i : ℕ) (e : EdgeValue) →
@@ -39,11 +39,11 @@ pub record AddsExactly (t : TableValue) (name : PathText) (old new : List EdgeVa
   pub others : (i : ℕ) (e : EdgeValue) →
       slice_get old i ≡ Some e → e.dyndep ≢ Some name → slice_get new i ≡ Some e
 
--- The headline: the target's documents have no fault. The dyndep text stands for the statements of
--- its objects and for no others. On every graph that names the file on exactly the objects, and
--- produces none of the added outputs, these statements have exactly one effect, which adds to each
--- object's edge exactly the files that the object provides as outputs and the files that it
--- requires as inputs. What is added can be ordered.
+-- The main theorem. The target's documents and modules have no error. The dyndep text is read as
+-- the statements of its objects, and as nothing else. On every graph that meets the premises
+-- (`MeetsPremises`), these statements have exactly one effect: the edge of each object gains as
+-- outputs exactly the BMIs that the object provides, and as inputs exactly the BMIs that it
+-- requires. What is added can be ordered.
 pub record IsHeadline (target : TargetValue) (c : CollatedValue) : Type 0 where
   pub no_fault : IsResolved target
   pub dyndep : StandsForOnly c.dyndep (statements_of (table_of target))
@@ -53,7 +53,8 @@ pub record IsHeadline (target : TargetValue) (c : CollatedValue) : Type 0 where
       × AddsExactly (table_of target) name g new
   pub orderable : IsOrderable (length (table_of target).objects) (AddedNeeds (table_of target))
 
--- The text is the dyndep text of what the target collates to without maps, which has the headline.
+-- The text is the dyndep text of what the target collates to without maps, for which the main
+-- theorem holds.
 pub record IsDyndepOf (target : TargetValue) (text : Text) : Type 0 where
   pub collated : CollatedValue
   pub collates : Collates target None collated
@@ -62,8 +63,8 @@ pub record IsDyndepOf (target : TargetValue) (text : Text) : Type 0 where
 
 -- ---- what the type of collated targets guarantees
 
--- The text stands for these statements and for no others. Their paths are canonical, their outputs
--- are the objects; objects and added outputs are all different files; and what is added can be
+-- The text is read as these statements, and as no others. Their paths are canonical, and their
+-- outputs are the objects. All objects and added outputs are different files. What is added can be
 -- ordered.
 pub record IsCollatedText (objects : List PathText) (text : Text)
     (statements : List StatementValue) : Type 0 where
@@ -77,6 +78,6 @@ pub record IsCollatedText (objects : List PathText) (text : Text)
       slice_get objects o ≡ Some object → AddsAt statements k m object → ⊥
   pub orderable : IsOrderable (length statements) (AdditionNeeds statements)
 
--- some statements have this dyndep text
+-- the dyndep text is that of some statements, with all guarantees of `IsCollatedText`
 abbrev pub HasStatements : CollatedValue → Type 0
 HasStatements c = (statements : List StatementValue) × IsCollatedText c.objects c.dyndep statements

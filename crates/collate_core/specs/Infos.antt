@@ -1,4 +1,4 @@
--- The modules of a target, for the targets that link it.
+-- The info file of a target, for the targets that link it.
 use Rattle.std.specs.Prelude.{Bool, List, map, bytes_eq}
 use Rattle.std.specs.List.{flat_map, list_any}
 use Rattle.ninja_text.specs.Bytes.{PathText, Name}
@@ -6,11 +6,11 @@ use Rattle.document_values.specs.Info.{ModuleValue, InfoValue}
 use Rattle.module_table.specs.TableValue.{TableValue}
 use Rattle.module_table.specs.Added.{Task, tasks_of}
 
--- whether the name is among the names that a target keeps private
+-- whether this is one of the target's private names
 abbrev pub is_private_name : List Name → Name → Bool
 is_private_name private_names name = list_any (bytes_eq name) private_names
 
--- a module of an object that requires these, and whether it is private
+-- a module of an object, with what the object requires
 abbrev pub module_of : List Name → List (Name × PathText) → Name × PathText → ModuleValue
 module_of private_names required pair = record {
   name = pair.0;
@@ -23,8 +23,8 @@ module_of private_names required pair = record {
 abbrev pub modules_of : List Name → Task → List ModuleValue
 modules_of private_names task = map (module_of private_names task.1) task.0.provided
 
--- the info of a target of this name, which keeps these modules private: all modules of its objects,
--- in the order of the objects, and for one object in order of provision
+-- the info file of a target with this name and these private names: all modules that its objects
+-- provide, in order
 abbrev pub info_of_table : Name → List Name → TableValue → InfoValue
 info_of_table name private_names t = record {
   target = name;

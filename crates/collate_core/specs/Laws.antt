@@ -18,36 +18,36 @@ use Rattle.collate_core.specs.ProjectNeeds.{IsProjectNeeded, AddedApart, MapsRea
 use Rattle.collate_core.specs.declared.fault.Refusal.{Refusal}
 use Rattle.collate_core.specs.declared.fault.Refusal.TheVariants.{Table}
 
--- whatever a target collates to has the headline
+-- the main theorem holds for everything that a target collates to
 abbrev pub HeadlineHolds : Type 0
 HeadlineHolds = (target : TargetValue) (style : Option Written) (c : CollatedValue) →
     Collates target style c → IsHeadline target c
 
--- a target that collates has no rejection
+-- a target that collates is not rejected
 abbrev pub CollatedIsNotRefused : Type 0
 CollatedIsNotRefused =
     (target : TargetValue) (style : Option Written) (c : CollatedValue) (refusal : Refusal) →
     Collates target style c → IsRefusal target style refusal → ⊥
 
--- One rejection: the same kind, index and data. For a cycle it is the same list of objects.
+-- The rejections are the same. For a cycle this means the same list of objects.
 pub data IsSameRefusal : Refusal → Refusal → Type 0 where
   same_refusal : {refusal : Refusal} → IsSameRefusal refusal refusal
   same_fault : {fault other : TableFault} →
       IsSameFault fault other → IsSameRefusal (Table fault) (Table other)
 
--- a target has one rejection at most
+-- a target has at most one rejection
 abbrev pub OneRefusal : Type 0
 OneRefusal = (target : TargetValue) (style : Option Written) (refusal other : Refusal) →
     IsRefusal target style refusal → IsRefusal target style other → IsSameRefusal refusal other
 
--- a project whose targets all collate has no rejection
+-- a project whose targets all collate is not rejected
 abbrev pub ProjectIsNotRefused : Type 0
 ProjectIsNotRefused =
     (style : Option Written) (targets : List ProjectTargetValue) (outs : List CollatedValue)
     (n : ℕ) (refusal : Refusal) →
     CollatesProject style targets outs → IsProjectRefusal style targets n refusal → ⊥
 
--- and it has one rejection at most, of one target
+-- a project has at most one rejection, of one target
 abbrev pub OneProjectRefusal : Type 0
 OneProjectRefusal =
     (style : Option Written) (targets : List ProjectTargetValue) (n m : ℕ)
@@ -55,40 +55,40 @@ OneProjectRefusal =
     IsProjectRefusal style targets n refusal → IsProjectRefusal style targets m other →
     (n ≡ m) × IsSameRefusal refusal other
 
--- in each project, files of its targets may be applied in any order
+-- the dyndep files of a project's targets can be loaded in any order
 abbrev pub ProjectOrders : Type 0
 ProjectOrders =
     (style : Option Written) (targets : List ProjectTargetValue) (outs : List CollatedValue) →
     CollatesProject style targets outs → AllOrders (project_tables targets outs)
 
--- in each project, one numbering of all objects puts the producer of each required file below its
--- user
+-- all objects of a project can be numbered so that the producer of each required BMI has a smaller
+-- number than its users
 abbrev pub ProjectNumbered : Type 0
 ProjectNumbered =
     (style : Option Written) (targets : List ProjectTargetValue) (outs : List CollatedValue) →
     CollatesProject style targets outs → IsProjectOrdered targets (project_tables targets outs)
 
--- For each project, a numbering of the graph with only the added outputs that has the targets one
--- above the other is enough for an order after all targets.
+-- After the dyndep files of all targets of a project, the graph can be ordered if it has a
+-- numbering as in `EndIsOrderable`.
 abbrev pub ProjectEndOrderable : Type 0
 ProjectEndOrderable =
     (style : Option Written) (targets : List ProjectTargetValue) (outs : List CollatedValue) →
     CollatesProject style targets outs → EndIsOrderable (project_tables targets outs)
 
--- what an object needs in the table of its target is what it needs in the project
+-- an object needs the same modules in the table of its target as in the project
 abbrev pub SameNeeds : List ProjectTargetValue → List TableValue → Type 0
 SameNeeds targets tables =
     (n o : ℕ) (t : TableValue) (name : Name) (file : PathText) → slice_get tables n ≡ Some t →
     IsNeeded t o name file ↔ IsProjectNeeded targets tables n o name file
 
--- this holds in each project in which no file is added by two targets
+-- each project has this property if no two of its targets add the same file
 abbrev pub ProjectNeeds : Type 0
 ProjectNeeds =
     (style : Option Written) (targets : List ProjectTargetValue) (outs : List CollatedValue) →
     CollatesProject style targets outs → AddedApart (project_tables targets outs) →
     SameNeeds targets (project_tables targets outs)
 
--- in each project, every style reads the objects' maps back
+-- every style reads back the maps of a project's objects
 abbrev pub ProjectMaps : Type 0
 ProjectMaps =
     (written : Written) (kept : ModuleMapValue → List MapEntry) (entries : Entries) →

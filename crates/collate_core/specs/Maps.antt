@@ -6,7 +6,7 @@ use Rattle.module_maps.specs.Maps.{IsModuleMap}
 use Rattle.module_table.specs.TableValue.{TableValue}
 use Rattle.module_table.specs.Needed.{ArePairs, IsNeeded}
 
--- The map of an object: what it provides, in order of provision, and all that it needs.
+-- The map of an object: the modules that it provides, in order, and all modules that it needs.
 pub record IsMapOf (t : TableValue) (object : ℕ) (rule : RuleValue)
     (m : ModuleMapValue) : Type 0 where
   pub is_map : IsModuleMap m

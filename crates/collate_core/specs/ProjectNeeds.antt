@@ -1,4 +1,4 @@
--- What an object needs in a project, and the maps that say so.
+-- The modules that an object needs in a project, and the maps that list them.
 use Rattle.std.specs.Prelude.{◌≡◌, ℕ, List, ◌++◌, slice_get, Some, Ok}
 use Rattle.ninja_text.specs.Bytes.{Text, PathText, Name}
 use Rattle.document_values.specs.Rule.{RuleValue}
@@ -12,8 +12,9 @@ use Rattle.collate_core.specs.Values.{CollatedValue, ProjectTargetValue}
 use Rattle.collate_core.specs.Statements.{statements_of}
 use Rattle.collate_core.specs.ProjectOrders.{ProjectProvides}
 
--- The name is at the end of a chain of names from object o of target n, each required by the object
--- that provides the one before it, and looked up from the target of that object.
+-- A chain of names leads from object o of target n to this name. Object o requires the first. Each
+-- other name is required by the object that provides the previous one, and is looked up from the
+-- target of that object.
 pub data IsProjectNeeded (targets : List ProjectTargetValue) (tables : List TableValue) :
     ℕ → ℕ → Name → PathText → Type 0 where
   direct : {n o m p : ℕ} {t : TableValue} {name : Name} {file : PathText} →
@@ -25,15 +26,15 @@ pub data IsProjectNeeded (targets : List ProjectTargetValue) (tables : List Tabl
       ProjectProvides targets tables n m p first between →
       IsProjectNeeded targets tables m p name file → IsProjectNeeded targets tables n o name file
 
--- no file is added by two targets
+-- no two targets add the same file
 abbrev pub AddedApart : List TableValue → Type 0
 AddedApart tables =
     (n m k l i j : ℕ) (t u : TableValue) (file : PathText) →
     slice_get tables n ≡ Some t → slice_get tables m ≡ Some u →
     AddsAt (statements_of t) k i file → AddsAt (statements_of u) l j file → n ≡ m
 
--- The text is read as entries whose paths are the files of the provided modules and of all modules
--- that object o of target n needs, in byte order of names.
+-- The text reads back as entries. Their paths are the BMIs of the provided modules, and then of all
+-- modules that object o of target n needs, in byte order of names.
 pub record MapReadsBack (entries : Entries) (targets : List ProjectTargetValue)
     (tables : List TableValue) (n o : ℕ) (rule : RuleValue) (text : Text) : Type 0 where
   pub needed : List (Name × PathText)
@@ -42,7 +43,7 @@ pub record MapReadsBack (entries : Entries) (targets : List ProjectTargetValue)
   pub reads : entries text ≡ Ok found
   pub are_entries : AreEntriesOf (rule.provided ++ needed) found
 
--- if no file is added by two targets, the style reads each object's map back
+-- if no two targets add the same file, the style reads back each object's map
 abbrev pub MapsReadBack : Entries → List ProjectTargetValue → List TableValue →
     List CollatedValue → Type 0
 MapsReadBack entries targets tables outs =

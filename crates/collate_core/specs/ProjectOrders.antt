@@ -26,9 +26,9 @@ dyndep_file name statements = record {
 abbrev pub dyndep_files : List PathText → List TableValue → List NamedFile
 dyndep_files names tables = map (λ x. dyndep_file x.0 (statements_of x.1)) (zip names tables)
 
--- On graphs that name each file on exactly its target's objects, any order of any targets' files
--- ends in the same graph. In it the edge of each object of these targets has gained exactly what
--- its statement adds.
+-- On every graph that meets the premises (`FilesMeet`), the dyndep files of any targets can be
+-- loaded in any order. At the end, the edge of each object of these targets has gained exactly what
+-- its statement adds. All orders of the same files end in the same graph.
 pub record AllOrders (tables : List TableValue) : Type 0 where
   pub gains : (g : List EdgeValue) (names : List PathText) (order : Numbers) →
       length names ≡ length tables → FilesMeet g (dyndep_files names tables) →
@@ -45,20 +45,20 @@ pub record AllOrders (tables : List TableValue) : Type 0 where
 
 -- ---- one order of all objects
 
--- target m is seen from target n: it is the same, or n links it
+-- target n sees target m: they are the same, or n links m
 abbrev pub Sees : List ProjectTargetValue → ℕ → ℕ → Type 0
 Sees targets n m =
     (n ≡ m) ⊎ ((p : ProjectTargetValue) × (slice_get targets n ≡ Some p) × Contains p.linked m)
 
--- object p of target m, which is seen from target n, provides the name with the file
+-- object p of target m, which target n sees, provides the name with this BMI
 abbrev pub ProjectProvides : List ProjectTargetValue → List TableValue →
     ℕ → ℕ → ℕ → Name → PathText → Type 0
 ProjectProvides targets tables n m p name file =
     (t : TableValue) × (j : ℕ) × Sees targets n m × (slice_get tables m ≡ Some t)
     × Provides t p j name file
 
--- Every name that an object requires is provided, and one numbering of all objects puts the
--- producer of its file below its user.
+-- Every name that an object requires is provided. All objects can be numbered so that the producer
+-- of a required module has a smaller number than its users.
 pub record IsProjectOrdered (targets : List ProjectTargetValue)
     (tables : List TableValue) : Type 0 where
   pub files : (n o : ℕ) (t : TableValue) (name : Name) →
@@ -71,9 +71,9 @@ pub record IsProjectOrdered (targets : List ProjectTargetValue)
 
 -- ---- the graph after all targets
 
--- If some numbering of the graph with only the added outputs puts each needed edge below its user,
--- gives the edges of each target one number, and gives no later target a smaller one, the end of
--- all targets in any order can be ordered.
+-- After the dyndep files of all targets, in any order, the graph can be ordered, if the graph with
+-- only the added outputs has a numbering: needed edges have smaller numbers, all edges of one
+-- target have the same number, and no later target has a smaller one.
 abbrev pub EndIsOrderable : List TableValue → Type 0
 EndIsOrderable tables =
     (g : List EdgeValue) (names : List PathText) (order : Numbers)

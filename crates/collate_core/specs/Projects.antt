@@ -12,11 +12,11 @@ use Rattle.collate_core.specs.Refusals.{IsRefusal, WasRead}
 use Rattle.collate_core.specs.declared.fault.Refusal.{Refusal}
 use Rattle.collate_core.specs.declared.fault.Refusal.TheVariants.{LinkedLater}
 
--- the info files that the targets of these indexes wrote
+-- the info files that the targets at these indexes wrote
 abbrev pub linked_infos : List CollatedValue → Numbers → List Text
 linked_infos outs linked = map (λ k. option_map_or (λ c. c.info) (slice_get outs k) []) linked
 
--- the target with the info files that the linked ones wrote
+-- the target, with the info files that its linked targets wrote
 abbrev pub target_of : List CollatedValue → ProjectTargetValue → TargetValue
 target_of outs p = record {
   name = p.name;
@@ -30,8 +30,8 @@ target_of outs p = record {
 abbrev pub project_tables : List ProjectTargetValue → List CollatedValue → List TableValue
 project_tables targets outs = map (λ p. table_of (target_of outs p)) targets
 
--- The targets collate to these, one after another, each with the info files that the linked ones
--- wrote, all of which are earlier.
+-- The targets collate to these values, in order. Each gets the info files of the targets that it
+-- links, which are all earlier.
 pub record CollatesProject (style : Option Written) (targets : List ProjectTargetValue)
     (outs : List CollatedValue) : Type 0 where
   pub count : length outs ≡ length targets
@@ -43,27 +43,26 @@ pub record CollatesProject (style : Option Written) (targets : List ProjectTarge
 
 -- ---- rejections
 
--- all targets that this one links are before this index
+-- the target links only targets before this index
 abbrev pub LinksEarlier : ℕ → ProjectTargetValue → Type 0
 LinksEarlier n p = All (λ k. k < n) p.linked
 
--- The rejection of the target of this index, after these: it links one that is not earlier, or it
--- is what collating it returns.
+-- Why target n is rejected, after earlier targets collated to `outs`: it links a target that is not
+-- earlier (K3), or collating it fails.
 abbrev pub IsLinkedRefusal : Option Written → List CollatedValue → ℕ → ProjectTargetValue →
     Refusal → Type 0
 IsLinkedRefusal style outs n p refusal =
     ((LinksEarlier n p → ⊥) × (refusal ≡ LinkedLater))
     ⊎ (LinksEarlier n p × IsRefusal (target_of outs p) style refusal)
 
--- the rejection of the first target that has one: the targets before it collate
+-- target n is rejected for this reason, and all targets before it collate
 abbrev pub IsProjectRefusal : Option Written → List ProjectTargetValue → ℕ → Refusal → Type 0
 IsProjectRefusal style targets n refusal =
     (outs : List CollatedValue) × (p : ProjectTargetValue)
     × CollatesProject style (take n targets) outs
     × (slice_get targets n ≡ Some p) × IsLinkedRefusal style outs n p refusal
 
--- what was read of the target of this index, which has this rejection, once the targets before it
--- collated
+-- what was read of target n, which is rejected after all targets before it collated
 abbrev pub WasReadAt : Option Written → List ProjectTargetValue → ℕ → Refusal → TableValue → Type 0
 WasReadAt style targets n refusal read =
     (outs : List CollatedValue) × (p : ProjectTargetValue)

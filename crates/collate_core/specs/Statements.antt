@@ -5,13 +5,13 @@ use Rattle.dyndep_file.specs.StatementValue.{StatementValue}
 use Rattle.module_table.specs.TableValue.{TableValue}
 use Rattle.module_table.specs.Added.{Task, tasks_of}
 
--- the files of modules, which are pairs of a name and a file
+-- the BMIs of these modules
 abbrev pub module_files : List (Name × PathText) → List PathText
 module_files modules = map (λ pair. pair.1) modules
 
--- An object's statement: its path, with the files of the modules that it provides as implicit
--- outputs, in order of provision, and the files of the modules that it requires as implicit inputs,
--- in order of first mention. `restat` is on if and only if it provides a module.
+-- An object's statement. Its output is the object. Its implicit outputs are the BMIs that the
+-- object provides, in order, and its implicit inputs are the BMIs that it requires, in order of
+-- first mention. `restat` is set if and only if the object provides a module.
 abbrev pub statement_of : Task → StatementValue
 statement_of task = record {
   output = task.0.object;

@@ -5,8 +5,8 @@ use Rattle.dep_order.specs.Numbers.{Numbers}
 use Rattle.scan_docs.specs.Scan.{SettingValue}
 use Rattle.collate_core.specs.declared.collated.CollatedParts.{CollatedParts}
 
--- a target: its name, the setting of its files, its scan documents, the info files of the targets
--- that it links, and the names of its private modules
+-- a target: its name, its directories and extension, its scan documents, the info files of the
+-- targets that it links, and the names of its private modules
 pub record TargetValue : Type 0 where
   pub name : Name
   pub setting : SettingValue
@@ -14,8 +14,8 @@ pub record TargetValue : Type 0 where
   pub infos : List Text
   pub kept : List Name
 
--- what a target collates to: the text of the dyndep file, the text of the info, the objects, and
--- with a style the text of a map for each object
+-- what a target collates to: the dyndep file, the info file, the objects, and with a style a map
+-- for each object
 pub record CollatedValue : Type 0 where
   pub dyndep : Text
   pub info : Text

@@ -1,7 +1,7 @@
 -- The arguments of the program.
 use Rattle.std.specs.Prelude.{ℕ, List}
 
--- an argument is its bytes
+-- the bytes of an argument
 abbrev pub Argument : Type 0
 Argument = List ℕ
 

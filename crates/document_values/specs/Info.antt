@@ -1,4 +1,4 @@
--- The contents of an info file, as contracts see them.
+-- The view of an info file.
 use Rattle.std.specs.Prelude.{List, Bool}
 use Rattle.ninja_text.specs.Bytes.{PathText, Name}
 

@@ -1,4 +1,4 @@
--- A line's tokens as the grammar of dyndep files sees them.
+-- The tokens of a line as the symbols of the grammar of dyndep files.
 use Rattle.std.specs.Prelude.{Bool, false, List, map}
 use Rattle.ninja_text.specs.Bytes.{Text}
 use Rattle.ninja_text.specs.Tokens.{SeenToken}
@@ -7,15 +7,15 @@ use Rattle.ninja_text.specs.declared.token.Words.{Words}
 use Rattle.dyndep_file.specs.Classes.{Symbol, WordSymbol, SignSymbol, symbol}
 use Rattle.dyndep_file.specs.Faults.{same_bytes}
 
--- a token as the grammar sees it
+-- the symbol of a token
 abbrev pub symbol_of : SeenToken → Symbol
 symbol_of t = symbol t.kind t.raw
 
--- the symbols of the tokens that are still to come
+-- the symbols of the tokens that the iterator still has to return
 abbrev pub symbols_left : Words → List Symbol
 symbols_left words = map symbol_of (tokens_left words)
 
--- whether it is the word of just these bytes
+-- whether the symbol is a word of exactly these bytes
 abbrev pub is_this_word : Text → Symbol → Bool
 is_this_word bytes (WordSymbol word) = same_bytes word bytes
 is_this_word bytes (SignSymbol kind) = false

@@ -1,5 +1,5 @@
--- The lines of a dyndep file, by what they are (Ninja 1.11 manual, "Dyndep file reference" and
--- "Lexical syntax").
+-- The kinds of lines of a dyndep file (Ninja 1.11 manual, "Dyndep file reference" and "Lexical
+-- syntax").
 use Rattle.std.specs.Prelude.{◌≡◌, ℕ, Bool, true, false, ◌==◌, ◌&&◌, ◌||◌, not, nat_lt, IsTrue, List, [], ◌∷◌, ◌++◌, length, map, codes, ◌⊎◌, Some, None}
 use Rattle.ninja_text.specs.Units.{is_digit}
 use Rattle.ninja_text.specs.Bytes.{Text, PathText, Name, space, dot, digit_zero, digit_one}
@@ -9,9 +9,8 @@ use Rattle.ninja_text.specs.declared.token.TokenKind.{TokenKind}
 use Rattle.ninja_text.specs.declared.token.TokenKind.TheVariants.{Word, Bar, DoubleBar, BarAt, Colon}
 use Rattle.ninja_text.specs.Assignments.{SeenAssignment, assignment_of}
 
--- What a line is: a comment, a blank line, the version line, a build line with its explicit output,
--- its implicit outputs and its implicit inputs, or a binding of `restat`, which sets the flag or
--- does not.
+-- The kind of a line: a comment, a blank line, the version line, a build line with its output, its
+-- implicit outputs and its implicit inputs, or a binding, which turns `restat` on or off.
 pub data DyndepClass : Type 0 where
   Comment : DyndepClass
   Blank : DyndepClass
@@ -19,8 +18,7 @@ pub data DyndepClass : Type 0 where
   Build : PathText → List PathText → List PathText → DyndepClass
   Binding : Bool → DyndepClass
 
--- a token of a build line: a word with its escaped bytes, or one of the signs `|`,
--- `||`, `|@` and `:`
+-- a token of a line: a word with its raw bytes, or one of the signs `|`, `||`, `|@` and `:`
 pub data Symbol : Type 0 where
   WordSymbol : Text → Symbol
   SignSymbol : TokenKind → Symbol
@@ -42,14 +40,14 @@ abbrev pub begins_at_start : List TokenAt → Bool
 begins_at_start [] = false
 begins_at_start (t ∷ ts) = t.start == 0
 
--- A part of a build line: nothing at all, or this sign and these words, of which there may be none.
--- Implicit outputs and implicit inputs have the sign `|`.
+-- A part of a build line: it is missing, or it has this sign and any number of words. Implicit
+-- outputs and implicit inputs have the sign `|`.
 abbrev pub IsPart : TokenKind → List Symbol → List Text → Type 0
 IsPart sign part words =
     ((part ≡ []) × (words ≡ [])) ⊎ (part ≡ SignSymbol sign ∷ map WordSymbol words)
 
--- The line is `build output | outputs : dyndep | inputs`, and begins at its first byte; the words
--- are given escaped.
+-- The line is `build output | outputs : dyndep | inputs`, and the keyword begins at the first byte.
+-- The words are given by their raw bytes.
 abbrev pub IsBuild : Text → PathText → List PathText → List PathText → Type 0
 IsBuild text output outputs inputs =
     (before after : List Symbol) × IsPart Bar before outputs × IsPart Bar after inputs
@@ -57,8 +55,7 @@ IsBuild text output outputs inputs =
     × (symbols text ≡ WordSymbol (codes "build") ∷ WordSymbol output ∷ before
     ++ SignSymbol Colon ∷ WordSymbol (codes "dyndep") ∷ after)
 
--- The line is an assignment to this name, which begins at this byte, of this value, without
--- escapes.
+-- The line assigns this value, without escapes, to this name, which begins at this offset.
 abbrev pub Assigns : Text → Name → ℕ → Text → Type 0
 Assigns text name start value =
     (a : SeenAssignment) × (assignment_of text ≡ Some a) × (a.name_start ≡ start) × (a.name ≡ name)
@@ -69,13 +66,13 @@ abbrev pub begins_with_space : Text → Bool
 begins_with_space [] = false
 begins_with_space (b ∷ bytes) = b == space
 
--- whether a number ends before these bytes: no digit follows and, unless dots are allowed, no `.`
+-- whether a number ends before these bytes: no digit follows, and no `.` unless dots are allowed
 abbrev pub ends_number : Bool → Text → Bool
 ends_number dots [] = true
 ends_number dots (b ∷ bytes) = not (is_digit b) && (dots || not (b == dot))
 
--- whether a version is one that Ninja 1.11 reads: `1` and then neither a digit nor `.`, or `1.0`
--- and then no digit
+-- whether Ninja 1.11 accepts this version: `1` with no digit or `.` after it, or `1.0` with no
+-- digit after it
 abbrev pub is_version_one : Text → Bool
 is_version_one [] = false
 is_version_one (a ∷ rest) = (a == digit_one) && (ends_number false rest || dot_zero rest) where
@@ -84,11 +81,11 @@ is_version_one (a ∷ rest) = (a == digit_one) && (ends_number false rest || dot
   dot_zero (a ∷ []) = false
   dot_zero (a ∷ b ∷ rest) = (a == dot) && (b == digit_zero) && ends_number true rest
 
--- A line is of this class, by its text without the end, and by whether it is a comment: one holds
--- any bytes, every other line has no lexical fault. A blank line has no token. A version line
--- assigns a version that is read, and its name is at the first byte. The paths of a build line
--- are the values of its words, without escapes. A binding is an indented assignment to `restat`,
--- and sets the flag if the value is not empty.
+-- A line has this class, given its text without the end, and whether it is a comment. A comment may
+-- contain any bytes; every other line has no lexical error. A blank line has no token. A version
+-- line assigns an accepted version, and the name begins at the first byte. The paths of a build
+-- line are the values of its words. A binding is an indented assignment to `restat`, and turns it
+-- on if the value is not empty.
 abbrev pub IsDyndepLine : Text → Bool → DyndepClass → Type 0
 IsDyndepLine text comment Comment = comment ≡ true
 IsDyndepLine text comment Blank =

@@ -1,4 +1,4 @@
--- How the faults of a dyndep file are printed: the code, the name, and the position.
+-- How the errors of a dyndep file are printed: code, name and position.
 use Rattle.std.specs.Prelude.{◌++◌, codes}
 use Rattle.std.specs.Fmt.{decimal}
 use Rattle.ninja_text.specs.Bytes.{Text}
@@ -29,13 +29,13 @@ line_fault_text OrderOnly = codes "Y13 OrderOnly"
 line_fault_text Validation = codes "Y14 Validation"
 line_fault_text BadBinding = codes "Y15 BadBinding"
 
--- why a dyndep file was not read
+-- why a dyndep file could not be read
 abbrev pub read_fault_text : ReadFault → Text
 read_fault_text (AtLine line fault) =
     codes "line " ++ decimal line ++ codes ": " ++ line_fault_text fault
 read_fault_text Io = codes "Y16 Io"
 
--- why a list of statements was not written
+-- why a list of statements could not be written
 abbrev pub write_fault_text : WriteFault → Text
 write_fault_text (write.Unwritable statement path) =
     codes "Y1 Unwritable statement " ++ decimal statement ++ codes " path " ++ decimal path

@@ -8,15 +8,16 @@ use Rattle.ninja_text.specs.Bytes.{PathText}
 use Rattle.dyndep_file.specs.StatementValue.{StatementValue, statement_with}
 use Rattle.dyndep_file.specs.Classes.{DyndepClass, Comment, Blank, Version, Build, Binding}
 
--- The lines begin with comments and a binding of `restat` to this flag, and continue with these.
+-- The lines begin with any comments and a binding of `restat` to this flag. The lines `more`
+-- follow.
 pub data HasBinding : List DyndepClass → Bool → List DyndepClass → Type 0 where
   binding_here : {flag : Bool} {more : List DyndepClass}
       → HasBinding (Binding flag ∷ more) flag more
   comment_before : {flag : Bool} {classes more : List DyndepClass}
       → HasBinding classes flag more → HasBinding (Comment ∷ classes) flag more
 
--- The lines after the version line are a body with these statements, one for each build line, in
--- order. The flag `restat` of a statement is that of its binding, and off if it has none.
+-- The lines after the version line list these statements, one for each build line, in order. A
+-- statement has the flag of its binding. Without a binding the flag is off.
 pub data IsDyndepBody : List DyndepClass → List StatementValue → Type 0 where
   body_end : IsDyndepBody [] []
   body_comment : {classes : List DyndepClass} {statements : List StatementValue}
@@ -35,7 +36,7 @@ pub data IsDyndepBody : List DyndepClass → List StatementValue → Type 0 wher
       → IsDyndepBody (Build output outputs inputs ∷ classes)
       (statement_with output outputs inputs flag ∷ statements)
 
--- The lines are a whole dyndep file with these statements.
+-- The lines are a complete dyndep file with these statements.
 pub data IsDyndepFile : List DyndepClass → List StatementValue → Type 0 where
   comment_first : {classes : List DyndepClass} {statements : List StatementValue}
       → IsDyndepFile classes statements → IsDyndepFile (Comment ∷ classes) statements

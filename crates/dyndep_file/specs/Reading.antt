@@ -1,5 +1,4 @@
--- Which statements a text stands for as a dyndep file, and which fault a text has that stands for
--- none.
+-- Which statements a text stands for as a dyndep file, and which error it has otherwise.
 use Rattle.std.specs.Prelude.{◌≡◌, ℕ, ◌<◌, ◌≤◌, false, List, [], length, Some}
 use Rattle.std.specs.List.{list_any}
 use Rattle.ninja_text.specs.Bytes.{Bytes}
@@ -13,12 +12,12 @@ use Rattle.dyndep_file.specs.Faults.{stage_after, line_fault, is_version}
 use Rattle.dyndep_file.specs.declared.fault.LineFault.{LineFault}
 use Rattle.dyndep_file.specs.declared.fault.LineFault.TheVariants.{LineTooLong, Truncated, NoVersion}
 
--- A dyndep file is a format of lines.
+-- Dyndep files as a line format.
 abbrev pub dyndep_format : LineFormat DyndepClass (List StatementValue)
 dyndep_format = record { text_is_of = IsDyndepLine; grammar = IsDyndepFile }
 
--- The text stands for the statements: it is divided into lines, with no bytes left over, and the
--- lines are a dyndep file with them.
+-- The text stands for these statements: it consists of lines, with no bytes left over, and the
+-- lines are a dyndep file with these statements.
 abbrev pub StandsFor : Bytes → List StatementValue → Type 0
 StandsFor bytes statements = lines.StandsForValue dyndep_format bytes statements
 
@@ -27,26 +26,27 @@ pub record StandsForOnly (bytes : Bytes) (statements : List StatementValue) : Ty
   pub stands : StandsFor bytes statements
   pub only : (others : List StatementValue) → StandsFor bytes others → others ≡ statements
 
--- a fault, and the number of its line
+-- an error, and the number of its line
 pub record FaultAt : Type 0 where
   pub line : ℕ
   pub fault : LineFault
 
--- What is wrong at the end of a text without a faulty line: the bytes left over hold no end and
--- reach the limit, or they are fewer but some, or there are none and no version line came.
+-- The error at the end of a text without a faulty line, given the bytes after its last line: they
+-- reach the limit of a line, or they are fewer but not empty, or they are empty and there is no
+-- version line.
 abbrev pub IsEndFault : Bytes → List DyndepClass → LineFault → Type 0
 IsEndFault rest classes LineTooLong = line_limit ≤ length rest
 IsEndFault rest classes Truncated = (0 < length rest) × (length rest < line_limit)
 IsEndFault rest classes NoVersion = (rest ≡ []) × (list_any is_version classes ≡ false)
 IsEndFault rest classes other = ⊥
 
--- The tables give the faults of a line.
+-- The errors of a line are in the tables of `Faults.antt`.
 abbrev pub dyndep_faults : LineFaults DyndepClass LineFault
 dyndep_faults = record {
   of_line = λ classes line fault. line_fault (stage_after classes) line ≡ Some fault;
   of_end = λ classes rest fault. IsEndFault rest classes fault;
 }
 
--- The text has this fault, in its first faulty line or at its end.
+-- The text has this error, in its first faulty line or at its end.
 abbrev pub HasReadFault : Bytes → FaultAt → Type 0
 HasReadFault bytes found = lines.HasFault dyndep_format dyndep_faults bytes found.line found.fault

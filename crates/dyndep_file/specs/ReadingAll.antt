@@ -1,4 +1,4 @@
--- Reading to the end of a reader: which calls of the reader are made, and what is returned.
+-- Reading a dyndep file to the end of a reader: which calls are made, and what is returned.
 use Rattle.std.specs.Prelude.{◌≡◌, ℕ, ◌<◌, ◌≤◌, ◌-◌, ◌^◌, Bool, true, false, List, [], ◌∷◌, ◌++◌, length, take, Option, Result, Ok, Err}
 use Rattle.std.specs.List.{flat_map}
 use Rattle.std.specs.Io.KnownBytes.{Consumes, IsAtEnd}
@@ -14,64 +14,65 @@ use Rattle.dyndep_file.specs.declared.fault.LineFault.{LineFault}
 use Rattle.dyndep_file.specs.declared.fault.ReadFault.{ReadFault}
 use Rattle.dyndep_file.specs.declared.fault.ReadFault.TheVariants.{AtLine, Io}
 
--- No line of the bytes is faulty, and the rest without an end is below the limit: whatever follows,
--- a reader continues.
+-- The bytes contain no error so far: no complete line is faulty, and the bytes after the last line
+-- end are fewer than the limit of a line. More bytes may follow.
 abbrev pub IsUnrefused : Bytes → Type 0
 IsUnrefused bytes = (line : ℕ) (fault : LineFault) → IsReadFaultIn bytes (AtLine line fault) → ⊥
 
--- the length of the buffer that each call is given
+-- the length of the buffer that is passed to each call
 abbrev pub buffer_len : ℕ
 buffer_len = 4096
 
--- a call that gave bytes: the reader after it, the buffer, and how many bytes of that it gave
+-- a call that read bytes: the reader after it, the buffer, and the number of bytes read into it
 pub record ReadTurn (R : Type 0) : Type 0 where
   pub reader : R
   pub buffer : Bytes
   pub count : ℕ
 
--- the bytes that a call gave
+-- the bytes that a call read
 abbrev pub bytes_of : {R : Type 0} → ReadTurn R → Bytes
 bytes_of turn = take turn.count turn.buffer
 
--- the bytes that calls gave, one call after another
+-- the bytes that calls read, one call after another
 abbrev pub bytes_read : {R : Type 0} → List (ReadTurn R) → Bytes
 bytes_read turns = flat_map bytes_of turns
 
--- The reader was called with the buffer, and gave some bytes.
+-- The reader was called with a buffer of this length, and read at least one byte into it.
 pub record GivesSome {R : Type 0} (reads : Call R) (reader : R) (turn : ReadTurn R) : Type 0 where
   pub some : 0 < turn.count
   pub within : turn.count ≤ buffer_len
   pub buffer : length turn.buffer ≡ buffer_len
   pub call : reads reader turn.reader (Ok turn.count) turn.buffer
 
--- Calls of a reader, one after another, each giving some bytes: from this reader to the last one.
+-- Calls lead from `reader` to `last`, one after another, and each reads at least one byte.
 abbrev pub ReadsInTurn : {R : Type 0} → Call R → R → List (ReadTurn R) → R → Type 0
 ReadsInTurn reads reader [] last = reader ≡ last
 ReadsInTurn reads reader (turn ∷ turns) last =
     GivesSome reads reader turn × ReadsInTurn reads turn.reader turns last
 
--- The call after those: the reader's end, an error, bytes that were rejected, or no call was made.
+-- The call after these, if one was made: the reader was at its end, or it failed, or it returned
+-- bytes that were rejected.
 pub data LastCall (R : Type 0) : Type 0 where
   AtEnd : LastCall R
   Failed : LastCall R
   Refused : ReadTurn R → LastCall R
   NotMade : LastCall R
 
--- the bytes that it gave
+-- the bytes that the last call read
 abbrev pub last_bytes : {R : Type 0} → LastCall R → Bytes
 last_bytes AtEnd = []
 last_bytes Failed = []
 last_bytes (Refused turn) = bytes_of turn
 last_bytes NotMade = []
 
--- whether it failed
+-- whether the last call failed
 abbrev pub has_failed : {R : Type 0} → LastCall R → Bool
 has_failed AtEnd = false
 has_failed Failed = true
 has_failed (Refused turn) = false
 has_failed NotMade = false
 
--- The call that led from one reader to the other had this result.
+-- The last call led from `before` to `after` and had this result.
 abbrev pub IsLastCall : {R : Type 0} → Call R → R → R → LastCall R → Type 0
 IsLastCall reads before after AtEnd =
     (buffer : Bytes) × (length buffer ≡ buffer_len) × reads before after (Ok 0) buffer
@@ -85,9 +86,9 @@ IsLastCall reads before after NotMade = before ≡ after
 abbrev pub Answer : Type 0
 Answer = Result (List StatementValue) (Failure ReadFault)
 
--- What is returned, by the bytes of the calls before the last one, and by the last call: at the
--- reader's end what `finish` returns, for an error `Io`, for bytes that are rejected the fault in
--- them or that memory ran out, and `Io` at 2^64 - 1 bytes.
+-- What is returned, given the bytes read before the last call, and the last call. At the end of the
+-- reader it is the result of `finish`, after a failed call `Io`, and after rejected bytes their
+-- error or `Memory`. If no last call was made, at least 2^64 - 1 bytes were read, and it is `Io`.
 abbrev pub AnswersLastCall : {R : Type 0} → Bytes → LastCall R → Answer → Type 0
 AnswersLastCall front AtEnd result = EndsDyndepFile front result
 AnswersLastCall front Failed result = result ≡ Err (Fault Io)
@@ -96,8 +97,8 @@ AnswersLastCall front (Refused turn) result =
     × (result ≡ Err failure)
 AnswersLastCall front NotMade result = (2 ^ 64 - 1 ≤ length front) × (result ≡ Err (Fault Io))
 
--- Calls gave bytes that were not rejected, there was one last call, or none, and no other; and the
--- result is that of these bytes.
+-- The reader was called any number of times, and the bytes were not rejected. At most one more call
+-- followed. The result is the one for these bytes and the last call.
 pub record IsReadFrom {R : Type 0} (remaining : R → Option Bytes) (reads : Call R)
     (old new : Counted R) (result : Answer) : Type 0 where
   pub turns : List (ReadTurn R)
@@ -108,7 +109,7 @@ pub record IsReadFrom {R : Type 0} (remaining : R → Option Bytes) (reads : Cal
   pub unrefused : IsUnrefused (bytes_read turns)
   pub answer : AnswersLastCall (bytes_read turns) last result
   pub count : Counts (has_failed last) (failures old) (failures new)
-  -- if the bytes that the reader still has are known
+  -- if it is known which bytes the reader has left, the calls consumed exactly what they read
   pub consumed : Consumes (remaining (held old)) (remaining (held new))
       (bytes_read turns ++ last_bytes last)
   pub at_end : last ≡ AtEnd → IsAtEnd (remaining (held new))

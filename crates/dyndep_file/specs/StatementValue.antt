@@ -2,14 +2,14 @@
 use Rattle.std.specs.Prelude.{Bool, List}
 use Rattle.ninja_text.specs.Bytes.{PathText}
 
--- Its paths are the bytes that their escaped forms stand for.
+-- The output, the implicit outputs, the implicit inputs, and whether `restat` is set.
 pub record StatementValue : Type 0 where
   pub output : PathText
   pub implicit_outputs : List PathText
   pub implicit_inputs : List PathText
   pub restat : Bool
 
--- the statement of these paths and this flag
+-- the statement with these paths and this flag
 abbrev pub statement_with : PathText → List PathText → List PathText → Bool → StatementValue
 statement_with output outputs inputs flag = record {
   output = output;

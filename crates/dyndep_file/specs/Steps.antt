@@ -7,19 +7,19 @@ use Rattle.dyndep_file.specs.Classes.{DyndepClass, Comment, Blank, Version, Buil
 use Rattle.dyndep_file.specs.declared.progress.Stage.{Stage}
 use Rattle.dyndep_file.specs.declared.progress.Stage.TheVariants.{BeforeVersion, NoneOpen, Open}
 
--- the statements so far, and the stage: before the version line, or after it, with the last
--- statement open for a binding or none
+-- The statements so far, and the stage: before the version line, or after it without an open
+-- statement, or after it with the last statement open for a binding.
 pub record ProgressValue : Type 0 where
   pub stage : Stage
   pub statements : List StatementValue
 
--- these statements, with this flag `restat` in the last one
+-- the statements, with this value for `restat` in the last one
 abbrev pub with_last_restat : Bool → List StatementValue → List StatementValue
 with_last_restat flag [] = []
 with_last_restat flag (s ∷ []) = record s { restat = flag } ∷ []
 with_last_restat flag (s ∷ t ∷ ss) = s ∷ with_last_restat flag (t ∷ ss)
 
--- one more statement, which is open, and whose flag is off as yet
+-- the statements and one more, which is open and whose flag is off
 abbrev pub open_statement : List StatementValue → PathText → List PathText → List PathText
     → ProgressValue
 open_statement statements output outputs inputs = record {
@@ -27,9 +27,9 @@ open_statement statements output outputs inputs = record {
   statements = statements ++ statement_with output outputs inputs false ∷ [];
 }
 
--- What a line of this class does, if it is allowed. A comment changes nothing. A blank line
--- closes the open statement. The version line comes once, before all build lines. A build line
--- opens a statement. A binding sets the open statement's flag and closes the statement.
+-- What a line of this class does; None if it may not come here. A comment changes nothing. A blank
+-- line closes the open statement. The version line comes once, before all build lines. A build line
+-- opens a statement. A binding sets the flag of the open statement and closes the statement.
 abbrev pub step : Stage → List StatementValue → DyndepClass → Option ProgressValue
 step BeforeVersion ss Comment = Some (record { stage = BeforeVersion; statements = ss })
 step BeforeVersion ss Blank = Some (record { stage = BeforeVersion; statements = ss })

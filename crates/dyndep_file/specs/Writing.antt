@@ -5,22 +5,22 @@ use Rattle.ninja_text.specs.Bytes.{Text, PathText, space, line_feed}
 use Rattle.ninja_text.specs.Escapes.{escaped}
 use Rattle.dyndep_file.specs.StatementValue.{StatementValue}
 
--- a path after a space
+-- a space and the escaped path
 abbrev pub spaced : PathText → Text
 spaced path = space ∷ escaped path
 
--- ` |` and each path after a space, if there are any
+-- ` |` and each path after a space; nothing if there are no paths
 abbrev pub part_text : List PathText → Text
 part_text [] = []
 part_text (path ∷ paths) = codes " |" ++ flat_map spaced (path ∷ paths)
 
--- the build line of a statement, its end included
+-- the build line of a statement, including its end
 abbrev pub build_line : StatementValue → Text
 build_line s =
     codes "build " ++ escaped s.output ++ part_text s.implicit_outputs
     ++ codes ": dyndep" ++ part_text s.implicit_inputs ++ line_feed ∷ []
 
--- the line of a binding, if the flag is set
+-- the line of the binding `restat`, if the flag is set
 abbrev pub binding_line : StatementValue → Text
 binding_line s = if s.restat then codes "  restat = 1" ++ line_feed ∷ [] else []
 
@@ -28,10 +28,10 @@ binding_line s = if s.restat then codes "  restat = 1" ++ line_feed ∷ [] else 
 abbrev pub statement_text : StatementValue → Text
 statement_text s = build_line s ++ binding_line s
 
--- the line that a dyndep file begins with
+-- the first line of a dyndep file
 abbrev pub version_line : Text
 version_line = codes "ninja_dyndep_version = 1" ++ line_feed ∷ []
 
--- the version line, and each statement
+-- the text of a dyndep file: the version line, then the lines of each statement
 abbrev pub dyndep_text : List StatementValue → Text
 dyndep_text statements = version_line ++ flat_map statement_text statements

@@ -1,4 +1,4 @@
--- Definitions that private clauses alone speak of.
+-- Definitions that only private clauses use.
 pub mod Paths
 pub mod BuildLines
 pub mod LineReading

@@ -42,8 +42,8 @@ use Rattle.in_memory.specs.declared.location.Location.{Location}
 
 -- ---- errors
 
--- An error of a command. The lists of objects, of targets' names and of edges have the names that
--- its line has in place of their indexes.
+-- An error of a command. The printed line has names in place of the indexes of objects, targets and
+-- edges, so the lists of these names are part of the error.
 pub data CommandError : Type 0 where
   in_target : DocFault → CommandError
   in_project : DocFault → CommandError
@@ -61,7 +61,7 @@ pub data CommandError : Type 0 where
   of_cycle : List EdgeValue → Numbers → CommandError
   of_file : PathText → CommandError
 
--- what a command reports
+-- the message of an error
 abbrev pub error_text : CommandError → Text
 error_text (in_target fault) = spec_text fault
 error_text (in_project fault) = project_text fault
@@ -79,27 +79,28 @@ error_text (of_listing edges fault) = listing_write_text edges fault
 error_text (of_cycle edges cycle) = cycle_text edges cycle
 error_text (of_file name) = codes "cannot read " ++ name
 
--- what a command reports about the target of this index, if it is about one of a project
+-- the message of an error; in a project, it begins with the index of the target
 abbrev pub message : Option ℕ → CommandError → Text
 message None error = error_text error
 message (Some target) error = target_text target (error_text error)
 
 -- ---- numbers
 
--- the number for one that an error does not have
+-- the value of a number that an error does not have
 abbrev pub absent : ℕ
 absent = 18446744073709551615
 
--- The numbers after the name of an error. They are the list, which is 1 `provides`, 2 `requires`, 3
--- the paths of a statement, or 0; the item, which is a rule, a module or a statement; the entry of
--- the list; and the offset of a byte.
+-- The numbers after the name of an error: the list (1 `provides`, 2 `requires`, 3 the paths of a
+-- statement, 0 no list); the item, which is a rule, a module or a statement; the entry of the list;
+-- and the offset of a byte.
 abbrev pub Spot : Type 0
 Spot = ℕ × ℕ × ℕ × ℕ
 
+-- an error without such numbers
 abbrev pub no_spot : Spot
 no_spot = (0, absent, absent, absent)
 
--- a rule or a module, and an entry of a list of it
+-- the place of an error of a document
 abbrev pub place_spot : Place → Spot
 place_spot place.Document = no_spot
 place_spot (place.Rule rule) = (0, rule, absent, absent)
@@ -112,7 +113,8 @@ place_spot (place.ModuleRequires index entry) = (2, index, entry, absent)
 abbrev pub path_spot : ℕ → ℕ → Spot
 path_spot statement path = (3, statement, path, absent)
 
--- Which error it is: the letter of its code, in ASCII, the number, and the numbers after its name.
+-- Which error it is: the letter of its code in ASCII, the number of the code, and the numbers after
+-- the name.
 abbrev pub Which : Type 0
 Which = ℕ × ℕ × Spot
 
@@ -135,6 +137,7 @@ S number at = (83, number, at)
 abbrev pub Y : ℕ → Spot → Which
 Y number at = (89, number, at)
 
+-- which error it is, for each kind of error
 abbrev pub doc_which : DocFault → Which
 doc_which doc.NotJson = S 1 no_spot
 doc_which doc.BadVersion = S 2 no_spot
@@ -222,7 +225,7 @@ abbrev pub listing_which : ListingWriteFault → Which
 listing_which (listing.ListingTooLong edge) = E 9 no_spot
 listing_which (listing.Io written) = Y 3 no_spot
 
--- which error of a command it is
+-- which error this is
 abbrev pub which : CommandError → Which
 which (in_target fault) = doc_which fault
 which (in_project fault) = doc_which fault
@@ -242,18 +245,21 @@ which (of_file name) = (0, 0, no_spot)
 
 -- Where an error is: the document, its index, and the line in it. The documents are 1 a target
 -- document, 2 a project document, 3 a scan document, 4 an info file, 5 an edge list, 6 the argument
--- `name`, and 7 a dyndep file; or 0, if the error is in none of these alone.
+-- `name`, and 7 a dyndep file. 0 is for an error that is not in one of these alone.
 abbrev pub Where : Type 0
 Where = ℕ × ℕ × ℕ
 
+-- where an error of a dyndep file is
 abbrev pub in_line : ReadFault → Where
 in_line (read.AtLine line fault) = (7, absent, line)
 in_line read.Io = (0, absent, absent)
 
+-- where an error of an edge list is
 abbrev pub in_listing : ListFault → Where
 in_listing (edges.AtLine fault) = (5, absent, fault.line)
 in_listing (edges.NoGraph fault) = (0, absent, absent)
 
+-- where this error is
 abbrev pub place_of : CommandError → Where
 place_of (in_target fault) = (1, absent, absent)
 place_of (in_project fault) = (2, absent, absent)
@@ -266,6 +272,7 @@ place_of error = (0, absent, absent)
 
 -- ---- locations
 
+-- the location with these numbers
 abbrev pub location_of : ℕ → Where → Which → Location
 location_of target at is = record {
   document = at.0;
@@ -280,11 +287,11 @@ location_of target at is = record {
   offset = is.2.3;
 }
 
--- the location of an error, of the target of this index if it is about one of a project
+-- the location of an error, with the index of its target in a project
 abbrev pub location : Option ℕ → CommandError → Location
 location target error = location_of (unwrap_or target absent) (place_of error) (which error)
 
--- The line is the one of this error, whose numbers fit into 64 bits.
+-- The line is that of this error, and the error's numbers fit into 64 bits.
 pub record IsLineOf (target : Option ℕ) (error : CommandError) (line : Text) : Type 0 where
   pub line_is : line ≡ answers.line (message target error)
   pub target_fits : unwrap_or target absent ≤ absent

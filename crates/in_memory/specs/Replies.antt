@@ -1,4 +1,4 @@
--- What a call leaves for its caller's memory, and what it writes there.
+-- What a call returns in its caller's memory, and when it writes there.
 use Rattle.std.specs.Prelude.{◌≡◌, ℕ, ◌<◌, ◌⊎◌, [], ◌∷◌, ◌++◌, drop, length, map, Bool, if◌then◌else◌, Result, Ok}
 use Rattle.std.specs.List.{flat_map}
 use Rattle.std.specs.declared.alloc.AllocError.{AllocError}
@@ -11,7 +11,7 @@ use Rattle.commands.specs.declared.answer.Answer.{Answer}
 use Rattle.in_memory.specs.Runs.{Answers}
 use Rattle.in_memory.specs.declared.reply.Outcome.{Outcome}
 
--- a status, numbers, and a text of which the numbers tell the parts
+-- a status, numbers and a text
 pub record ReplyValue : Type 0 where
   pub status : ℕ
   pub numbers : Numbers
@@ -19,20 +19,20 @@ pub record ReplyValue : Type 0 where
 
 -- ---- the reply of a command
 
--- 1 if it is so, or 0
+-- 1 for true, 0 for false
 abbrev pub as_number : Bool → ℕ
 as_number is_so = if is_so then 1 else 0
 
--- the numbers of a file to be written: the lengths of its name and of its bytes, and whether it is
--- left alone if it has them already
+-- the numbers of a file to write: the lengths of its name and bytes, and whether it is left alone
+-- if it has these bytes already
 abbrev pub file_numbers : FileValue → Numbers
 file_numbers file = length file.name ∷ length file.bytes ∷ as_number file.keeps ∷ []
 
 abbrev pub file_text : FileValue → Text
 file_text file = file.name ++ file.bytes
 
--- The reply of a command that has this answer. The text has standard output, standard error, and
--- then the name and the bytes of each file to be written.
+-- The reply of a command with this answer. The text has standard output, standard error, and then
+-- the name and the bytes of each file to write.
 abbrev pub answer_reply : Answer → ReplyValue
 answer_reply answer =
     let files = map file_value answer.files.items in record {
@@ -41,12 +41,12 @@ answer_reply answer =
       text = answer.out.items ++ answer.err.items ++ flat_map file_text files;
     }
 
--- a command with one of these outcomes has this reply
+-- the reply of a command with one of these outcomes
 abbrev pub Replies : (commands.Outcome OutputValue → Type 0) → ReplyValue → Type 0
 Replies IsOutcome reply =
     (answer : Answer) × Answers IsOutcome (Ok answer) × (reply ≡ answer_reply answer)
 
--- the command has this answer, and this reply
+-- the command has an answer, and this is the reply
 abbrev pub HasAnswer : Result Answer AllocError → ReplyValue → Type 0
 HasAnswer answer reply = (it : Answer) × (answer ≡ Ok it) × (reply ≡ answer_reply it)
 
@@ -57,8 +57,9 @@ abbrev pub Unchanged : Numbers → Bytes → Numbers → Bytes → Type 0
 Unchanged old_numbers old_text new_numbers new_text =
     (new_numbers ≡ old_numbers) × (new_text ≡ old_text)
 
--- The outcome has the sizes of a reply. If there was room for all of it, it was written to the
--- beginning of both, and what was after it stayed. Otherwise nothing was written.
+-- The outcome has the sizes of the reply. If there is room for the numbers and the text, they are
+-- written to the beginning of the caller's memory, and the rest of that memory stays as it is.
+-- Otherwise nothing is written.
 pub record IsStored (reply : ReplyValue) (old_numbers : Numbers) (old_text : Bytes)
     (new_numbers : Numbers) (new_text : Bytes) (outcome : Outcome) : Type 0 where
   pub status : outcome.status ≡ reply.status
@@ -72,12 +73,13 @@ pub record IsStored (reply : ReplyValue) (old_numbers : Numbers) (old_text : Byt
       × ((length old_numbers < length reply.numbers) ⊎ (length old_text < length reply.text))
       × Unchanged old_numbers old_text new_numbers new_text)
 
--- the outcome of a call that writes nothing, for the reason of this status
+-- the outcome of a call that writes nothing and has this status
 abbrev pub without : ℕ → Outcome
 without number = record { status = number; written = 0; numbers = 0; text = 0 }
 
--- What a call does. If what was passed is a call, it puts one of these replies, or memory ran out,
--- and nothing was written. If it is not a call, nothing was written either.
+-- What a call does. If its arguments are valid, it stores one of these replies, or memory runs out:
+-- then the status is 4 and nothing is written. If they are not valid, the status is 5 and nothing
+-- is written.
 pub data Puts (IsCall : Type 0) (IsReply : ReplyValue → Type 0) (old_numbers : Numbers)
     (old_text : Bytes) (new_numbers : Numbers) (new_text : Bytes) (outcome : Outcome) : Type 0 where
   replies : IsCall → (reply : ReplyValue) → IsReply reply →

@@ -1,4 +1,4 @@
--- What the commands report: the line of each run that fails is that of an error.
+-- Each message of a failed run is that of some `CommandError`.
 use Rattle.std.specs.Prelude.{◌≡◌, ℕ, List, Option, Err}
 use Rattle.ninja_text.specs.Bytes.{Bytes, PathText, Text}
 use Rattle.ninja_text.specs.declared.failure.Failure.TheVariants.{Fault}
@@ -12,12 +12,12 @@ use Rattle.commands.specs.ProjectCommand.{ProjectRun}
 use Rattle.commands.specs.Show.{ShowRun}
 use Rattle.in_memory.specs.Locations.{CommandError, message}
 
--- the message with which a run stops is that of an error
+-- the run stops with the message of an error
 abbrev pub IsErrorMessage : LineValue → Type 0
 IsErrorMessage stop =
     (target : Option ℕ) × (error : CommandError) × (stop.message ≡ message target error)
 
--- each message of such a run is that of an error
+-- if the run fails, it stops with the message of an error
 abbrev pub ReportsErrors : Part OutputValue → Type 0
 ReportsErrors Run =
     (calls : List FileCall) (stop : LineValue) → Run calls (Err (Fault stop)) → IsErrorMessage stop

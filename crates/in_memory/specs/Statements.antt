@@ -1,4 +1,5 @@
--- The statements of a dyndep file, as numbers and a text, and what is reported of a faulty one.
+-- The statements of a dyndep file as numbers and a string, or the error of a file that is not
+-- valid.
 use Rattle.std.specs.Prelude.{◌≡◌, List, [], ◌∷◌, ◌++◌, length, map}
 use Rattle.std.specs.List.{flat_map}
 use Rattle.dep_order.specs.Numbers.{Numbers}
@@ -10,18 +11,18 @@ use Rattle.dyndep_file.specs.declared.fault.ReadFault.{ReadFault}
 use Rattle.dyndep_file.specs.declared.fault.ReadFault.TheVariants.{AtLine, Io}
 use Rattle.in_memory.specs.Replies.{ReplyValue, as_number}
 
--- the paths of a statement: its output, its implicit outputs, and its implicit inputs
+-- the paths of a statement: its output, implicit outputs and implicit inputs
 abbrev pub statement_paths : StatementValue → List PathText
 statement_paths s = s.output ∷ s.implicit_outputs ++ s.implicit_inputs
 
--- The numbers of a statement: whether it has `restat`, how many implicit outputs and implicit inputs
--- it has, and the lengths of its paths.
+-- The numbers of a statement: whether it has `restat`, how many implicit outputs and implicit
+-- inputs it has, and the lengths of its paths.
 abbrev pub statement_numbers : StatementValue → Numbers
 statement_numbers s =
     as_number s.restat ∷ length s.implicit_outputs ∷ length s.implicit_inputs
     ∷ map length (statement_paths s)
 
--- the reply that has these statements, one after another
+-- the reply with these statements, one after another
 abbrev pub statements_reply : List StatementValue → ReplyValue
 statements_reply statements = record {
   status = 0;
@@ -29,18 +30,18 @@ statements_reply statements = record {
   text = flat_map (λ s. flat_map (λ path. path) (statement_paths s)) statements;
 }
 
--- the reply that has the line of a fault, counted from 1, and its code and name
+-- the reply for an error: its line, counted from 1, and its code and name
 abbrev pub fault_reply : ReadFault → ReplyValue
 fault_reply (AtLine line fault) =
     record { status = 1; numbers = line ∷ []; text = line_fault_text fault }
 fault_reply Io = record { status = 1; numbers = []; text = read_fault_text Io }
 
--- the fault is the one that the text has as a dyndep file
+-- the text, read as a dyndep file, has this error
 abbrev pub IsFaultOf : Text → ReadFault → Type 0
 IsFaultOf text (AtLine line fault) = HasReadFault text (record { line = line; fault = fault })
 IsFaultOf text Io = ⊥
 
--- What is reported of a dyndep file: the statements that it stands for, or its fault.
+-- The reply for a dyndep file: the statements that it is read as, or its error.
 pub data Tells (text : Text) (reply : ReplyValue) : Type 0 where
   stands : (statements : List StatementValue) → StandsFor text statements →
       reply ≡ statements_reply statements → Tells text reply

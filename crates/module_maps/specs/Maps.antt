@@ -1,4 +1,4 @@
--- Module maps, and what every style of them keeps to.
+-- Module maps, and the laws that every style of maps obeys.
 use Rattle.std.specs.Prelude.{◌≡◌, ◌≢◌, ℕ, List, ◌++◌, map, slice_get, Some, Result, Ok, Err, IsTrue, IsUtf8, AllPairs}
 use Rattle.std.specs.List.{All}
 use Rattle.std.specs.Borrow.{Bor}
@@ -12,31 +12,31 @@ use Rattle.module_maps.specs.declared.fault.MapFault.TheVariants.{MapPath, TwoPr
 use Rattle.module_maps.specs.declared.fault.UnwritableMap.{UnwritableMap}
 use Rattle.module_maps.specs.declared.fault.UnwritableMap.TheVariants as unwritable
 
--- the names and the paths that are borrowed
+-- the borrowed names and paths
 abbrev pub lent_pairs : List (Bor Name × Bor PathText) → List (Name × PathText)
 lent_pairs pairs = map (λ pair. (pair.0.now, pair.1.now)) pairs
 
--- the pairs of a map, provided ones first
+-- all pairs of a map, the provided ones first
 abbrev pub pairs_of : ModuleMapValue → List (Name × PathText)
 pairs_of m = m.provided ++ m.needed
 
--- The pair is of a name, which is text, and a path.
+-- The pair has a valid module name in UTF-8 and a canonical path.
 pub record IsModulePair (pair : Name × PathText) : Type 0 where
   pub name : IsTrue (is_name pair.0)
   pub text : IsUtf8 pair.0
   pub path : IsPath pair.1
 
--- the names rise strictly in byte order
+-- the names are in strictly rising byte order
 abbrev pub IsRising : List (Name × PathText) → Type 0
 IsRising pairs = AllPairs (λ a b. Precedes a.0 b.0) pairs
 
--- The pairs are of names and paths, and the names of the needed modules rise.
+-- All pairs have valid names and paths, and the needed modules are in byte order of names.
 pub record IsModuleMap (m : ModuleMapValue) : Type 0 where
   pub provided : All IsModulePair m.provided
   pub needed : All IsModulePair m.needed
   pub rising : IsRising m.needed
 
--- The entries are the pairs, in order; a name may be left out.
+-- The entries have the paths of these pairs, in order. An entry may lack its name.
 pub record AreEntriesOf (pairs : List (Name × PathText)) (entries : List MapEntry) : Type 0 where
   pub paths : map (λ e. e.path) entries ≡ map (λ p. p.1) pairs
   pub names : (k : ℕ) (e : MapEntry) (name : Name) →
@@ -45,34 +45,34 @@ pub record AreEntriesOf (pairs : List (Name × PathText)) (entries : List MapEnt
 
 -- ---- styles
 
--- what a style writes for a map, or why it writes nothing
+-- what a style writes for a map, or why it cannot
 abbrev pub Written : Type 0
 Written = ModuleMapValue → Result Text MapFault
 
--- what a style reads in a text, or the fault of the first bad line
+-- the entries that a style reads in a text, or the error of the first bad line
 abbrev pub Entries : Type 0
 Entries = Text → Result (List MapEntry) MapFault
 
--- why a map cannot be written: K1 or K2, a fact about the map, and not K4, which is about a text
+-- The error of a map that cannot be written is K1 or K2. It is never K4, the error of a line.
 abbrev pub FaultsAreOfMaps : Written → Type 0
 FaultsAreOfMaps written = (m : ModuleMapValue) (line : ℕ) →
     IsModuleMap m → written m ≢ Err (BadMapLine line)
 
--- the same error among all errors of maps
+-- the error of a map that cannot be written, among all errors of maps
 abbrev pub map_fault : UnwritableMap → MapFault
 map_fault (unwritable.MapPath path) = MapPath path
 map_fault unwritable.TwoProvided = TwoProvided
 
--- what was written for a map is read as what the style keeps of it
+-- a written text is read back as what the style keeps of the map
 abbrev pub ReadsWritten : Written → (ModuleMapValue → List MapEntry) → Entries → Type 0
 ReadsWritten written kept entries = (m : ModuleMapValue) (text : Text) →
     IsModuleMap m → written m ≡ Ok text → entries text ≡ Ok (kept m)
 
--- what the style keeps are the map's paths in order, and each name given is the name of its pair
+-- what the style keeps of a map are entries of its pairs
 abbrev pub KeepsPairs : (ModuleMapValue → List MapEntry) → Type 0
 KeepsPairs kept = (m : ModuleMapValue) → IsModuleMap m → AreEntriesOf (pairs_of m) (kept m)
 
--- The text was written for a map, of which this is kept.
+-- The text was written for a map, and `found` is what the style keeps of that map.
 pub record IsWrittenText (written : Written) (kept : ModuleMapValue → List MapEntry)
     (text : Text) (found : List MapEntry) : Type 0 where
   pub value : ModuleMapValue
@@ -80,7 +80,7 @@ pub record IsWrittenText (written : Written) (kept : ModuleMapValue → List Map
   pub is_written : written value ≡ Ok text
   pub is_kept : found ≡ kept value
 
--- What every style guarantees.
+-- The laws of a style.
 pub record AreStyleLaws (written : Written) (kept : ModuleMapValue → List MapEntry)
     (entries : Entries) : Type 0 where
   pub faults_of_maps : FaultsAreOfMaps written

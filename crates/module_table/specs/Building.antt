@@ -1,4 +1,4 @@
--- What is promised of a table that is built, or of the fault that is reported instead.
+-- What building a table returns.
 use Rattle.std.specs.Prelude.{◌≡◌, List, Result, IfOk, IfErr}
 use Rattle.ninja_text.specs.Bytes.{Name}
 use Rattle.ninja_text.specs.Failure.{ForFault}
@@ -11,9 +11,9 @@ use Rattle.module_table.specs.Sound.{IsSound, PrivateAreProvided}
 use Rattle.module_table.specs.Outcomes.{HasNoFault}
 use Rattle.module_table.specs.declared.fault.TableFault.{TableFault}
 
--- The result is the table of these objects and info files. It is sound, its objects provide the
--- private names, and none of the faults M1 to M10 is present. Otherwise it has the fault that is
--- reported, in a value that may have more.
+-- On success, the result is the table of these objects and info files. None of the errors M1 to M10
+-- is present, so the table is sound and its objects provide the private names. Otherwise the result
+-- is the error to report, in a value that may contain more.
 pub record Builds {E : Type 0} (fault_of : E → TableFault) (objects : List RuleValue)
     (infos : List InfoValue) (private_names : List Name)
     (result : Result TableValue (Failure E)) : Type 0 where

@@ -1,5 +1,6 @@
--- A table of a part of what a target links. If the part is enough (`IsEnough`), what holds of its
--- table holds of the table of the whole.
+-- Laws of a table that is built from only a part of the info files that a target links: all of the
+-- files, but each with only some modules. If the part has enough of them (`IsEnough`), what holds
+-- of this table also holds of the table of the whole.
 use Rattle.std.specs.Prelude.{◌≡◌, ◌↔◌, ℕ, List}
 use Rattle.ninja_text.specs.Bytes.{PathText, Name}
 use Rattle.document_values.specs.Rule.{RuleValue}
@@ -16,13 +17,13 @@ PartIsSound = (objects : List RuleValue) (part infos : List InfoValue) →
     IsEnough objects part infos → IsSound (table_with objects part) →
     IsSound (table_with objects infos)
 
--- then the objects require the same modules, with the same files
+-- in both tables, the objects require the same modules with the same BMIs
 abbrev pub PartHasTasks : Type 0
 PartHasTasks = (objects : List RuleValue) (part infos : List InfoValue) →
     IsEnough objects part infos → IsSound (table_with objects part) →
     tasks_of (table_with objects part) ≡ tasks_of (table_with objects infos)
 
--- and they need the same modules, if the part keeps what its modules require
+-- in both tables, the objects need the same modules, if the part keeps what its modules require
 abbrev pub PartIsNeeded : Type 0
 PartIsNeeded = (objects : List RuleValue) (part infos : List InfoValue) →
     IsEnough objects part infos → KeepsRequired part infos → IsSound (table_with objects part) →

@@ -1,4 +1,4 @@
--- What the hash tables of a module table hold.
+-- The strings in the hash tables of a module table.
 use Rattle.std.specs.Prelude.{[], ◌∷◌, ◌++◌}
 use Rattle.std.specs.List.{flat_map}
 use Rattle.table_keys.specs.Entries.{TableEntries}
@@ -6,14 +6,14 @@ use Rattle.document_values.specs.Rule.{RuleValue}
 use Rattle.document_values.specs.Info.{InfoValue}
 use Rattle.module_table.specs.TableValue.{TableValue}
 
--- the path of an object, and the names and files of the modules that it provides
+-- the path of an object, and the names and BMIs of the modules that it provides
 abbrev pub object_entries : RuleValue → TableEntries
 object_entries rule = rule.object ∷ flat_map (λ pair. pair.0 ∷ pair.1 ∷ []) rule.provided
 
--- the target name of an info file, and the names and files of its modules
+-- the target name of an info file, and the names and BMIs of its modules
 abbrev pub info_entries : InfoValue → TableEntries
 info_entries info = info.target ∷ flat_map (λ m. m.name ∷ m.file ∷ []) info.modules
 
--- all that a table hashes: of its objects, and then of its info files
+-- all strings that a table hashes: those of its objects, then those of its info files
 abbrev pub table_entries : TableValue → TableEntries
 table_entries t = flat_map object_entries t.objects ++ flat_map info_entries t.infos

@@ -1,10 +1,10 @@
--- The codes and names of the faults of a table.
+-- The codes and names of the errors of a table.
 use Rattle.std.specs.Prelude.{codes}
 use Rattle.ninja_text.specs.Bytes.{Name}
 use Rattle.module_table.specs.declared.fault.TableFault.{TableFault}
 use Rattle.module_table.specs.declared.fault.TableFault.TheVariants.{ObjectTwice, InfoTwice, ProvidedTwice, BmiTwice, ModuleUnknown, InfoUnknown, InfoDisagrees, ImportCycle, ModulePrivate, PrivateUnknown}
 
--- the code and the name of a fault
+-- the code and the name of an error
 abbrev pub fault_name : TableFault → Name
 fault_name (ObjectTwice path first second) = codes "M1 ObjectTwice"
 fault_name (InfoTwice target) = codes "M2 InfoTwice"

@@ -1,4 +1,4 @@
--- The word for a list of indexes, of info files or of the links to them.
+-- A list of indexes, of info files or of the links to them.
 use Rattle.std.specs.Prelude.{ℕ, List}
 
 abbrev pub Indexes : Type 0

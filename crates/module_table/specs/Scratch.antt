@@ -1,8 +1,8 @@
--- A scratch that no part was picked with.
+-- A scratch that has not been used.
 use Rattle.std.specs.Prelude.{◌≡◌, []}
 use Rattle.module_table.specs.declared.pool.picking.Scratch.{Scratch}
 
--- it has no indexes and no stamps of links, and no picked modules
+-- it has no indexes and stamps of links, and no picked modules
 pub record IsUnused (scratch : Scratch) : Type 0 where
   pub indexes : scratch.indexes.items ≡ []
   pub stamps : scratch.stamps.items ≡ []

@@ -1,4 +1,4 @@
--- Assignments as contracts see them.
+-- The view of an assignment, and what `assignment` returns.
 use Rattle.std.specs.Prelude.{◌≡◌, Option, None, Some, Result, Ok, Err}
 use Rattle.std.specs.Option.{option_map}
 use Rattle.ninja_text.specs.Lines.{LogicalLine}
@@ -11,8 +11,8 @@ abbrev pub seen_assignment : Assignment → SeenAssignment
 seen_assignment a =
     record { name_start = a.name_start; name = a.name.now; raw_value = a.raw_value.now }
 
--- the assignment that the line is, or None if it is not one; if the line has a lexical fault, the
--- first one
+-- What `assignment` returns: the assignment, or None if the line is not one. If the line has
+-- lexical errors, it returns the first.
 abbrev pub IsAssignment : LogicalLine → Result (Option Assignment) LexFault → Type 0
 IsAssignment line (Ok a) =
     (lexical_fault line.text ≡ None)

@@ -1,4 +1,4 @@
--- An assignment: a name, `=`, and a value that goes to the end of the text.
+-- Assignments: a name, `=`, and a value that extends to the end of the text.
 use Rattle.std.specs.Prelude.{◌≡◌, ℕ, ◌+◌, ◌<◌, Bool, false, ◌==◌, ◌&&◌, ◌||◌, nat_lt, if◌then◌else◌, List, [], ◌∷◌, ◌++◌, length, take, drop, slice_range, Option, Some, None}
 use Rattle.std.specs.Option.{option_map}
 use Rattle.ninja_text.specs.Bytes.{Text, Name, dot, hyphen, equals_sign, underscore}
@@ -7,7 +7,7 @@ use Rattle.ninja_text.specs.declared.unit.LineUnit.{LineUnit}
 use Rattle.ninja_text.specs.declared.unit.LineUnit.TheVariants.{Continuation, Escape, Byte}
 use Rattle.ninja_text.specs.Tokens.{is_blank}
 
--- letters, digits, `_`, `.`, `-`
+-- whether a name may contain this byte: letters, digits, `_`, `.`, `-`
 abbrev pub is_identifier_byte : ℕ → Bool
 is_identifier_byte b = is_letter b || is_digit b || (b == underscore) || (b == dot) || (b == hyphen)
 
@@ -16,12 +16,12 @@ is_name_unit (Continuation len) = false
 is_name_unit (Escape b) = false
 is_name_unit (Byte b) = is_identifier_byte b
 
--- units, and the index at which they begin
+-- units, and the offset at which they begin
 pub record Rest : Type 0 where
   pub place : ℕ
   pub units : List LineUnit
 
--- what is left after the longest run of units that pass the test
+-- the units after the longest run of units that pass the test
 abbrev pub after_run : (LineUnit → Bool) → ℕ → List LineUnit → Rest
 after_run test index [] = record { place = index; units = [] }
 after_run test index (u ∷ us) =
@@ -36,15 +36,15 @@ abbrev pub tail_units : List LineUnit → List LineUnit
 tail_units [] = []
 tail_units (u ∷ us) = us
 
--- the indexes of the name and the value of an assignment; the value extends to the end of the text
+-- the offsets of the name and the value of an assignment; the value extends to the end of the text
 pub record AssignmentIndexes : Type 0 where
   pub name_start : ℕ
   pub name_end : ℕ
   pub value_start : ℕ
 
--- The indexes of the name and the value, if the text is: a blank run, a name, a blank run, `=`,
--- a blank run, a value. Each run is the longest at its index, the name has at least one byte, and
--- the value is all that is left.
+-- The offsets of the name and the value, if the text is an assignment: blanks, a name, blanks, `=`,
+-- blanks and a value. Each run of blanks and the name are as long as possible, and the name has at
+-- least one byte. The value is the rest of the text.
 abbrev pub assignment_indexes : Text → Option AssignmentIndexes
 assignment_indexes text =
     let name = after_run is_blank 0 (units text) in
@@ -61,7 +61,7 @@ name_of text a = slice_range text a.name_start a.name_end
 abbrev pub raw_value_of : Text → AssignmentIndexes → Text
 raw_value_of text a = drop a.value_start text
 
--- an assignment as its readers see it, with its bytes
+-- the view of an assignment: the offset of its name, the name, and the raw bytes of its value
 pub record SeenAssignment : Type 0 where
   pub name_start : ℕ
   pub name : Name
@@ -71,12 +71,12 @@ abbrev pub with_bytes : Text → AssignmentIndexes → SeenAssignment
 with_bytes text a =
     record { name_start = a.name_start; name = name_of text a; raw_value = raw_value_of text a }
 
--- the assignment that a text is, if it is one
+-- the assignment, if the text is one
 abbrev pub assignment_of : Text → Option SeenAssignment
 assignment_of text = option_map (with_bytes text) (assignment_indexes text)
 
--- The name has at least one byte and is at its index in the text, and the value is what the
--- text ends with, after the name.
+-- The name has at least one byte and lies at its offset in the text. The value comes after the name
+-- and extends to the end of the text.
 pub record LiesIn (text : Text) (a : SeenAssignment) : Type 0 where
   pub some : 0 < length a.name
   pub between : Text

@@ -1,5 +1,5 @@
--- What texts are made of, and words for the texts of this program. Each of them is a list of bytes,
--- and a byte is a number below 256: the words say what the bytes are for.
+-- Names for bytes and for lists of bytes. A byte is a number below 256. The names are for readers:
+-- to the prover they are all numbers and lists of numbers.
 use Rattle.std.specs.Prelude.{◌≡◌, ℕ, List}
 use Rattle.std.specs.Ordering.{nat_cmp}
 use Rattle.std.specs.Cmp.Lexicographic.{slice_cmp}
@@ -8,19 +8,19 @@ use Rattle.std.specs.declared.cmp.Ordering.TheVariants.{Less}
 abbrev pub Byte : Type 0
 Byte = ℕ
 
--- bytes of any meaning: what a file holds, or a piece of it
+-- arbitrary bytes, such as the contents of a file or a piece of them
 abbrev pub Bytes : Type 0
 Bytes = List ℕ
 
--- what is read or written: a document, a line, a token, a message
+-- text that is read or written: a document, a line, a token or a message
 abbrev pub Text : Type 0
 Text = List ℕ
 
--- a path, canonical or as it is given
+-- a path, canonical or not
 abbrev pub PathText : Type 0
 PathText = List ℕ
 
--- a component of a path: what is between two slashes
+-- a component of a path: the bytes between two slashes
 abbrev pub Component : Type 0
 Component = List ℕ
 
@@ -28,11 +28,11 @@ Component = List ℕ
 abbrev pub Name : Type 0
 Name = List ℕ
 
--- the first name comes before the second in byte order
+-- the first name precedes the second in byte order
 abbrev pub Precedes : Name → Name → Type 0
 Precedes a b = slice_cmp nat_cmp a b ≡ Less
 
--- ---- the bytes that have a meaning of their own, in ASCII
+-- ---- the ASCII bytes that definitions mention
 
 abbrev pub nul : Byte
 nul = 0

@@ -1,4 +1,4 @@
--- The view of a cutter's fields, and what they keep to.
+-- The view of a cutter, and the invariant of its fields.
 use Rattle.std.specs.Prelude.{◌≤◌, ℕ, length}
 use Rattle.ninja_text.specs.Bytes.{Bytes}
 use Rattle.ninja_text.specs.Lines.{line_limit}
@@ -7,6 +7,7 @@ use Rattle.ninja_text.specs.Cutting.{CutterState}
 use Rattle.ninja_text.specs.declared.cutter.LineCutter.TheInside.{Inside}
 use Rattle.ninja_text.specs.declared.cutter.Phase.{Phase}
 
+-- the view of a cutter with this phase, these bytes in its buffer and this line number
 abbrev pub state_in : Phase → Bytes → ℕ → CutterState
 state_in phase bytes number = record {
   number = number;
@@ -18,7 +19,7 @@ state_in phase bytes number = record {
 abbrev pub state_of : Inside → CutterState
 state_of c = state_in c.phase c.buffer.items c.number
 
--- The buffer never passes the limit, and the phase says what is in it.
+-- The buffer is never longer than a line may be, and it fits the phase.
 pub record IsKept (c : Inside) : Type 0 where
   pub bound : length c.buffer.items ≤ line_limit
   pub fits : PhaseFits c.phase c.buffer.items

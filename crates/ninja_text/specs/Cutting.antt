@@ -1,5 +1,5 @@
--- What a cutter holds, what its calls do to that, and how that is related to all bytes taken and
--- all lines returned.
+-- The state of a cutter of lines, what its calls return and do to the state, and how the state
+-- follows from all bytes taken and all lines returned.
 use Rattle.std.specs.Prelude.{◌≡◌, ℕ, ◌+◌, ◌-◌, ◌≤◌, Bool, true, false, nat_le, if◌then◌else◌, min, List, [], ◌∷◌, ◌++◌, length, take, Option, Some, None, Result, Ok, Err}
 use Rattle.std.specs.List.{flat_map, AllByRecursion}
 use Rattle.ninja_text.specs.Bytes.{Bytes, Text}
@@ -9,8 +9,8 @@ use Rattle.ninja_text.specs.declared.failure.Failure.TheVariants.{Memory, Fault}
 use Rattle.ninja_text.specs.declared.fault.CutFault.{CutFault}
 use Rattle.ninja_text.specs.declared.fault.CutFault.TheVariants.{LineTooLong, Truncated}
 
--- The current line: its number, and its bytes, which are the whole line if it waits. A cutter
--- that has failed stays so.
+-- The current line: its number and its bytes so far. If `waits` is true, the line is complete and
+-- waits to be returned. If `failed` is true, the line is too long, and no more lines are returned.
 pub record CutterState : Type 0 where
   pub number : ℕ
   pub bytes : Bytes
@@ -25,8 +25,8 @@ abbrev pub waiting_line : CutterState → LogicalLine
 waiting_line h =
     record { text = text_of_line h.bytes; number = h.number; comment = is_comment h.bytes }
 
--- what `feed` returns and leaves if no line waits, by the first end in what there is of the line
--- within the limit
+-- the result of `feed` and the state after it if no line waits, given the first line end within the
+-- limit
 abbrev pub feed_outcome_at : CutterState → Bytes → Option LineEnd → Result ℕ CutFault × CutterState
 feed_outcome_at h piece (Some end) = (
   Ok (end.line_len - length h.bytes),
@@ -37,21 +37,21 @@ feed_outcome_at h piece None =
     (Err (LineTooLong h.number), record h { failed = true })
     else (Ok (length piece), record h { bytes = h.bytes ++ piece })
 
--- what `feed` returns and leaves if no allocation fails
+-- the result of `feed` and the state after it, if no allocation fails
 abbrev pub feed_outcome : CutterState → Bytes → Result ℕ CutFault × CutterState
 feed_outcome h piece =
     if h.failed then (Err (LineTooLong h.number), h)
     else if h.waits then (Ok 0, h)
     else feed_outcome_at h piece (line_end (take line_limit (h.bytes ++ piece)))
 
--- `feed` returns and leaves just that, unless an allocation failed: then it took nothing. It
--- allocates only if it may take bytes, that is if the cutter has not failed and no line waits.
+-- `feed` has this outcome, unless an allocation fails. In that case it took nothing and the state
+-- is unchanged. It allocates only if the cutter has not failed and no line waits.
 abbrev pub Feeds : CutterState → Bytes → Result ℕ (Failure CutFault) → CutterState → Type 0
 Feeds old piece (Ok n) new = feed_outcome old piece ≡ (Ok n, new)
 Feeds old piece (Err Memory) new = (old.failed ≡ false) × (old.waits ≡ false) × (new ≡ old)
 Feeds old piece (Err (Fault fault)) new = feed_outcome old piece ≡ (Err fault, new)
 
--- what is left once the line that waits, if any, was returned
+-- the state after the line that waits, if there is one, was returned
 abbrev pub after_lending : CutterState → CutterState
 after_lending h =
     if h.failed then h
@@ -63,26 +63,28 @@ after_lending h =
     }
     else h
 
--- the line that the next call returns, if any
+-- the line that `next_line` returns, if any, as a list
 abbrev pub lent_next : CutterState → List LogicalLine
 lent_next h = if h.failed then [] else if h.waits then waiting_line h ∷ [] else []
 
--- `finish` returns the fault of a cutter that has failed, or `Truncated` if bytes are left.
+-- What `finish` returns: `LineTooLong` if the cutter has failed, otherwise `Truncated` if bytes are
+-- left.
 abbrev pub Finishes : CutterState → Result Unit CutFault → Type 0
 Finishes h r =
     r ≡ (if h.failed then Err (LineTooLong h.number)
     else if nat_le (length h.bytes) 0 then Ok tt
     else Err (Truncated h.number))
 
--- the line that waits, as a list, and what there is of the next
+-- the bytes of the line that waits, if there is one, as a list
 abbrev pub waiting_bytes : CutterState → List Bytes
 waiting_bytes h = if h.waits then h.bytes ∷ [] else []
 
+-- the bytes so far of a line that is not complete
 abbrev pub rest_bytes : CutterState → Bytes
 rest_bytes h = if h.waits then [] else h.bytes
 
--- The bytes taken are the lines returned, the line that waits, and what there is of the
--- next; none is too long.
+-- The bytes taken are the lines returned (`lent`), the line that waits, and the beginning of the
+-- next line. No line is longer than the limit.
 pub record Cuts (taken : Bytes) (lent : List LogicalLine) (h : CutterState) : Type 0 where
   pub lines : List Text
   pub divided : Divides taken (lines ++ waiting_bytes h) (rest_bytes h)
@@ -90,8 +92,8 @@ pub record Cuts (taken : Bytes) (lent : List LogicalLine) (h : CutterState) : Ty
   pub lent_are : lent ≡ logical_lines [] lines
   pub number : h.number ≡ number_after (flat_map (λ line. line) lines)
 
--- A cutter that had taken these bytes has also taken as many as the call returns; after a failure,
--- no more.
+-- After `feed`, the bytes taken are those taken before it and as many bytes of the piece as it
+-- returned. A call that fails takes none.
 abbrev pub FeedsAll : Bytes → List LogicalLine → Bytes → Result ℕ (Failure CutFault)
     → CutterState → Type 0
 FeedsAll taken lent piece (Ok n) new = Cuts (taken ++ take n piece) lent new

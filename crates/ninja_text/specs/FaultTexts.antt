@@ -1,4 +1,4 @@
--- How faults are printed: a code and a name, and for a fault within a line its place in the text.
+-- How errors are printed: code and name, and for a lexical error also its offset.
 use Rattle.std.specs.Prelude.{◌++◌, codes}
 use Rattle.std.specs.Fmt.{decimal}
 use Rattle.ninja_text.specs.Bytes.{Text}
@@ -9,19 +9,19 @@ use Rattle.ninja_text.specs.declared.fault.CutFault.TheVariants.{LineTooLong, Tr
 use Rattle.ninja_text.specs.declared.fault.LexFault.{LexFault}
 use Rattle.ninja_text.specs.declared.fault.LexFault.TheVariants.{Nul, LoneCr, Variable, BadEscape}
 
--- why a text is no path
+-- why a string is not a valid path
 abbrev pub path_fault_text : PathFault → Text
 path_fault_text Empty = codes "N1 Empty"
 path_fault_text AboveRoot = codes "N2 AboveRoot"
 path_fault_text (Unwritable place) = codes "N3 Unwritable"
 path_fault_text TooLong = codes "N4 TooLong"
 
--- why a cutter gives no further line
+-- why a cutter returns no more lines
 abbrev pub cut_fault_text : CutFault → Text
 cut_fault_text (LineTooLong line) = codes "N5 LineTooLong"
 cut_fault_text (Truncated line) = codes "N6 Truncated"
 
--- what no token and no value can hold
+-- what is wrong in the text of a line, and at which offset
 abbrev pub lex_fault_text : LexFault → Text
 lex_fault_text (Nul place) = codes "N7 Nul at " ++ decimal place
 lex_fault_text (LoneCr place) = codes "N8 LoneCr at " ++ decimal place

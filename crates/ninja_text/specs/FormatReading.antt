@@ -1,5 +1,5 @@
--- What a reader of a format's lines has read, and what it returns, by all bytes that it was fed,
--- however they were cut into pieces.
+-- What a reader of a line format has read and returns, given all bytes that it was fed. It does not
+-- matter how they were cut into pieces.
 use Rattle.std.specs.Prelude.{◌≡◌, List, Some, Result, Ok, Err}
 use Rattle.ninja_text.specs.Bytes.{Bytes}
 use Rattle.ninja_text.specs.Lines.{LogicalLine}
@@ -8,14 +8,14 @@ use Rattle.ninja_text.specs.LineFormats.{LineFormat, AreTextsOfClasses}
 use Rattle.ninja_text.specs.Failure.{ForFault}
 use Rattle.ninja_text.specs.declared.failure.Failure.{Failure}
 
--- The lines are of classes that lead to the state.
+-- The lines have classes that lead to this state.
 pub record AreReadTo {Class Value State : Type 0} (format : LineFormat Class Value)
     (leads : List Class → State → Type 0) (lent : List LogicalLine) (state : State) : Type 0 where
   pub classes : List Class
   pub texts : AreTextsOfClasses format lent classes
   pub led : leads classes state
 
--- The reader was fed these bytes in all, and has rejected none.
+-- The reader was fed these bytes in total and has returned no error. Their lines lead to its state.
 pub record HasRead {Class Value State Refusal : Type 0} (format : LineFormat Class Value)
     (leads : List Class → State → Type 0) (bytes : Bytes) (r : LinesRead State Refusal)
     : Type 0 where
@@ -23,8 +23,8 @@ pub record HasRead {Class Value State Refusal : Type 0} (format : LineFormat Cla
   pub has : HasLentAll bytes lent r
   pub read : AreReadTo format leads lent r.state
 
--- What `feed` returns, and what the reader is then, by all bytes fed, this call's with them, to a
--- reader that had rejected none: it has read them, the fault is in them, or an allocation failed.
+-- What `feed` returns and does, given all bytes fed, including this piece, if no earlier call
+-- failed: the reader has read the bytes, or the error is in them, or an allocation failed.
 abbrev pub Reads : {State Refusal : Type 0} → (Bytes → LinesRead State Refusal → Type 0)
     → (Bytes → Refusal → Type 0)
     → Bytes → Result Unit (Failure Refusal) → LinesRead State Refusal → Type 0

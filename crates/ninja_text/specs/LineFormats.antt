@@ -1,24 +1,24 @@
--- Formats whose texts are lines, each line of a class: what a text stands for, and which fault a
--- text has that stands for nothing.
+-- Formats whose texts consist of lines, each with a class: which value a text stands for, and which
+-- error it has otherwise.
 use Rattle.std.specs.Prelude.{◌≡◌, ◌⊎◌, ◌≤◌, ℕ, Bool, List, [], ◌∷◌, ◌++◌, length}
 use Rattle.std.specs.List.{flat_map, AllByRecursion}
 use Rattle.ninja_text.specs.Bytes.{Bytes, Text}
 use Rattle.ninja_text.specs.Lines.{line_limit, IsLine, Divides, text_of_line, is_comment, number_after, LogicalLine}
 
--- A format, by the classes of its lines.
+-- A line format, given by the classes of its lines.
 pub record LineFormat (Class Value : Type 0) : Type 1 where
-  -- a line is of the class, by its text without the end, and by whether it is a comment
+  -- a line has this class, given its text without the end, and whether it is a comment
   pub text_is_of : Text → Bool → Class → Type 0
-  -- lines of these classes are a whole text, which stands for this
+  -- lines of these classes are a complete text that stands for this value
   pub grammar : List Class → Value → Type 0
 
--- The line, its end included, keeps the limit and is of this class.
+-- The line, including its end, is not too long and has this class.
 abbrev pub IsOfClass : {Class Value : Type 0} → LineFormat Class Value → Text → Class
     → Type 0
 IsOfClass format line c =
     (length line ≤ line_limit) × format.text_is_of (text_of_line line) (is_comment line) c
 
--- The lines are of these classes, one by one.
+-- The lines have these classes, one by one, and none is too long.
 abbrev pub AreOfClasses : {Class Value : Type 0} → LineFormat Class Value
     → List Text → List Class → Type 0
 AreOfClasses format [] [] = Unit {0}
@@ -27,7 +27,7 @@ AreOfClasses format (line ∷ lines) (c ∷ classes) =
 AreOfClasses format [] (c ∷ classes) = ⊥
 AreOfClasses format (line ∷ lines) [] = ⊥
 
--- So are lines as a reader sees them, which keep the limit.
+-- The lines, given by their views, have these classes, one by one.
 abbrev pub AreTextsOfClasses : {Class Value : Type 0} → LineFormat Class Value
     → List LogicalLine → List Class → Type 0
 AreTextsOfClasses format [] [] = Unit {0}
@@ -42,8 +42,8 @@ abbrev pub Begins : {Class Value : Type 0} → LineFormat Class Value → List C
 Begins {Class} {Value} format classes =
     (more : List Class) × (value : Value) × format.grammar (classes ++ more) value
 
--- The text stands for this: it is divided into lines, with no bytes left over, and lines of their
--- classes stand for it.
+-- The text stands for this value: it consists of lines, with no bytes left over, and the classes of
+-- the lines stand for the value.
 pub record StandsForValue {Class Value : Type 0} (format : LineFormat Class Value) (bytes : Bytes)
     (value : Value) : Type 0 where
   pub lines : List Text
@@ -52,7 +52,7 @@ pub record StandsForValue {Class Value : Type 0} (format : LineFormat Class Valu
   pub classed : AreOfClasses format lines classes
   pub grammar : format.grammar classes value
 
--- ---- faults
+-- ---- errors
 
 -- After lines of these classes, no text of the format continues with this line.
 abbrev pub IsFaultyAfter : {Class Value : Type 0} → LineFormat Class Value
@@ -60,15 +60,15 @@ abbrev pub IsFaultyAfter : {Class Value : Type 0} → LineFormat Class Value
 IsFaultyAfter {Class} format classes line =
     (c : Class) → IsOfClass format line c → Begins format (classes ++ c ∷ []) → ⊥
 
--- What can be wrong with a text of a format: with a line after lines of these classes, and with an
--- end if these bytes are left over after lines of these classes.
+-- The errors of a format: those of a line that comes after lines of these classes, and those of the
+-- end of a text, if these bytes are left over after lines of these classes.
 pub record LineFaults (Class Fault : Type 0) : Type 1 where
   pub of_line : List Class → Text → Fault → Type 0
   pub of_end : List Class → Bytes → Fault → Type 0
 
--- A line of the text is the first faulty one: some text of the format begins with the lines before
--- it, and none continues with this line. The number is that of the line's first physical line. Any
--- bytes may come after the line.
+-- The first faulty line of the text has this number and this error. Some text of the format begins
+-- with the lines before it, but none continues with this line. The number is that of its first
+-- physical line. Any bytes may follow it.
 pub record FaultyLine {Class Value Fault : Type 0} (format : LineFormat Class Value)
     (faults : LineFaults Class Fault) (bytes : Bytes) (line_number : ℕ) (fault : Fault)
     : Type 0 where
@@ -84,8 +84,8 @@ pub record FaultyLine {Class Value Fault : Type 0} (format : LineFormat Class Va
   pub number : line_number ≡ number_after (flat_map (λ line. line) before)
   pub reason : faults.of_line classes line fault
 
--- No line of the text is faulty, and its end is. The number is that of the line which would begin
--- after the last whole line.
+-- No line of the text is faulty, but its end is. The number is that of the line that would come
+-- after the last complete line.
 pub record FaultyEnd {Class Value Fault : Type 0} (format : LineFormat Class Value)
     (faults : LineFaults Class Fault) (bytes : Bytes) (line_number : ℕ) (fault : Fault)
     : Type 0 where
@@ -98,32 +98,32 @@ pub record FaultyEnd {Class Value Fault : Type 0} (format : LineFormat Class Val
   pub number : line_number ≡ number_after (flat_map (λ line. line) lines)
   pub reason : faults.of_end classes rest fault
 
--- The text has this fault, in a line or at its end.
+-- The text has this error, in a line or at its end.
 abbrev pub HasFault : {Class Value Fault : Type 0} → LineFormat Class Value
     → LineFaults Class Fault → Bytes → ℕ → Fault → Type 0
 HasFault format faults bytes line_number fault =
     FaultyLine format faults bytes line_number fault
     ⊎ FaultyEnd format faults bytes line_number fault
 
--- What makes the laws of a format hold: each line and each end has one meaning or one fault, and not
--- both.
+-- The premises of the laws of a format: each line and each end has one meaning or one error, and
+-- not both.
 pub record IsDecided {Class Value Fault : Type 0} (format : LineFormat Class Value)
     (faults : LineFaults Class Fault) : Type 0 where
-  -- some text of the format begins before any line
+  -- the format has at least one text
   pub starts : Begins format []
-  -- a line is of one class at most
+  -- a line has at most one class
   pub one_class : (text : Text) (comment : Bool) (c d : Class) → format.text_is_of text comment c
       → format.text_is_of text comment d → c ≡ d
-  -- lines of these classes stand for one value at most
+  -- lines of these classes stand for at most one value
   pub one_value : (classes : List Class) (v w : Value) → format.grammar classes v
       → format.grammar classes w → v ≡ w
-  -- a line is of a class with which a text continues, or none continues with it and it has a fault
+  -- either a text continues with this line, or no text does and the line has an error
   pub line : (classes : List Class) (line : Text) → Begins format classes
       → ((c : Class) × IsOfClass format line c × Begins format (classes ++ c ∷ []))
       ⊎ ((fault : Fault) × faults.of_line classes line fault × IsFaultyAfter format classes line)
   pub one_line_fault : (classes : List Class) (line : Text) (fault other : Fault)
       → faults.of_line classes line fault → faults.of_line classes line other → fault ≡ other
-  -- lines of these classes with nothing left over are a whole text, or the end has a fault
+  -- the text may end here with nothing left over, or its end has an error
   pub end : (classes : List Class) (rest : Bytes) → Begins format classes
       → ((rest ≡ []) × (value : Value) × format.grammar classes value)
       ⊎ ((fault : Fault) × faults.of_end classes rest fault)

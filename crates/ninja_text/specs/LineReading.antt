@@ -1,5 +1,5 @@
--- Lines that are read one by one into a state, by a text that comes in pieces: which lines were
--- read, and the line of the fault.
+-- How a text that arrives in pieces is read line by line into a state: which lines were read, and
+-- which line has the error.
 use Rattle.std.specs.Prelude.{◌≡◌, ℕ, ◌<◌, ◌≤◌, false, List, [], ◌∷◌, ◌++◌, length, take, Option, Some, None, Result, Ok, Err, ◌⊎◌}
 use Rattle.std.specs.List.{flat_map, AllByRecursion}
 use Rattle.ninja_text.specs.Bytes.{Bytes, Text}
@@ -10,37 +10,38 @@ use Rattle.ninja_text.specs.declared.failure.Failure.TheVariants.{Memory, Fault}
 use Rattle.ninja_text.specs.declared.fault.CutFault.{CutFault}
 use Rattle.ninja_text.specs.declared.fault.CutFault.TheVariants.{LineTooLong, Truncated}
 
--- a line passes in a state, and leaves another one
+-- relates a state, a line that passes in it, and the state after the line
 abbrev pub Passes : Type 0 → Type 1
 Passes S = S → LogicalLine → S → Type 0
 
--- a line is rejected in a state, with a fault
+-- relates a state, a line that is rejected in it, and the error of the line
 abbrev pub RefusesWith : Type 0 → Type 0 → Type 1
 RefusesWith S F = S → LogicalLine → F → Type 0
 
--- What reading a line returns: it passes and leaves this state, or it is rejected with this fault,
--- or an allocation failed.
+-- What reading a line returns and does: the line passes and leads to the new state, or it is
+-- rejected with this error, or an allocation failed.
 abbrev pub ReadsLine : {S F : Type 0} → Passes S → RefusesWith S F → S → LogicalLine
     → Result Unit (Failure F) → S → Type 0
 ReadsLine passes refuses old line (Ok u) new = passes old line new
 ReadsLine passes refuses old line (Err (Fault fault)) new = refuses old line fault
 ReadsLine passes refuses old line (Err Memory) new = Unit {0}
 
--- The lines pass one by one, and lead from a state to another.
+-- The lines pass one after another and lead from the old state to the new one.
 abbrev pub LeadTo : {S : Type 0} → Passes S → S → List LogicalLine → S → Type 0
 LeadTo passes old [] new = new ≡ old
 LeadTo {S} passes old (line ∷ lines) new =
     (mid : S) × passes old line mid × LeadTo passes mid lines new
 
--- The cutter took these bytes, returned all their whole lines, and holds a rest below the limit.
+-- The cutter took these bytes and returned all complete lines in them. The bytes that are left are
+-- fewer than the limit of a line.
 pub record HasLent (bytes : Bytes) (lent : List LogicalLine) (cutter : CutterState) : Type 0 where
   pub cuts : Cuts bytes lent cutter
   pub waits_not : cutter.waits ≡ false
   pub works : cutter.failed ≡ false
   pub short : length cutter.bytes < line_limit
 
--- The bytes begin with whole lines, none too long, that are returned as these; this rest follows,
--- and its first line has this number.
+-- The bytes begin with complete lines, none too long, whose views are `lent`. The rest follows, and
+-- its first line has this number.
 pub record BeginsWith (bytes : Bytes) (lent : List LogicalLine) (number : ℕ) (rest : Bytes)
     : Type 0 where
   pub lines : List Text
@@ -50,19 +51,19 @@ pub record BeginsWith (bytes : Bytes) (lent : List LogicalLine) (number : ℕ) (
   pub lent_are : lent ≡ logical_lines [] lines
   pub number_is : number ≡ number_after (flat_map (λ line. line) lines)
 
--- What follows reaches the limit of a line, and no line ends within it.
+-- The rest reaches the limit of a line, and no line ends within the limit.
 abbrev pub IsTooLong : Bytes → Type 0
 IsTooLong rest = (line_limit ≤ length rest) × (line_end (take line_limit rest) ≡ None)
 
--- What follows begins with a line of this number that keeps the limit, and this fault is its own.
+-- The rest begins with a line of this number that is not too long and is rejected with this error.
 abbrev pub BeginsRefused : {F : Type 0} → (LogicalLine → F → Type 0) → ℕ → Bytes → F → Type 0
 BeginsRefused refuses number rest fault =
     (line after : Bytes) × (rest ≡ line ++ after) × IsLine line × (length line ≤ line_limit)
     × (seen : LogicalLine) × (seen ≡ record (logical_line [] line) { number = number })
     × refuses seen fault
 
--- After these lines comes one that is too long, or that this state rejects, with this fault. Any
--- bytes may come after the line.
+-- The next line after these lines is too long, or the state rejects it, and this is its error. Any
+-- bytes may follow it.
 abbrev pub IsNextFault : {S F : Type 0} → RefusesWith S F → (CutFault → F)
     → Bytes → List LogicalLine → S → F → Type 0
 IsNextFault refuses of_cutter bytes lent state fault =
@@ -70,43 +71,43 @@ IsNextFault refuses of_cutter bytes lent state fault =
     × ((IsTooLong rest × (fault ≡ of_cutter (LineTooLong number)))
     ⊎ BeginsRefused (refuses state) number rest fault)
 
--- The lines before were these; more lines passed, and the next one has this fault.
+-- After the lines that were read before, more lines pass, and the line after them has this error.
 abbrev pub HasFaultBehind : {S F : Type 0} → Passes S → RefusesWith S F → (CutFault → F)
     → Bytes → List LogicalLine → S → F → Type 0
 HasFaultBehind {S} passes refuses of_cutter bytes lent old fault =
     (more : List LogicalLine) × (mid : S) × LeadTo passes old more mid
     × IsNextFault refuses of_cutter bytes (lent ++ more) mid fault
 
--- An allocation failed, or there is such a fault.
+-- An allocation failed, or the first line that does not pass has this error.
 abbrev pub HasFailureBehind : {S F : Type 0} → Passes S → RefusesWith S F → (CutFault → F)
     → Bytes → List LogicalLine → S → Failure F → Type 0
 HasFailureBehind passes refuses of_cutter bytes lent old (Fault fault) =
     HasFaultBehind passes refuses of_cutter bytes lent old fault
 HasFailureBehind passes refuses of_cutter bytes lent old Memory = Unit {0}
 
--- a reader of lines: its cutter, the state that the lines so far led to, and the failure that it
--- returned, if any
+-- the view of a reader of lines: its cutter, the state after the lines so far, and the failure that
+-- it returned, if any
 pub record LinesRead (S F : Type 0) : Type 0 where
   pub cutter : CutterState
   pub state : S
   pub failed : Option (Failure F)
 
--- The reader was fed these bytes in all, their whole lines were read as these, and it has rejected
--- none.
+-- The reader was fed these bytes in total, has read the complete lines in them, and has returned no
+-- error.
 pub record HasLentAll {S F : Type 0} (bytes : Bytes) (lent : List LogicalLine)
     (r : LinesRead S F) : Type 0 where
   pub has : HasLent bytes lent r.cutter
   pub works : r.failed ≡ None
 
--- A reader that returned a failure returns the same again, and stays as it is.
+-- After a failure the reader returns the same failure again and does not change.
 abbrev pub StaysRefused : {S F : Type 0} → LinesRead S F → Result Unit (Failure F)
     → LinesRead S F → Type 0
 StaysRefused {S} {F} old result new =
     (failure : Failure F) → old.failed ≡ Some failure → (result ≡ Err failure) × (new ≡ old)
 
--- What `feed` returns and leaves: more lines were read, and all passed; or the next one after those
--- that passed has this fault, or an allocation failed. By all bytes fed, this call's with them, and
--- by the lines read before.
+-- What `feed` returns and does, given all bytes fed, including this piece, and the lines read
+-- before it. After `Ok`, more lines were read, and all passed. After an error, the first line that
+-- does not pass has this error, or an allocation failed.
 abbrev pub FeedsLines : {S F : Type 0} → Passes S → RefusesWith S F → (CutFault → F)
     → Bytes → List LogicalLine → S → Result Unit (Failure F) → LinesRead S F → Type 0
 FeedsLines passes refuses of_cutter bytes lent old (Ok u) new =
@@ -115,12 +116,12 @@ FeedsLines passes refuses of_cutter bytes lent old (Ok u) new =
 FeedsLines passes refuses of_cutter bytes lent old (Err failure) new =
     (new.failed ≡ Some failure) × HasFailureBehind passes refuses of_cutter bytes lent old failure
 
--- What follows is some bytes without an end, below the limit.
+-- The rest has at least one byte, is shorter than the limit, and has no line end.
 abbrev pub IsTruncated : Bytes → Type 0
 IsTruncated rest = (0 < length rest) × (length rest < line_limit) × (line_end rest ≡ None)
 
--- What `finish` returns: if the bytes are whole lines, the state that they led to, and the number
--- of the line that would come next; else that the last line has no end.
+-- What `finish` returns. If the bytes are complete lines, it is the state after them and the number
+-- of the next line. Otherwise the last line is `Truncated`: it has no end.
 abbrev pub EndsLines : {S F : Type 0} → (CutFault → F) → Bytes → List LogicalLine → S
     → Result (S × ℕ) (Failure F) → Type 0
 EndsLines of_cutter bytes lent state (Ok end) = (end.0 ≡ state) × BeginsWith bytes lent end.1 []

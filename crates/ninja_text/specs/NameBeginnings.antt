@@ -1,11 +1,11 @@
--- Which texts can begin the name of a file.
+-- Which strings can begin a file name.
 use Rattle.std.specs.Prelude.{Bool, false, not, ◌&&◌, ◌||◌, ◌==◌, [], ◌∷◌}
 use Rattle.std.specs.List.{list_any}
 use Rattle.ninja_text.specs.Bytes.{Text, slash, dot}
 use Rattle.ninja_text.specs.Escapes.{is_unwritable}
 
--- a text that has a byte, does not begin with a dot, and has no slash and no byte that cannot be
--- escaped: a component that begins with it is a name
+-- Whether the string is not empty, does not begin with a dot, and contains no slash and no byte
+-- that cannot be escaped. A component that begins with such a string is a name.
 abbrev pub begins_component : Text → Bool
 begins_component [] = false
 begins_component (b ∷ bytes) =

@@ -1,4 +1,4 @@
--- The current line, by the cutter's buffer and its phase.
+-- What the phase of a cutter says about its buffer and the current line.
 use Rattle.std.specs.Prelude.{◌≡◌, ◌<◌, Bool, true, false, [], length}
 use Rattle.ninja_text.specs.Bytes.{Bytes}
 use Rattle.ninja_text.specs.Lines.{line_limit}
@@ -8,7 +8,7 @@ use Rattle.ninja_text.specs.declared.cutter.Phase.TheVariants.{Gathering, Waitin
 use Rattle.ninja_text.specs.declared.scan.ScanState.TheVariants.{Start}
 use Rattle.ninja_text.specs.declared.scan.Scanned.TheVariants.{End, Open}
 
--- the bytes of the current line: those of a line that was returned no longer count
+-- the bytes of the current line; if the line in the buffer was returned, there are none
 abbrev pub bytes_in : Phase → Bytes → Bytes
 bytes_in (Gathering state) bytes = bytes
 bytes_in (Waiting text_len) bytes = bytes
@@ -27,7 +27,8 @@ failed_in (Waiting text_len) = false
 failed_in Lent = false
 failed_in Failed = true
 
--- what a phase says of the buffer: the state of its scan, or the line's end that was found
+-- The buffer fits the phase. While a line is gathered, the buffer is not full, and its scan is in
+-- this state. If a line waits, the buffer is this line, and its scan has found this end.
 abbrev pub PhaseFits : Phase → Bytes → Type 0
 PhaseFits (Gathering state) bytes =
     (length bytes < line_limit) × (scan_from 0 Start bytes ≡ Open state)

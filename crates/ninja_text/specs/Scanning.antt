@@ -1,5 +1,5 @@
--- How a line's end is found byte by byte. The line's units say what the line is; this says what
--- is remembered on the way.
+-- How the end of a line is found byte by byte. `Lines.antt` defines it by the units of the line.
+-- Here a scan state stands for the bytes so far.
 use Rattle.std.specs.Prelude.{ℕ, ◌+◌, ◌-◌, ◌==◌, if◌then◌else◌, [], ◌∷◌, Option, Some, None}
 use Rattle.ninja_text.specs.Bytes.{Bytes, line_feed, carriage_return, dollar, space, hash}
 use Rattle.ninja_text.specs.declared.scan.ScanState.{ScanState}
@@ -7,7 +7,7 @@ use Rattle.ninja_text.specs.declared.scan.ScanState.TheVariants.{Start, Comment,
 use Rattle.ninja_text.specs.declared.scan.Scanned.{Scanned}
 use Rattle.ninja_text.specs.declared.scan.Scanned.TheVariants.{End, Open}
 
--- after a byte that begins a unit: the next state, or None if the line ends
+-- the state after a byte that begins a unit; None if the byte ends the line
 abbrev pub plain_step : ℕ → Option ScanState
 plain_step b =
     if b == line_feed then None
@@ -15,14 +15,14 @@ plain_step b =
     else if b == dollar then Some Dollar
     else Some Plain
 
--- the same in a comment
+-- the state after a byte of a comment; None if the byte ends the line
 abbrev pub comment_step : ℕ → Option ScanState
 comment_step b =
     if b == line_feed then None
     else if b == carriage_return then Some CommentReturn
     else Some Comment
 
--- the same in any state
+-- the state after a byte, given the state before it; None if the byte ends the line
 abbrev pub step_of : ScanState → ℕ → Option ScanState
 step_of Start b =
     if b == space then Some Start
@@ -35,7 +35,7 @@ step_of Return b = plain_step b
 step_of Dollar b = if b == carriage_return then Some DollarReturn else Some Plain
 step_of DollarReturn b = if b == line_feed then Some Plain else plain_step b
 
--- the end of a line whose LF is at this index
+-- the end of a line whose LF has this offset; a CR directly before the LF belongs to the end
 abbrev pub scan_end : ℕ → ScanState → Scanned
 scan_end index Return = End (index - 1) (index + 1)
 scan_end index CommentReturn = End (index - 1) (index + 1)
@@ -45,12 +45,12 @@ scan_end index Plain = End index (index + 1)
 scan_end index Dollar = End index (index + 1)
 scan_end index DollarReturn = End index (index + 1)
 
--- continues from the next state, if there is one
+-- continues in the next state, or ends if there is none
 abbrev pub goes_on_from : Scanned → (ScanState → Scanned) → Option ScanState → Scanned
 goes_on_from ended later None = ended
 goes_on_from ended later (Some next) = later next
 
--- the end of a scan whose bytes begin at an index of the line
+-- the result of scanning bytes that begin at this offset of the line: its end, or the last state
 abbrev pub scan_from : ℕ → ScanState → Bytes → Scanned
 scan_from index state [] = Open state
 scan_from index state (b ∷ bytes) =

@@ -1,5 +1,5 @@
--- Lists of tokens, as divisions of units: tokens, each the longest that fits, and only
--- spaces and continuations between them.
+-- The tokens of a text as a relation: each is the longest that fits, and only spaces and
+-- continuations come before, between and after them.
 use Rattle.std.specs.Prelude.{◌≡◌, ℕ, ◌+◌, Bool, true, false, ◌&&◌, if◌then◌else◌, List, [], ◌∷◌, ◌++◌}
 use Rattle.std.specs.List.{AllByRecursion}
 use Rattle.ninja_text.specs.Bytes.{Text, colon, vertical_bar, at_sign}
@@ -10,19 +10,19 @@ use Rattle.ninja_text.specs.declared.unit.LineUnit.TheVariants.{Byte}
 use Rattle.ninja_text.specs.declared.token.TokenKind.{TokenKind}
 use Rattle.ninja_text.specs.declared.token.TokenKind.TheVariants.{Word, Bar, DoubleBar, BarAt, Colon}
 
--- how many bytes units are
+-- the number of bytes of units
 abbrev pub total_len : List LineUnit → ℕ
 total_len [] = 0
 total_len (u ∷ us) = unit_len u + total_len us
 
--- whether units may follow in a word: continuations and pieces, of which the last is a piece; if
--- there are none, whether the word may end
+-- Whether exactly these units may complete a word: pieces and continuations, with a piece at the
+-- end. If there are no units, `may_end` decides.
 abbrev pub may_follow : Bool → List LineUnit → Bool
 may_follow may_end [] = may_end
 may_follow may_end (u ∷ us) =
     if is_piece u then may_follow true us else is_continuation u && may_follow false us
 
--- whether units are a word: pieces, between which continuations may come
+-- whether units are a word: pieces, with any continuations between them
 abbrev pub is_word : List LineUnit → Bool
 is_word [] = false
 is_word (u ∷ us) = is_piece u && may_follow true us
@@ -31,7 +31,7 @@ abbrev pub begins_with : ℕ → List LineUnit → Bool
 begins_with byte [] = false
 begins_with byte (u ∷ us) = is_byte byte u
 
--- Units are a token of this kind, the longest that fits if these units come after them.
+-- The units are a token of this kind, the longest that fits if the units `after` follow.
 abbrev pub IsToken : TokenKind → List LineUnit → List LineUnit → Type 0
 IsToken Word us after = (is_word us ≡ true) × (goes_on after ≡ false)
 IsToken Bar us after =
@@ -44,7 +44,7 @@ IsToken Colon us after = us ≡ Byte colon ∷ []
 abbrev pub AreBlank : List LineUnit → Type 0
 AreBlank us = AllByRecursion (λ u. is_blank u ≡ true) us
 
--- Units that begin at an index are blank ones, then this token, then these units.
+-- The units, which begin at this offset, are blanks, then this token, then the units `after`.
 pub record BeginsWithToken (index : ℕ) (us : List LineUnit) (t : TokenAt) (after : List LineUnit)
     : Type 0 where
   pub gap : List LineUnit
@@ -55,14 +55,14 @@ pub record BeginsWithToken (index : ℕ) (us : List LineUnit) (t : TokenAt) (aft
   pub end : t.end ≡ t.start + total_len own
   pub token : IsToken t.kind own after
 
--- Units that begin at an index are these tokens, and only blank units before, between and
+-- The units, which begin at this offset, are these tokens, with only blanks before, between and
 -- after them.
 abbrev pub LexesAs : ℕ → List LineUnit → List TokenAt → Type 0
 LexesAs index us [] = AreBlank us
 LexesAs index us (t ∷ ts) =
     (after : List LineUnit) × BeginsWithToken index us t after × LexesAs t.end after ts
 
--- The text is these tokens, and only spaces and continuations before, between and after
+-- The text consists of these tokens, with only spaces and continuations before, between and after
 -- them.
 abbrev pub AreTokens : Text → List TokenAt → Type 0
 AreTokens text ts = LexesAs 0 (units text) ts

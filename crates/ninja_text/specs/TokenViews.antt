@@ -1,4 +1,4 @@
--- Tokens as contracts see them.
+-- The view of a token, and what `words` returns.
 use Rattle.std.specs.Prelude.{◌≡◌, List, map, None, Some, Result, Ok, Err}
 use Rattle.ninja_text.specs.Lines.{LogicalLine}
 use Rattle.ninja_text.specs.Lexical.{lexical_fault}
@@ -11,11 +11,11 @@ abbrev pub seen_token : Token → SeenToken
 seen_token token =
     record { kind = token.kind; start = token.start; end = token.end; raw = token.raw.now }
 
--- the tokens that are still to come
+-- the tokens that the iterator still has to return
 abbrev pub tokens_left : Words → List SeenToken
 tokens_left words = map (with_raw words.text.now) (tokens_at words.text.now words.index)
 
--- all tokens of the line if it has no lexical fault, and otherwise the first fault
+-- What `words` returns: all tokens of the line, or the first lexical error if there is one.
 abbrev pub IsWords : LogicalLine → Result Words LexFault → Type 0
 IsWords line (Ok words) =
     (lexical_fault line.text ≡ None) × (tokens_left words ≡ seen_tokens line.text)

@@ -1,4 +1,4 @@
--- The tokens of a text that has no lexical fault: words, `|`, `||`, `|@` and `:`.
+-- The tokens of a text without lexical errors: words, `|`, `||`, `|@` and `:`.
 use Rattle.std.specs.Prelude.{◌≡◌, ℕ, ◌+◌, ◌<◌, ◌≤◌, Bool, true, false, ◌==◌, ◌||◌, ◌&&◌, not, bytes_eq, if◌then◌else◌, List, [], ◌∷◌, length, map, drop, slice_range}
 use Rattle.std.specs.List.{flat_map, list_any}
 use Rattle.ninja_text.specs.Bytes.{Text, space, dollar, colon, vertical_bar, at_sign}
@@ -21,37 +21,37 @@ is_word_kind DoubleBar = false
 is_word_kind BarAt = false
 is_word_kind Colon = false
 
--- what may come between two tokens: a space or a continuation
+-- whether a unit only separates tokens: a space or a continuation
 abbrev pub is_blank : LineUnit → Bool
 is_blank (Continuation len) = true
 is_blank (Escape b) = false
 is_blank (Byte b) = b == space
 
--- a piece of a word: an escape, or a byte other than space, `:` and `|`
+-- whether a unit is a piece of a word: an escape, or a byte other than space, `:` and `|`
 abbrev pub is_piece : LineUnit → Bool
 is_piece (Continuation len) = false
 is_piece (Escape b) = true
 is_piece (Byte b) = not ((b == space) || (b == colon) || (b == vertical_bar))
 
--- whether, past continuations, a piece follows: a word before them continues
+-- whether a word that comes before these units continues in them, after any continuations
 abbrev pub goes_on : List LineUnit → Bool
 goes_on [] = false
 goes_on (Continuation len ∷ us) = goes_on us
 goes_on (Escape b ∷ us) = true
 goes_on (Byte b ∷ us) = is_piece (Byte b)
 
--- these tokens, the first of which begins at this index instead
+-- the tokens, with the start of the first one moved to this offset
 abbrev pub with_first_start : ℕ → List TokenAt → List TokenAt
 with_first_start index [] = []
 with_first_start index (t ∷ ts) = record t { start = index } ∷ ts
 
--- a token of this kind that begins at this index and has this length
+-- the token of this kind, with this start and this length
 abbrev pub token_of : TokenKind → ℕ → ℕ → TokenAt
 token_of kind index len = record { kind = kind; start = index; end = index + len }
 
--- What a unit at an index adds in front of the tokens of the units after it. A piece belongs to the
--- word that continues after it, otherwise it is the end of a word, here the whole of it; a blank
--- unit adds none.
+-- Adds a unit at this offset in front of the tokens of the units after it. A piece extends the word
+-- that continues after it, or is a word by itself. `:` and `|` are tokens. A blank unit adds no
+-- token.
 abbrev pub with_unit : ℕ → LineUnit → List LineUnit → List TokenAt → List TokenAt
 with_unit index u us ts =
     if is_piece u then
@@ -61,7 +61,7 @@ with_unit index u us ts =
     else if is_byte vertical_bar u then token_of Bar index 1 ∷ ts
     else ts
 
--- the tokens of units that begin at an index: of `||`, `|@` and `|` the longest that fits
+-- The tokens of units that begin at this offset. `||` and `|@` are preferred to `|`.
 abbrev pub tokens_from : ℕ → List LineUnit → List TokenAt
 tokens_from index [] = []
 tokens_from index (u ∷ []) = with_unit index u [] []
@@ -80,25 +80,25 @@ tokens text = tokens_from 0 (units text)
 abbrev pub raw : Text → TokenAt → Text
 raw text t = slice_range text t.start t.end
 
--- what a unit stands for: an escape for its second byte, a continuation for nothing
+-- the value of a unit: the byte itself, the second byte of an escape, nothing for a continuation
 abbrev pub unit_value : LineUnit → Text
 unit_value (Continuation len) = []
 unit_value (Escape b) = b ∷ []
 unit_value (Byte b) = b ∷ []
 
--- what the bytes of a word or a value stand for
+-- the value of a word or of an assignment, with escapes and continuations resolved
 abbrev pub value_of : Text → Text
 value_of bytes = flat_map unit_value (units bytes)
 
--- no `$`: each byte stands for itself
+-- whether the bytes contain no `$`, so that each byte stands for itself
 abbrev pub is_literal : Text → Bool
 is_literal bytes = not (list_any (λ b. b == dollar) bytes)
 
--- the tokens that begin at an index of the text or after it, if a unit begins at that index
+-- the tokens of the text from this offset on, if a unit begins there
 abbrev pub tokens_at : Text → ℕ → List TokenAt
 tokens_at text index = tokens_from index (units (drop index text))
 
--- a token as its readers see it, with its bytes
+-- the view of a token: its kind, its span and its bytes
 pub record SeenToken : Type 0 where
   pub kind : TokenKind
   pub start : ℕ
@@ -112,19 +112,19 @@ with_raw text t = record { kind = t.kind; start = t.start; end = t.end; raw = ra
 abbrev pub seen_tokens : Text → List SeenToken
 seen_tokens text = map (with_raw text) (tokens text)
 
--- The token has at least one byte, it ends within the text, and its raw bytes are those of the text
--- from its start to its end.
+-- The token has at least one byte and is a slice of the text: `raw` has the bytes from its start to
+-- its end.
 pub record IsSlice (text : Text) (t : SeenToken) : Type 0 where
   pub some : t.start < t.end
   pub within : t.end ≤ length text
   pub raw : t.raw ≡ slice_range text t.start t.end
 
--- Each token begins at the end of the one before it, or after that; the first one, at this index or
--- after it.
+-- No token begins before the previous one ends, and the first one does not begin before this
+-- offset.
 abbrev pub RiseFrom : ℕ → List SeenToken → Type 0
 RiseFrom index [] = Unit {0}
 RiseFrom index (t ∷ ts) = (index ≤ t.start) × RiseFrom t.end ts
 
--- a word of exactly these bytes, without escapes
+-- whether the token is a word with exactly these raw bytes
 abbrev pub is_keyword : Text → SeenToken → Bool
 is_keyword word t = is_word_kind t.kind && bytes_eq t.raw word

@@ -12,13 +12,13 @@ abbrev pub is_letter : ℕ → Bool
 is_letter b =
     (nat_le capital_a b && nat_le b capital_z) || (nat_le small_a b && nat_le b small_z)
 
--- how many bytes a unit is
+-- the number of bytes of a unit
 abbrev pub unit_len : LineUnit → ℕ
 unit_len (Continuation len) = len
 unit_len (Escape b) = 2
 unit_len (Byte b) = 1
 
--- whether a unit is this byte by itself
+-- whether a unit is this single byte, not escaped
 abbrev pub is_byte : ℕ → LineUnit → Bool
 is_byte c (Byte b) = b == c
 is_byte c (Escape b) = false
@@ -29,7 +29,7 @@ is_continuation (Continuation len) = true
 is_continuation (Escape b) = false
 is_continuation (Byte b) = false
 
--- A continuation of that many bytes, in front of units: it takes the spaces that they begin with.
+-- Puts a continuation of `len` bytes in front of units, and adds the spaces at their front to it.
 abbrev pub with_continuation : ℕ → List LineUnit → List LineUnit
 with_continuation len [] = Continuation len ∷ []
 with_continuation len (Byte b ∷ us) =
@@ -40,9 +40,9 @@ with_continuation len (Continuation more ∷ us) = Continuation len ∷ Continua
 abbrev pub LineUnits : Type 0
 LineUnits = List LineUnit
 
--- The units of a text, from its first byte on: `$` LF and `$` CR LF continue the line, with all
--- spaces after them; `$` and any other byte are an escape; each other byte is a unit by itself, and
--- so is a `$` at the very end.
+-- The units of a text, from left to right. `$` LF and `$` CR LF, with all spaces after them, are a
+-- continuation. `$` and any other byte are an escape. Every other byte is a unit by itself, and so
+-- is a `$` at the very end.
 abbrev pub units : Bytes → List LineUnit
 units [] = []
 units (a ∷ []) = Byte a ∷ []

@@ -1,4 +1,4 @@
--- The checks of a document: a list in order, and the fault that it leads to.
+-- The checks of a document. They are made in order, and the first that fails gives the error.
 use Rattle.std.specs.Prelude.{ℕ, List, [], ◌∷◌, Bool, false, if◌then◌else◌, Option, Some, None, Result, Ok, Err}
 use Rattle.std.specs.List.{flat_map, enumerate_from}
 use Rattle.ninja_text.specs.Bytes.{PathText}
@@ -9,7 +9,7 @@ use Rattle.scan_docs.specs.declared.fault.DocFault.TheVariants.{BadShape, BadPat
 use Rattle.scan_docs.specs.declared.fault.Place.{Place}
 use Rattle.scan_docs.specs.declared.member.Member.{Member}
 
--- a condition, and the fault if it is false
+-- a condition, and the error if it is false
 pub record Check : Type 0 where
   pub holds : Bool
   pub refusal : DocFault
@@ -18,20 +18,20 @@ infix 5 ◌otherwise◌
 abbrev pub ◌otherwise◌ : Bool → DocFault → Check
 holds otherwise refusal = record { holds = holds; refusal = refusal }
 
--- the fault of the first condition that is false, or none if all hold
+-- the error of the first check that fails, or None if all hold
 abbrev pub first_refusal : List Check → Option DocFault
 first_refusal [] = None
 first_refusal (c ∷ cs) = if c.holds then first_refusal cs else Some c.refusal
 
--- the check of a member's shape
+-- the check that a member has the right shape
 abbrev pub shape_check : Place → Member → Bool → Check
 shape_check place member holds = holds otherwise BadShape place member
 
--- the check of a path: none if the path is accepted, and one that is false if it is rejected
+-- no check if the path is valid, and one that fails if it is not
 abbrev pub path_checks : Place → Result PathText PathFault → List Check
 path_checks place (Ok path) = []
 path_checks place (Err fault) = (false otherwise BadPath place fault) ∷ []
 
--- the checks of each entry of a list, by its index
+-- the checks of each entry of a list; the entries are numbered from `index`
 abbrev pub each_from : (ℕ → Data → List Check) → ℕ → List Data → List Check
 each_from checks index ds = flat_map (λ e. checks e.0 e.1) (enumerate_from index ds)

@@ -1,4 +1,4 @@
--- The bytes of a document, the tree that they are read as, and the result of reading them.
+-- The bytes of a document, the JSON tree that they are parsed into, and the result of reading them.
 use Rattle.std.specs.Prelude.{◌≡◌, ℕ, ◌≤◌, ◌<◌, List, length, Some, None, IsUtf8}
 use Rattle.ninja_text.specs.Bytes.{Bytes}
 use Rattle.serde_json.specs.Data.{Data}
@@ -8,16 +8,16 @@ use Rattle.scan_docs.specs.declared.fault.DocFault.TheVariants.{NotJson, TooLarg
 use Rattle.scan_docs.specs.declared.fault.Place.TheVariants as place
 use Rattle.scan_docs.specs.Check.{Check, first_refusal}
 
--- the longest document, in bytes
+-- the maximum size of a document, in bytes
 abbrev pub document_limit : ℕ
 document_limit = 16777216
 
--- the tree that the bytes are read as, by RFC 8259 as `serde_json` reads it
+-- the bytes are UTF-8, and `serde_json` parses them into this tree (RFC 8259)
 abbrev pub IsTree : Bytes → Data → Type 0
 IsTree bytes d = IsUtf8 bytes × (read bytes ≡ Some d)
 
--- The bytes are not too many, they have a tree, all checks of the tree hold, and this value is what
--- it means.
+-- The document is accepted: it is not too large, it parses, its tree passes all checks, and this
+-- value is what the tree means.
 pub record IsAccepted {V : Type 0} (checks : Data → List Check) (means : Data → V → Type 0)
     (bytes : Bytes) (value : V) : Type 0 where
   pub small : length bytes ≤ document_limit
@@ -26,8 +26,8 @@ pub record IsAccepted {V : Type 0} (checks : Data → List Check) (means : Data 
   pub passes : first_refusal (checks tree) ≡ None
   pub meaning : means tree value
 
--- The bytes are too many, otherwise they have no tree, otherwise this is the fault of the first
--- check that is false.
+-- The document is rejected: it is too large, otherwise it does not parse, otherwise a check of its
+-- tree fails, and this is the error of the first that does.
 pub data IsRefused (checks : Data → List Check) (bytes : Bytes) (fault : DocFault) : Type 0 where
   large : document_limit < length bytes → fault ≡ TooLarge place.Document →
       IsRefused checks bytes fault
@@ -36,7 +36,8 @@ pub data IsRefused (checks : Data → List Check) (bytes : Bytes) (fault : DocFa
   false_check : length bytes ≤ document_limit → (d : Data) → IsTree bytes d →
       first_refusal (checks d) ≡ Some fault → IsRefused checks bytes fault
 
--- The bytes have one result at most: they are accepted with one value, or rejected for one fault.
+-- A document has at most one result: one value if it is accepted, one error if it is rejected, and
+-- never both.
 pub record HasOneAnswer {V : Type 0} (checks : Data → List Check) (means : Data → V → Type 0)
     (bytes : Bytes) : Type 0 where
   pub one_value : (v w : V) → IsAccepted checks means bytes v → IsAccepted checks means bytes w →

@@ -1,4 +1,4 @@
--- How the faults of documents are printed: a code, a name and a place, and what else is known.
+-- How the errors of documents are printed: a code, a name, the place, and details.
 use Rattle.std.specs.Prelude.{◌++◌, codes}
 use Rattle.ninja_text.specs.Bytes.{Text}
 use Rattle.ninja_text.specs.FaultTexts.{path_fault_text}
@@ -7,7 +7,7 @@ use Rattle.scan_docs.specs.declared.fault.DocFault.TheVariants.{NotJson, BadVers
 use Rattle.scan_docs.specs.Member.{key}
 use Rattle.scan_docs.specs.Place.{place_text}
 
--- why a document is rejected
+-- the message for a rejected document
 abbrev pub doc_fault_text : DocFault → Text
 doc_fault_text NotJson = codes "S1 NotJson document"
 doc_fault_text BadVersion = codes "S2 BadVersion document"

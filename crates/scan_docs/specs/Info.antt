@@ -10,32 +10,32 @@ use Rattle.scan_docs.specs.Shape.{text, text_of, entries_of, whole_number}
 use Rattle.document_values.specs.Info.{ModuleValue, InfoValue}
 use Rattle.scan_docs.specs.Scan.{IsText}
 
--- ---- what the members stand for
+-- ---- what the members mean
 
--- version 1 knows no private modules, and does not look at `visibility`
+-- whether `visibility` counts: version 1 ignores it and has no private modules
 abbrev pub has_visibility : Data → Bool
 has_visibility d = option_map_or (λ version. version == 2) (whole_number m.Version d) false
 
--- whether this text means private
+-- true for `private`, false for `public`, None for any other string
 abbrev pub visibility_meaning : Text → Option Bool
 visibility_meaning text =
     if bytes_eq text (codes "private") then Some true
     else (if bytes_eq text (codes "public") then Some false else None)
 
--- whether a module is private, if the document says so
+-- whether a module is private, or None if its `visibility` should be valid and is not
 abbrev pub privacy : Bool → Data → Option Bool
 privacy with_visibility d =
     if with_visibility then option_and_then visibility_meaning (text m.Visibility d) else Some false
 
 -- ---- the meaning
 
--- a module that a module requires: its name, and its file
+-- an entry of `requires`: the name and the BMI of a required module
 pub record IsRequirement (d : Data) (pair : Name × PathText) : Type 0 where
   pub name : text m.Name d ≡ Some pair.0
   pub file : path_of (text_of m.Bmi d) ≡ Ok pair.1
   pub is_text : IsText pair.1
 
--- a module
+-- an entry of `modules`: a module, the modules that it requires, and whether it is private
 pub record IsModule (with_visibility : Bool) (d : Data) (entry : ModuleValue) : Type 0 where
   pub name : text m.Name d ≡ Some entry.name
   pub file : path_of (text_of m.Bmi d) ≡ Ok entry.file
@@ -43,7 +43,7 @@ pub record IsModule (with_visibility : Bool) (d : Data) (entry : ModuleValue) : 
   pub required : AllZip IsRequirement (entries_of m.Requires d) entry.required
   pub visibility : privacy with_visibility d ≡ Some entry.is_private
 
--- the info of a document that passes its checks
+-- what an info document means, if it passes its checks
 pub record IsInfo (d : Data) (info : InfoValue) : Type 0 where
   pub target : text m.Target d ≡ Some info.target
   pub modules : AllZip (IsModule (has_visibility d)) (entries_of m.Modules d) info.modules

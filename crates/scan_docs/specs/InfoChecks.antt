@@ -1,4 +1,4 @@
--- What is checked of an info document, from the first check to the last.
+-- The checks of an info document, in order.
 use Rattle.std.specs.Prelude.{ℕ, List, [], ◌∷◌, ◌++◌, Bool, false, ◌||◌, ◌==◌, Option, Some, None, is_some}
 use Rattle.ninja_text.specs.Bytes.{Text}
 use Rattle.ninja_text.specs.Paths.{path_of}
@@ -13,7 +13,7 @@ use Rattle.document_values.specs.Name.{is_name}
 use Rattle.scan_docs.specs.TargetChecks.{name_checks}
 use Rattle.scan_docs.specs.Info.{has_visibility, privacy}
 
--- 1 or 2
+-- the version is 1 or 2
 abbrev pub is_info_version : Option ℕ → Bool
 is_info_version None = false
 is_info_version (Some version) = (version == 1) || (version == 2)
@@ -22,18 +22,18 @@ is_info_version (Some version) = (version == 1) || (version == 2)
 abbrev pub version_check : Data → Check
 version_check d = is_info_version (whole_number m.Version d) otherwise BadVersion
 
--- the document itself; the target's name follows
+-- the document is an object with a valid version
 unfoldable pub head_checks : Data → List Check
 head_checks d =
     shape_check place.Document m.Document (is_object d)
     ∷ version_check d
     ∷ []
 
--- the list of modules
+-- `modules` is an array
 unfoldable pub modules_check : Data → List Check
 modules_check d = shape_check place.Document m.Modules (is_some (entries m.Modules d)) ∷ []
 
--- the members that a module and its requirements have in common, by their shapes
+-- a module or a requirement is an object with the strings `bmi` and `name`
 unfoldable pub entry_shape_checks : Place → Data → List Check
 entry_shape_checks place d =
     shape_check place m.Entry (is_object d)
@@ -41,16 +41,16 @@ entry_shape_checks place d =
     ∷ shape_check place m.Name (is_some (text m.Name d))
     ∷ []
 
--- the list of a module's requirements
+-- a module's `requires` is an array
 unfoldable pub requires_check : Place → Data → List Check
 requires_check place d = shape_check place m.Requires (is_some (entries m.Requires d)) ∷ []
 
--- `public` or `private`, from version 2 on
+-- in version 2, `visibility` is `public` or `private`
 unfoldable pub visibility_check : Bool → Place → Data → List Check
 visibility_check with_visibility place d =
     shape_check place m.Visibility (is_some (privacy with_visibility d)) ∷ []
 
--- a name and a file
+-- a valid module name and a valid path
 unfoldable pub named_file_checks : Place → Text → Text → List Check
 named_file_checks place name path =
     (is_name name otherwise BadName place)

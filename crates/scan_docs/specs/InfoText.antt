@@ -1,4 +1,4 @@
--- The one text of an info: version 2, compact, keys in byte order.
+-- How an info file is written: version 2, compact, keys in byte order.
 use Rattle.std.specs.Prelude.{◌≤◌, ◌<◌, List, length, map, Bool, true, false, codes}
 use Rattle.std.specs.List.{All}
 use Rattle.ninja_text.specs.Bytes.{Text, PathText, Name}
@@ -13,7 +13,7 @@ use Rattle.scan_docs.specs.Info.{IsInfo}
 use Rattle.document_values.specs.Info.{ModuleValue, InfoValue}
 use Rattle.scan_docs.specs.InfoChecks.{info_checks}
 
--- a required module, with its file
+-- a required module and its BMI
 unfoldable pub requirement_tree : Name × PathText → Data
 requirement_tree pair =
     object (member (codes "bmi") (string pair.1)
@@ -24,7 +24,7 @@ requirement_tree pair =
 unfoldable pub requirements_tree : List (Name × PathText) → Data
 requirements_tree pairs = array (items_of (map requirement_tree pairs))
 
--- the text for a private module, and for a public one
+-- the `visibility` of a private module, and of a public one
 abbrev pub visibility_text : Bool → Text
 visibility_text true = codes "private"
 visibility_text false = codes "public"
@@ -50,16 +50,16 @@ info_tree info =
 unfoldable pub info_text : InfoValue → Text
 info_text info = compact_text (info_tree info)
 
--- the module's paths are text, as the paths of all documents are
+-- the module's paths are UTF-8, so JSON can hold them
 pub record IsModuleText (entry : ModuleValue) : Type 0 where
   pub file : IsText entry.file
   pub required : All (λ pair. IsText pair.1) entry.required
 
--- all paths are text
+-- all paths are UTF-8
 abbrev pub IsInfoText : InfoValue → Type 0
 IsInfoText info = All IsModuleText info.modules
 
--- The text is read as this info, or is rejected if it is longer than a document may be.
+-- Reading the text returns the same value, or S8 if the text is longer than a document may be.
 pub record ReadsBack (info : InfoValue) (text : Text) : Type 0 where
   pub same : length text ≤ document_limit → IsAccepted info_checks IsInfo text info
   pub too_large : document_limit < length text →

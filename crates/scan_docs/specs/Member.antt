@@ -4,8 +4,8 @@ use Rattle.ninja_text.specs.Bytes.{Text}
 use Rattle.scan_docs.specs.declared.member.Member.{Member}
 use Rattle.scan_docs.specs.declared.member.Member.TheVariants as m
 
--- The key of a member, and a name for a value that is no member: the document, a rule, an entry of
--- a list.
+-- The key of a member. The document itself, a rule and an entry of a list have no key and get a
+-- name.
 unfoldable pub key : Member → Text
 key m.Document = codes "document"
 key m.Rule = codes "rule"

@@ -1,4 +1,4 @@
--- What is checked of a project document, from the first check to the last.
+-- The checks of a project document, in order.
 use Rattle.std.specs.Prelude.{List, [], ◌∷◌, ◌++◌, is_some}
 use Rattle.serde_json.specs.Data.{Data}
 use Rattle.scan_docs.specs.declared.fault.Place.TheVariants as place
@@ -7,7 +7,7 @@ use Rattle.scan_docs.specs.Check.{Check, shape_check}
 use Rattle.scan_docs.specs.Shape.{texts}
 use Rattle.scan_docs.specs.TargetChecks.{head_checks}
 
--- the list of target documents, all of whose elements are texts
+-- `targets` is an array of strings
 abbrev pub targets_check : Data → List Check
 targets_check d = shape_check place.Document m.Targets (is_some (texts m.Targets d)) ∷ []
 

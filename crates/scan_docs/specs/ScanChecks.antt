@@ -1,4 +1,4 @@
--- What is checked of a scan document, from the first check to the last.
+-- The checks of a scan document, in order.
 use Rattle.std.specs.Prelude.{ℕ, List, [], ◌∷◌, ◌++◌, length, Bool, false, not, ◌&&◌, ◌||◌, nat_le, Option, Some, None, is_some, is_none}
 use Rattle.ninja_text.specs.Bytes.{PathText}
 use Rattle.serde_json.specs.Data.{Data}
@@ -11,15 +11,15 @@ use Rattle.scan_docs.specs.Shape.{is_object, given, text, text_of, flag, entries
 use Rattle.document_values.specs.Name.{is_name}
 use Rattle.scan_docs.specs.Scan.{SettingValue, object_of, module_file_of, is_unique_on_source, names_header, is_method}
 
--- the most rules of a document, and entries of one of a rule's lists
+-- the maximum number of rules of a document, and of entries in a list of a rule
 abbrev pub count_limit : ℕ
 count_limit = 65536
 
--- the list has no more entries than one may have
+-- the list is not longer than `count_limit`
 abbrev pub is_short : List Data → Bool
 is_short ds = nat_le (length ds) count_limit
 
--- 0, which some producers write, or 1
+-- the version is 1, or 0, which some scanners write
 abbrev pub is_scan_version : Option ℕ → Bool
 is_scan_version None = false
 is_scan_version (Some version) = nat_le version 1
@@ -28,7 +28,7 @@ is_scan_version (Some version) = nat_le version 1
 abbrev pub version_check : Data → Check
 version_check d = is_scan_version (whole_number m.Version d) otherwise BadVersion
 
--- the document itself
+-- the document is an object with a valid version, and `rules` is an array that is not too long
 unfoldable pub head_checks : Data → List Check
 head_checks d =
     shape_check place.Document m.Document (is_object d)
@@ -37,7 +37,7 @@ head_checks d =
     ∷ (is_short (entries_of m.Rules d) otherwise TooLarge place.Document)
     ∷ []
 
--- a rule's members, by their shapes
+-- a rule is an object, and its members have the right shapes
 abbrev pub rule_shape_checks : Place → Data → List Check
 rule_shape_checks place d =
     shape_check place m.Rule (is_object d)
@@ -47,13 +47,13 @@ rule_shape_checks place d =
     ∷ shape_check place m.Requires (fits entries m.Requires d)
     ∷ []
 
--- a rule's object file
+-- a rule has a primary output, which is a valid path
 abbrev pub object_checks : SettingValue → Place → Data → List Check
 object_checks s place d =
     (is_some (text m.PrimaryOutput d) otherwise NoPrimaryOutput place)
     ∷ path_checks place (object_of s d)
 
--- the lengths of a rule's lists
+-- a rule's lists are not too long
 unfoldable pub count_checks : Place → List Data → List Data → List Check
 count_checks place provided required =
     (is_short provided && is_short required otherwise TooLarge place) ∷ []
@@ -75,7 +75,7 @@ unfoldable pub all_provided_checks : SettingValue → Option PathText → ℕ �
 all_provided_checks s work rule ds =
     each_from (λ entry d. provided_checks s work (place.Provides rule entry) d) 0 ds
 
--- how a required module is looked up
+-- `lookup-method` is absent, null or valid
 abbrev pub lookup_check : Place → Data → Check
 lookup_check place d =
     shape_check place m.LookupMethod

@@ -10,7 +10,7 @@ use Rattle.scan_docs.specs.declared.map_form.MapForm.TheVariants.{Gcc, Clang}
 use Rattle.scan_docs.specs.Shape.{text, flag, texts_of}
 use Rattle.scan_docs.specs.Scan.{SettingValue}
 
--- the members of a target document: texts as they are, and the dyndep file also as Ninja sees it
+-- the members of a target document as written, and the dyndep file's path as Ninja sees it
 pub record TargetDocumentValue : Type 0 where
   pub target : Name
   pub setting : SettingValue
@@ -24,38 +24,37 @@ pub record TargetDocumentValue : Type 0 where
   pub edges : Option PathText
   pub restat : Bool
 
--- ---- what the members stand for
+-- ---- what the members mean
 
 -- the path, if it is absolute
 abbrev only_rooted : PathText → Option PathText
 only_rooted path = if is_rooted path then Some path else None
 
--- the path of a text, if it has one that is absolute
+-- the string as a path, if it is a valid and absolute one
 abbrev pub absolute_path : Text → Option PathText
 absolute_path text = option_and_then only_rooted (result_ok (path_of text))
 
--- the directory that Ninja runs in
+-- the directory that Ninja runs in, if the document gives a valid absolute path
 abbrev pub build_dir : Data → Option PathText
 build_dir d = option_and_then absolute_path (text m.BuildDir d)
 
--- the form of this name
+-- the format of module maps that has this name
 abbrev pub map_form_of : Text → Option MapForm
 map_form_of text =
     if bytes_eq text (codes "gcc") then Some Gcc
     else (if bytes_eq text (codes "clang") then Some Clang else None)
 
--- the form of the module maps
+-- the format of the module maps, if the document gives one
 abbrev pub map_form : Data → Option MapForm
 map_form d = option_and_then map_form_of (text m.Map d)
 
--- whether files that already have their bytes are left alone: if the member is true; any other value
--- counts as absent
+-- whether files that would not change are left alone; only `true` counts
 abbrev pub restat : Data → Bool
 restat d = unwrap_or (flag m.Restat d) false
 
 -- ---- the meaning
 
--- the members as they are in the document, and the dyndep file as Ninja sees it
+-- the value has the members as written, and the dyndep file's path as Ninja sees it
 pub record IsTarget (d : Data) (t : TargetDocumentValue) : Type 0 where
   pub target : text m.Target d ≡ Some t.target
   pub module_dir : text m.ModuleDir d ≡ Some t.setting.module_dir

@@ -1,4 +1,4 @@
--- What is checked of a target document, from the first check to the last.
+-- The checks of a target document, in order.
 use Rattle.std.specs.Prelude.{ℕ, List, [], ◌∷◌, ◌++◌, length, Bool, false, ◌||◌, ◌==◌, nat_lt, Option, Some, None, is_some, is_none}
 use Rattle.std.specs.List.{list_all}
 use Rattle.ninja_text.specs.Paths.{placed}
@@ -11,7 +11,7 @@ use Rattle.scan_docs.specs.Shape.{is_object, given, text, text_of, texts, texts_
 use Rattle.document_values.specs.Name.{is_name, is_target_name}
 use Rattle.scan_docs.specs.Target.{build_dir, map_form}
 
--- 1
+-- the version is 1
 abbrev pub is_target_version : Option ℕ → Bool
 is_target_version None = false
 is_target_version (Some version) = version == 1
@@ -20,21 +20,21 @@ is_target_version (Some version) = version == 1
 abbrev pub version_check : Data → Check
 version_check d = is_target_version (whole_number m.Version d) otherwise BadVersion
 
--- the document itself, here and in a project document
+-- the document is an object with a valid version; project documents have the same check
 unfoldable pub head_checks : Data → List Check
 head_checks d =
     shape_check place.Document m.Document (is_object d)
     ∷ version_check d
     ∷ []
 
--- the target's name, here and in an info document
+-- the target's name is valid; info documents have the same check
 unfoldable pub name_checks : Data → List Check
 name_checks d =
     shape_check place.Document m.Target (is_some (text m.Target d))
     ∷ (is_target_name (text_of m.Target d) otherwise BadName place.Document)
     ∷ []
 
--- the files that modules are compiled to, and the directory that Ninja runs in
+-- `module-dir` and `module-ext` are strings; `build-dir` is absent or an absolute path
 unfoldable pub directory_checks : Data → List Check
 directory_checks d =
     shape_check place.Document m.ModuleDir (is_some (text m.ModuleDir d))
@@ -42,36 +42,36 @@ directory_checks d =
     ∷ shape_check place.Document m.BuildDir (is_none (given m.BuildDir d) || is_some (build_dir d))
     ∷ []
 
--- the documents that are read
+-- `scans` and `linked` are absent or arrays of strings
 unfoldable pub list_checks : Data → List Check
 list_checks d =
     shape_check place.Document m.Scans (fits texts m.Scans d)
     ∷ shape_check place.Document m.Linked (fits texts m.Linked d)
     ∷ []
 
--- the target's private modules
+-- `private` is absent or an array of module names
 unfoldable pub kept_checks : Data → List Check
 kept_checks d =
     shape_check place.Document m.Private (fits texts m.Private d)
     ∷ (list_all is_name (texts_of m.Private d) otherwise BadName place.Document)
     ∷ []
 
--- the dyndep file, which has to be a path as Ninja sees it
+-- `dyndep` is a valid path as Ninja sees it
 unfoldable pub dyndep_checks : Data → List Check
 dyndep_checks d =
     shape_check place.Document m.Dyndep (is_some (text m.Dyndep d))
     ∷ path_checks place.Document (placed None (build_dir d) (text_of m.Dyndep d))
 
--- the file of the target's info
+-- `info` is a string that is not empty
 abbrev pub info_check : Data → Check
 info_check d = shape_check place.Document m.Info (nat_lt 0 (length (text_of m.Info d)))
 
--- the form of the module maps
+-- `map` is absent or the name of a format
 abbrev pub map_check : Data → Check
 map_check d =
     shape_check place.Document m.Map (is_none (given m.Map d) || is_some (map_form d))
 
--- the other files, and the form of the module maps
+-- the files `info` and `edges`, and the format of the module maps
 unfoldable pub file_checks : Data → List Check
 file_checks d =
     info_check d

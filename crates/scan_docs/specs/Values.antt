@@ -1,5 +1,5 @@
--- What accepted documents mean, as functions of their bytes. For rejected bytes the functions say
--- nothing.
+-- What accepted documents mean, as functions of their bytes. What the functions return for rejected
+-- documents has no meaning.
 use Rattle.std.specs.Prelude.{List, [], map, Bool, false, Option, None, unwrap_or, Result}
 use Rattle.std.specs.Result.{result_ok}
 use Rattle.ninja_text.specs.Bytes.{Bytes, PathText, Name}
@@ -16,21 +16,21 @@ use Rattle.document_values.specs.Info.{ModuleValue, InfoValue}
 use Rattle.scan_docs.specs.Target.{TargetDocumentValue, build_dir, map_form, restat}
 use Rattle.scan_docs.specs.Project.{ProjectValue}
 
--- the tree of the bytes, or if they have none that of `null`, which has no members
+-- the tree of the bytes, or `null` if they do not parse
 abbrev pub tree_of : Bytes → Data
 tree_of bytes = unwrap_or (read bytes) null
 
--- the path, if it is accepted
+-- the path, or the empty one if it is not valid
 abbrev pub accepted_path : Result PathText PathFault → PathText
 accepted_path path = unwrap_or (result_ok path) []
 
 -- ---- scan documents
 
--- a provided module: its name, and its file
+-- an entry of `provides`: the name and the BMI of a provided module
 abbrev pub provided_in : SettingValue → Option PathText → Data → Name × PathText
 provided_in s work d = (text_of m.LogicalName d, accepted_path (module_file_of s work d))
 
--- a rule, placed and named as the setting says
+-- a rule: its object file, and the modules that it provides and requires
 abbrev pub rule_in : SettingValue → Data → RuleValue
 rule_in s d = record {
   object = accepted_path (object_of s d);
@@ -48,11 +48,11 @@ rules_of s bytes = rules_in s (tree_of bytes)
 
 -- ---- info documents
 
--- a module that a module requires: its name, and its file
+-- an entry of `requires`: the name and the BMI of a required module
 abbrev pub requirement_in : Data → Name × PathText
 requirement_in d = (text_of m.Name d, accepted_path (path_of (text_of m.Bmi d)))
 
--- a module
+-- an entry of `modules`: a module, the modules that it requires, and whether it is private
 abbrev pub module_in : Bool → Data → ModuleValue
 module_in with_visibility d = record {
   name = text_of m.Name d;
@@ -61,20 +61,20 @@ module_in with_visibility d = record {
   is_private = unwrap_or (privacy with_visibility d) false;
 }
 
--- an info
+-- what the tree of an info document means
 abbrev pub info_in : Data → InfoValue
 info_in d = record {
   target = text_of m.Target d;
   modules = map (module_in (has_visibility d)) (entries_of m.Modules d);
 }
 
--- the info of an info document
+-- what an info document means
 unfoldable pub info_of : Bytes → InfoValue
 info_of bytes = info_in (tree_of bytes)
 
 -- ---- target documents
 
--- the files that a target's modules are compiled to, and the directory that Ninja runs in
+-- the directory and extension of the target's BMIs, and the directory that Ninja runs in
 abbrev pub target_setting : Data → SettingValue
 target_setting d = record {
   module_dir = text_of m.ModuleDir d;
@@ -82,7 +82,7 @@ target_setting d = record {
   build_dir = build_dir d;
 }
 
--- the members of a target
+-- what the tree of a target document means
 abbrev pub target_in : Data → TargetDocumentValue
 target_in d = record {
   target = text_of m.Target d;
@@ -98,16 +98,16 @@ target_in d = record {
   restat = restat d;
 }
 
--- the members of a target document
+-- what a target document means
 unfoldable pub spec_of : Bytes → TargetDocumentValue
 spec_of bytes = target_in (tree_of bytes)
 
 -- ---- project documents
 
--- the target documents of a project
+-- what the tree of a project document means
 abbrev pub project_in : Data → ProjectValue
 project_in d = record { targets = texts_of m.Targets d }
 
--- the target documents of a project document
+-- what a project document means
 unfoldable pub project_of : Bytes → ProjectValue
 project_of bytes = project_in (tree_of bytes)

@@ -1,3 +1,3 @@
--- Definitions that private clauses alone speak of.
+-- Definitions that only private contracts use.
 pub mod Reading
 pub mod Writing

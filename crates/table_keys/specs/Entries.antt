@@ -1,4 +1,4 @@
--- What a digest is made of.
+-- The bytes that are digested for the entries of a table.
 use Rattle.std.specs.Prelude.{List, ◌++◌, length}
 use Rattle.std.specs.List.{flat_map}
 use Rattle.std.specs.Int.{w64, to_le_bytes}
@@ -8,7 +8,7 @@ use Rattle.table_keys.specs.Hashed.{Entry, Digested}
 abbrev pub TableEntries : Type 0
 TableEntries = List Entry
 
--- the bytes that are digested for an entry: its length, in eight bytes, and the entry
+-- the bytes that are digested for an entry: its length in eight bytes, then the entry
 abbrev pub framed : Entry → Digested
 framed entry = to_le_bytes w64 (length entry) ++ entry
 

@@ -1,4 +1,4 @@
--- Types of what is digested.
+-- Names for lists of bytes that are digested.
 use Rattle.std.specs.Prelude.{ℕ, List}
 
 -- an entry of a table, such as a name or a path

@@ -1,4 +1,4 @@
--- Added outputs that an edge makes or that were added before.
+-- Added outputs that an edge already produces or that were added before.
 use Rattle.std.specs.Prelude.{◌≡◌, ℕ, List, get_or}
 use Rattle.dyndep_file.specs.StatementValue.{StatementValue}
 use Rattle.build_effect.specs.Faults.{added_outputs}
@@ -12,7 +12,7 @@ abbrev pub added_files : List ℕ → List StatementValue → Made
 added_files edge_of additions =
     numbered (λ a. a.implicit_outputs) (λ k. get_or edge_of k 0) additions
 
--- the fault reports the first added output that is made already or was added before
+-- the error names the first added output that is already produced or was added before
 abbrev pub IsFirstAddedTwice : Made → List StatementValue → EffectFault → Type 0
 IsFirstAddedTwice made additions fault =
     (k : ℕ) × (file : List ℕ)

@@ -7,8 +7,8 @@ use Rattle.build_effect.specs.Faults.{NoneRepeated, AllMentioned, NoneMadeBefore
 use Rattle.build_effect.specs.inner.StatementEdges.{statement_on, IsBoundTo, HaveStatements}
 use Rattle.build_effect.specs.declared.fault.EffectFault.{EffectFault}
 
--- each statement is on one edge that names the file, each such edge has one statement, and these
--- are the statements on the edges
+-- Each statement belongs to an edge that names the file, each such edge has exactly one statement,
+-- and `statement_of` has the statement of each edge.
 pub record AreMatched (g : List EdgeValue) (name : List ℕ) (additions : List StatementValue)
     (statement_of : List (Option ℕ)) : Type 0 where
   pub bound : AllBound g name additions
@@ -19,14 +19,14 @@ pub record AreMatched (g : List EdgeValue) (name : List ℕ) (additions : List S
       (a : StatementValue) × (slice_get additions k ≡ Some a) × IsBoundTo g name a i
   pub have : HaveStatements g name statement_of
 
--- the statements have no fault, and these are the statements on the edges
+-- The statements have no error, and `statement_of` has the statement of each edge.
 pub record AreChecked (g : List EdgeValue) (name : List ℕ)
     (statements additions : List StatementValue) (statement_of : List (Option ℕ)) : Type 0 where
   pub canonical : AreCanonical statements additions
   pub matched : AreMatched g name additions statement_of
   pub fresh : NoneMadeBefore g additions
 
--- the fault that is reported if these are the statements with canonical paths
+-- the error of statements whose canonical forms are these additions
 abbrev pub IsFaultOf : List EdgeValue → List ℕ → List StatementValue → EffectFault → Type 0
 IsFaultOf g name additions fault =
     (statements : List StatementValue) → AreCanonical statements additions →

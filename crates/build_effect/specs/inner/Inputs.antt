@@ -3,7 +3,7 @@ use Rattle.std.specs.Prelude.{◌≡◌, ℕ, List, slice_get, Some}
 use Rattle.build_effect.specs.EdgeValue.{EdgeValue}
 use Rattle.build_effect.specs.Graphs.{Names, HasInput}
 
--- it is in the list
+-- the element is in the list
 abbrev pub Has : {X : Type 0} → List X → X → Type 0
 Has xs x = (j : ℕ) × (slice_get xs j ≡ Some x)
 

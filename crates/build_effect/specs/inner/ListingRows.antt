@@ -1,4 +1,4 @@
--- What the steps of reading a line of an edge listing return, by the symbols before and after.
+-- What the steps of reading a line of an edge list return, given the symbols before and after.
 use Rattle.std.specs.Prelude.{◌≡◌, ℕ, Bool, true, false, List, [], ◌∷◌, Option, Some, None, Result, Ok, Err}
 use Rattle.ninja_text.specs.Tokens.{SeenToken}
 use Rattle.ninja_text.specs.declared.failure.Failure.{Failure}
@@ -18,7 +18,7 @@ use Rattle.build_effect.specs.declared.fault.LineCause.{LineCause}
 use Rattle.build_effect.specs.declared.listing.rows.Row.{Row}
 use Rattle.build_effect.specs.declared.listing.rows.Row.TheVariants.{Comment, Blank, Build, Dyndep, Restat}
 
--- a row, with the bytes of its strings
+-- the view of a row
 abbrev pub row_value : Row → lines.Row
 row_value Comment = lines.CommentRow
 row_value Blank = lines.BlankRow
@@ -26,29 +26,30 @@ row_value (Build texts) = lines.BuildRow texts
 row_value (Dyndep text) = lines.DyndepRow text.items
 row_value (Restat flag) = lines.RestatRow flag
 
--- the row of a line, or its lexical fault, or `Form`
+-- the row of a line, or its lexical error, or `Form`
 abbrev pub line_row : LogicalLine → Result lines.Row LineCause
 line_row line = row_of line.text line.comment
 
--- the words of the part that this sign begins, and what follows them
+-- the values of the words in the part that begins with this sign
 abbrev pub words_of_part : TokenKind → List Symbol → List (List ℕ)
 words_of_part sign symbols = part_words (past_sign sign symbols)
 
+-- the symbols after this part
 abbrev pub symbols_past_part : TokenKind → List Symbol → List Symbol
 symbols_past_part sign symbols = past_part (past_sign sign symbols) symbols
 
--- the sign is at the front and is taken, or it is not there and nothing is taken
+-- the sign is at the front and was taken, or it is not there and nothing was taken
 abbrev pub SignPassed : TokenKind → List Symbol → Bool → List Symbol → Type 0
 SignPassed sign old true new = past_sign sign old ≡ Some new
 SignPassed sign old false new = (past_sign sign old ≡ None) × (new ≡ old)
 
--- a word is at the front and is taken, or there is no word and nothing is taken
+-- a word is at the front and was taken, or there is no word and nothing was taken
 abbrev pub WordPassed : List Symbol → Option SeenToken → List Symbol → Type 0
 WordPassed old (Some token) new = old ≡ WordSymbol token.raw ∷ new
 WordPassed old None new = (front_words old ≡ []) × (past_words old ≡ old) × (new ≡ old)
 
--- what a row does: it has a class that passes, or it is rejected for its form or for one of its
--- paths, or an allocation failed
+-- What a row does: it has a class and leads to the new edges, or it is rejected for its form or for
+-- one of its paths, or an allocation failed.
 abbrev pub TakesRow : ListingValue → lines.Row → Result Unit (Failure LineCause)
     → ListingValue → Type 0
 TakesRow old row (Ok u) new =
@@ -56,8 +57,8 @@ TakesRow old row (Ok u) new =
 TakesRow old row (Err (Fault cause)) new = row_cause old.binding (Ok row) ≡ Some cause
 TakesRow old row (Err Memory) new = Unit {0}
 
--- what reading a line's text does: it has a class that passes, or it has this cause, or an
--- allocation failed
+-- What reading a line's text does: the line passes, or it is rejected with this cause, or an
+-- allocation failed.
 abbrev pub ReadsText : ListingValue → LogicalLine → Result Unit (Failure LineCause)
     → ListingValue → Type 0
 ReadsText old line (Ok u) new = PassesLine old line new
@@ -65,7 +66,8 @@ ReadsText old line (Err (Fault cause)) new =
     text_cause old.binding line.text line.comment ≡ Some cause
 ReadsText old line (Err Memory) new = Unit {0}
 
--- the edge with these paths, without bindings, or the fault of a string, or an allocation failed
+-- the edge with these paths, without bindings, or the error of a string, or that an allocation
+-- failed
 abbrev pub GivesEdge : Result EdgeValue (Failure PathFault) → Result EdgeTexts PathFault → Type 0
 GivesEdge (Ok edge) paths = (t : EdgeTexts) × (paths ≡ Ok t) × (edge ≡ bound t None None)
 GivesEdge (Err (Fault fault)) paths = paths ≡ Err fault

@@ -1,6 +1,6 @@
--- How the row, the class and the cause of a line are found, by a walk over its tokens from left to
--- right, and what the line does to the edges so far. What these are, `specs/ListingLines.antt`,
--- `specs/ListingFaults.antt` and `specs/ListingGrammar.antt` say.
+-- How the row, the class and the cause of a line are found from its tokens, from left to right, and
+-- what the line does to the edges so far. They are defined in `ListingLines.antt`,
+-- `ListingFaults.antt` and `ListingGrammar.antt`.
 use Rattle.std.specs.Prelude.{◌≡◌, ℕ, Bool, true, false, ◌&&◌, not, nat_lt, if◌then◌else◌, List, [], ◌∷◌, ◌++◌, length, codes, Option, Some, None, Result, Ok, Err}
 use Rattle.std.specs.Option.{option_and_then}
 use Rattle.ninja_text.specs.Lexical.{lexical_fault}
@@ -30,37 +30,37 @@ front_words [] = []
 front_words (WordSymbol word ∷ more) = value_of word ∷ front_words more
 front_words (SignSymbol sign ∷ more) = []
 
--- what follows the words at the front
+-- the symbols after the words at the front
 abbrev pub past_words : List Symbol → List Symbol
 past_words [] = []
 past_words (WordSymbol word ∷ more) = past_words more
 past_words (SignSymbol sign ∷ more) = SignSymbol sign ∷ more
 
--- whether a token of the kind on the right is the sign `|`, `||` or `:` on the left
+-- whether both are the same sign: `|`, `||` or `:`
 abbrev pub is_sign : TokenKind → TokenKind → Bool
 is_sign Bar Bar = true
 is_sign DoubleBar DoubleBar = true
 is_sign Colon Colon = true
 is_sign sign kind = false
 
--- what follows this sign at the front; None if the sign is not there
+-- the symbols after this sign at the front; None if the sign is not there
 abbrev pub past_sign : TokenKind → List Symbol → Option (List Symbol)
 past_sign sign [] = None
 past_sign sign (WordSymbol word ∷ more) = None
 past_sign sign (SignSymbol kind ∷ more) = if is_sign sign kind then Some more else None
 
--- the words of a part that begins with this sign, and no words if the sign is not there
+-- the values of the words after a sign; no words if the sign is not there
 abbrev pub part_words : Option (List Symbol) → List (List ℕ)
 part_words (Some more) = front_words more
 part_words None = []
 
--- what follows such a part
+-- the symbols after such a part
 abbrev pub past_part : Option (List Symbol) → List Symbol → List Symbol
 past_part (Some more) symbols = past_words more
 past_part None symbols = symbols
 
--- what is on the right of the colon, after these outputs: the rule, then inputs of three kinds, and
--- nothing else
+-- the build line with these outputs and these symbols after its colon: a rule and inputs of three
+-- kinds; None if they are not a build line
 abbrev pub right_texts : List (List ℕ) → List (List ℕ) → Option (List Symbol) → Option EdgeTexts
 right_texts outputs implicit_outputs (Some (WordSymbol rule ∷ more)) =
     let bar = past_words more in
@@ -87,7 +87,7 @@ edge_texts symbols =
 
 -- ---- the row of a line
 
--- the row of an indented line, by its assignment
+-- the row of an indented line, given its assignment
 abbrev pub binding_row : Option SeenAssignment → Result Row LineCause
 binding_row None = Err Form
 binding_row (Some a) =
@@ -96,54 +96,56 @@ binding_row (Some a) =
     Ok (RestatRow (nat_lt 0 (length (value_of a.raw_value))))
     else Err Form
 
--- the row of a line that is not indented, by its tokens after the keyword `build`, if it begins
--- with that
+-- the row of a build line, or `Form` if the tokens are not a build line
 abbrev pub build_row : Option EdgeTexts → Result Row LineCause
 build_row (Some texts) = Ok (BuildRow texts)
 build_row None = Err Form
 
+-- the row of a line that is not indented, given its tokens after the keyword `build`, if it begins
+-- with it
 abbrev pub unindented_row : Option (List Symbol) → Result Row LineCause
 unindented_row (Some symbols) = build_row (edge_texts symbols)
 unindented_row None = Err Form
 
--- the row of a text without a lexical fault that is not a comment
+-- the row of a text that is not a comment and has no lexical error
 abbrev pub sound_row : List ℕ → Result Row LineCause
 sound_row text =
     if is_empty (tokens text) then Ok BlankRow
     else if begins_with_space text then binding_row (assignment_of text)
     else unindented_row (after_build (begins_at_start (tokens text)) (symbols text))
 
+-- the lexical error if there is one, and otherwise the row
 abbrev pub row_or_fault : Option LexFault → Result Row LineCause → Result Row LineCause
 row_or_fault (Some fault) row = Err (Lexical fault)
 row_or_fault None row = row
 
--- The row of a line, given its text without the end, and whether it is a comment; otherwise its
--- lexical fault or `Form`.
+-- The row of a line, given its text without the end, and whether it is a comment. If it has no row,
+-- its lexical error or `Form`.
 abbrev pub row_of : List ℕ → Bool → Result Row LineCause
 row_of text comment =
     if comment then Ok CommentRow else row_or_fault (lexical_fault text) (sound_row text)
 
--- ---- its class
+-- ---- the class of a line
 
--- one more path in front of those that follow; the fault is that of the first invalid string
+-- the path in front of the other paths, or the error of the first string that is not a valid path
 abbrev pub with_path : Result (List ℕ) PathFault → Result (List (List ℕ)) PathFault
     → Result (List (List ℕ)) PathFault
 with_path (Err fault) paths = Err fault
 with_path (Ok path) (Err fault) = Err fault
 with_path (Ok path) (Ok paths) = Ok (path ∷ paths)
 
--- the paths of strings, or the fault of the first that is not a valid path
+-- the paths of strings, or the error of the first that is not a valid path
 abbrev pub paths_of : List (List ℕ) → Result (List (List ℕ)) PathFault
 paths_of [] = Ok []
 paths_of (text ∷ texts) = with_path (path_of text) (paths_of texts)
 
--- what follows if the paths are valid
+-- what `next` makes of the paths, if they are valid
 abbrev pub then_paths : {T : Type 0} → Result (List (List ℕ)) PathFault
     → (List (List ℕ) → Result T PathFault) → Result T PathFault
 then_paths (Err fault) next = Err fault
 then_paths (Ok paths) next = next paths
 
--- a build line's paths, or the fault of its first string that is not a valid path
+-- a build line's paths, or the error of its first string that is not a valid path
 abbrev pub edge_paths : EdgeTexts → Result EdgeTexts PathFault
 edge_paths t =
     then_paths (paths_of t.outputs) (λ outputs.
@@ -167,7 +169,7 @@ abbrev pub dyndep_class : Result (List ℕ) PathFault → Result ListingClass Pa
 dyndep_class (Ok path) = Ok (Dyndep path)
 dyndep_class (Err fault) = Err fault
 
--- the class of a row, or the fault of its first string that is not a valid path
+-- the class of a row, or the error of its first string that is not a valid path
 abbrev pub class_of_row : Row → Result ListingClass PathFault
 class_of_row CommentRow = Ok Comment
 class_of_row BlankRow = Ok Blank
@@ -175,15 +177,15 @@ class_of_row (BuildRow texts) = build_class (edge_paths texts)
 class_of_row (DyndepRow text) = dyndep_class (path_of text)
 class_of_row (RestatRow flag) = Ok (Restat flag)
 
--- the row and the class that are found of a line
+-- the line has a row, and the row has this class
 abbrev pub FindsClass : List ℕ → Bool → ListingClass → Type 0
 FindsClass text comment c =
     (row : Row) × (row_of text comment ≡ Ok row) × (class_of_row row ≡ Ok c)
 
--- ---- after which lines it may come
+-- ---- after which lines a line may come
 
--- whether a line may come after lines that leave this open: a binding only once under a build
--- line
+-- whether a line may come in this state of the bindings: after a build line each binding may come
+-- once
 abbrev pub may_stand : Binding → Row → Bool
 may_stand binding CommentRow = true
 may_stand binding BlankRow = true
@@ -193,14 +195,15 @@ may_stand Closed (RestatRow flag) = false
 may_stand (Open dyndep restat) (DyndepRow text) = not dyndep
 may_stand (Open dyndep restat) (RestatRow flag) = not restat
 
--- ---- its cause
+-- ---- the cause of a line
 
--- the cause of a line, given the class of its row
+-- the cause of a line, given the class of its row or the error of its first invalid path
 abbrev pub path_cause : Result ListingClass PathFault → Option LineCause
 path_cause (Ok c) = None
 path_cause (Err fault) = Some (BadPath fault)
 
--- the cause of a line of this row: it may not come here, or one of its paths is not valid
+-- the cause of a line, given its row: it has none, it may not come here, or one of its paths is not
+-- valid
 abbrev pub row_cause : Binding → Result Row LineCause → Option LineCause
 row_cause binding (Err cause) = Some cause
 row_cause binding (Ok row) =
@@ -212,23 +215,23 @@ text_cause binding text comment = row_cause binding (row_of text comment)
 
 -- ---- what one more line does to the edges so far
 
--- these edges, the last one changed
+-- the edges, with this change to the last one
 abbrev pub with_last : (EdgeValue → EdgeValue) → List EdgeValue → List EdgeValue
 with_last change [] = []
 with_last change (e ∷ []) = change e ∷ []
 with_last change (e ∷ f ∷ es) = e ∷ with_last change (f ∷ es)
 
--- these edges, with this dyndep file named by the last one
+-- the edges, with this dyndep file in the last one
 abbrev pub with_last_dyndep : List ℕ → List EdgeValue → List EdgeValue
 with_last_dyndep path es = with_last (λ e. record e { dyndep = Some path }) es
 
--- these edges, with this flag `restat` in the last one
+-- the edges, with this value for `restat` in the last one
 abbrev pub with_last_restat : Bool → List EdgeValue → List EdgeValue
 with_last_restat flag es = with_last (λ e. record e { restat = flag }) es
 
--- What a line of this class does, if it may come here. A comment changes nothing. A blank line
--- closes the open edge. A build line opens an edge. A binding sets what it names in the open edge,
--- once.
+-- What a line of this class does; None if it may not come here. A comment changes nothing. A blank
+-- line closes the open edge. A build line opens an edge. A binding sets `dyndep` or `restat` of the
+-- open edge, each at most once.
 abbrev pub step : Binding → List EdgeValue → ListingClass → Option ListingValue
 step binding es Comment = Some (record { edges = es; binding = binding })
 step binding es Blank = Some (record { edges = es; binding = Closed })

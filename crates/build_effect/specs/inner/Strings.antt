@@ -1,4 +1,4 @@
--- The strings of a build line, one after another in one text.
+-- The strings of a build line, which are stored one after another in one text.
 use Rattle.std.specs.Prelude.{◌≢◌, ◌≤◌, ℕ, List, [], length, map, slice_range, All}
 use Rattle.ninja_text.specs.Bytes.{Name}
 use Rattle.build_effect.specs.ListingLines.{EdgeTexts}
@@ -13,14 +13,15 @@ text_of text span = slice_range text span.start span.end
 abbrev pub texts_of : List ℕ → List Span → List (List ℕ)
 texts_of text spans = map (text_of text) spans
 
--- each span is in the text
+-- the span lies within the text
 abbrev pub IsWithin : List ℕ → Span → Type 0
 IsWithin text span = (span.start ≤ span.end) × (span.end ≤ length text)
 
+-- each span lies within the text
 abbrev pub AreWithin : List ℕ → List Span → Type 0
 AreWithin text spans = All (IsWithin text) spans
 
--- the ends of the lists come one after another, and the first list is not empty
+-- the five lists of strings come one after another, and the first is not empty
 pub record AreEnds (strings : List (List ℕ)) (ends : ListEnds) : Type 0 where
   pub some : slice_range strings 0 ends.outputs ≢ []
   pub implicit_outputs : ends.outputs ≤ ends.implicit_outputs
@@ -28,7 +29,7 @@ pub record AreEnds (strings : List (List ℕ)) (ends : ListEnds) : Type 0 where
   pub implicit_inputs : ends.inputs ≤ ends.implicit_inputs
   pub order_only : ends.implicit_inputs ≤ length strings
 
--- the build line of this rule whose lists end there
+-- the build line with this rule and these lists
 abbrev pub edge_texts_of : Name → List (List ℕ) → ListEnds → EdgeTexts
 edge_texts_of rule strings ends = record {
   rule = rule;

@@ -1,4 +1,4 @@
--- A table of a part of what a target links: definitions for private clauses.
+-- A table with only a part of the linked modules: definitions for private contracts.
 use Rattle.std.specs.Prelude.{◌≡◌, Option, IfSome}
 use Rattle.module_table.specs.TableValue.{TableValue}
 use Rattle.module_table.specs.Parts.{IsEnough, KeepsRequired}
@@ -8,7 +8,7 @@ use Rattle.collate_core.specs.Documents.{table_of, AreAccepted}
 use Rattle.collate_core.specs.inner.Parts.{IsTableText}
 
 -- The documents of the target are accepted. The table has the target's objects, and a part of its
--- info files that is enough. With a style the part keeps what its modules require.
+-- info files that is enough for them. With a style, the part keeps what its modules require.
 pub record IsEnoughFor (target : TargetValue) (style : Option Written) (u : TableValue)
     : Type 0 where
   pub accepted : AreAccepted target

@@ -1,4 +1,4 @@
--- What the parts of collating promise one another: definitions for private clauses.
+-- What the steps of collating guarantee each other: definitions for private contracts.
 use Rattle.std.specs.Prelude.{◌≡◌, ℕ, List, length, map, slice_get, Option, Some, Ok, All}
 use Rattle.std.specs.Borrow.{Bor}
 use Rattle.ninja_text.specs.Paths.{IsPath}
@@ -28,73 +28,74 @@ use Rattle.collate_core.specs.declared.fault.Refusal.TheVariants.{Scan, Info, Ta
 use Rattle.collate_core.specs.declared.fault.RehearseFault.{RehearseFault}
 use Rattle.collate_core.specs.declared.fault.RehearseFault.TheVariants.{Effect}
 
--- All paths of the rules and info files are text.
+-- All paths of the rules and info files are UTF-8, and all names of the rules are valid.
 pub record IsTableText (t : TableValue) : Type 0 where
   pub objects : All IsRuleText t.objects
   pub infos : All IsInfoText t.infos
 
--- the files that are borrowed
+-- the borrowed files
 abbrev pub lent_files : List (Bor (List ℕ)) → List (List ℕ)
 lent_files files = map (λ file. file.now) files
 
--- a canonical path, and so one that has an escaped form
+-- the path is canonical and can be written
 pub record IsSpelled (path : List ℕ) : Type 0 where
   pub canonical : IsPath path
   pub writable : IsWritable path
 
--- all paths of the statement are such
+-- all paths of the statement are canonical and can be written
 abbrev pub HasSpelled : StatementValue → Type 0
 HasSpelled s = All IsSpelled (paths_of s)
 
--- the rejection is of a scan document, and this holds of its index and its fault
+-- the rejection is of a scan document, and P holds of its index and error
 abbrev pub ForScan : (ℕ → DocFault → Type 0) → Refusal → Type 0
 ForScan P (Scan index fault) = P index fault
 ForScan P other = ⊥
 
--- the rejection is of an info document, and this holds of its index and its fault
+-- the rejection is of an info document, and P holds of its index and error
 abbrev pub ForInfo : (ℕ → DocFault → Type 0) → Refusal → Type 0
 ForInfo P (Info index fault) = P index fault
 ForInfo P other = ⊥
 
--- the fault is of the effect, and this holds of it
+-- the error is one of the effect, and P holds of it
 abbrev pub ForEffect : (EffectFault → Type 0) → RehearseFault → Type 0
 ForEffect P (Effect fault) = P fault
 ForEffect P other = ⊥
 
--- the rejection is of the statements' build lines
+-- the rejection is of the first statement whose build line is too long
 abbrev pub IsWriteRefusal : List StatementValue → Refusal → Type 0
 IsWriteRefusal statements (StatementTooLong k) =
     write_fault statements ≡ Some (write.StatementTooLong k)
 IsWriteRefusal statements refusal = ⊥
 
--- the rejection is of the build line of the statement at this index
+-- the rejection is of the statement at this index, whose build line is too long
 abbrev pub IsLineRefusal : ℕ → StatementValue → Refusal → Type 0
 IsLineRefusal index s (StatementTooLong k) =
     statement_fault index s ≡ Some (write.StatementTooLong k)
 IsLineRefusal index s refusal = ⊥
 
--- the rejection is of the objects' maps
+-- the rejection is of the first map that cannot be written
 abbrev pub IsMapsRefusal : TableValue → Option Written → Refusal → Type 0
 IsMapsRefusal t (Some written) (Map o fault) = IsMapRefusal t written o fault
 IsMapsRefusal t style refusal = ⊥
 
--- the rejection is of the map of the object at this index
+-- the rejection is of the map of object o, which cannot be written
 abbrev pub IsObjectRefusal : TableValue → Written → ℕ → Refusal → Type 0
 IsObjectRefusal t written o (Map k fault) = (k ≡ o)
     × ((rule : RuleValue) → slice_get t.objects o ≡ Some rule → IsMapFault t written o rule fault)
 IsObjectRefusal t written o refusal = ⊥
 
--- the rejection is the table's fault, and what was read is what was given for the table
+-- the rejection is the error of the table, and its objects and info files are returned
 abbrev pub IsOfTable : RefusedTable → RefusedTarget → Type 0
 IsOfTable given refused = (refused.refusal ≡ Table given.fault)
     × (refused.objects ≡ given.objects) × (refused.infos ≡ given.infos)
 
--- the rejection is that of each target whose documents have this table
+-- each target that has this table, and whose documents and modules have no error, has this
+-- rejection
 abbrev pub IsTextsRefusal : TableValue → Option Written → Refusal → Type 0
 IsTextsRefusal t style refusal = (target : TargetValue) → t ≡ table_of target → IsResolved target
     → IsRefusal target style refusal
 
--- What is written of a table, for a target of this name that keeps these modules private.
+-- What is written of a table, for a target with this name and these private names.
 pub record IsWrittenOf (target : TargetValue) (style : Option Written) (t : TableValue)
     (c : CollatedValue) : Type 0 where
   pub spelled : All HasSpelled (statements_of t)
@@ -105,7 +106,7 @@ pub record IsWrittenOf (target : TargetValue) (style : Option Written) (t : Tabl
   pub reads : ReadsBack (info_of_table target.name target.kept t) c.info
   pub maps : AreMaps t style c.maps
 
--- all targets that this one links are among those that wrote these, and it collates to this
+-- the target links only targets that collated to `outs`, and collates to c
 abbrev pub CollatesLinked : Option Written → List CollatedValue → ProjectTargetValue →
     CollatedValue → Type 0
 CollatesLinked style outs p c =

@@ -1,4 +1,4 @@
--- The program's commands as the parser has them, and the task that a parse finds.
+-- The program's commands as the parser sees them, and the task that a parse finds.
 use Rattle.std.specs.Prelude.{Bool, true, false, List, [], ◌∷◌, Option, Some, None, option_map, option_and_then, fold, if◌then◌else◌, codes}
 use Rattle.std.specs.Str.{bytes_eq}
 use Rattle.clap.specs.Words.{App, Row, Rule, Shape, Text, new_app, new_rule, with_rule, first_of}
@@ -11,7 +11,7 @@ use Rattle.command_line.specs.Tasks.{TaskValue, one, collate, show, effect, orde
 abbrev pub has_globals : Command → Bool
 has_globals c = (out-Command c).has_globals
 
--- an operand, which is required
+-- a required operand
 abbrev pub needed : Text → Rule
 needed id = record (new_rule id) { required = true }
 
@@ -48,11 +48,11 @@ abbrev pub three : Option Text → Option Text → Option Text → Option Three
 three (Some first) (Some second) (Some third) = Some (first, second, third)
 three _ _ _ = None
 
--- a task made of three operands
+-- the task with these three operands
 abbrev pub made : (Text → Text → Text → TaskValue) → Three → TaskValue
 made task (first, second, third) = task first second third
 
--- the task of a command, by what was found for the name of each operand
+-- the task of a command, from what was found for each operand by name
 abbrev pub task_by : Text → (Text → Option Text) → Option TaskValue
 task_by command found =
     if bytes_eq command (codes "one")
@@ -67,6 +67,6 @@ task_by command found =
     else (if bytes_eq command (codes "project") then option_map project (found (codes "document"))
     else None)))))
 
--- the task of a subcommand, by its name and what was found for it
+-- the task of a subcommand, from its name and what was found for it
 abbrev pub task_found : Option (Text × List Row) → Option TaskValue
 task_found = option_and_then (λ found. task_by found.0 (λ operand. first_of operand found.1))

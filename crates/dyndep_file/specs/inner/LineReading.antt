@@ -1,4 +1,4 @@
--- What reading one line returns, row by row of the table of lines.
+-- What reading one line returns, for each row of the table of lines.
 use Rattle.std.specs.Prelude.{◌≡◌, ℕ, nat_lt, IsTrue, if◌then◌else◌, List, length, map, codes, Option, None, Some, Result, Ok, Err}
 use Rattle.ninja_text.specs.Lines.{LogicalLine}
 use Rattle.ninja_text.specs.Tokens.{value_of}
@@ -13,8 +13,8 @@ use Rattle.dyndep_file.specs.declared.fault.LineFault.{LineFault}
 use Rattle.dyndep_file.specs.declared.fault.ReadFault.{ReadFault}
 use Rattle.dyndep_file.specs.declared.fault.ReadFault.TheVariants.{AtLine, Io}
 
--- Either the line is of a class that may come here, and the statements are those after it, or it
--- has this fault, or an allocation failed.
+-- The line has a class that may come here and leads to the new statements, or it has this error, or
+-- an allocation failed.
 abbrev pub PassesOr : Option LineFault → (DyndepClass → Type 0) → ProgressValue
     → Result Unit (Failure LineFault) → ProgressValue → Type 0
 PassesOr fault is old (Ok u) new =
@@ -22,7 +22,7 @@ PassesOr fault is old (Ok u) new =
 PassesOr fault is old (Err (Fault found)) new = fault ≡ Some found
 PassesOr fault is old (Err Memory) new = Unit {0}
 
--- The tokens after the keyword of a build line are of this class.
+-- The tokens after the keyword `build` are a build line of this class.
 abbrev pub IsBuildOf : List Symbol → DyndepClass → Type 0
 IsBuildOf symbols c =
     (output : List ℕ) × (outputs inputs : List (List ℕ)) × Names symbols output outputs inputs
@@ -33,17 +33,17 @@ abbrev pub with_name : List ℕ → Option SeenAssignment → Option SeenAssignm
 with_name name None = None
 with_name name (Some a) = if same_bytes a.name name then Some a else None
 
--- The assignment sets `restat`, and the flag is on if the value is not empty.
+-- The assignment sets `restat`, and the flag of the class is on if the value is not empty.
 abbrev pub IsBindingOf : Option SeenAssignment → DyndepClass → Type 0
 IsBindingOf found c =
     (a : SeenAssignment) × (found ≡ Some a) × (a.name ≡ codes "restat")
     × (c ≡ Binding (nat_lt 0 (length (value_of a.raw_value))))
 
--- The value is a version that is read.
+-- The class is a version line, and the value is an accepted version.
 abbrev pub IsVersionOf : List ℕ → DyndepClass → Type 0
 IsVersionOf value c = (c ≡ Version) × IsTrue (is_version_one value)
 
--- The assignment at the first byte sets the version to one that is read.
+-- The assignment begins at the first byte and sets the version to an accepted one.
 abbrev pub IsVersionLineOf : Option SeenAssignment → DyndepClass → Type 0
 IsVersionLineOf found c =
     (a : SeenAssignment) × (found ≡ Some a) × (a.name_start ≡ 0)

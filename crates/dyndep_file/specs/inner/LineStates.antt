@@ -1,5 +1,5 @@
--- What a line does to the statements so far, as `LineState` of `ninja_text` asks for it, and what
--- is returned at the end.
+-- What a line does to the statements so far, in the form that the trait `LineState` of `ninja_text`
+-- needs, and what is returned at the end.
 use Rattle.std.specs.Prelude.{ℕ, List, Result, Ok, Err}
 use Rattle.ninja_text.specs.Lines.{LogicalLine}
 use Rattle.ninja_text.specs.declared.failure.Failure.{Failure}
@@ -15,21 +15,21 @@ use Rattle.dyndep_file.specs.declared.fault.LineFault.TheVariants.{LineTooLong, 
 use Rattle.dyndep_file.specs.declared.progress.Stage.{Stage}
 use Rattle.dyndep_file.specs.declared.progress.Stage.TheVariants.{BeforeVersion, NoneOpen, Open}
 
--- The line passes, and these are the statements after it.
+-- The line passes and leads to the new statements.
 abbrev pub PassesLine : ProgressValue → LogicalLine → ProgressValue → Type 0
 PassesLine old line new = ReadsLine old line (Ok tt) new
 
--- The line has this fault.
+-- The line is rejected with this error.
 abbrev pub RefusesLine : ProgressValue → LogicalLine → ReadFault → Type 0
 RefusesLine old line fault = ReadsLine old line (Err (Fault fault)) old
 
--- the cutter's fault as the reader's
+-- the error of the cutter as an error of the reader
 abbrev pub fault_of_cutter : CutFault → ReadFault
 fault_of_cutter (cut.LineTooLong line) = AtLine line LineTooLong
 fault_of_cutter (cut.Truncated line) = AtLine line Truncated
 
--- what is returned once all lines were read: the statements, or that no version line came before
--- this line
+-- what is returned after all lines: the statements, or `NoVersion` with this line number if there
+-- was no version line
 abbrev pub answer_at_end : Stage → List StatementValue → ℕ
     → Result (List StatementValue) (Failure ReadFault)
 answer_at_end BeforeVersion statements line = Err (Fault (AtLine line NoVersion))

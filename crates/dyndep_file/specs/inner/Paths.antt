@@ -1,4 +1,4 @@
--- Paths as they are held.
+-- The bytes of lists of paths.
 use Rattle.std.specs.Prelude.{ℕ, List, map, Vec}
 use Rattle.std.specs.Borrow.{Bor}
 use Rattle.std.specs.declared.alloc.Global.{Global}

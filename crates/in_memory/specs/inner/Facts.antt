@@ -1,4 +1,4 @@
--- Facts of a `Folder` have at most one proof. A ghost field of a type has to be such a fact.
+-- These facts about a `Folder` have at most one proof, as the ghost fields of a type must.
 use Rattle.std.specs.Prelude.{List, slice_index_or, All, Option, Some, None, Ok, Err}
 use Rattle.std.specs.Coded.{coded_bool, coded_list, coded_option, coded_ℕ, Coded-set, Unit-prop, Π_prop, ×_prop, →_prop}
 use Rattle.std.specs.BTreeMap.{BTreeMap}

@@ -1,4 +1,4 @@
--- A table of the first file of each name.
+-- A table with the first file of each name.
 use Rattle.std.specs.Prelude.{◌≡◌, List, Option}
 use Rattle.std.specs.Borrow.{Bor}
 use Rattle.std.specs.Option.{option_copied}
@@ -12,6 +12,6 @@ use Rattle.in_memory.specs.Given.{GivenFile, bytes_named}
 abbrev pub first_named : BTreeMap (Bor PathText) (Bor Bytes) → PathText → Option Bytes
 first_named first name = option_copied (get_by (λ k. slice_cmp nat_cmp name k.now) first)
 
--- the table has the first of these files of each name
+-- for each name, the table has the bytes of the first file with that name
 abbrev pub AreFirst : BTreeMap (Bor PathText) (Bor Bytes) → List GivenFile → Type 0
 AreFirst first files = (name : PathText) → first_named first name ≡ bytes_named files name

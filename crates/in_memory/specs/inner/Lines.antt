@@ -5,16 +5,16 @@ use Rattle.ninja_text.specs.Bytes.{Text, space}
 use Rattle.in_memory.specs.declared.location.Location.{Location}
 use Rattle.in_memory.specs.Locations.{Spot, Where, Which, absent, location_of, no_spot}
 
--- the text after this word, if it begins with the word
+-- the text after this word, if the text begins with the word
 abbrev pub after : Text → Text → Option Text
 after text word =
     if bytes_eq (take (length word) text) word then Some (drop (length word) text) else None
 
--- a number with one digit more, or the largest if that does not fit
+-- the number with another digit at its end, or the largest number if that is too large
 abbrev pub with_digit : ℕ → ℕ → ℕ
 with_digit number digit = min (min (number * 10) absent + (digit - 48)) absent
 
--- a number with the digits that a text begins with, and the text after them
+-- appends the digits at the beginning of the text to the number; also returns the rest of the text
 abbrev pub number_after : ℕ → Text → ℕ × Text
 number_after number [] = (number, [])
 number_after number (byte ∷ text) =
@@ -25,15 +25,16 @@ number_after number (byte ∷ text) =
 abbrev pub numbered : Text → Text → Option (ℕ × Text)
 numbered text word = option_map (number_after 0) (after text word)
 
--- the number after this word, and the text after the number and `: `
+-- the number, and the text after `: `, if the text begins with it
 abbrev pub before_colon : Option (ℕ × Text) → Option (ℕ × Text)
 before_colon None = None
 before_colon (Some found) = option_map (λ rest. (found.0, rest)) (after found.1 (codes ": "))
 
+-- the number after this word, and the text after the number and `: `
 abbrev pub labelled : Text → Text → Option (ℕ × Text)
 labelled text word = before_colon (numbered text word)
 
--- the document that a text names first, with its index, and the text after it
+-- the kind and the index of the document that the text names first, and the text after it
 abbrev pub document : Text → ℕ × ℕ × Text
 document text =
     unwrap_or (option_map (λ found. (3, found.0, found.1)) (labelled text (codes "scan ")))
@@ -44,15 +45,17 @@ document text =
     (unwrap_or (option_map (λ rest. (6, absent, rest)) (after text (codes "name: ")))
     (0, absent, text))))))
 
--- the document and the line of a text, and the text after the line
+-- the document, its line if one was found, and the text after that; a line without a document is
+-- one of a dyndep file
 abbrev pub lines_of : ℕ → Text → Option (ℕ × Text) → ℕ × ℕ × Text
 lines_of kind text None = (kind, absent, text)
 lines_of kind text (Some found) = (if kind == 0 then 7 else kind, found.0, found.1)
 
+-- the same, from a text that may begin with the line
 abbrev pub lined : ℕ → Text → ℕ × ℕ × Text
 lined kind text = lines_of kind text (labelled text (codes "line "))
 
--- the code that a text begins with, and the text after it
+-- the letter and the number of the code that the text begins with, and the text after it
 abbrev pub code : Text → ℕ × ℕ × Text
 code [] = (0, 0, [])
 code (letter ∷ text) =
@@ -65,69 +68,76 @@ abbrev pub up_to_space : Text → Text
 up_to_space [] = []
 up_to_space (byte ∷ text) = if byte == space then byte ∷ text else up_to_space text
 
--- the text from its next space on, if it begins with one
+-- the text from its first space on, not counting a space that it begins with
 abbrev pub from_space : Text → Text
 from_space text = up_to_space (unwrap_or (after text (codes " ")) text)
 
+-- this item of a document, and the entry of its list that the text names
 abbrev pub in_item : ℕ → Text → Spot
 in_item item text =
     unwrap_or (option_map (λ it. (1, item, it.0, absent)) (numbered text (codes " provides ")))
     (unwrap_or (option_map (λ it. (2, item, it.0, absent)) (numbered text (codes " requires ")))
     (0, item, absent, absent))
 
+-- the rule or module that the text names
 abbrev pub in_document : Text → Spot
 in_document text =
     unwrap_or (option_map (λ found. in_item found.0 found.1) (numbered text (codes " rule ")))
     (unwrap_or (option_map (λ found. in_item found.0 found.1) (numbered text (codes " module ")))
     no_spot)
 
+-- this statement, and the path that the text names
 abbrev pub in_path : ℕ → Text → Spot
 in_path item text =
     unwrap_or (option_map (λ found. (3, item, found.0, absent)) (numbered text (codes " path ")))
     (0, item, absent, absent)
 
+-- the statement that the text names, and the path
 abbrev pub in_statement : Text → Spot
 in_statement text =
     unwrap_or (option_map (λ found. in_path found.0 found.1) (numbered text (codes " statement ")))
     no_spot
 
+-- the offset of the byte that the text names
 abbrev pub at_byte : Text → Spot
 at_byte text =
     unwrap_or (option_map (λ found. (0, absent, absent, found.0)) (numbered text (codes " at ")))
     no_spot
 
--- what the numbers after the name of an error with this code are
+-- the numbers after the name of an error with this code
 abbrev pub spot : ℕ → ℕ → Text → Spot
 spot letter number text =
     if letter == 83 then in_document text
     else (if letter == 89 || (letter == 69 && number == 8) then in_statement text
     else (if letter == 78 then at_byte text else no_spot))
 
--- which error a text names
+-- the error that the text names
 abbrev pub which_in : Text → Which
 which_in text =
     let coded = code text in
     (coded.0, coded.1, spot coded.0 coded.1 (from_space coded.2))
 
--- the location of an error, after its document and the index of that
+-- where an error is and which error it is, from its document, index, line and the text after them
 abbrev pub after_lines : ℕ → ℕ × ℕ × Text → Where × Which
 after_lines index at = ((at.0, index, at.1), which_in at.2)
 
+-- the same, from a text that may begin with the line
 abbrev pub after_label : ℕ → ℕ → Text → Where × Which
 after_label kind index text = after_lines index (lined kind text)
 
+-- the same, from a text that may begin with the document
 abbrev pub read_text : Text → Where × Which
 read_text text = let named = document text in after_label named.0 named.1 named.2
 
--- a line without the program's name
+-- the line without the program's name
 abbrev pub without_program : Text → Text
 without_program line = unwrap_or (after line (codes "dyncollate: ")) line
 
--- the index of the target that a text names first, and the text after it
+-- the index of the target that the text names first, and the text after it
 abbrev pub targeted : Text → ℕ × Text
 targeted text = unwrap_or (labelled text (codes "target ")) (absent, text)
 
--- the location that a line has
+-- the location that is read from a line
 abbrev pub read_line : Text → Location
 read_line line =
     let found = targeted (without_program line) in

@@ -17,7 +17,7 @@ use Rattle.module_maps.specs.declared.module_map.MapEntry.{MapEntry}
 use Rattle.module_maps.specs.declared.fault.MapFault.{MapFault}
 use Rattle.module_maps.specs.declared.fault.MapFault.TheVariants.{TwoProvided, BadMapLine}
 
--- ---- what was written is read
+-- ---- a written map reads back
 
 pub last-entry : (entries : List MapEntry) (entry : MapEntry) →
     slice_get (entries ++ entry ∷ []) (length (entries ++ entry ∷ []) - 1) ≡ Some entry
@@ -29,11 +29,11 @@ last-entry entries entry =
     ap (slice_get all) at
     ∙ slice_get_read _ _ _ _ refl within (sym (get_or-append_seam entries entry [] entry))
 
--- the name rises after the last of the entries
+-- the name is greater than that of the last entry
 abbrev pub RisesBehind : List MapEntry → Text → Type 0
 RisesBehind entries name = rises_behind (slice_get entries (length entries - 1)) name ≡ true
 
--- the first name rises after the last entry
+-- the first name is greater than that of the last entry
 abbrev Begins : List MapEntry → Pairs → Type 0
 Begins entries [] = ⊤
 Begins entries (x ∷ xs) = RisesBehind entries x.0
@@ -49,17 +49,17 @@ rising-rest : (x : Text × Text) (xs : Pairs) → IsRising (x ∷ xs) → IsRisi
 rising-rest x xs rising i j d less within =
     rising (suc i) (suc j) d (omega (arith, less)) (omega (arith, within))
 
--- a text of other bytes has no line end
+-- a text without this byte has no line end
 no-line-end : (text : Text) → list_all (λ b. not (b == 10)) text ≡ true → Lacks 10 text
 no-line-end text others = lacks (λ b. not (b == 10)) 10 refl text others
 
--- nor has one that such a text is before
+-- and neither has such a text followed by one without a line end
 no-line-end-behind : (front text : Text) → list_all (λ b. not (b == 10)) front ≡ true →
     Lacks 10 text → Lacks 10 (front ++ text)
 no-line-end-behind front text others lacking =
     All-append (λ b. (b == 10) ≡ false) front text (no-line-end front others) lacking
 
--- the line of a needed module is read as that module, if its name rises
+-- the line of a needed module reads back, if its name is greater than that of the last entry
 file-back : (entries : List MapEntry) (x : Text × Text) → IsModulePair x → is_fit x.1 ≡ true →
     RisesBehind entries x.0 → clang_form entries (file_line x) ≡ Some (named x)
 file-back entries x is fit rises =
@@ -77,12 +77,12 @@ files-each entries (x ∷ xs) modules fits rising begins =
       files-each (entries ++ named x ∷ []) xs modules.1 fits.1 (rising-rest x xs rising) next,
     )
 
--- how the lines after the first are read, if it is the flag, and if it is not
+-- how a text is read after its first line, which is the flag or not
 abbrev pub read_behind_first : Text → List Text → Bool → Result (List MapEntry) MapFault
 read_behind_first first lines is_flag =
     cond is_flag (read_provided lines) (read_lines clang_form [] 1 (first ∷ lines))
 
--- a text has a line after the first
+-- `clang_read` of a line and a text, which has at least one line
 first-line : (first text : Text) → clang_read (first ∷ lines_of text) ≡
     read_behind_first first (lines_of text) (bytes_eq first module_flag)
 first-line first text =
@@ -108,7 +108,7 @@ provided-line line text path is =
     subst (λ parts. read_provided (line ∷ parts) ≡ read_behind path parts) (sym some.2)
     (ap (λ p. read_behind p (some.0 ∷ some.1)) is)
 
--- the lines of needed modules, with no provided one
+-- the lines of needed modules read back, if no module is provided
 files-back : (xs : Pairs) → AreModules xs → AreFit xs → IsRising xs →
     clang_entries (lines_text file_line xs) ≡ Ok (map named xs)
 files-back [] modules fits rising = refl
@@ -123,7 +123,7 @@ files-back (x ∷ xs) modules fits rising =
     ∙ ap (read_lines clang_form [] 1) (sym parts)
     ∙ lines-back clang_form file_line named [] 1 (x ∷ xs) each
 
--- the text of a provided module and of needed ones
+-- the text of a provided module, followed by the lines of needed ones
 pub one-text : (path files : Text) → ((path ++ 10 ∷ []) ++ []) ++ files ≡ path ++ 10 ∷ files
 one-text path files =
     ap (λ t. t ++ files) (append-nil (path ++ 10 ∷ [])) ∙ append_assoc path (10 ∷ []) files
@@ -187,7 +187,7 @@ clang-back m text is e = by (first_unfit (pairs_of m)) refl e
     by None found e =
         text-back m.provided m.needed text modules (each-fit (pairs_of m) found) is.rising e
 
--- the entries are those of the modules, the provided ones without a name
+-- the entries have the paths of the modules
 kept-paths : (xs ys : Pairs) →
     map (λ e. e.path) (map nameless xs ++ map named ys) ≡ map (λ p. p.1) (xs ++ ys)
 kept-paths [] ys = (named-pairs ys).paths
@@ -209,7 +209,7 @@ clang-pairs m = record {
   names = kept-names m.provided m.needed;
 }
 
--- why nothing is written is a fact about the map
+-- writing a map never reports a bad line
 no-line : (m : ModuleMapValue) (unfit : Option Text) (line : ℕ) →
     clang_result m unfit ≢ Err (BadMapLine line)
 no-line m (Some path) line e = absurd cc

@@ -11,7 +11,7 @@ use Rattle.module_maps.specs.map_laws.LineLemmas.{Pairs, AreModules, AreFit, lin
 use Rattle.module_maps.specs.declared.module_map.MapEntry.{MapEntry}
 use Rattle.module_maps.specs.declared.fault.MapFault.TheVariants.{BadMapLine}
 
--- each line is read as the module that it was written for
+-- each line reads back as its module
 gcc-each : (entries : List MapEntry) (pairs : Pairs) → AreModules pairs → AreFit pairs →
     ReadsEach gcc_form gcc_line named entries pairs
 gcc-each entries [] modules fits = tt
@@ -21,7 +21,7 @@ gcc-each entries (x ∷ xs) modules fits = (
   gcc-each (entries ++ named x ∷ []) xs modules.1 fits.1,
 )
 
--- what was written is read
+-- a written map reads back
 text-back : (pairs : Pairs) (text : Text) (unfit : Option Text) →
     first_unfit pairs ≡ unfit → AreModules pairs → gcc_text pairs unfit ≡ Ok text →
     gcc_entries text ≡ Ok (map named pairs)
@@ -41,7 +41,7 @@ gcc-back m text is e =
 pub gcc-pairs : (m : ModuleMapValue) → AreEntriesOf (pairs_of m) (gcc_kept m)
 gcc-pairs m = named-pairs (pairs_of m)
 
--- why nothing is written is a fact about the map
+-- writing a map never reports a bad line
 no-line : (pairs : Pairs) (unfit : Option Text) (line : ℕ) →
     gcc_text pairs unfit ≢ Err (BadMapLine line)
 no-line pairs None line e = absurd cc

@@ -27,25 +27,25 @@ use Rattle.module_maps.specs.declared.fault.MapFault.TheVariants.{BadMapLine}
 abbrev pub Pairs : Type 0
 Pairs = List (Text × Text)
 
--- each pair is a module
+-- each pair has a valid name and path
 abbrev pub AreModules : Pairs → Type 0
 AreModules pairs = AllByRecursion IsModulePair pairs
 
--- the path of each pair can be in a map
+-- each path can be in a map
 abbrev pub AreFit : Pairs → Type 0
 AreFit pairs = AllByRecursion (λ pair. is_fit pair.1 ≡ true) pairs
 
--- no byte of the text is the mark
+-- the text does not contain the byte `mark`
 abbrev pub Lacks : ℕ → Text → Type 0
 Lacks mark text = All (λ b. (b == mark) ≡ false) text
 
 -- ---- cutting a text
 
--- what is before the byte of this index, and what is after it
+-- the text before this index, and the text after it
 abbrev pub parts_at : Text → ℕ → Text × Text
 parts_at text i = (take i text, drop (i + 1) text)
 
--- the text up to the index that is found
+-- the first part ends at the index that is found
 cut-parts : (p : ℕ → Bool) (xs : Text) (i : ℕ) → position p xs ≡ Some i →
     slice_split p xs ≡ take i xs ∷ slice_split p (drop (i + 1) xs)
 cut-parts p xs i e =
@@ -67,12 +67,12 @@ pass-none p xs e k d within = by (nat_lt (position_or_len p xs) (length xs)) ref
 cut-none : (p : ℕ → Bool) (xs : Text) → position p xs ≡ None → slice_split p xs ≡ xs ∷ []
 cut-none p xs e = slice_split_none p xs (pass-none p xs e)
 
--- the lines of a text that is cut so at its first line end
+-- the lines of a text, from its two parts at the first line end
 abbrev HasLines : Text → Option (Text × Text) → Type 0
 HasLines text None = lines_of text ≡ text ∷ []
 HasLines text (Some c) = lines_of text ≡ c.0 ∷ lines_of c.1
 
--- what the index says of the lines
+-- the lines, if the first line end has this index
 by-index : (text : Text) (index : Option ℕ) → position is_line_end text ≡ index →
     (found : Option (Text × Text)) → option_map (parts_at text) index ≡ found →
     HasLines text found
@@ -92,7 +92,7 @@ lines-cut text first more e =
 pub lines-whole : (text : Text) → cut 10 text ≡ None → lines_of text ≡ text ∷ []
 lines-whole text e = by-index text (position is_line_end text) refl None e
 
--- ---- the module in a text
+-- ---- the name and the path in a text
 
 pub pair-of : (mark : ℕ) (text : Text) (texts : Option (Text × Text)) →
     cut mark text ≡ texts → pair_in mark text ≡ read_pair texts
@@ -122,7 +122,7 @@ name-other text other = by (is_utf8 text) refl
     by true is = absurd (other (IsUtf8-from_is_utf8 text is))
     by false is = refl
 
--- ---- paths that are unfit
+-- ---- paths that cannot be in a map
 
 pub unfit-front : (xs ys : Pairs) (path : Text) → first_unfit xs ≡ Some path →
     first_unfit (xs ++ ys) ≡ Some path
@@ -148,7 +148,7 @@ unfit-back (x ∷ xs) ys e = by (is_fit x.1) e (unfit-back xs ys)
 
 -- ---- reading lines
 
--- a text has a first line, or what counts as one
+-- `lines_of` returns at least one line
 pub some-line : (text : Text) →
     (line : Text) × (lines : List Text) × (lines_of text ≡ line ∷ lines)
 some-line [] = ([], [], refl)
@@ -163,14 +163,14 @@ some-line (b ∷ bs) =
     by true parts line lines e = ([], parts, refl)
     by false parts line lines e = (b ∷ line, lines, ap (onto_first b) e)
 
--- how reading continues after a line with this entry, or with none
+-- reads the other lines after a line with this entry, or reports the line if it has none
 abbrev pub read_on : LineForm → List MapEntry → ℕ → List Text → Option MapEntry →
     Result (List MapEntry) MapFault
 read_on form entries n lines None = Err (BadMapLine n)
 read_on form entries n lines (Some entry) =
     read_lines form (entries ++ entry ∷ []) (n + 1) lines
 
--- a line is followed by others, if not by an empty one
+-- after a line, `read_on` reads the lines of the text
 line-then : (form : LineForm) (entries : List MapEntry) (n : ℕ) (line text : Text) →
     read_lines form entries n (line ∷ lines_of text) ≡
     read_on form entries n (lines_of text) (form entries line)
@@ -179,7 +179,7 @@ line-then form entries n line text =
     subst (λ parts. read_lines form entries n (line ∷ parts) ≡
     read_on form entries n parts (form entries line)) (sym some.2) refl
 
--- one line is read, and lines follow
+-- a good line adds its entry, and reading continues
 pub line-read : (form : LineForm) (entries : List MapEntry) (n : ℕ) (line text : Text)
     (entry : MapEntry) → form entries line ≡ Some entry →
     read_lines form entries n (line ∷ lines_of text) ≡
@@ -193,9 +193,9 @@ pub line-bad : (form : LineForm) (entries : List MapEntry) (n : ℕ) (line text 
 line-bad form entries n line text e =
     line-then form entries n line text ∙ ap (read_on form entries n (lines_of text)) e
 
--- ---- what was written is read
+-- ---- written lines read back
 
--- bytes of which a test holds are not among those of which it does not
+-- a text whose bytes all pass a test lacks each byte that does not pass it
 pub lacks : (test : ℕ → Bool) (mark : ℕ) → test mark ≡ false → (xs : Text) →
     list_all test xs ≡ true → Lacks mark xs
 lacks test mark outside xs all k d within = by (get_or xs k d == mark) refl
@@ -210,7 +210,7 @@ lacks test mark outside xs all k d within = by (get_or xs k d == mark) refl
         absurd cc
     by false is = is
 
--- a text is cut after what lacks the mark
+-- a text is cut at the first `mark`
 cut-at : (mark : ℕ) (first rest : Text) → Lacks mark first →
     cut mark (first ++ mark ∷ rest) ≡ Some (first, rest)
 cut-at mark first rest none =
@@ -231,7 +231,7 @@ cut-at mark first rest none =
     ∙ ap₂ (λ (a b : Text). Some (a, b)) (take-append_seam first (mark ∷ rest))
     (drop-append-add first (mark ∷ rest) 1)
 
--- the last of five tests
+-- if five tests hold, the last one does
 last-test : (a b c d e : Bool) → (a && b && c && d && e) ≡ true → e ≡ true
 last-test a b c d true h = refl
 last-test a b c d false h = grind (arith, h)
@@ -243,17 +243,17 @@ name-bytes text h =
     (nat_le (count_by (λ b. b == 58) text) 1)
     (list_all is_not_empty (slice_split is_separator text)) (list_all is_name_byte text) h
 
--- a name has none of the bytes that no name has
+-- a valid name lacks each byte that no name has
 name-lacks : (mark : ℕ) (name : Text) → is_name_byte mark ≡ false → is_name name ≡ true →
     Lacks mark name
 name-lacks mark name outside is = lacks is_name_byte mark outside name (name-bytes name is)
 
--- a path of a map has none of the bytes that no such path has
+-- a path of a map lacks each byte that no such path has
 pub fit-lacks : (mark : ℕ) (path : Text) → is_map_byte mark ≡ false → is_fit path ≡ true →
     Lacks mark path
 fit-lacks mark path outside fit = lacks is_map_byte mark outside path fit
 
--- the bytes of the two are not those that neither may have
+-- a name and a path with a byte between them lack every other byte that neither may have
 pub pair-lacks : (mark between : ℕ) (pair : Text × Text) → is_name_byte mark ≡ false →
     is_map_byte mark ≡ false → (between == mark) ≡ false → IsModulePair pair →
     is_fit pair.1 ≡ true → Lacks mark (pair.0 ++ between ∷ pair.1)
@@ -268,7 +268,7 @@ path-back text is fit =
     ap (λ t. cond t (canonical_in text (path_of text)) None) fit ∙ ap (canonical_in text) is
     ∙ ap (λ t. cond t (Some text) None) ((bytes_eq-Decides text text).1 refl)
 
--- a name that is text and a path that fits are read again
+-- a valid name and a path that can be in a map are read back
 pub pair-back : (mark : ℕ) (pair : Text × Text) → is_name_byte mark ≡ false →
     IsModulePair pair → is_fit pair.1 ≡ true →
     pair_in mark (pair.0 ++ mark ∷ pair.1) ≡ Some pair
@@ -278,11 +278,11 @@ pair-back mark pair outside is fit =
     ∙ ap₂ both (sym (name-text pair.0 (Some pair.0) (is.name, refl) is.text))
     (path-back pair.1 is.path fit)
 
--- the lines of things, each with its end
+-- the lines of all elements, each with its line end
 abbrev pub lines_text : {X : Type 0} → (X → Text) → List X → Text
 lines_text line xs = flat_map (λ x. ended_line (line x)) xs
 
--- each line is read as its entry, after those before it
+-- each line is read as its entry, given the entries so far, and contains no line end
 abbrev pub ReadsEach : {X : Type 0} → LineForm → (X → Text) → (X → MapEntry) →
     List MapEntry → List X → Type 0
 ReadsEach form line entry entries [] = ⊤
@@ -303,7 +303,7 @@ lines-back form line entry entries n (x ∷ xs) reads =
     ∙ lines-back form line entry (entries ++ entry x ∷ []) (n + 1) xs reads.2
     ∙ ap Ok (append_assoc entries (entry x ∷ []) (map entry xs))
 
--- no path is unfit
+-- if no path is unfit, all paths are fit
 pub each-fit : (pairs : Pairs) → first_unfit pairs ≡ None → AreFit pairs
 each-fit [] e = tt
 each-fit (x ∷ xs) e = by (is_fit x.1) refl e (each-fit xs)
@@ -313,7 +313,7 @@ each-fit (x ∷ xs) e = by (is_fit x.1) refl e (each-fit xs)
     by true is e more = (is, more e)
     by false is e more = absurd cc
 
--- the entries of modules with their names
+-- named entries are the entries of their pairs
 pub named-pairs : (pairs : Pairs) → AreEntriesOf pairs (map named pairs)
 named-pairs pairs = record {
   paths = paths-of pairs;

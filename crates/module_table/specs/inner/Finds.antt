@@ -1,12 +1,12 @@
--- What the checks ask of the modules that they find by name, and which element of a list is the
--- first that is rejected.
+-- The tests that the checks make of modules, which are found by name, and the first element of a
+-- list that fails a test.
 use Rattle.std.specs.Prelude.{◌≡◌, ◌≢◌, ℕ, ◌<◌, Bool, true, false, not, ◌||◌, List, slice_get, find, bytes_eq, nat_eq, Option, Some, None}
 use Rattle.document_values.specs.Rule.{RuleValue}
 use Rattle.module_table.specs.Modules.{Provision, InfoRequirement}
 use Rattle.module_table.specs.declared.fault.Maker.{Maker}
 use Rattle.module_table.specs.declared.fault.Maker.TheVariants.{Object, Info}
 
--- the module of that name, if there is one
+-- the module with this name, if there is one
 abbrev pub found : List Provision → List ℕ → Option Provision
 found modules name = find (λ p. bytes_eq name p.name) modules
 
@@ -20,6 +20,7 @@ abbrev pub is_object : Maker → Bool
 is_object (Object object) = true
 is_object (Info info) = false
 
+-- the producer is the info file at this index
 abbrev pub is_info_at : Maker → ℕ → Bool
 is_info_at (Object object) index = false
 is_info_at (Info info) index = nat_eq info index
@@ -34,23 +35,23 @@ abbrev pub none_or : (Provision → Bool) → Option Provision → Bool
 none_or test None = true
 none_or test (Some p) = test p
 
--- a requirement, and the module of that name, if there is one
+-- a requirement, and the module with the required name, if there is one
 abbrev pub LookedUp : Type 0
 LookedUp = InfoRequirement × Option Provision
 
--- an info provides what is required
+-- an info file provides the required name
 abbrev pub is_by_info : LookedUp → Bool
 is_by_info r = some_and (λ p. is_info p.maker) r.1
 
--- the module of that name has the file that the requirement says
+-- if there is a module with the required name, it has the required BMI
 abbrev pub agrees : LookedUp → Bool
 agrees r = none_or (λ p. bytes_eq p.file r.0.file) r.1
 
--- the module of that name is private to no other info
+-- if there is a module with the required name, it is not private to another info file
 abbrev pub is_allowed : LookedUp → Bool
 is_allowed r = none_or (λ p. not p.is_private || is_info_at p.maker r.0.info) r.1
 
--- the module of that index is private to no info
+-- if there is a module at this index, it is not private
 abbrev pub is_public_at : List Provision → ℕ → Bool
 is_public_at modules index = none_or (λ p. not p.is_private) (slice_get modules index)
 
@@ -58,12 +59,13 @@ is_public_at modules index = none_or (λ p. not p.is_private) (slice_get modules
 abbrev pub is_by_object : List Provision → List ℕ → Bool
 is_by_object modules name = some_and (λ p. is_object p.maker) (found modules name)
 
--- ---- as relations
+-- ---- as relations, with their opposites
 
--- this module of the list has the name
+-- p is the module at index k of the list, and has the name
 abbrev pub IsNamed : List Provision → List ℕ → ℕ → Provision → Type 0
 IsNamed modules name k p = (slice_get modules k ≡ Some p) × (p.name ≡ name)
 
+-- an info file provides the required name
 abbrev pub IsByInfo : List Provision → InfoRequirement → Type 0
 IsByInfo modules r =
     (k : ℕ) × (p : Provision) × (info : ℕ) × IsNamed modules r.name k p × (p.maker ≡ Info info)
@@ -71,29 +73,36 @@ IsByInfo modules r =
 abbrev pub IsNotByInfo : List Provision → InfoRequirement → Type 0
 IsNotByInfo modules r = IsByInfo modules r → ⊥
 
+-- each module with the required name has the required BMI
 abbrev pub Agrees : List Provision → InfoRequirement → Type 0
 Agrees modules r = (k : ℕ) (p : Provision) → IsNamed modules r.name k p → p.file ≡ r.file
 
+-- a module with the required name has another BMI
 abbrev pub Differs : List Provision → InfoRequirement → Type 0
 Differs modules r = (k : ℕ) × (p : Provision) × IsNamed modules r.name k p × (p.file ≢ r.file)
 
+-- each private module with the required name is one of the requiring info file
 abbrev pub IsAllowed : List Provision → InfoRequirement → Type 0
 IsAllowed modules r =
     (k : ℕ) (p : Provision) → IsNamed modules r.name k p → p.is_private ≡ true
     → p.maker ≡ Info r.info
 
+-- a private module with the required name is not one of the requiring info file
 abbrev pub IsNotAllowed : List Provision → InfoRequirement → Type 0
 IsNotAllowed modules r =
     (k : ℕ) × (p : Provision) × IsNamed modules r.name k p × (p.is_private ≡ true)
     × (p.maker ≢ Info r.info)
 
+-- no module with this name is private
 abbrev pub IsPublic : List Provision → List ℕ → Type 0
 IsPublic modules name = (k : ℕ) (p : Provision) → IsNamed modules name k p → p.is_private ≡ false
 
+-- a module with this name is private
 abbrev pub IsPrivate : List Provision → List ℕ → Type 0
 IsPrivate modules name = (k : ℕ) × (p : Provision) × IsNamed modules name k p
     × (p.is_private ≡ true)
 
+-- an object provides the name
 abbrev pub IsByObject : List Provision → List ℕ → Type 0
 IsByObject modules name =
     (k : ℕ) × (p : Provision) × (object : ℕ) × IsNamed modules name k p × (p.maker ≡ Object object)
@@ -107,7 +116,7 @@ ArePrivateByInfos modules =
     (k : ℕ) (p : Provision) → slice_get modules k ≡ Some p → p.is_private ≡ true → (info : ℕ)
     × (p.maker ≡ Info info)
 
--- the module of that name is private to this info
+-- the info file has a private module with this name
 abbrev pub IsPrivateTo : List Provision → List ℕ → ℕ → Type 0
 IsPrivateTo modules name info =
     (k : ℕ) × (p : Provision) × IsNamed modules name k p × (p.is_private ≡ true)
@@ -115,7 +124,7 @@ IsPrivateTo modules name info =
 
 -- ---- in a list
 
--- the first element that is rejected, after accepted ones
+-- the element at this index is rejected, and those before it are accepted
 pub record RefusesAt {X : Type 0} (Accepted Refused : X → Type 0) (xs : List X) (index : ℕ)
     : Type 0 where
   pub x : X
@@ -127,6 +136,6 @@ pub record RefusesAt {X : Type 0} (Accepted Refused : X → Type 0) (xs : List X
 pub record AcceptsAll {X : Type 0} (Accepted : X → Type 0) (xs : List X) : Type 0 where
   pub each : (k : ℕ) (y : X) → slice_get xs k ≡ Some y → Accepted y
 
--- a rule requires no name of a private module
+-- the rule requires no private module
 abbrev pub RequiresPublic : List Provision → RuleValue → Type 0
 RequiresPublic modules rule = AcceptsAll (IsPublic modules) rule.required

@@ -1,4 +1,4 @@
--- What modules and objects need of one another, by index.
+-- The graph of what modules and objects need, by index.
 use Rattle.std.specs.Prelude.{◌≡◌, ℕ, ◌+◌, List, [], ◌∷◌, ◌++◌, length, map, slice_get, Option, Some, None, position, bytes_eq}
 use Rattle.std.specs.List.{filter_map, AllZip}
 use Rattle.document_values.specs.Info.{InfoValue, ModuleValue}
@@ -18,8 +18,8 @@ index_in names name = position (λ other. bytes_eq name other) names
 abbrev pub indexes_in : List (List ℕ) → List (List ℕ × List ℕ) → List ℕ
 indexes_in names pairs = filter_map (λ pair. index_in names pair.0) pairs
 
--- a module of an object needs the object, whose index comes after those of all modules, and a
--- module of an info what it requires
+-- A module of an object needs that object; objects are numbered after all modules. A module of an
+-- info file needs the modules that it requires.
 abbrev pub IsModuleRow : List (List ℕ) → List InfoValue → Maker × ℕ → List ℕ → Type 0
 IsModuleRow names infos (Object object, index) row = row ≡ (length names + object) ∷ []
 IsModuleRow names infos (Info info, index) row = (entry : ModuleValue)
@@ -30,7 +30,7 @@ abbrev pub AreModuleRows : TableValue → List (List ℕ) → Type 0
 AreModuleRows t modules = AllZip (IsModuleRow (names_of (provisions t)) t.infos) (origins_of t)
     modules
 
--- What each module needs, by index, and after all modules what each object needs.
+-- First what each module needs, then what each object needs: the modules that it requires.
 pub record IsModuleGraph (t : TableValue) (graph : List (List ℕ)) : Type 0 where
   pub modules : List (List ℕ)
   pub objects : List (List ℕ)
@@ -39,11 +39,11 @@ pub record IsModuleGraph (t : TableValue) (graph : List (List ℕ)) : Type 0 whe
   pub of_objects : map (λ row. map (slice_get (names_of (provisions t))) row) objects
       ≡ map (λ rule. map (λ name. Some name) rule.required) t.objects
 
--- what a module of an object needs, by its origin: the object
+-- what a module with this origin needs, if an object provides it: that object
 abbrev pub object_row : ℕ → Maker × ℕ → Option (List ℕ)
 object_row count (Object object, index) = Some ((count + object) ∷ [])
 object_row count (Info info, index) = None
 
--- what each module of an info needs
+-- what each module of an info file needs
 abbrev pub info_rows : List (List ℕ) → ℕ × InfoValue → List (List ℕ)
 info_rows names info = map (λ entry. indexes_in names entry.required) info.1.modules

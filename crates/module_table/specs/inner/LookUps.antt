@@ -1,4 +1,4 @@
--- What a table keeps for look-ups.
+-- What a table stores for lookups.
 use Rattle.std.specs.Prelude.{◌≡◌, ℕ, List, map}
 use Rattle.module_table.specs.TableValue.{TableValue}
 use Rattle.module_table.specs.Modules.{provisions}
@@ -7,8 +7,8 @@ use Rattle.module_table.specs.inner.Graph.{IsModuleGraph}
 use Rattle.module_table.specs.inner.Origins.{Origin, origins_of}
 use Rattle.module_table.specs.inner.Views.{names_of}
 
--- the names and the origins of all modules, what modules and objects need of one another, and the
--- pairs of names and files that each object requires
+-- the names and origins of all modules, the graph of what modules and objects need, and the modules
+-- that each object requires
 pub record AreLookUps (t : TableValue) (names : List (List ℕ)) (origins : List Origin)
     (graph : List (List ℕ)) (required : List (List (List ℕ × List ℕ))) : Type 0 where
   pub all_names : names ≡ names_of (provisions t)

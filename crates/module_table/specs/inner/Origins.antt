@@ -8,7 +8,7 @@ use Rattle.module_table.specs.declared.fault.Maker.{Maker}
 use Rattle.module_table.specs.declared.fault.Maker.TheVariants.{Object, Info}
 use Rattle.module_table.specs.declared.modules.Module.{Module}
 
--- who provides a module, and at which index among its producer's
+-- the producer of a module, and the module's index there
 abbrev pub Origin : Type 0
 Origin = Maker × ℕ
 
@@ -18,7 +18,7 @@ object_origins object = map (λ p. (Object object.0, p.0)) (enumerate_from 0 obj
 abbrev pub info_origins : ℕ × InfoValue → List Origin
 info_origins info = map (λ m. (Info info.0, m.0)) (enumerate_from 0 info.1.modules)
 
--- the origins of all provided modules, in their order: by object and index, then by info and index
+-- the origins of all provided modules: by object and index, then by info file and index
 abbrev pub origins_of : TableValue → List Origin
 origins_of t = flat_map object_origins (enumerate_from 0 t.objects)
     ++ flat_map info_origins (enumerate_from 0 t.infos)

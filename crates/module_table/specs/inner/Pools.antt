@@ -1,4 +1,5 @@
--- What a pool lists of the known info files, and what it checks when some of them are linked.
+-- What a pool stores about the known info files, and what it checks when a target links some of
+-- them.
 use Rattle.std.specs.Prelude.{◌≡◌, ◌⊎◌, ◌++◌, ◌∷◌, ◌<◌, [], ℕ, Bool, true, if◌then◌else◌, List, length, slice_get, get_or, bytes_eq, Option, Some, None}
 use Rattle.indexmap.specs.IndexMap.{get}
 use Rattle.ninja_text.specs.Bytes.{PathText, Name}
@@ -12,7 +13,7 @@ use Rattle.module_table.specs.declared.pool.related.Related.{Related}
 use Rattle.module_table.specs.Parts.{IsAlike}
 use Rattle.module_table.specs.Indexes.{Indexes}
 
--- x is at some index of the list
+-- the list contains x
 abbrev pub Has : {X : Type 0} → List X → X → Type 0
 Has xs x = (k : ℕ) × (slice_get xs k ≡ Some x)
 
@@ -29,16 +30,17 @@ key_of by_file m = m.file
 abbrev pub Rows : Type 0
 Rows = Name → Option Row
 
+-- the rows by name, or by file
 abbrev pub rows_of : Listed → By → Rows
 rows_of listed by_name = get bytes_eq listed.names
 rows_of listed by_file = get bytes_eq listed.files
 
--- the module at index j of info i
+-- the module at index j of info file i
 abbrev pub module_at : ℕ → ℕ → ModuleAt
 module_at i j = record { info = i; «module» = j }
 
--- The row that was found lists the module: the module is its first, or its info file shares the
--- number of the row with the info file of the first module.
+-- A row was found, and it lists the module: as its first module, or by an entry of `Shares` that
+-- has the number of the row and the info file of the first module.
 abbrev pub InRow : (Shared → Type 0) → Option Row → ModuleAt → Type 0
 InRow Shares found at = (row : Row) × (found ≡ Some row) × ((row.first ≡ at) ⊎ ((s : Shared)
     × Shares s × (row.number ≡ Some s.number) × (s.module ≡ at.module)
@@ -49,7 +51,8 @@ abbrev pub IsSameRow : Row → Row → Type 0
 IsSameRow old new = (new.first ≡ old.first)
     × ((x : ℕ) → old.number ≡ Some x → new.number ≡ Some x)
 
--- What becomes of the rows at the key: its row stays the same, and the module is listed in it.
+-- The module was put into the row of its key. The row lists it, an earlier row stays the same, and
+-- no other key changes.
 pub record IsPut {K : Type 0} (eq : K → K → Bool) (old new : K → Option Row) (key : K)
     (at : ModuleAt) (shared : List Shared) : Type 0 where
   pub row : Row
@@ -57,12 +60,12 @@ pub record IsPut {K : Type 0} (eq : K → K → Bool) (old new : K → Option Ro
   pub kept : (r : Row) → old key ≡ Some r → IsSameRow r row
   pub listed : InRow (Has shared) (Some row) at
 
--- the rows that were there still are
+-- all earlier rows are still there
 abbrev pub StillListed : Listed → Listed → Type 0
 StillListed old new = (by : By) (key : Name) (r : Row) → rows_of old by key ≡ Some r
     → (row : Row) × (rows_of new by key ≡ Some row) × IsSameRow r row
 
--- the modules of info `number` are listed in the rows of their keys
+-- the modules of info file `number` are listed in the rows of their keys
 abbrev pub AreListed : (ModuleValue → Name) → ℕ → List ModuleValue → Rows → List Shared → Type 0
 AreListed key number modules rows shared = (j : ℕ) (m : ModuleValue) → slice_get modules j ≡ Some m
     → InRow (Has shared) (rows (key m)) (module_at number j)
@@ -72,14 +75,14 @@ abbrev pub IsKnownModule : List (Option InfoValue) → ℕ → ℕ → ModuleVal
 IsKnownModule known i j m = (value : InfoValue) × (slice_get known i ≡ Some (Some value))
     × (slice_get value.modules j ≡ Some m)
 
--- Info file k has what a module of info file i requires: a module of that name and file. Only info
--- file i itself may have it as a private module.
+-- Info file k has a module of this name and file, which a module of info file i requires. It is
+-- private only if k is i.
 abbrev pub IsSource : List (Option InfoValue) → ℕ → Name × PathText → ℕ → Type 0
 IsSource known i pair k = (l : ℕ) × (w : ModuleValue) × IsKnownModule known k l w
     × (w.name ≡ pair.0) × (w.file ≡ pair.1) × (w.is_private ≡ true → k ≡ i)
 
--- How an info file that is added is related to the known ones: its modules are listed, and some
--- info file among its sources has what they require.
+-- How an added info file is related to the known ones: its modules are listed, and the modules that
+-- they require are in its sources.
 pub record IsRelated (known : List (Option InfoValue)) (info : InfoValue) (listed : Listed)
     (r : Related) : Type 0 where
   pub are_listed : (by : By) → AreListed (key_of by) (length known) info.modules
@@ -99,8 +102,8 @@ abbrev pub HasShared : List (Option Related) → ℕ → Shared → Type 0
 HasShared related i s =
     (r : Related) × (slice_get related i ≡ Some (Some r)) × Has r.shared.items s
 
--- What a pool keeps of the known info files. Each module is listed in the rows of its name and its
--- file. What a module requires is in a source of its info file.
+-- What a pool stores about the known info files. Each module is listed in the rows of its name and
+-- its file. What a module requires is in a source of its info file.
 pub record IsPool (known : List (Option InfoValue)) (listed : Listed)
     (related : List (Option Related)) : Type 0 where
   pub are_listed : (by : By) (i j : ℕ) (m : ModuleValue) → IsKnownModule known i j m
@@ -114,8 +117,9 @@ abbrev pub AreIndexes : Indexes → Indexes → Type 0
 AreIndexes linked indexes =
     (i n : ℕ) → slice_get linked i ≡ Some n → slice_get indexes n ≡ Some i
 
--- The sources of linked info files are linked. No linked info file shares a name or file with the
--- first module that had it, and the stamp of its number is the module of the linked info file.
+-- The sources of linked info files are linked. If a linked info file shares a name or file with an
+-- earlier module, the info file that had it first is not linked, and the stamp of the shared number
+-- is the linked module.
 pub record AreFit (linked : Indexes) (related : List (Option Related)) (stamps : List ModuleAt)
     : Type 0 where
   pub closed : (n k : ℕ) → Has linked n → HasSource related n k → Has linked k
@@ -123,18 +127,18 @@ pub record AreFit (linked : Indexes) (related : List (Option Related)) (stamps :
   pub stamped : (n : ℕ) (s : Shared) → Has linked n → HasShared related n s
       → slice_get stamps s.number ≡ Some (module_at n s.module)
 
--- no linked info file has a module of the row: neither the first, nor the one of the stamp
+-- the row has no linked module: neither its first one, nor the one of the stamp
 pub record IsRowUnlinked (linked : Indexes) (stamps : List ModuleAt) (row : Row) : Type 0 where
   pub first : Has linked row.first.info → ⊥
   pub stamped : (x : ℕ) (at : ModuleAt) → row.number ≡ Some x → slice_get stamps x ≡ Some at
       → Has linked at.info → ⊥
 
--- no linked info file has a module in the row of the key
+-- the row of the key has no linked module
 abbrev pub IsUnlinked : Indexes → List ModuleAt → Rows → Name → Type 0
 IsUnlinked linked stamps rows key =
     (row : Row) → rows key ≡ Some row → IsRowUnlinked linked stamps row
 
--- no linked info file has the path, a name or a file of the object
+-- no linked module has the object as its file, or has a name or file that the object provides
 pub record IsApart (linked : Indexes) (stamps : List ModuleAt) (listed : Listed)
     (rule : RuleValue) : Type 0 where
   pub path : IsUnlinked linked stamps (rows_of listed by_file) rule.object
@@ -142,17 +146,17 @@ pub record IsApart (linked : Indexes) (stamps : List ModuleAt) (listed : Listed)
       → IsUnlinked linked stamps (rows_of listed by_name) pair.0
       × IsUnlinked linked stamps (rows_of listed by_file) pair.1
 
--- m is a copy of a module of the info file, with what that requires or without
+-- m is a copy of a module of the info file; if `keeps`, it has all that the module requires
 abbrev pub IsCopied : Type 0 → InfoValue → ModuleValue → Type 0
 IsCopied keeps info m = (k : ℕ) × (w : ModuleValue) × (slice_get info.modules k ≡ Some w)
     × IsAlike m w × (keeps → m ≡ w)
 
--- the target of an info file, with copies of some of its modules
+-- the part has the target of the info file, and copies of some of its modules
 abbrev pub IsPicked : Type 0 → InfoValue → InfoValue → Type 0
 IsPicked keeps info part = (part.target ≡ info.target)
     × ((m : ModuleValue) → Has part.modules m → IsCopied keeps info m)
 
--- it holds of each of the elements before index i
+-- P holds of each element before index i
 abbrev pub Below : {X : Type 0} → (X → Type 0) → List X → ℕ → Type 0
 Below {X} P xs i = (k : ℕ) (x : X) → k < i → slice_get xs k ≡ Some x → P x
 
@@ -168,7 +172,7 @@ IsFitAt linked related stamps n = (r : Related) × (slice_get related n ≡ Some
     × ((k : ℕ) → Has r.sources.items k → Has linked k)
     × ((s : Shared) → Has r.shared.items s → IsAlone linked stamps n s)
 
--- the picked modules of the known info file at this index
+-- the part has picked modules of the known info file at this index
 abbrev pub IsPickedOf : Type 0 → List (Option InfoValue) → ℕ → InfoValue → Type 0
 IsPickedOf keeps known n part = (info : InfoValue) × (get_or known n None ≡ Some info)
     × IsPicked keeps info part

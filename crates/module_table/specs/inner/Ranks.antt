@@ -14,7 +14,7 @@ pair_in m = (m.name, m.file)
 abbrev pub pairs_of : List Numbered → List (Bor (List ℕ) × Bor (List ℕ))
 pairs_of modules = map pair_in modules
 
--- each module in order of numbers
+-- the first `count` modules, in order of their numbers
 pub record AreByNumber (provided : List Provision) (count : ℕ) (modules : List Numbered)
     : Type 0 where
   pub as_many : length modules ≡ count
@@ -31,19 +31,20 @@ pub record AreByName (provided : List Provision) (modules : List Numbered) : Typ
       × (slice_get modules r ≡ Some m) × (m.index ≡ k)
   pub rising : AllPairs (λ a b. Precedes a.name.now b.name.now) modules
 
--- no number is there twice
+-- the numbers are different, and smaller than the number of modules
 pub record AreNumbers (modules : List Numbered) : Type 0 where
   pub below : (r : ℕ) (m : Numbered) → slice_get modules r ≡ Some m → m.index < length modules
   pub once : (r s : ℕ) (m n : Numbered) → slice_get modules r ≡ Some m
       → slice_get modules s ≡ Some n → m.index ≡ n.index → r ≡ s
 
--- the index of each of the first modules, by its number
+-- `ranks` has, for the number of each of the first `count` modules, its index in `modules`
 pub record AreRanks (modules : List Numbered) (count : ℕ) (ranks : List ℕ) : Type 0 where
   pub as_many : length ranks ≡ length modules
   pub each : (r : ℕ) (m : Numbered) → r < count → slice_get modules r ≡ Some m
       → slice_index ranks m.index ≡ r
 
--- The names and files of all modules, in byte order of names, and the index of each, by its number.
+-- `pairs` has the names and files of all modules in byte order of names, and `ranks` has the index
+-- there of each module, by number.
 pub record AreRanked (provided : List Provision) (ranks : List ℕ) (pairs : List (List ℕ × List ℕ))
     : Type 0 where
   pub as_many : length ranks ≡ length provided

@@ -1,4 +1,4 @@
--- What the values that the code borrows stand for.
+-- What contracts see of the values that the code borrows.
 use Rattle.std.specs.Prelude.{◌≡◌, ℕ, List, ◌++◌, map, slice_get, Some}
 use Rattle.document_values.specs.Rule.{RuleValue}
 use Rattle.module_table.specs.TableValue.{TableValue}
@@ -18,7 +18,7 @@ provision_of p = record {
   is_private = p.is_private;
 }
 
--- a requirement of an info's module, as a contract sees it
+-- a requirement of a module of an info file, as a contract sees it
 abbrev pub requirement_of : InfoRequired → InfoRequirement
 requirement_of r = record {
   info = r.info;
@@ -34,24 +34,23 @@ names_of provided = map (λ p. p.name) provided
 abbrev pub files_of : List Provision → List (List ℕ)
 files_of provided = map (λ p. p.file) provided
 
--- the paths of objects, by index, and after them the files of modules, by index
+-- the paths of all objects, then the BMIs of all modules
 abbrev pub paths_of : TableValue → List (List ℕ)
 paths_of t = map (λ rule. rule.object) t.objects ++ files_of (provisions t)
 
--- the fault says that these two provide one name
+-- the error M3 of the modules at these indexes
 abbrev pub IsProvidedTwice : List Provision → ℕ → ℕ → TableFault → Type 0
 IsProvidedTwice provided i j fault = (a : Provision) × (b : Provision)
     × (slice_get provided i ≡ Some a) × (slice_get provided j ≡ Some b)
     × (fault ≡ ProvidedTwice b.name a.maker b.maker)
 
--- the fault says that the files at these indexes are one: of objects' own paths, and then of
--- modules
+-- the error M4 of the files at these indexes, in the order of `claims_of`
 abbrev pub IsMadeTwice : List RuleValue → List Provision → ℕ → ℕ → TableFault → Type 0
 IsMadeTwice objects provided i j fault = (a : Claim) × (b : Claim)
     × (slice_get (claims_of objects provided) i ≡ Some a)
     × (slice_get (claims_of objects provided) j ≡ Some b)
     × (fault ≡ BmiTwice b.file a.maker b.maker)
 
--- no key is the name
+-- the name is not among the keys
 abbrev pub IsAbsent : List (List ℕ) → List ℕ → Type 0
 IsAbsent keys name = (number : ℕ) → slice_get keys number ≡ Some name → ⊥

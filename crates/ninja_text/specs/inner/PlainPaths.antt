@@ -1,4 +1,4 @@
--- Which strings are canonical paths, by their bytes from left to right.
+-- How canonical paths are recognized byte by byte, from left to right.
 use Rattle.std.specs.Prelude.{◌≡◌, ℕ, Bool, true, false, ◌==◌, ◌||◌, if◌then◌else◌, List, None, position}
 use Rattle.std.specs.List.{list_any}
 use Rattle.ninja_text.specs.Bytes.{dot}
@@ -17,7 +17,7 @@ pub record AreNames (list : List ℕ) : Type 0 where
   pub named : list_any (λ c. is_current c || is_parent c) (components list) ≡ false
   pub clean : position is_unwritable list ≡ None
 
--- what is known of a component after one byte more
+-- what is known of a component after one more byte
 abbrev pub after : Begun → ℕ → Begun
 after Nothing b = if b == dot then Dot else Name
 after Dot b = if b == dot then TwoDots else Name

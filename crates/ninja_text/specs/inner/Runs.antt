@@ -1,17 +1,17 @@
--- How far a run of units or of spaces goes.
+-- How far a run of units or of spaces extends.
 use Rattle.std.specs.Prelude.{◌≡◌, ℕ, ◌+◌, Bool, ◌==◌, if◌then◌else◌, List, [], ◌∷◌, drop}
 use Rattle.ninja_text.specs.Bytes.{space}
 use Rattle.ninja_text.specs.Units.{units}
 use Rattle.ninja_text.specs.Assignments.{after_run}
 use Rattle.ninja_text.specs.declared.unit.LineUnit.{LineUnit}
 
--- The longest run of units that pass the test goes from an index to another.
+-- The longest run of units that pass the test extends from one offset to the other.
 abbrev pub Run : (LineUnit → Bool) → List ℕ → ℕ → ℕ → Type 0
 Run test text from to =
     after_run test from (units (drop from text))
     ≡ record { place = to; units = units (drop to text) }
 
--- how many spaces are at the front
+-- the number of spaces at the front
 abbrev pub spaces_at : List ℕ → ℕ
 spaces_at [] = 0
 spaces_at (b ∷ bytes) = if b == space then 1 + spaces_at bytes else 0

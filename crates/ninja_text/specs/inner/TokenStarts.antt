@@ -1,4 +1,4 @@
--- What is at an index of a text: a token, a word, a `|`.
+-- What begins at an offset of a text: a token, a word or a `|`.
 use Rattle.std.specs.Prelude.{◌≡◌, ℕ, ◌+◌, ◌<◌, true, false, List, ◌∷◌, length, drop}
 use Rattle.ninja_text.specs.Bytes.{vertical_bar}
 use Rattle.ninja_text.specs.Units.{units}
@@ -7,26 +7,26 @@ use Rattle.ninja_text.specs.declared.unit.LineUnit.{LineUnit}
 use Rattle.ninja_text.specs.declared.unit.LineUnit.TheVariants.{Byte}
 use Rattle.ninja_text.specs.declared.token.TokenKind.{TokenKind}
 
--- At this index is a unit, of which this holds.
+-- A unit with this property begins at this offset.
 abbrev pub BeginsUnit : (LineUnit → Type 0) → List ℕ → ℕ → Type 0
 BeginsUnit P text index =
     (u : LineUnit) × (us : List LineUnit) × (units (drop index text) ≡ u ∷ us) × P u
 
--- At this index a token begins, or the text ends.
+-- A token begins at this offset, unless the text ends there.
 abbrev pub BeginsToken : List ℕ → ℕ → Type 0
 BeginsToken text index = index < length text → BeginsUnit (λ u. is_blank u ≡ false) text index
 
--- At this index is a word's first piece.
+-- A piece of a word begins at this offset.
 abbrev pub BeginsPiece : List ℕ → ℕ → Type 0
 BeginsPiece text index = BeginsUnit (λ u. is_piece u ≡ true) text index
 
--- At this index is a `|`.
+-- A `|` begins at this offset.
 abbrev pub BeginsBar : List ℕ → ℕ → Type 0
 BeginsBar text index =
     units (drop index text) ≡ Byte vertical_bar ∷ units (drop (index + 1) text)
 
--- The first token from one index on is this one, which begins there, and the others come from its
--- end on.
+-- The first token from the offset `start` on is this one. It begins there, and the other tokens
+-- follow from its end on.
 abbrev pub IsFirstToken : List ℕ → ℕ → TokenKind → ℕ → Type 0
 IsFirstToken text start kind end =
     tokens_at text start ≡ record { kind = kind; start = start; end = end } ∷ tokens_at text end

@@ -15,31 +15,31 @@ use Rattle.scan_docs.specs.Check.{Check, ◌otherwise◌, shape_check, path_chec
 use Rattle.scan_docs.specs.Shape.{is_object, whole_number}
 use Rattle.scan_docs.specs.Scan.{IsText}
 
--- the first fault, as a call returns it
+-- the error of the first check that fails, as a call returns it
 abbrev pub first_failure : List Check → Option (Failure DocFault)
 first_failure [] = None
 first_failure (c ∷ cs) = if c.holds then first_failure cs else Some (Fault c.refusal)
 
--- A reader returns a value that P holds of if all checks hold, and otherwise the first fault,
--- unless memory runs out.
+-- If all checks hold, the reader returns a value with property P. Otherwise it returns the error of
+-- the first check that fails. It may also report that memory ran out.
 abbrev pub Answers : {T : Type 0} → List Check → (T → Type 0) → Result T (Failure DocFault) → Type 0
 Answers checks P result =
     MatchResult result (λ x. (first_failure checks ≡ None) × P x)
     (λ e. e ≢ Memory → first_failure checks ≡ Some e)
 
--- the same for one check
+-- `Answers` for a single check
 abbrev pub Tests : {T : Type 0} → Check → (T → Type 0) → Result T (Failure DocFault) → Type 0
 Tests c P result =
     MatchResult result (λ x. (c.holds ≡ true) × P x)
     (λ e. e ≢ Memory → (c.holds ≡ false) × (e ≡ Fault c.refusal))
 
--- A reader returns the path of an outcome, which is text, or its fault.
+-- The reader returns this path, which is UTF-8, or the error of the path.
 abbrev pub AnswersPath : Place → Result (List ℕ) PathFault → Result (List ℕ) (Failure DocFault)
     → Type 0
 AnswersPath place outcome result =
     Answers (path_checks place outcome) (λ path. (outcome ≡ Ok path) × IsText path) result
 
--- the bytes are too many, otherwise they have no tree
+-- the error of bytes that are too many, or that do not parse
 abbrev pub IsNoTree : List ℕ → Failure DocFault → Type 0
 IsNoTree bytes e =
     ((document_limit < length bytes) × (e ≡ Fault (TooLarge place.Document)))
@@ -50,7 +50,7 @@ abbrev pub is_one_of : List ℕ → Option ℕ → Bool
 is_one_of versions None = false
 is_one_of versions (Some version) = list_any (λ v. v == version) versions
 
--- the document itself, which may have these versions
+-- the document is an object, and its version is one of these
 unfoldable pub version_checks : List ℕ → Data → List Check
 version_checks versions d =
     shape_check place.Document m.Document (is_object d)
