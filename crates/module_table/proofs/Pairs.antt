@@ -268,7 +268,7 @@ module _ (provided : List Provision) (modules : List Numbered) (h : AreByName pr
         let p = from_option_map pair_of_module (slice_get provided m.index) (lent (pair_in m)) (h.pairs r m at) in
         omega (arith, slice_get_within provided m.index p.0 p.1, h.as_many);
     once = λ r s m n at_r at_s same.
-        neither_less r s (λ lt. never_twice r s m n at_r at_s lt same) (λ gt. never_twice s r n m at_s at_r gt (sym same));
+        neither_less (λ lt. never_twice r s m n at_r at_s lt same) (λ gt. never_twice s r n m at_s at_r gt (sym same));
   }
 
   module _ (ranks : List ℕ) (is : AreRanks modules (length modules) ranks) (pairs : List Pair) (made : pairs ≡ map (λ (m : Numbered). lent (pair_in m)) modules)

@@ -1,5 +1,5 @@
 -- What lists have, and rows of entries by keys: an entry that is added is listed.
-use Rattle.std.proofs.Common.{◌≡◌, ℕ, zero, suc, ◌+◌, ◌<◌, ◌≤◌, ◌⊎◌, Bool, true, false, cond, List, [], ◌∷◌, ◌++◌, length, Option, Some, None, option_copied, refl, ap, subst, sym, ◌∙◌, inl, inr, ⊎_elim, arith, slice_get, slice_set, bytes_eq, true≢false, is_some, IfNone, IfSome, MatchBool, Bor, get_or, map, length-append}
+use Rattle.std.proofs.Common.{◌≡◌, ℕ, zero, suc, ◌+◌, ◌<◌, ◌≤◌, ◌⊎◌, Bool, true, false, cond, List, [], ◌∷◌, ◌++◌, length, Option, Some, None, option_copied, refl, ap, subst, sym, ◌∙◌, inl, inr, ⊎_elim, arith, slice_get, bytes_eq, true≢false, is_some, IfNone, IfSome, MatchBool, Bor, get_or, map, length-append}
 use Rattle.std.specs.List.{AllWithin, AllZip, HoldsAt}
 use Rattle.std.specs.Option.{MatchOption, option_eq}
 use Rattle.std.specs.Cmp.Lexicographic.{bytes_decides}
@@ -15,20 +15,10 @@ use Rattle.document_values.specs.Rule.{RuleValue}
 use Rattle.module_table.specs.Parts.{HasModule, IsAlike, IsPartOf, KeepsRequired, InfosApart, OwnApart, AreClosed, IsEnough}
 use Rattle.module_table.specs.Pool.{AreLinked}
 use Rattle.module_table.specs.declared.pool.related.Related.{Related}
-
--- x is at index k of the list
-abbrev pub At : {X : Type 0} → List X → ℕ → X → Type 0
-At xs k x = slice_get xs k ≡ Some x
+use Rattle.module_table.proofs.Words.{At, Pair, target_of}
 
 abbrev pub modules_of : InfoValue → List ModuleValue
 modules_of info = info.modules
-
-abbrev pub target_of : InfoValue → List ℕ
-target_of info = info.target
-
--- a name and a file
-abbrev pub Pair : Type 0
-Pair = List ℕ × List ℕ
 
 -- ---- the first few elements of a list
 
@@ -85,10 +75,6 @@ there_is P (Some x) e h = (x, refl, h)
 pub if_none : {X : Type 0} (P : Type 0) (o : Option X) → is_some o ≡ false → IfNone o P → P
 if_none P None e h = h
 if_none P (Some x) e h = absurd (true≢false e)
-
-pub some_weaker : {X : Type 0} (P Q : X → Type 0) → ((x : X) → P x → Q x) → (o : Option X) → IfSome o P → IfSome o Q
-some_weaker P Q weaker None h = tt
-some_weaker P Q weaker (Some x) h = weaker x h
 
 -- ---- what is read and what is pushed
 
@@ -301,22 +287,6 @@ module _ (known : List (Option InfoValue)) (linked : List ℕ) (infos : List Inf
       enough part is_part = record { is_part = is_part; infos_apart = infos_apart; own_apart = own_apart; closed = are_closed }
 
 -- ---- what is copied
-
-pub zip_pushed : {X Y : Type 0} (R : X → Y → Type 0) (xs : List X) (ys : List Y) (x : X) (y : Y) → AllZip R xs ys → R x y
-    → AllZip R (xs ++ x ∷ []) (ys ++ y ∷ [])
-zip_pushed R [] [] x y h here = (here, tt)
-zip_pushed R [] (b ∷ ys) x y h here = absurd h
-zip_pushed R (a ∷ xs) [] x y h here = absurd h
-zip_pushed R (a ∷ xs) (b ∷ ys) x y h here = (h.0, zip_pushed R xs ys x y h.1 here)
-
--- the pair at an index, and what holds of each pair once the second of this pair is another
-pub zip_at : {X Y : Type 0} (R : X → Y → Type 0) (xs : List X) (ys : List Y) (i : ℕ) (x : X) → AllZip R xs ys → At xs i x
-    → (y : Y) × (At ys i y) × R x y × ((z : Y) → R x z → AllZip R xs (slice_set ys i z))
-zip_at R [] ys i x h at = let none = at in cc
-zip_at R (a ∷ xs) [] i x h at = absurd h
-zip_at R (a ∷ xs) (b ∷ ys) zero x h at = let same = same_some _ _ at in
-    (b, refl, subst (λ v. R v b) same h.0, λ z here. (subst (λ v. R v z) (sym same) here, h.1))
-zip_at R (a ∷ xs) (b ∷ ys) (suc i) x h at = let rest = zip_at R xs ys i x h.1 at in (rest.0, rest.1, rest.2, λ z here. (h.0, rest.3 z here))
 
 -- one more module is copied
 pub one_more_picked : (keeps : Type 0) (known : List (Option InfoValue)) (n : ℕ) (info old new : InfoValue) (m : ModuleValue) → IsPickedOf keeps known n old

@@ -6,8 +6,10 @@ use Rattle.module_table.specs.Parts.{IsEnough, IsPartOf, KeepsRequired}
 use Rattle.module_table.specs.Pool.{AreLinked}
 use Rattle.module_table.specs.declared.pool.requirements.Requirements.TheVariants.{Kept}
 use Rattle.module_table.specs.inner.Pools.{AreFit, IsApart}
-use Rattle.module_table.proofs.PoolLemmas.{some_weaker, enough, At}
+use Rattle.module_table.proofs.PoolLemmas.{enough}
 use Rattle.module_table.proofs.pool.Pool.part.Goals as goal
+use Rattle.module_table.proofs.Words.{At}
+use Rattle.std.proofs.lemmas.Option.{IfSome_then}
 
 pub returns : goal.returns
 returns c =
@@ -32,4 +34,4 @@ returns c =
     ) in
     subst (λ known. IfOk c.part_of.result (λ found. IfSome found (λ part. Found known part.items))) c.self.view_is
     (IfOk-weaker c.part_of.result (λ found. IfSome found (λ part. Copied part.items)) (λ found. IfSome found (λ part. Found pool.infos.items part.items))
-    (λ found. some_weaker (λ part. Copied part.items) (λ part. Found pool.infos.items part.items) (λ part. each part.items) found) c.part_of.ensures)
+    (λ found copied. IfSome_then found copied (λ part. each part.items)) c.part_of.ensures)

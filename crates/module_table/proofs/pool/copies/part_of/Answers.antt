@@ -3,12 +3,14 @@ use Rattle.std.specs.List.{AllZip}
 use Rattle.std.proofs.lemmas.Bool.{eqb-true}
 use Rattle.std.proofs.lemmas.Option.{slice_get_read, slice_get-get_or, get_or_from_slice_get, slice_get_within}
 use Rattle.document_values.specs.Info.{InfoValue}
-use Rattle.module_table.proofs.PoolLemmas.{same_at, part_of, zip_pushed, zip_at, one_more_picked, target_of}
+use Rattle.module_table.proofs.PoolLemmas.{same_at, part_of, one_more_picked}
 use Rattle.module_table.specs.declared.pool.requirements.Requirements.TheVariants.{Kept}
 use Rattle.module_table.specs.inner.Pools.{module_at, IsPickedOf, IsCopied}
 use Rattle.ninja_text.proofs.ForCallers.{same_some, take_next}
 use Rattle.module_table.proofs.pool.copies.part_of.Goals as goal
 use Rattle.module_table.proofs.pool.copies.part_of.Goals.{in-Some+then-eq+in-Some-Some-get+in-Some-get+in_ok-copy-2+in_ok-push-2, in_default}
+use Rattle.module_table.proofs.Words.{target_of}
+use Rattle.module_table.proofs.Lists.{zip_append, zip_there}
 
 pub loop-number-preserved : goal.loop-number-preserved
 loop-number-preserved c =
@@ -18,22 +20,25 @@ loop-number-preserved c =
     let infos = c.args.infos.now in
     let h = c.in-Some-Some.ensures.lookup in
     rw (take_next linked i n (slice_get-get_or linked i 0 c.loop-number-test.true), c.in_ok-push.ensures.items)
-    (zip_pushed (IsPickedOf (c.args.requirements ≡ Kept) infos) _ _ n _ c.loop-number.invariant (
-      c.in-Some-Some.info,
-      get_or_from_slice_get infos n _ None (slice_get_read infos _ n c.in-Some-Some.field-0.now refl h.3.0 h.1)
-          ∙ c.in-Some-Some.field-0-is,
+    (zip_append (IsPickedOf (c.args.requirements ≡ Kept) infos) _ (n ∷ []) _ _ c.loop-number.invariant (
       (
-        c.in_ok-copy.ensures ∙ ap target_of c.info.view_is,
-        λ m has.
-            let none = ap (λ ms. slice_get ms has.0) (sym c.new.ensures.items) ∙ has.1 in cc,
+        c.in-Some-Some.info,
+        get_or_from_slice_get infos n _ None (slice_get_read infos _ n c.in-Some-Some.field-0.now refl h.3.0 h.1)
+            ∙ c.in-Some-Some.field-0-is,
+        (
+          c.in_ok-copy.ensures ∙ ap target_of c.info.view_is,
+          λ m has.
+              let none = ap (λ ms. slice_get ms has.0) (sym c.new.ensures.items) ∙ has.1 in cc,
+        ),
       ),
+      tt,
     ))
 
 pub index_mut-requires : goal.index_mut-requires
 index_mut-requires c =
     let i = c.in-Some.index.now in
     let at = same_at nat_eq eqb-true c.args.links.now.linked.now i _ _ c.get-in-loop-at-2.ensures.lookup.3 (sym c.eq.ensures ∙ c.if-eq.true) in
-    let here = zip_at (IsPickedOf (c.args.requirements ≡ Kept) c.args.infos.now) _ c.loop-at.part.items i _ c.loop-at.invariant at in
+    let here = zip_there (IsPickedOf (c.args.requirements ≡ Kept) c.args.infos.now) _ c.loop-at.part.items i _ c.loop-at.invariant at in
     omega (arith, (slice_get_within c.loop-at.part.items i here.0 here.1), c.loop-at.part.ok.0)
 
 pub loop-at-preserved : goal.loop-at-preserved
@@ -59,7 +64,7 @@ loop-at-preserved c =
           let copy = w.in_ok-copy-2 in
           let copied : IsCopied keeps info.info copy.copy = (k, source.module.now, found, copy.ensures.alike, copy.ensures.kept) in
           let at = same_at nat_eq eqb-true linked i _ _ w.get-in-loop-at-2.ensures.lookup.3 (sym w.eq.ensures ∙ w.if-eq.true) in
-          let here = zip_at (IsPickedOf keeps infos) linked part i n c.loop-at.invariant at in
+          let here = zip_there (IsPickedOf keeps infos) linked part i n c.loop-at.invariant at in
           let element = slice_get_read part _ i w.index_mut.result.now refl (slice_get_within part i here.0 here.1) w.index_mut.ensures.value in
           let old = w.behind-part.view_is ∙ same_some _ _ (sym element ∙ here.1) in
           let pushed = w.in_ok-push-2.ensures.items ∙ ap (λ (v : InfoValue). v.modules ++ copy.copy ∷ []) old in

@@ -1,7 +1,8 @@
 use Rattle.std.proofs.Common.{◌∙◌, ap, get_or, Some, arith}
 use Rattle.std.proofs.lemmas.Option.{slice_get-get_or, slice_get_read}
-use Rattle.module_table.proofs.PoolLemmas.{each_next, each_all, At}
+use Rattle.module_table.proofs.PoolLemmas.{each_next, each_all}
 use Rattle.module_table.proofs.pool.links.put_indexes.Goals as goal
+use Rattle.module_table.proofs.Words.{At}
 
 pub loop-index-2-preserved : goal.loop-index-2-preserved
 loop-index-2-preserved c =

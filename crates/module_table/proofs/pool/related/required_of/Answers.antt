@@ -2,12 +2,13 @@ use Rattle.std.proofs.Common.{◌∙◌, ◌≤◌, ℕ, List, length, slice_get
 use Rattle.std.proofs.lemmas.Option.{slice_get_read}
 use Rattle.document_values.specs.Info.{ModuleValue}
 use Rattle.module_table.specs.inner.Pools.{Has}
-use Rattle.module_table.proofs.PoolLemmas.{Pair, IsSourced, below_next, below_all, below_map, has_grown, has_new, modules_of}
+use Rattle.module_table.proofs.PoolLemmas.{IsSourced, below_next, below_all, below_map, has_grown, has_new, modules_of}
 use Rattle.ninja_text.proofs.ForCallers.{contained, placed}
 use Rattle.std.proofs.lemmas.List.Filters.{dedup_is}
 use Rattle.std.proofs.lemmas.List.Kept.{Contains-dedup_nat}
 use Rattle.std.proofs.lemmas.List.Sorted.{Contains-permutation}
 use Rattle.module_table.proofs.pool.related.required_of.Goals as goal
+use Rattle.module_table.proofs.Words.{Pair}
 
 pub loop-pair-preserved : goal.loop-pair-preserved
 loop-pair-preserved c =

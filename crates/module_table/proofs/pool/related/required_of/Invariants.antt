@@ -1,8 +1,9 @@
 use Rattle.std.proofs.Common.{ℕ}
 use Rattle.document_values.specs.Info.{ModuleValue}
 use Rattle.module_table.specs.inner.Pools.{Has, Below}
-use Rattle.module_table.proofs.PoolLemmas.{Pair, IsSourced}
+use Rattle.module_table.proofs.PoolLemmas.{IsSourced}
 use Rattle.module_table.proofs.pool.related.required_of.Given as goal
+use Rattle.module_table.proofs.Words.{Pair}
 
 abbrev pub invariant-loop-module : goal.invariant-loop-module
 invariant-loop-module l =

@@ -3,10 +3,11 @@ use Rattle.std.proofs.lemmas.Bool.{not-true}
 use Rattle.std.proofs.lemmas.Option.{slice_get_read}
 use Rattle.document_values.specs.Info.{ModuleValue}
 use Rattle.module_table.specs.inner.Pools.{module_at, IsKnownModule}
-use Rattle.module_table.proofs.PoolLemmas.{is_source, last_at, At, modules_of}
+use Rattle.module_table.proofs.PoolLemmas.{is_source, last_at, modules_of}
 use Rattle.ninja_text.proofs.ForCallers.{in_first}
 use Rattle.module_table.proofs.pool.related.source_of.Goals as goal
 use Rattle.module_table.proofs.pool.related.source_of.Goals.{in-Some-Some, in-None, then-is_own-2, else-is_own-2}
+use Rattle.module_table.proofs.Words.{At}
 
 pub returns-then-not-module : goal.returns-then-not-module
 returns-then-not-module c =

@@ -4,10 +4,11 @@ use Rattle.std.proofs.lemmas.List.{take_all, length-take-le}
 use Rattle.indexmap.specs.IndexMap.{get}
 use Rattle.document_values.specs.Info.{ModuleValue}
 use Rattle.module_table.specs.inner.Pools.{by_name, key_of, rows_of, module_at, AreListed}
-use Rattle.module_table.proofs.PoolLemmas.{row_kept, row_of_row, module_listed, put_more, each_put, At, modules_of}
+use Rattle.module_table.proofs.PoolLemmas.{row_kept, row_of_row, module_listed, put_more, each_put, modules_of}
 use Rattle.ninja_text.proofs.ForCallers.{take_next}
 use Rattle.module_table.proofs.pool.rows.list_modules.Goals as goal
 use Rattle.module_table.proofs.pool.rows.list_modules.Goals.{then-is_shared+then-not-module+in_ok-copy+in_ok-copy-2+in_ok-insert, else-is_shared}
+use Rattle.module_table.proofs.Words.{At}
 
 pub loop-index-preserved : goal.loop-index-preserved
 loop-index-preserved c =
