@@ -21,7 +21,7 @@ use document_values::{Name, TargetName};
 use module_maps::MapStyle;
 use module_table::{Table, laws};
 use ninja_text::{Failure, Path};
-use scan_docs::laws::{info_again, target_names};
+use scan_docs::laws::{info_reads_back, target_names_are_valid};
 use scan_docs::{Setting, lent_info_write};
 use std::alloc::{AllocError, Global};
 use std::marker::Model;
@@ -167,8 +167,8 @@ pub fn collate_dyndep_or_refused(
     headline();
     laws::added_files_can_be_ordered();
     // The contract is also about the info file, which is not written.
-    info_again();
-    target_names(target.name);
+    info_reads_back();
+    target_names_are_valid(target.name);
     let table = table_of(alloc, target)?;
     let resolved = table.into_resolved();
     match dyndep_text(alloc, &resolved) {

@@ -12,7 +12,7 @@ use document_values::{Info, Name, Rule, TargetName};
 use indexmap::IndexSet;
 use module_table::{Table, laws};
 use ninja_text::Path;
-use scan_docs::laws::value_of_bytes;
+use scan_docs::laws::bytes_determine_the_value;
 use scan_docs::{DOCUMENT_LIMIT, LentInfo, LentModule};
 use std::alloc::{AllocError, Global};
 use table_keys::{KeyDigest, TableKey};
@@ -33,7 +33,7 @@ pub(crate) fn info_again(
         (λ info. IsTrue is_read × IsReadAs text.now info)) }
 {
     laws::added_files_can_be_ordered();
-    value_of_bytes();
+    bytes_determine_the_value();
     if !is_read {
         return Ok(None);
     }

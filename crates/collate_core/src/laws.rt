@@ -5,7 +5,7 @@ ghost use Rattle.collate_core.specs.Laws.{HeadlineHolds, CollatedIsNotRefused, O
 
 use build_effect::laws::{any_order, files_order, one_effect};
 use module_table::laws;
-use scan_docs::laws::{one_answer, value_of_bytes};
+use scan_docs::laws::{bytes_have_one_result, bytes_determine_the_value};
 
 /// Whatever a target collates to has the headline.
 pub fn headline()
@@ -26,7 +26,7 @@ pub fn project_orders()
     any_order();
     files_order();
     laws::added_files_can_be_ordered();
-    value_of_bytes();
+    bytes_determine_the_value();
 }
 
 /// In a project in which no two targets add the same file, an object needs in the table of its
@@ -36,7 +36,7 @@ pub fn project_maps()
     ensures maps { ProjectMaps }
 {
     laws::added_files_can_be_ordered();
-    value_of_bytes();
+    bytes_determine_the_value();
 }
 
 /// A target that collates has no rejection, and every target has at most one. The same holds of a
@@ -48,7 +48,7 @@ pub fn one_outcome()
     ensures project { ProjectIsNotRefused }
     ensures one_of_project { OneProjectRefusal }
 {
-    one_answer();
+    bytes_have_one_result();
     laws::one_fault_is_reported();
 }
 

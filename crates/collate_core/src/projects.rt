@@ -17,7 +17,7 @@ use info_pool::{Pool, Scratch};
 use module_maps::MapStyle;
 use ninja_text::Failure;
 use scan_docs::Setting;
-use scan_docs::laws::value_of_bytes;
+use scan_docs::laws::bytes_determine_the_value;
 use std::alloc::{AllocError, Global};
 use std::marker::Model;
 
@@ -122,7 +122,7 @@ pub fn project_or_refused<M: MapStyle>(
 {
     project_orders();
     project_maps();
-    value_of_bytes();
+    bytes_determine_the_value();
     let linked = linked_targets(alloc, targets)?;
     let mut outs = Vec::new(alloc);
     let read = read_targets(alloc, targets)?;

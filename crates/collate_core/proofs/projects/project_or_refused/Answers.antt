@@ -111,7 +111,7 @@ loop-index-preserved g c =
     is_some c.next-own.result ≡ true = λ is. elim c.if-is_some.branch
     [ then-is_some w ↦ sym c.is_some.ensures ∙ w.if-is_some.true | else-is_some w ↦ absurd (cc (is, w.is_read-is)) ] in
     let own_info = known_held (project_entries (take (length all) targets)) c.if-is_some.is_read p.name p.kept (table_of (target_of outs p)) c.in-Ok.out.info
-    c.in-Ok.info c.value_of_bytes.ensures.info linked.1.info_reads
+    c.in-Ok.info c.bytes_determine_the_value.ensures.info linked.1.info_reads
     (λ is. own_held targets all each n p here _ _ c.loop-index.invariant.rules c.next-own.result c.next-own.ensures.items (read is)) c.in-Ok.ensures.known
     in
     record {

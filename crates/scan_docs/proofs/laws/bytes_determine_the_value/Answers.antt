@@ -1,5 +1,5 @@
 use Rattle.scan_docs.proofs.Exact.{scan_value, info_value, target_value, project_value}
-use Rattle.scan_docs.proofs.laws.value_of_bytes.Goals as goal
+use Rattle.scan_docs.proofs.laws.bytes_determine_the_value.Goals as goal
 
 pub returns-clause-scan : goal.returns-clause-scan
 returns-clause-scan c = scan_value
