@@ -297,7 +297,13 @@ info_means info h = record {
 -- what is read as this tree is read as the info
 pub info_again : (info : InfoValue) (bytes : List ℕ) → IsSoundInfo info → IsUtf8 bytes → read bytes ≡ Some (info_tree info) → ReadsBack info bytes
 info_again info bytes h utf8 is = record {
-  same = λ small. record { small = small; tree = info_tree info; reads = (utf8, is); passes = none_refused (info_checks (info_tree info)) (info_passes info h); meaning = info_means info h };
+  same = λ small. record {
+    small = small;
+    tree = info_tree info;
+    reads = (utf8, is);
+    passes = none_refused (info_checks (info_tree info)) (info_passes info h);
+    meaning = info_means info h;
+  };
   too_large = λ long. large long refl;
 }
 

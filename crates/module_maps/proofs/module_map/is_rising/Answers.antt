@@ -53,4 +53,5 @@ rising_is (x ∷ xs) false h = (
 )
 
 pub returns : goal.returns
-returns c = rising_is c.args.pairs.now c.is_sorted_by.result (c.is_sorted_by.ensures.cases is_before (answers_always _ _ _ (λ f a r g called. search (rules, tests))))
+returns c =
+    rising_is c.args.pairs.now c.is_sorted_by.result (c.is_sorted_by.ensures.cases is_before (answers_always _ _ _ (λ f a r g called. search (rules, tests))))
