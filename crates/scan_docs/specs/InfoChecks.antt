@@ -14,7 +14,7 @@ use Rattle.scan_docs.specs.TargetChecks.{name_checks}
 use Rattle.scan_docs.specs.Info.{has_visibility, privacy}
 
 -- `modules` is an array
-unfoldable pub modules_check : Data → List Check
+abbrev pub modules_check : Data → List Check
 modules_check d = shape_check place.Document m.Modules (is_some (entries m.Modules d)) ∷ []
 
 -- a module or a requirement is an object with the strings `bmi` and `name`
@@ -26,7 +26,7 @@ entry_shape_checks place d =
     ∷ []
 
 -- a module's `requires` is an array
-unfoldable pub requires_check : Place → Data → List Check
+abbrev pub requires_check : Place → Data → List Check
 requires_check place d = shape_check place m.Requires (is_some (entries m.Requires d)) ∷ []
 
 -- in version 2, `visibility` is `public` or `private`

@@ -21,7 +21,7 @@ is_short ds = nat_le (length ds) count_limit
 
 -- The document is an object with the version 1, or 0, which some scanners write. `rules` is an
 -- array that is not too long.
-unfoldable pub head_checks : Data → List Check
+abbrev pub head_checks : Data → List Check
 head_checks d =
     version_checks (0 ∷ 1 ∷ []) d
     ++ (shape_check place.Document m.Rules (is_some (entries m.Rules d))

@@ -27,7 +27,7 @@ directory_checks d =
     ∷ []
 
 -- `scans` and `linked` are absent or arrays of strings
-unfoldable pub list_checks : Data → List Check
+abbrev pub list_checks : Data → List Check
 list_checks d =
     shape_check place.Document m.Scans (fits texts m.Scans d)
     ∷ shape_check place.Document m.Linked (fits texts m.Linked d)

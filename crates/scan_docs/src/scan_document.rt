@@ -70,7 +70,7 @@ pub fn scan_with(
     read_rules(alloc, setting, &tree)
 }
 
-#[tactic(auto, unfolding(crate::specs::ScanChecks::scan_checks, crate::specs::ScanChecks::head_checks), using(crate::proofs::Each::both))]
+#[tactic(auto, unfolding(crate::specs::ScanChecks::scan_checks), using(crate::proofs::Each::both))]
 fn read_rules(
     alloc: Global,
     setting: &ReducedSetting,

@@ -126,7 +126,7 @@ pub fn spec_read(alloc: Global, bytes: &[u8]) -> Result<TargetSpec, Failure<DocF
     read_spec(alloc, &tree)
 }
 
-#[tactic(auto, unfolding(crate::specs::TargetChecks::target_checks, crate::specs::TargetChecks::list_checks), using(crate::proofs::Each::both))]
+#[tactic(auto, unfolding(crate::specs::TargetChecks::target_checks), using(crate::proofs::Each::both))]
 fn read_spec(alloc: Global, tree: &Value) -> Result<TargetSpec, Failure<DocFault>>
     ensures { Answers (target_checks (view tree.now))
         (λ spec. IsTarget (view tree.now) spec) result }
