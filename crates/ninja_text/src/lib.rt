@@ -17,7 +17,9 @@
 //! - `specs/LineFormats.antt` defines, for all formats whose lines fall into classes, which value a
 //!   text stands for and which error it has, and `specs/FormatReading.antt` what a reader has read.
 //! - [`words`] returns the tokens of a line (`specs/Tokens.antt`), and [`assignment`] its name and value
-//!   (`specs/Assignments.antt`), or the first lexical error (`specs/Lexical.antt`).
+//!   (`specs/Assignments.antt`), or the first lexical error (`specs/Lexical.antt`). [`line_form`]
+//!   returns what a line is by how it begins (`specs/LineForms.antt`), and the readers of build lines
+//!   take its tokens by [`Words::next_word`] and [`Words::take_sign`] (`specs/Symbols.antt`).
 //! - [`laws`] proves that a text is divided into lines, and a line into tokens, in one way only, and
 //!   that readers and writers of words agree (`specs/Meanings.antt`).
 //! - [`Counted`] counts the failed calls of a reader or a writer (`specs/Counting.antt`).
@@ -42,6 +44,7 @@ mod cutter;
 mod escapes;
 mod failure;
 mod fault;
+mod forms;
 pub mod laws;
 mod lexing;
 mod line;
@@ -61,6 +64,7 @@ pub use cutter::LineCutter;
 pub use escapes::{escape_into, is_writable};
 pub use failure::Failure;
 pub use fault::{CutFault, LexFault, PathFault};
+pub use forms::{LineForm, line_form};
 pub use lexing::words;
 pub use line::{LINE_LIMIT, Line};
 pub use line_reader::{LineReader, LineState};

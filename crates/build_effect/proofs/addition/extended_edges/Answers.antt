@@ -1,5 +1,4 @@
 use Rattle.std.proofs.Common.{Option, rules, ◌≡◌, ◌∙◌, ◌+◌, ◌++◌, ◌||◌, Bool, ℕ, List, take, ap, refl, sym, subst}
-use Rattle.build_effect.proofs.Lists.{from_some}
 use Rattle.std.specs.List.{each_same}
 use Rattle.std.proofs.lemmas.Option.{slice_get_read, slice_get_within}
 use Rattle.dyndep_file.specs.StatementValue.{StatementValue}

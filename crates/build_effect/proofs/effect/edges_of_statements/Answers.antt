@@ -1,7 +1,6 @@
 use Rattle.std.proofs.Common.{rules, ◌≡◌, ◌+◌, ◌∙◌, take, refl, ap, sym, subst}
 use Rattle.std.proofs.lemmas.List.{take_all}
 use Rattle.std.proofs.lemmas.Option.{slice_get_read}
-use Rattle.dyndep_file.specs.StatementValue.{StatementValue}
 use Rattle.build_effect.specs.inner.Makers.{maker_in}
 use Rattle.build_effect.specs.inner.StatementEdges.{AreEdgesOf, IsUnboundOutput}
 use Rattle.build_effect.proofs.MakerTables.{are_makers}

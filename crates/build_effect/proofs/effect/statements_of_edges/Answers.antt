@@ -1,8 +1,7 @@
-use Rattle.std.proofs.Common.{true, false, ◌≡◌, ◌∙◌, ℕ, ◌<◌, length, get_or, Some, None, refl, ap, sym, arith, slice_get}
+use Rattle.std.proofs.Common.{true, false, ◌∙◌, ◌<◌, length, get_or, None, refl, ap, sym, arith}
 use Rattle.std.proofs.lemmas.Option.{slice_get_read, slice_get-get_or}
 use Rattle.std.proofs.lemmas.List.{get_or_read}
 use Rattle.dyndep_file.specs.StatementValue.{StatementValue}
-use Rattle.build_effect.specs.inner.StatementEdges.{statement_on}
 use Rattle.build_effect.specs.declared.fault.EffectFault.TheVariants.{StatementTwice}
 use Rattle.build_effect.proofs.StatementChecks.{more_inverse, still_differ, repeated_on, is_there}
 use Rattle.build_effect.proofs.effect.statements_of_edges.Goals as goal

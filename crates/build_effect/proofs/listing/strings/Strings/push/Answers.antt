@@ -1,4 +1,4 @@
-use Rattle.std.proofs.Common.{◌≡◌, ◌∙◌, ◌++◌, ◌∷◌, [], ap, arith}
+use Rattle.std.proofs.Common.{◌∙◌, ◌++◌, ◌∷◌, [], ap, arith}
 use Rattle.ninja_text.specs.Tokens.{value_of}
 use Rattle.build_effect.specs.inner.Strings.{texts_of}
 use Rattle.build_effect.proofs.Strings.{texts_push}
