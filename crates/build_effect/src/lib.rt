@@ -41,6 +41,7 @@ pub mod laws;
 mod listing;
 mod makers;
 mod ordering;
+mod strings;
 
 pub use effect::apply;
 pub use fault::{EffectFault, GraphFault, LineCause, LineFault, ListFault, ListingWriteFault};

@@ -252,7 +252,8 @@ module _ (line : LogicalLine) (has : HasTokens line) where
       → text_line_fault stage line.text line.comment ≡ indented_fault stage (is_some (value_assigned (codes "restat") (assignment_of line.text)))
   indented_line_fault indent stage = rw (has.no_comment, has.no_fault, has.some, indent) refl
 
-  pub unindented_line_fault : begins_with_space line.text ≡ false → after_build (begins_at_start (tokens line.text)) (symbols line.text) ≡ None → (stage : Stage)
+  pub unindented_line_fault : begins_with_space line.text ≡ false → after_build (begins_at_start (tokens line.text)) (symbols line.text) ≡ None
+      → (stage : Stage)
       → text_line_fault stage line.text line.comment ≡ unindented_fault stage (value_assigned (codes "ninja_dyndep_version") (assignment_of line.text)) None
   unindented_line_fault indent is stage = rw (has.no_comment, has.no_fault, has.some, indent, is) refl
 

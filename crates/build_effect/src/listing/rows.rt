@@ -11,7 +11,7 @@ ghost use Rattle.build_effect.specs.inner.ListingWalk.{binding_row, edge_texts};
 ghost use Rattle.build_effect.specs.inner.ListingRows.{row_value, line_row};
 
 use crate::fault::LineCause;
-use crate::listing::strings::Strings;
+use crate::strings::Strings;
 use ninja_text::{Assignment, Failure, Line, LineForm, TokenKind, Words, line_form};
 use std::alloc::{AllocError, Global};
 use std::marker::Model;
@@ -135,7 +135,7 @@ fn front_words(tokens: &mut Words<'_>, strings: &mut Strings) -> Result<usize, A
     ensures count { IfOk result (λ count. count ≡ length strings.new) }
 {
     while let Some(token) = tokens.next_word() {
-        strings.push(token)?;
+        strings.push_value(token)?;
     }
     Ok(strings.len())
 }

@@ -25,7 +25,7 @@ returns-then-is_some-clause-fault c =
       repeated_on c.args.count edge_of i some.0 edge statement_of at c.loop-statement_index.invariant.inverse c.loop-statement_index.invariant.differ
           (sym read ∙ some.1),
       slice_get_read c.args.additions.now _ i a refl within c.index-additions-statement_index.is,
-      ap StatementTwice (c.in_ok-output.ensures ∙ ap (λ (x : StatementValue). x.output) c.addition.view_is),
+      ap StatementTwice (c.in_ok-output.ensures ∙ c.output.ensures),
     )
 
 pub loop-statement_index-preserved : goal.loop-statement_index-preserved

@@ -14,7 +14,8 @@ returns-then-not-take_sign c = record {
 
 pub loop-token-init : goal.loop-token-init
 loop-token-init c = record {
-  words = ap (λ values. texts values ++ front_words (symbols_left c.take_sign.new.self)) c.new-values.ensures.items ∙ ap part_words (sym c.if-not-take_sign.ensures);
+  words = ap (λ values. texts values ++ front_words (symbols_left c.take_sign.new.self)) c.new-values.ensures.items
+      ∙ ap part_words (sym c.if-not-take_sign.ensures);
   rest = ap (λ o. past_part o (symbols_left c.args.words.now)) (sym c.if-not-take_sign.ensures);
 }
 

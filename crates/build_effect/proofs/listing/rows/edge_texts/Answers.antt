@@ -8,7 +8,7 @@ use Rattle.build_effect.specs.ListingLines.{is_rule_name}
 use Rattle.build_effect.specs.inner.ListingWalk.{right_texts}
 use Rattle.build_effect.specs.inner.Strings.{edge_texts_of}
 use Rattle.build_effect.proofs.ListingLineLemmas.{left_texts, no_rule, walked, no_outputs, some_outputs, left_over, without_output, without_name, without_end, is_whole}
-use Rattle.build_effect.proofs.Strings.{counted, parts_are}
+use Rattle.build_effect.proofs.StringTexts.{counted, parts_are}
 use Rattle.build_effect.proofs.listing.rows.edge_texts.Goals as goal
 use Rattle.build_effect.proofs.listing.rows.edge_texts.Goals.{then-outputs-eq0-via-then-outputs-eq0, then-outputs-eq0-via-else-outputs-eq0+then-not-is_rule_name, then-outputs-eq0-via-else-outputs-eq0+else-not-is_rule_name+then-is_some}
 

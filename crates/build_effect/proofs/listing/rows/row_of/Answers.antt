@@ -18,12 +18,14 @@ returns-in-Ok-Blank c = let form = rw c.in-Ok-Blank.field-0-is at c.in-Ok-Blank.
 pub returns-in-Some : goal.returns-in-Some
 returns-in-Some c =
     let form = rw c.in-Ok-Build.field-0-is at c.in-Ok-Build.ensures in
-    build_line_row (seen_line c.args.line) form.0 (symbols_left c.in-Ok-Build.tokens) form.1 ∙ ap build_row (sym c.in_ok-texts-in-Ok-Build.ensures ∙ c.in-Some.is)
+    build_line_row (seen_line c.args.line) form.0 (symbols_left c.in-Ok-Build.tokens) form.1
+    ∙ ap build_row (sym c.in_ok-texts-in-Ok-Build.ensures ∙ c.in-Some.is)
 
 pub returns-in-None : goal.returns-in-None
 returns-in-None c =
     let form = rw c.in-Ok-Build.field-0-is at c.in-Ok-Build.ensures in
-    build_line_row (seen_line c.args.line) form.0 (symbols_left c.in-Ok-Build.tokens) form.1 ∙ ap build_row (sym c.in_ok-texts-in-Ok-Build.ensures ∙ c.in-None.is)
+    build_line_row (seen_line c.args.line) form.0 (symbols_left c.in-Ok-Build.tokens) form.1
+    ∙ ap build_row (sym c.in_ok-texts-in-Ok-Build.ensures ∙ c.in-None.is)
 
 pub returns-in-Ok-Indented : goal.returns-in-Ok-Indented
 returns-in-Ok-Indented c =

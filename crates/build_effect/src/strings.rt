@@ -1,11 +1,15 @@
-//! The strings of a build line, one after another in one text, and the paths that share it.
-ghost use Rattle.std.specs.Prelude.{◌≡◌, ◌≤◌, ◌++◌, ◌∷◌, [], length, slice_range, IfOk, OnOk};
+//! The strings of a build line or a statement, one after another in one text, and the paths that
+//! share it.
+ghost use Rattle.std.specs.Prelude.{◌≡◌, ◌<◌, ◌≤◌, ◌++◌, ◌∷◌, [], length, get_or, slice_range, IfOk, OnOk};
+ghost use Rattle.dep_order.specs.Rows.{rows};
 ghost use Rattle.ninja_text.specs.Failure.{Gives};
 ghost use Rattle.ninja_text.specs.Paths.{path_of};
 ghost use Rattle.ninja_text.specs.Tokens.{value_of};
 ghost use Rattle.ninja_text.specs.TokenViews.{seen_token};
+ghost use Rattle.build_effect.specs.Faults.{path_texts};
 ghost use Rattle.build_effect.specs.inner.ListingWalk.{paths_of};
 
+use dyndep_file::Statement;
 use ninja_text::{Failure, Path, PathFault, Token};
 use std::alloc::{AllocError, Global};
 use std::marker::Model;
@@ -56,8 +60,29 @@ impl Strings {
         self.spans.len()
     }
 
+    /// Appends a string.
+    pub(crate) fn push(&mut self, text: &[u8]) -> Result<(), AllocError>
+        ensures { OnOk result (self.new ≡ self.old ++ text.now ∷ []) }
+    {
+        let start = self.text.len();
+        self.text.extend_from_slice(text)?;
+        let end = self.text.len();
+        self.spans.push(Span { start, end })?;
+        Ok(())
+    }
+
+    /// Appends strings.
+    pub(crate) fn extend_from_slice(&mut self, texts: &[Vec<u8>]) -> Result<(), AllocError>
+        ensures { OnOk result (self.new ≡ self.old ++ rows texts.now) }
+    {
+        for text in texts {
+            self.push(text)?;
+        }
+        Ok(())
+    }
+
     /// Appends the value of a token.
-    pub(crate) fn push(&mut self, token: Token<'_>) -> Result<(), AllocError>
+    pub(crate) fn push_value(&mut self, token: Token<'_>) -> Result<(), AllocError>
         ensures { OnOk result
             (self.new ≡ self.old ++ value_of (seen_token token.entry).raw ∷ []) }
     {
@@ -102,11 +127,32 @@ impl Model for SharedStrings {
 }
 
 impl SharedStrings {
+    /// Returns the strings of a statement that have to be paths.
+    pub(crate) fn of(alloc: Global, statement: &Statement) -> Result<SharedStrings, AllocError>
+        ensures { IfOk result (λ strings. strings ≡ path_texts statement.now) }
+    {
+        let mut strings = Strings::with_capacity(alloc, statement.output.len())?;
+        strings.push(&statement.output)?;
+        strings.extend_from_slice(&statement.implicit_outputs)?;
+        strings.extend_from_slice(&statement.implicit_inputs)?;
+        strings.share()
+    }
+
     /// Returns how many strings there are.
     pub(crate) fn len(&self) -> usize
         ensures { result ≡ length self.now }
     {
         self.spans.len()
+    }
+
+    /// Returns the path of the string at an index, or the error of a string that is not a valid path.
+    /// The path shares the text.
+    pub(crate) fn path(&self, alloc: Global, index: usize) -> Result<Path, Failure<PathFault>>
+        requires { index < length self.now }
+        ensures { Gives (λ path. path) result (path_of (get_or self.now index [])) }
+    {
+        let span = self.spans[index];
+        Path::within(alloc, &self.text, span.start, span.end)
     }
 
     /// Returns the paths of the strings from index `from` to index `to`, or the error of the first
@@ -127,13 +173,4 @@ impl SharedStrings {
         }
         Ok(paths)
     }
-}
-
-/// Returns the path of a string. The path takes the string over if that is canonical.
-pub(crate) fn path_of(alloc: Global, text: Vec<u8>) -> Result<Path, Failure<PathFault>>
-    ensures { Gives (λ path. path) result (path_of text.items) }
-{
-    let shared = RcSlice::from_vec(text)?;
-    let end = shared.len();
-    Path::within(alloc, &shared, 0, end)
 }

@@ -5,7 +5,7 @@ use Rattle.std.proofs.lemmas.List.{append-nil, map-append, take-append-le, drop-
 use Rattle.std.proofs.lemmas.List.Elements.{All-take, All-drop}
 use Rattle.build_effect.specs.inner.Strings.{text_of, texts_of, IsWithin, AreWithin, AreEnds, edge_texts_of}
 use Rattle.build_effect.specs.declared.listing.rows.ListEnds.{ListEnds}
-use Rattle.build_effect.specs.declared.listing.strings.Span.{Span}
+use Rattle.build_effect.specs.declared.strings.Span.{Span}
 
 -- a part of the text stays the same if the text continues after it
 kept : (text more : List ℕ) (span : Span) → IsWithin text span → text_of (text ++ more) span ≡ text_of text span
@@ -40,10 +40,13 @@ module _ (text value all : List ℕ) (spans : List Span) (span : Span) (within :
 pub whole_range : {X : Type 0} (xs : List X) (to : ℕ) → to ≡ length xs → slice_range xs 0 to ≡ xs
 whole_range xs to end = take_all (to - 0) xs (omega (arith, end))
 
+-- a part of a mapped list
+pub range_map : {X Y : Type 0} (f : X → Y) (xs : List X) (from to : ℕ) → slice_range (map f xs) from to ≡ map f (slice_range xs from to)
+range_map f xs from to = ap (take (to - from)) (drop-map f from xs) ∙ take-map f (to - from) (drop from xs)
+
 -- the strings from one index to another are those of the spans from one to the other
 pub texts_range : (text : List ℕ) (spans : List Span) (from to : ℕ) → slice_range (texts_of text spans) from to ≡ texts_of text (slice_range spans from to)
-texts_range text spans from to =
-    ap (take (to - from)) (drop-map (text_of text) from spans) ∙ take-map (text_of text) (to - from) (drop from spans)
+texts_range text spans from to = range_map (text_of text) spans from to
 
 -- and they are in the text
 pub within_range : (text : List ℕ) (spans : List Span) (from to : ℕ) → AreWithin text spans → AreWithin text (slice_range spans from to)
@@ -52,7 +55,7 @@ within_range text spans from to within = All-take (IsWithin text) (to - from) (d
 -- ---- the five lists of a build line
 
 -- a list between two others
-between : {joined all : List (List ℕ)} {from to : ℕ} (before part after : List (List ℕ)) → joined ≡ before ++ part → all ≡ joined ++ after →
+pub between : {joined all : List (List ℕ)} {from to : ℕ} (before part after : List (List ℕ)) → joined ≡ before ++ part → all ≡ joined ++ after →
     from ≡ length before → to ≡ length joined
     → slice_range all from to ≡ part
 between {joined} {all} {from} {to} before part after both whole start end =

@@ -4,7 +4,7 @@ use Rattle.std.specs.Rc.{rc_slice_items}
 use Rattle.build_effect.specs.inner.ListingWalk.{paths_of}
 use Rattle.build_effect.specs.inner.Strings.{AreWithin, texts_of}
 use Rattle.build_effect.proofs.ListingLaws.{behind}
-use Rattle.build_effect.proofs.listing.strings.SharedStrings.paths.Given as goal
+use Rattle.build_effect.proofs.strings.SharedStrings.paths.Given as goal
 
 -- the paths so far come before those of the strings to come, all of which are in the text
 abbrev pub invariant-loop-span : goal.invariant-loop-span

@@ -1,12 +1,12 @@
 use Rattle.std.proofs.Common.{◌≡◌, ◌∙◌, List, ap, sym, subst}
 use Rattle.std.specs.Prelude.{slice_range}
 use Rattle.std.specs.Rc.{rc_slice_items}
-use Rattle.build_effect.specs.declared.listing.strings.Span.{Span}
+use Rattle.build_effect.specs.declared.strings.Span.{Span}
 use Rattle.build_effect.specs.inner.ListingWalk.{paths_of}
 use Rattle.build_effect.specs.inner.Strings.{AreWithin, texts_of}
 use Rattle.build_effect.proofs.ListingLaws.{behind, behind_none}
-use Rattle.build_effect.proofs.Strings.{texts_range, within_range}
-use Rattle.build_effect.proofs.listing.strings.SharedStrings.paths.Goals as goal
+use Rattle.build_effect.proofs.StringTexts.{texts_range, within_range}
+use Rattle.build_effect.proofs.strings.SharedStrings.paths.Goals as goal
 
 pub loop-span-init : goal.loop-span-init
 loop-span-init c =

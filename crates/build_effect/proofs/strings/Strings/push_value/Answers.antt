@@ -1,8 +1,8 @@
 use Rattle.std.proofs.Common.{◌∙◌, ◌++◌, ◌∷◌, [], ap, arith}
 use Rattle.ninja_text.specs.Tokens.{value_of}
 use Rattle.build_effect.specs.inner.Strings.{texts_of}
-use Rattle.build_effect.proofs.Strings.{texts_push}
-use Rattle.build_effect.proofs.listing.strings.Strings.push.Goals as goal
+use Rattle.build_effect.proofs.StringTexts.{texts_push}
+use Rattle.build_effect.proofs.strings.Strings.push_value.Goals as goal
 
 pub returns : goal.returns
 returns c =
