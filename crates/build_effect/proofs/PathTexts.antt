@@ -67,7 +67,8 @@ module _ (s : StatementValue) (paths : List (List ℕ)) (outputs : ℕ) (are : A
   pub canonical_of : (restat : Bool) → s.restat ≡ restat → IsCanonical s (addition_of paths outputs restat)
   canonical_of restat same = record {
     output = first paths are;
-    outputs = ap (map path_of) (sym (between {joined = s.output ∷ s.implicit_outputs} (s.output ∷ []) s.implicit_outputs s.implicit_inputs refl refl refl (omega (arith, end))))
+    outputs = ap (map path_of) (sym (between {joined = s.output ∷ s.implicit_outputs}
+        (s.output ∷ []) s.implicit_outputs s.implicit_inputs refl refl refl (omega (arith, end))))
         ∙ sym (range_map path_of (path_texts s) 1 outputs) ∙ ap (λ xs. slice_range xs 1 outputs) are ∙ range_map (λ p. Ok p) paths 1 outputs;
     inputs = ap (map path_of) (sym (drop_at (s.output ∷ s.implicit_outputs) s.implicit_inputs outputs (omega (arith, end))))
         ∙ sym (drop-map path_of outputs (path_texts s)) ∙ ap (drop outputs) are ∙ drop-map (λ p. Ok p) outputs paths;
