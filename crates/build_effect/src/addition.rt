@@ -59,8 +59,8 @@ impl Addition {
     }
 }
 
-/// Returns the statements with canonical paths, or E8 for the first string that is not a valid path.
-/// The paths of a statement share one text.
+/// Returns the statements with canonical paths, or E8 for the first string that is not a valid
+/// path. The paths of a statement share one text.
 pub(crate) fn canonical_statements(
     alloc: Global,
     statements: &[Statement],

@@ -1,5 +1,5 @@
-//! Edge listings: the reader, the rows that its lines have (`rows.rt`), what each row does to the edges
-//! so far (`state.rt`), and the writer (`writing.rt`).
+//! Edge listings: the reader, the rows that its lines have (`rows.rt`), what each row does to the
+//! edges so far (`state.rt`), and the writer (`writing.rt`).
 ghost use Rattle.std.specs.Prelude.{◌≡◌, ◌++◌, [], Some, Err};
 ghost use Rattle.build_effect.specs.ListingReaders.{line_failure};
 

@@ -145,8 +145,8 @@ impl SharedStrings {
         self.spans.len()
     }
 
-    /// Returns the path of the string at an index, or the error of a string that is not a valid path.
-    /// The path shares the text.
+    /// Returns the path of the string at an index, or the error of a string that is not a valid
+    /// path. The path shares the text.
     pub(crate) fn path(&self, alloc: Global, index: usize) -> Result<Path, Failure<PathFault>>
         requires { index < length self.now }
         ensures { Gives (λ path. path) result (path_of (get_or self.now index [])) }

@@ -140,8 +140,8 @@ fn build_line(
     Ok(())
 }
 
-/// A line that is neither indented nor a build line is a version line, or it is not allowed. A version
-/// line is allowed once, before all statements, with the value `1` or `1.0`.
+/// A line that is neither indented nor a build line is a version line, or it is not allowed. A
+/// version line is allowed once, before all statements, with the value `1` or `1.0`.
 fn unindented_line(
     alloc: Global,
     progress: &mut Progress,

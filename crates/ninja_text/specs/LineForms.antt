@@ -1,4 +1,5 @@
--- The form of a line, which its beginning decides (Ninja 1.11 manual, "Lexical syntax", "Build statements").
+-- The form of a line, which its beginning decides (Ninja 1.11 manual, "Lexical syntax", "Build
+-- statements").
 use Rattle.std.specs.Prelude.{◌≡◌, true, false, [], None, Some, Result, Ok, Err}
 use Rattle.std.specs.Option.{option_map}
 use Rattle.ninja_text.specs.Lines.{LogicalLine}
@@ -19,8 +20,8 @@ pub record HasTokens (line : LogicalLine) : Type 0 where
   pub no_fault : lexical_fault line.text ≡ None
   pub some : is_empty (tokens line.text) ≡ false
 
--- What `line_form` returns. A comment may contain any bytes. Every other line has a lexical error, and
--- the first one is returned, or it has one of these forms: it has no token, it begins with the
+-- What `line_form` returns. A comment may contain any bytes. Every other line has a lexical error,
+-- and the first one is returned, or it has one of these forms: it has no token, it begins with the
 -- keyword `build` at its first byte, it is indented, or it is neither. The last two forms may be an
 -- assignment.
 abbrev pub IsLineForm : LogicalLine → Result LineForm LexFault → Type 0

@@ -16,8 +16,8 @@ pub enum LineForm<'a> {
     Comment,
     /// A line without tokens.
     Blank,
-    /// A line that begins with the keyword `build` at its first byte. These are the tokens after the
-    /// keyword.
+    /// A line that begins with the keyword `build` at its first byte. These are the tokens after
+    /// the keyword.
     Build(Words<'a>),
     /// An indented line, and the assignment that it is, if it is one.
     Indented(Option<Assignment<'a>>),

@@ -80,8 +80,8 @@ impl<'a> Token<'a> {
         meaning(alloc, self.raw)
     }
 
-    /// Appends its value to a vector, with escapes resolved: an escape stands for its second byte, and
-    /// a continuation for nothing.
+    /// Appends its value to a vector, with escapes resolved: an escape stands for its second byte,
+    /// and a continuation for nothing.
     ///
     /// # Errors
     ///

@@ -90,8 +90,8 @@ fn binding_row(alloc: Global, assignment: Option<Assignment<'_>>) -> Result<Row,
     Err(Failure::Fault(LineCause::Form))
 }
 
-/// Returns what a build line says, by its tokens after `build`, or `None` if it is not a build line.
-/// Its strings have at most `bytes` bytes.
+/// Returns what a build line says, by its tokens after `build`, or `None` if it is not a build
+/// line. Its strings have at most `bytes` bytes.
 fn edge_texts(
     alloc: Global,
     bytes: usize,

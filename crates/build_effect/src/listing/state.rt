@@ -111,8 +111,8 @@ fn dyndep_row(
     }
 }
 
-/// Returns the path of a string. Most edges of a target name one dyndep file, so the path shares that
-/// of the edge before the last one if it is the same.
+/// Returns the path of a string. Most edges of a target name one dyndep file, so the path shares
+/// that of the edge before the last one if it is the same.
 fn dyndep_path(alloc: Global, edges: &[Edge], text: Vec<u8>) -> Result<Path, Failure<PathFault>>
     ensures { Gives (λ path. path) result (path_of text.items) }
 {
