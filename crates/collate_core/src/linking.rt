@@ -23,7 +23,6 @@ use module_table::{Table, laws};
 use ninja_text::Failure;
 use scan_docs::info_read;
 use std::alloc::{AllocError, Global};
-use table_keys::TableKey;
 
 /// Collates a target with the info files of the targets that it links, all of which have to be
 /// earlier. `rules` has its rules, unless its scan documents are rejected. Also returns its own info
@@ -32,17 +31,16 @@ pub(crate) fn collate_linked<M: MapStyle>(
     alloc: Global,
     target: &ProjectTarget<'_>,
     rules: Option<Vec<Rule>>,
-    key: TableKey,
     is_read: bool,
     outs: &[Collated],
     pool: &Pool,
     scratch: &mut Scratch,
     style: Option<&M>,
 ) -> Result<(Collated, Option<Info>), Failure<RefusedTarget>>
-    requires known { AreKnown outs.now pool.now }
+    requires known { AreKnown outs.now pool.now.infos }
     requires rules { IfSome rules
         (λ rules. AreRulesOf target.now.setting target.now.scans rules.items) }
-    requires key { IfSome rules (λ rules. CoversLinked key pool.now rules.items) }
+    requires key { IfSome rules (λ rules. CoversLinked pool.now rules.items) }
     ensures collated { IfOk result (λ found. CollatesLinked
         (option_map M.written (option_copied style.entry)) outs.now target.now found.0) }
     ensures known { IfOk result (λ found. IfSome found.1
@@ -70,7 +68,6 @@ pub(crate) fn collate_linked<M: MapStyle>(
         &with_infos,
         rules,
         linked,
-        key,
         is_read,
         pool,
         scratch,
@@ -126,16 +123,15 @@ fn collate_by_part<M: MapStyle>(
     target: &Target<'_>,
     rules: Option<Vec<Rule>>,
     linked: &[usize],
-    key: TableKey,
     is_read: bool,
     pool: &Pool,
     scratch: &mut Scratch,
     style: Option<&M>,
 ) -> Result<Option<(Collated, Option<Info>)>, AllocError>
-    requires infos { AreLinkedInfos pool.now linked.now target.now.infos }
+    requires infos { AreLinkedInfos pool.now.infos linked.now target.now.infos }
     requires rules { IfSome rules
         (λ rules. AreRulesOf target.now.setting target.now.scans rules.items) }
-    requires key { IfSome rules (λ rules. CoversLinked key pool.now rules.items) }
+    requires key { IfSome rules (λ rules. CoversLinked pool.now rules.items) }
     ensures { IfOk result (λ found. IfSome found
         (CollatesAndReads target.now (option_map M.written (option_copied style.entry)) is_read)) }
 {
@@ -150,7 +146,7 @@ fn collate_by_part<M: MapStyle>(
     let Some(part) = pool.part(alloc, &objects, linked, requirements, scratch)? else {
         return Ok(None);
     };
-    let built = Table::build_or_refused(alloc, objects, part, target.kept, Some(key));
+    let built = Table::build_or_refused(alloc, objects, part, target.kept, Some(pool.key()));
     let Some(table) = unless_faulty(built)? else {
         return Ok(None);
     };

@@ -126,9 +126,8 @@ pub fn project_or_refused<M: MapStyle>(
     let linked = linked_targets(alloc, targets)?;
     let mut outs = Vec::new(alloc);
     let read = read_targets(alloc, targets)?;
-    let key = read.key;
+    let mut pool = Pool::new(alloc, read.key);
     let mut rules = read.rules.into_iter();
-    let mut pool = Pool::new(alloc, key);
     let mut scratch = Scratch::new(alloc);
     for (index, target) in targets.iter().enumerate() {
         let own = rules.next();
@@ -137,7 +136,6 @@ pub fn project_or_refused<M: MapStyle>(
             alloc,
             target,
             own,
-            key,
             is_read,
             outs.as_slice(),
             &pool,

@@ -7,15 +7,16 @@
 //!
 //! # How it works
 //!
-//! A pool lists the modules of its info files by name and by file (`rows.rt`). A name or a file
-//! with several modules gets a number. For each info file the pool lists the others that it
+//! A pool lists the modules of its info files by name and by file (`rows.rt`). All are hashed under
+//! one key, which covers them (`specs/Pool.antt`, `pool_entries`). A name or a file with several
+//! modules gets a number. For each info file the pool lists the others that it
 //! requires modules of, and the numbers of what it shares (`related.rt`). For the links of a
 //! target, one stamp for each number tells which linked module has it, and so whether a part of the
 //! linked modules is enough (`links.rt`). Then the pool picks the part (`picking.rt`) and copies it
 //! (`copies.rt`).
 //!
-//! `must-fail/` has a wrong body for each public function with these exceptions: [`Pool::new`] and
-//! [`Scratch::new`] return empty values.
+//! `must-fail/` has a wrong body for each public function with this exception: [`Scratch::new`]
+//! returns an empty value.
 #![tactic(auto)]
 
 mod copies;

@@ -1,8 +1,9 @@
 //! The info files of a project, and the part of the linked ones that a target's table needs.
 ghost use Rattle.std.specs.Prelude.{◌≡◌, [], List, IfOk, IfSome, IfNone, None, Some, get_or};
+ghost use Rattle.table_keys.specs.Keys.{Covers};
 ghost use Rattle.document_values.specs.Info.{InfoValue};
 ghost use Rattle.document_values.specs.Parts.{IsEnough, KeepsRequired};
-ghost use Rattle.info_pool.specs.Pool.{AreLinked, IsAdded};
+ghost use Rattle.info_pool.specs.Pool.{pool_entries, AreLinked, IsAdded};
 ghost use Rattle.info_pool.specs.declared.requirements.Requirements.TheVariants.{Kept};
 
 use crate::copies::part_of;
@@ -17,7 +18,7 @@ use std::marker::Model;
 use table_keys::TableKey;
 
 /// The info files of a project's targets, by index. A contract sees them as a list, with `None` in
-/// place of each info file that is not known.
+/// place of each info file that is not known, and the key of the pool.
 ///
 /// A target that links many targets needs few of their modules. [`Pool::part`] returns these
 /// modules, so the work for a target grows with its own rules and with the number of its links. It
@@ -41,21 +42,23 @@ impl Drop for Pool {
 }
 
 impl Model for Pool {
-    ghost use Rattle.std.specs.Prelude.{List, Option};
-    ghost use Rattle.document_values.specs.Info.{InfoValue};
-    ghost use Rattle.info_pool.specs.inner.Pools.{IsPool};
+    ghost use Rattle.indexmap.specs.IndexMap.{hasher_of};
+    ghost use Rattle.info_pool.specs.Pool.{PoolValue};
+    ghost use Rattle.info_pool.specs.inner.Pools.{IsKeyed, IsPool};
 
-    ghost Value = { List (Option InfoValue) };
+    ghost Value = { PoolValue };
 
-    ghost view = { λ p. p.infos.items };
+    ghost view = { λ p. record { infos = p.infos.items; key = hasher_of p.listed.names } };
 
-    ghost invariant = { λ p. IsPool p.infos.items p.listed p.related.items };
+    ghost invariant = { λ p. IsPool p.infos.items p.listed p.related.items
+        × IsKeyed (hasher_of p.listed.names) p.listed };
 }
 
 impl Pool {
     /// Returns an empty pool. Names and files are hashed under the key.
     pub fn new(alloc: Global, key: TableKey) -> Pool
-        ensures { result ≡ [] }
+        ensures infos { result.infos ≡ [] }
+        ensures key { result.key ≡ key }
     {
         Pool {
             infos: Vec::new(alloc),
@@ -65,9 +68,13 @@ impl Pool {
     }
 
     /// Adds the info file of the next target. `None` is added in its place if one of its modules
-    /// requires a module that the pool does not have.
+    /// requires a module that the pool does not have. The key of the pool has to be made of the
+    /// names and files of the modules, and possibly others: whoever chooses them cannot choose the
+    /// key as well.
     pub fn push(self, alloc: Global, info: Option<Info>) -> Result<Pool, AllocError>
-        ensures { IfOk result (λ pool. IsAdded self info pool) }
+        requires { IfSome info (λ info. Covers self.key (pool_entries info)) }
+        ensures added { IfOk result (λ pool. IsAdded self.infos info pool.infos) }
+        ensures key { IfOk result (λ pool. pool.key ≡ self.key) }
     {
         let Pool {
             mut infos,
@@ -87,10 +94,17 @@ impl Pool {
         })
     }
 
+    /// Returns the key of the pool.
+    pub fn key(&self) -> TableKey
+        ensures { result ≡ self.now.key }
+    {
+        *self.listed.names.hasher()
+    }
+
     /// Returns the info file of that index, if it is known.
     pub fn known(&self, number: usize) -> Option<&Info>
-        ensures found { IfSome result (λ info. get_or self.now number None ≡ Some info.now) }
-        ensures none { IfNone result (get_or self.now number None ≡ None) }
+        ensures found { IfSome result (λ info. get_or self.now.infos number None ≡ Some info.now) }
+        ensures none { IfNone result (get_or self.now.infos number None ≡ None) }
     {
         match self.infos.get(number) {
             Some(Some(info)) => Some(info),
@@ -116,7 +130,7 @@ impl Pool {
         scratch: &mut Scratch,
     ) -> Result<Option<Vec<Info>>, AllocError>
         ensures { IfOk result (λ found. IfSome found (λ part. (infos : List InfoValue)
-            × AreLinked self.now linked.now infos × IsEnough objects.now part.items infos
+            × AreLinked self.now.infos linked.now infos × IsEnough objects.now part.items infos
             × (requirements ≡ Kept → KeepsRequired part.items infos))) }
     {
         let Scratch {

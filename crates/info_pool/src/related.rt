@@ -3,7 +3,7 @@
 ghost use Rattle.std.specs.Prelude.{◌≡◌, ◌++◌, ◌∷◌, [], ℕ, IfOk, OnOk, IfSome, length, slice_get, Some};
 ghost use Rattle.ninja_text.specs.Bytes.{PathText, Name};
 ghost use Rattle.document_values.specs.Info.{ModuleValue};
-ghost use Rattle.info_pool.specs.inner.Pools.{Has, StillListed, IsSource, IsRelated};
+ghost use Rattle.info_pool.specs.inner.Pools.{Has, StillKeyed, StillListed, IsSource, IsRelated};
 
 use crate::rows::{Listed, ModuleAt, Shared, list_modules};
 use document_values::{Info, Name};
@@ -41,6 +41,7 @@ impl Related {
         listed: &mut Listed,
     ) -> Result<Option<Related>, AllocError>
         ensures still { OnOk result (StillListed listed.old listed.new) }
+        ensures key { OnOk result (StillKeyed listed.old listed.new) }
         ensures related { IfOk result (λ found. IfSome found
             (IsRelated infos.now info.now listed.new)) }
     {

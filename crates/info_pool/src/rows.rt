@@ -1,8 +1,8 @@
 //! The modules of all info files, by name and by file.
-ghost use Rattle.std.specs.Prelude.{IfOk, OnOk, bytes_eq};
-ghost use Rattle.indexmap.specs.IndexMap.{get};
+ghost use Rattle.std.specs.Prelude.{◌≡◌, IfOk, OnOk, bytes_eq};
+ghost use Rattle.indexmap.specs.IndexMap.{get, hasher_of};
 ghost use Rattle.info_pool.specs.declared.rows.Shared.{Shared};
-ghost use Rattle.info_pool.specs.inner.Pools.{Has, By, key_of, rows_of, IsPut, AreListed, StillListed};
+ghost use Rattle.info_pool.specs.inner.Pools.{Has, By, key_of, rows_of, IsKeyed, StillKeyed, IsPut, AreListed, StillListed};
 
 use document_values::{Info, Name};
 use indexmap::IndexMap;
@@ -62,7 +62,9 @@ impl Drop for Listed {
 
 impl Listed {
     /// Returns empty lists. Names and files are hashed under the key.
-    pub(crate) fn new(alloc: Global, key: TableKey) -> Listed {
+    pub(crate) fn new(alloc: Global, key: TableKey) -> Listed
+        ensures { IsKeyed key result }
+    {
         Listed {
             names: IndexMap::with_hasher(alloc, key),
             files: IndexMap::with_hasher(alloc, key),
@@ -81,6 +83,7 @@ pub(crate) fn list_modules(
     listed: &mut Listed,
 ) -> Result<Vec<Shared>, AllocError>
     ensures still { OnOk result (StillListed listed.old listed.new) }
+    ensures key { OnOk result (StillKeyed listed.old listed.new) }
     ensures listed { IfOk result (λ shared. (by : By) → AreListed (key_of by)
         number info.now.modules (rows_of listed.new by) shared.items) }
 {
@@ -126,6 +129,7 @@ fn add<K: Eq + Hash + Drop>(
     ensures put { OnOk result
         (IsPut K.eq (get K.eq rows.old) (get K.eq rows.new) key at shared.new.items) }
     ensures still { OnOk result ((s : Shared) → Has shared.old.items s → Has shared.new.items s) }
+    ensures key { OnOk result (hasher_of rows.new ≡ hasher_of rows.old) }
 {
     let row = rows.entry(key)?.or_insert(Row {
         first: at,

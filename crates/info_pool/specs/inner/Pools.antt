@@ -1,7 +1,8 @@
 -- What a pool stores about the known info files, and what it checks when a target links some of
 -- them.
 use Rattle.std.specs.Prelude.{◌≡◌, ◌⊎◌, ◌++◌, ◌∷◌, ◌<◌, [], ℕ, Bool, true, if◌then◌else◌, List, length, slice_get, get_or, bytes_eq, Option, Some, None}
-use Rattle.indexmap.specs.IndexMap.{get}
+use Rattle.indexmap.specs.IndexMap.{get, hasher_of}
+use Rattle.table_keys.specs.declared.TableKey.{TableKey}
 use Rattle.ninja_text.specs.Bytes.{PathText, Name}
 use Rattle.document_values.specs.Rule.{RuleValue}
 use Rattle.document_values.specs.Info.{InfoValue, ModuleValue}
@@ -34,6 +35,16 @@ Rows = Name → Option Row
 abbrev pub rows_of : Listed → By → Rows
 rows_of listed by_name = get bytes_eq listed.names
 rows_of listed by_file = get bytes_eq listed.files
+
+-- All lists hash under this key.
+pub record IsKeyed (key : TableKey) (listed : Listed) : Type 0 where
+  pub names : hasher_of listed.names ≡ key
+  pub files : hasher_of listed.files ≡ key
+  pub sharing : hasher_of listed.sharing ≡ key
+
+-- the lists keep their key
+abbrev pub StillKeyed : Listed → Listed → Type 0
+StillKeyed old new = (key : TableKey) → IsKeyed key old → IsKeyed key new
 
 -- the module at index j of info file i
 abbrev pub module_at : ℕ → ℕ → ModuleAt

@@ -1,7 +1,7 @@
 use Rattle.std.proofs.Common.{◌≡◌, ◌∙◌, ap, refl, sym, subst, slice_get, take, length, bytes_eq, arith}
 use Rattle.std.proofs.lemmas.Option.{slice_get_read}
 use Rattle.std.proofs.lemmas.List.{take_all, length-take-le}
-use Rattle.indexmap.specs.IndexMap.{get}
+use Rattle.indexmap.specs.IndexMap.{get, hasher_of}
 use Rattle.document_values.specs.Info.{ModuleValue}
 use Rattle.info_pool.specs.inner.Pools.{by_name, key_of, rows_of, module_at, AreListed}
 use Rattle.info_pool.proofs.PoolLemmas.{row_kept, row_of_row, module_listed, put_more, each_put, At, modules_of}
@@ -27,6 +27,10 @@ loop-index-preserved c =
       | then-is_shared+then-not-module+in_ok-copy+in_ok-copy-2+in_ok-insert w ↦ rw w.listed-is (refl, refl)
       | else-is_shared w ↦ rw w.listed-is (refl, refl)
     ] in
+    let sharing : hasher_of new.sharing ≡ hasher_of old.sharing = elim c.if-is_shared.branch [
+      | then-is_shared+then-not-module+in_ok-copy+in_ok-copy-2+in_ok-insert w ↦ rw w.listed-is w.in_ok-insert.ensures.hasher
+      | else-is_shared w ↦ rw w.listed-is refl
+    ] in
     let name = c.in_ok-name.ensures ∙ ap (λ (m : ModuleValue). m.name) c.module.view_is in
     let file = c.in_ok-file.ensures ∙ ap (λ (m : ModuleValue). m.file) c.module.view_is in
     let named = rw name at c.in_ok-add.ensures.put in
@@ -39,6 +43,13 @@ loop-index-preserved c =
           let kept = c.loop-index.invariant.still by key r h in
           let again = row_kept (rows_of old by) (rows_of new by) (key_of by m) at shared (put by) key kept.0 kept.1 in
           (again.0, again.1, row_of_row r kept.0 again.0 kept.2 again.2);
+      keyed = λ key was.
+          let before = c.loop-index.invariant.keyed key was in
+          record {
+            names = ap (λ rows. hasher_of rows) same.0 ∙ c.in_ok-add.ensures.key ∙ before.names;
+            files = ap (λ rows. hasher_of rows) same.1 ∙ c.in_ok-is_shared.ensures.key ∙ before.files;
+            sharing = sharing ∙ before.sharing;
+          };
       all = rw (take_next modules i m found) (λ by. module_listed (rows_of old by) (rows_of new by) (key_of by m) at shared (put by) (key_of by) number
           (take i modules) m c.loop-index.shared.items refl (ap (module_at number) (sym next))
           (λ s h. c.in_ok-is_shared.ensures.still s (c.in_ok-add.ensures.still s h))

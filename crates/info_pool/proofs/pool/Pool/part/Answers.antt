@@ -3,7 +3,7 @@ use Rattle.std.proofs.lemmas.Result.{IfOk-weaker}
 use Rattle.document_values.specs.Rule.{RuleValue}
 use Rattle.document_values.specs.Info.{InfoValue}
 use Rattle.document_values.specs.Parts.{IsEnough, IsPartOf, KeepsRequired}
-use Rattle.info_pool.specs.Pool.{AreLinked}
+use Rattle.info_pool.specs.Pool.{PoolValue, AreLinked}
 use Rattle.info_pool.specs.declared.requirements.Requirements.TheVariants.{Kept}
 use Rattle.info_pool.specs.inner.Pools.{AreFit, IsApart}
 use Rattle.info_pool.proofs.PoolLemmas.{some_weaker, enough, At}
@@ -27,9 +27,9 @@ returns c =
     let linked_infos = subst (λ known. AreLinked known linked h.0) c.deref-6.ensures.value h.1 in (
       h.0,
       linked_infos,
-      enough pool.infos.items linked h.0 linked_infos pool.listed pool.related.items c.self.invariant _ are stamps fit objects apart part h.2,
+      enough pool.infos.items linked h.0 linked_infos pool.listed pool.related.items c.self.invariant.0 _ are stamps fit objects apart part h.2,
       h.3,
     ) in
-    subst (λ known. IfOk c.part_of.result (λ found. IfSome found (λ part. Found known part.items))) c.self.view_is
+    subst (λ (p : PoolValue). IfOk c.part_of.result (λ found. IfSome found (λ part. Found p.infos part.items))) c.self.view_is
     (IfOk-weaker c.part_of.result (λ found. IfSome found (λ part. Copied part.items)) (λ found. IfSome found (λ part. Found pool.infos.items part.items))
     (λ found. some_weaker (λ part. Copied part.items) (λ part. Found pool.infos.items part.items) (λ part. each part.items) found) c.part_of.ensures)
