@@ -13,15 +13,13 @@ ghost use Rattle.collate_core.specs.inner.Parts.{IsTableText, IsTextsRefusal, Is
 use crate::collated::{Collated, CollatedParts};
 use crate::fault::{Refusal, RefusedTarget, nothing_read, refusal_alone};
 use crate::info::lent_info;
-use crate::laws::headline;
 use crate::object_maps::maps_of;
 use crate::statements::dyndep_text;
 use crate::table::table_of;
 use document_values::{Name, TargetName};
 use module_maps::MapStyle;
-use module_table::{Table, laws};
+use module_table::Table;
 use ninja_text::{Failure, Path};
-use scan_docs::laws::{info_again, target_names};
 use scan_docs::{Setting, lent_info_write};
 use std::alloc::{AllocError, Global};
 use std::marker::Model;
@@ -96,7 +94,7 @@ pub fn collate_or_refused<M: MapStyle>(
     ensures read { IfErr result (ForFault (λ refused. WasRead target.now refused.refusal
         (table_with refused.objects.items refused.infos.items))) }
 {
-    headline();
+    crate::laws::headline();
     let table = table_of(alloc, target)?;
     match written_of(alloc, target, &table, style) {
         Ok(collated) => Ok(collated),
@@ -125,7 +123,7 @@ pub(crate) fn written_of<M: MapStyle>(
     ensures refused { IfErr result (ForFault (IsTextsRefusal table.now
         (option_map M.written (option_copied style.entry)))) }
 {
-    laws::added_files_can_be_ordered();
+    module_table::laws::added_files_can_be_ordered();
     let text = dyndep_text(alloc, table.resolved())?;
     let maps = maps_of(alloc, table, style)?;
     let info = lent_info(alloc, target.name, target.kept, table)?;
@@ -164,11 +162,11 @@ pub fn collate_dyndep_or_refused(
     ensures read { IfErr result (ForFault (λ refused. WasRead target.now refused.refusal
         (table_with refused.objects.items refused.infos.items))) }
 {
-    headline();
-    laws::added_files_can_be_ordered();
+    crate::laws::headline();
+    module_table::laws::added_files_can_be_ordered();
     // The contract is also about the info file, which is not written.
-    info_again();
-    target_names(target.name);
+    scan_docs::laws::info_again();
+    scan_docs::laws::target_names(target.name);
     let table = table_of(alloc, target)?;
     let resolved = table.into_resolved();
     match dyndep_text(alloc, &resolved) {

@@ -3,16 +3,12 @@
 ghost use Rattle.collate_core.specs.BuildLaws.{TargetHasNoRace, ProjectHasNoRace, ProjectMakesAll, LeastOrderRuns, TargetHasNoFalseWait, ProjectHasNoFalseWait, TargetHasNoFalseRebuild, ProjectHasNoFalseRebuild, TargetHasNoFalseCycle, ProjectHasNoFalseCycle};
 ghost use Rattle.collate_core.specs.Laws.{HeadlineHolds, CollatedIsNotRefused, OneRefusal, ProjectIsNotRefused, OneProjectRefusal, ProjectOrders, ProjectNumbered, ProjectEndOrderable, ProjectNeeds, ProjectMaps};
 
-use build_effect::laws::{any_order, files_order, one_effect};
-use module_table::laws;
-use scan_docs::laws::{one_answer, value_of_bytes};
-
 /// Whatever a target collates to has the headline.
 pub fn headline()
     ensures { HeadlineHolds }
 {
-    one_effect();
-    laws::added_files_can_be_ordered();
+    build_effect::laws::one_effect();
+    module_table::laws::added_files_can_be_ordered();
 }
 
 /// The dyndep files of a project may be applied in any order. All objects can be numbered so that
@@ -23,10 +19,10 @@ pub fn project_orders()
     ensures numbered { ProjectNumbered }
     ensures orderable { ProjectEndOrderable }
 {
-    any_order();
-    files_order();
-    laws::added_files_can_be_ordered();
-    value_of_bytes();
+    build_effect::laws::any_order();
+    build_effect::laws::files_order();
+    module_table::laws::added_files_can_be_ordered();
+    scan_docs::laws::value_of_bytes();
 }
 
 /// In a project in which no two targets add the same file, an object needs in the table of its
@@ -35,8 +31,8 @@ pub fn project_maps()
     ensures needs { ProjectNeeds }
     ensures maps { ProjectMaps }
 {
-    laws::added_files_can_be_ordered();
-    value_of_bytes();
+    module_table::laws::added_files_can_be_ordered();
+    scan_docs::laws::value_of_bytes();
 }
 
 /// A target that collates has no rejection, and every target has at most one. The same holds of a
@@ -48,8 +44,8 @@ pub fn one_outcome()
     ensures project { ProjectIsNotRefused }
     ensures one_of_project { OneProjectRefusal }
 {
-    one_answer();
-    laws::one_fault_is_reported();
+    scan_docs::laws::one_answer();
+    module_table::laws::one_fault_is_reported();
 }
 
 /// No race: take any order of the edges after the effect in which each edge comes after the edges
@@ -66,8 +62,8 @@ pub fn no_race()
     ensures all_made { ProjectMakesAll }
     ensures order { LeastOrderRuns }
 {
-    laws::added_files_can_be_ordered();
-    project_orders();
+    module_table::laws::added_files_can_be_ordered();
+    crate::laws::project_orders();
 }
 
 /// No false wait, under the same premises: after the effect an edge needs what it needed before. The
@@ -78,8 +74,8 @@ pub fn no_false_wait()
     ensures target { TargetHasNoFalseWait }
     ensures project { ProjectHasNoFalseWait }
 {
-    laws::added_files_can_be_ordered();
-    project_orders();
+    module_table::laws::added_files_can_be_ordered();
+    crate::laws::project_orders();
 }
 
 /// No false rebuild, under the same premises. After the effect a chain of needs leads from one edge
@@ -94,8 +90,8 @@ pub fn no_false_rebuild()
     ensures target { TargetHasNoFalseRebuild }
     ensures project { ProjectHasNoFalseRebuild }
 {
-    laws::added_files_can_be_ordered();
-    project_orders();
+    module_table::laws::added_files_can_be_ordered();
+    crate::laws::project_orders();
 }
 
 /// No false cycle, under the same premises. If the edges cannot be ordered after the effect, every
@@ -105,6 +101,6 @@ pub fn no_false_cycle()
     ensures target { TargetHasNoFalseCycle }
     ensures project { ProjectHasNoFalseCycle }
 {
-    laws::added_files_can_be_ordered();
-    project_orders();
+    module_table::laws::added_files_can_be_ordered();
+    crate::laws::project_orders();
 }

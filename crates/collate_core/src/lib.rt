@@ -52,7 +52,7 @@ mod collated;
 mod collating;
 mod fault;
 mod info;
-mod laws;
+pub mod laws;
 mod linking;
 mod object_maps;
 mod projects;

@@ -9,7 +9,6 @@ ghost use Rattle.collate_core.specs.ProjectNeeds.{MapsReadBack};
 
 use crate::collated::Collated;
 use crate::fault::{Refusal, RefusedTarget};
-use crate::laws::{project_maps, project_orders};
 use crate::linking::collate_linked;
 use crate::reading::read_targets;
 use document_values::{Name, TargetName};
@@ -17,7 +16,6 @@ use info_pool::{Pool, Scratch};
 use module_maps::MapStyle;
 use ninja_text::Failure;
 use scan_docs::Setting;
-use scan_docs::laws::value_of_bytes;
 use std::alloc::{AllocError, Global};
 use std::marker::Model;
 
@@ -120,9 +118,9 @@ pub fn project_or_refused<M: MapStyle>(
         targets.now refused.0 refused.1.refusal
         (table_with refused.1.objects.items refused.1.infos.items))) }
 {
-    project_orders();
-    project_maps();
-    value_of_bytes();
+    crate::laws::project_orders();
+    crate::laws::project_maps();
+    scan_docs::laws::value_of_bytes();
     let linked = linked_targets(alloc, targets)?;
     let mut outs = Vec::new(alloc);
     let read = read_targets(alloc, targets)?;
