@@ -24,8 +24,9 @@ use scan_docs::{Setting, lent_info_write};
 use std::alloc::{AllocError, Global};
 use std::marker::Model;
 
-/// A target to collate: what its target document names (`scan_docs::TargetSpec`), with its documents
-/// as bytes. It borrows all its parts, because the info files may be those of other targets.
+/// A target to collate: what its target document names (`scan_docs::TargetSpec`), with its
+/// documents as bytes. It borrows all its parts, because the info files may be those of other
+/// targets.
 #[derive(Drop)]
 pub struct Target<'a> {
     pub name: &'a TargetName,
@@ -54,8 +55,8 @@ impl<'a> Model for Target<'a> {
 }
 
 /// Collates a target: its documents make a table, and the objects of the table make the dyndep
-/// file, the info file and, with a style, a map for each object (P1689R5 for the scan documents, the
-/// Ninja 1.11 manual, "Dynamic dependencies", for the dyndep file).
+/// file, the info file and, with a style, a map for each object (P1689R5 for the scan documents,
+/// the Ninja 1.11 manual, "Dynamic dependencies", for the dyndep file).
 ///
 /// The result has the headline: in every build that names the dyndep file on exactly the objects,
 /// the file adds to each object's edge exactly what the object provides and requires.
@@ -137,8 +138,8 @@ pub(crate) fn written_of<M: MapStyle>(
     }))
 }
 
-/// Collates a target to its dyndep text alone: the text that [`collate`] without a style returns. It
-/// writes no info file, so it takes less time and less memory.
+/// Collates a target to its dyndep text alone: the text that [`collate`] without a style returns.
+/// It writes no info file, so it takes less time and less memory.
 ///
 /// # Errors
 ///

@@ -49,13 +49,13 @@ pub fn one_outcome()
 }
 
 /// No race: take any order of the edges after the effect in which each edge comes after the edges
-/// that make its inputs. Then the edge of an object comes after the edges that make the files of the
-/// modules that the object requires, and the edge of an object makes the files of the modules that
-/// the object provides. This holds after the dyndep file of a target that has the headline, and
-/// after the files of any targets of a project, under the premises of the headline and of
-/// [`project_orders`]. After the files of targets and of those that they link, an edge makes each file
-/// that an object of these targets requires. [`edge_order`](build_effect::edge_order) returns such an
-/// order.
+/// that make its inputs. Then the edge of an object comes after the edges that make the files of
+/// the modules that the object requires, and the edge of an object makes the files of the modules
+/// that the object provides. This holds after the dyndep file of a target that has the headline,
+/// and after the files of any targets of a project, under the premises of the headline and of
+/// [`project_orders`]. After the files of targets and of those that they link, an edge makes each
+/// file that an object of these targets requires. [`edge_order`](build_effect::edge_order) returns
+/// such an order.
 pub fn no_race()
     ensures target { TargetHasNoRace }
     ensures project { ProjectHasNoRace }
@@ -66,8 +66,8 @@ pub fn no_race()
     crate::laws::project_orders();
 }
 
-/// No false wait, under the same premises: after the effect an edge needs what it needed before. The
-/// edge of an object also needs the edges that make the files of the modules that the object
+/// No false wait, under the same premises: after the effect an edge needs what it needed before.
+/// The edge of an object also needs the edges that make the files of the modules that the object
 /// requires. An edge that read a file which is now an added output needs the edge that makes the
 /// file. No edge needs anything else.
 pub fn no_false_wait()

@@ -42,10 +42,11 @@
 //! [`CollatedParts`] are its texts, to be written.
 //!
 //! `must-fail/` has a wrong body of each public function, except for the laws, for the methods of
-//! [`Collated`], which return fields, and for the calls that only pass on what another returns, with
-//! its clauses: [`collate`], [`collate_dyndep`] and [`project`] return what their `_or_refused` calls
-//! do, without what was read. `required_module_left_out` changes the text that both [`collate`] and
-//! [`collate_dyndep`] return. The README lists the edits of other crates that cover a clause here.
+//! [`Collated`], which return fields, and for the calls that only pass on what another returns,
+//! with its clauses: [`collate`], [`collate_dyndep`] and [`project`] return what their
+//! `_or_refused` calls do, without what was read. `required_module_left_out` changes the text that
+//! both [`collate`] and [`collate_dyndep`] return. The README lists the edits of other crates that
+//! cover a clause here.
 #![tactic(auto)]
 
 mod collated;

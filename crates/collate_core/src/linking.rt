@@ -25,8 +25,8 @@ use scan_docs::info_read;
 use std::alloc::{AllocError, Global};
 
 /// Collates a target with the info files of the targets that it links, all of which have to be
-/// earlier. `rules` has its rules, unless its scan documents are rejected. Also returns its own info
-/// file as it is read, if it `is_read` later and it is known.
+/// earlier. `rules` has its rules, unless its scan documents are rejected. Also returns its own
+/// info file as it is read, if it `is_read` later and it is known.
 pub(crate) fn collate_linked<M: MapStyle>(
     alloc: Global,
     target: &ProjectTarget<'_>,
@@ -77,20 +77,11 @@ pub(crate) fn collate_linked<M: MapStyle>(
         return Ok(found);
     }
     let out = collate_or_refused(alloc, &with_infos, style)?;
-    let info = info_if_read(alloc, out.info(), is_read)?;
-    Ok((out, info))
-}
-
-/// Returns the info file that the text is read as, or `None` if it is not to be read or is rejected.
-fn info_if_read(alloc: Global, text: &[u8], is_read: bool) -> Result<Option<Info>, AllocError>
-    ensures { IfOk result (λ found. IfSome found
-        (λ info. IsTrue is_read × IsReadAs text.now info)) }
-{
     if !is_read {
-        return Ok(None);
+        return Ok((out, None));
     }
-    let info = unless_faulty(info_read(alloc, text))?;
-    Ok(info)
+    let info = unless_faulty(info_read(alloc, out.info()))?;
+    Ok((out, info))
 }
 
 /// Returns the info files that the targets of these indexes wrote, or `None` if one of them is not
@@ -115,9 +106,9 @@ fn infos_of<'a>(
     Ok(Some(infos))
 }
 
-/// Collates a target, which has these rules, by a table of few of the modules that it links. Returns
-/// `None` if there are no rules, or if the table of all has to be built, because the target may have
-/// a fault.
+/// Collates a target, which has these rules, by a table of few of the modules that it links.
+/// Returns `None` if there are no rules, or if the table of all has to be built, because the target
+/// may have a fault.
 fn collate_by_part<M: MapStyle>(
     alloc: Global,
     target: &Target<'_>,

@@ -19,8 +19,8 @@ use scan_docs::Setting;
 use std::alloc::{AllocError, Global};
 use std::marker::Model;
 
-/// A target of a project to collate: a [`Target`](crate::Target) that links earlier ones by index in
-/// place of the info files, which the project writes. It borrows all its parts.
+/// A target of a project to collate: a [`Target`](crate::Target) that links earlier ones by index
+/// in place of the info files, which the project writes. It borrows all its parts.
 #[derive(Drop)]
 pub struct ProjectTarget<'a> {
     pub name: &'a TargetName,

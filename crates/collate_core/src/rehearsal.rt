@@ -43,8 +43,8 @@ pub fn rehearse(
     }
 }
 
-/// Applies the dyndep file of a collated target, which has that name, to the graph. Returns an order
-/// of the edges after the effect, or the least cycle.
+/// Applies the dyndep file of a collated target, which has that name, to the graph. Returns an
+/// order of the edges after the effect, or the least cycle.
 ///
 /// The result is an order if the graph meets the headline's premises and can be numbered, with the
 /// added outputs alone, so that each needed edge has a smaller number than its user, the edges of

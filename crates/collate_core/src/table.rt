@@ -71,26 +71,9 @@ pub(crate) fn rules_of_all(
         (IsScanRefusal setting.now (map (λ scan. scan.now) scans.now)))) }
 {
     let reduced = ReducedSetting::of(alloc, setting)?;
-    rules_of_scans(alloc, &reduced, scans)
-}
-
-/// Does this for a setting that is reduced once for all scan documents.
-fn rules_of_scans(
-    alloc: Global,
-    setting: &ReducedSetting<'_>,
-    scans: &[&[u8]],
-) -> Result<Vec<Rule>, Failure<Refusal>>
-    ensures accepted { OnOk result
-        (AreScansAccepted setting.now (map (λ scan. scan.now) scans.now)) }
-    ensures rules { IfOk result (λ rules.
-        rules.items ≡ all_rules setting.now (map (λ scan. scan.now) scans.now)) }
-    ensures text { IfOk result (λ rules. All IsRuleText rules.items) }
-    ensures refused { IfErr result (ForFault (ForScan
-        (IsScanRefusal setting.now (map (λ scan. scan.now) scans.now)))) }
-{
     let mut rules = Vec::new(alloc);
     for (index, document) in scans.iter().enumerate() {
-        match scan_with(alloc, document, setting) {
+        match scan_with(alloc, document, &reduced) {
             Ok(found) => {
                 let mut more = found;
                 if more.len() > RULE_LIMIT - rules.len() {

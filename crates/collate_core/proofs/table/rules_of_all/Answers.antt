@@ -1,4 +1,4 @@
-use Rattle.std.proofs.Common.{◌≡◌, ℕ, ◌+◌, ◌<◌, ◌≤◌, ◌∙◌, List, ◌++◌, length, map, take, ap, subst, sym, arith, length-append}
+use Rattle.std.proofs.Common.{◌≡◌, ℕ, ◌+◌, ◌<◌, ◌≤◌, ◌∙◌, List, ◌++◌, length, map, take, ap, subst, sym, arith, length-append, Bor}
 use Rattle.std.proofs.lemmas.List.{take_all, length-map}
 use Rattle.scan_docs.specs.Document.{IsAccepted}
 use Rattle.scan_docs.specs.Scan.{SettingValue, AreRules}
@@ -8,7 +8,7 @@ use Rattle.scan_docs.specs.Values.{rules_of}
 use Rattle.collate_core.specs.Documents.{IsScanAccepted, AreScansAccepted, all_rules}
 use Rattle.collate_core.specs.Refusals.{IsScanRefusal}
 use Rattle.collate_core.proofs.Documents.{ScansSoFar, lent_scans, past_limit, refused_scan}
-use Rattle.collate_core.proofs.table.rules_of_scans.Goals as goal
+use Rattle.collate_core.proofs.table.rules_of_all.Goals as goal
 
 accepted : (s : SettingValue) (scan : List ℕ) (rules : List RuleValue) → rules ≡ rules_of s scan → IsAccepted (scan_checks s) (AreRules s) scan rules →
     IsScanAccepted s scan
@@ -20,15 +20,16 @@ returns-then-len-clause-refused c =
     let more : List RuleValue = c.in-Ok.found.items in
     let past : 65536 < length (rules ++ more) =
     omega (arith, length-append rules more, c.loop-index.invariant.short, c.if-len.true, c.len.ensures, c.len-in-Ok.ensures) in
+    let value = rw c.in_ok-reduced.ensures at c.in-Ok.ensures.value in
     past_limit (λ scan. scan.now) c.args.scans.now c.loop-index.index _ c.args.setting.now rules more c.loop-index-test.true c.loop-index.invariant
-    (accepted c.args.setting.now _ more c.in-Ok.ensures.value c.in-Ok.ensures.accepted) c.in-Ok.ensures.value past
+    (accepted c.args.setting.now _ more value (rw c.in_ok-reduced.ensures at c.in-Ok.ensures.accepted)) value past
 
 pub returns-in-Err-Fault-clause-refused : goal.returns-in-Err-Fault-clause-refused
 returns-in-Err-Fault-clause-refused c =
     let i : ℕ = c.loop-index.index in
     subst (IsScanRefusal c.args.setting.now (map (λ scan. scan.now) c.args.scans.now) i) (sym c.in-Err-Fault.fault-is)
     (refused_scan (λ scan. scan.now) c.args.scans.now i _ c.args.setting.now c.loop-index.rules.items c.in-Err-Fault.field-0 c.in-Err-Fault.fault
-    c.loop-index-test.true c.loop-index.invariant c.in-Err-Fault.field-0-is c.in-Err-Fault.ensures.refused)
+    c.loop-index-test.true c.loop-index.invariant c.in-Err-Fault.field-0-is (rw c.in_ok-reduced.ensures at c.in-Err-Fault.ensures.refused))
 
 pub loop-index-preserved : goal.loop-index-preserved
 loop-index-preserved c =
@@ -37,17 +38,17 @@ loop-index-preserved c =
     let more : List RuleValue = c.in-Ok.found.items in
     let short : length (rules ++ more) ≤ 65536 =
     omega (arith, length-append rules more, c.loop-index.invariant.short, c.if-len.false, c.len.ensures, c.len-in-Ok.ensures) in
+    let value = rw c.in_ok-reduced.ensures at c.in-Ok.ensures.value in
     subst (ScansSoFar c.args.setting.now (map (λ scan. scan.now) c.args.scans.now) (i + 1)) (sym c.in_ok-append-in-Ok.ensures.items)
     (lent_scans (λ scan. scan.now) c.args.scans.now i _ c.args.setting.now rules more c.loop-index-test.true c.loop-index.invariant
-    (accepted c.args.setting.now _ more c.in-Ok.ensures.value c.in-Ok.ensures.accepted) c.in-Ok.ensures.value c.in-Ok.ensures.text short)
+    (accepted c.args.setting.now _ more value (rw c.in_ok-reduced.ensures at c.in-Ok.ensures.accepted)) value c.in-Ok.ensures.text short)
 
 -- at the loop's end the documents so far are all
-at_end : (c : goal.After-loop-index) → take c.loop-index.index (map (λ scan. scan.now) c.args.scans.now) ≡ map (λ scan. scan.now) c.args.scans.now
-at_end c = take_all c.loop-index.index (map (λ scan. scan.now) c.args.scans.now)
-    (subst (λ n. n ≤ c.loop-index.index) (sym (length-map c.args.scans.now (λ scan. scan.now))) c.loop-index-test.false)
+at_end : (scans : List (Bor (List ℕ))) (i : ℕ) → length scans ≤ i → take i (map (λ scan. scan.now) scans) ≡ map (λ scan. scan.now) scans
+at_end scans i past = take_all i (map (λ scan. scan.now) scans) (subst (λ n. n ≤ i) (sym (length-map scans (λ scan. scan.now))) past)
 
 pub returns-clause-accepted : goal.returns-clause-accepted
-returns-clause-accepted c = subst (AreScansAccepted c.args.setting.now) (at_end c) c.loop-index.invariant.accepted
+returns-clause-accepted c = subst (AreScansAccepted c.args.setting.now) (at_end c.args.scans.now c.loop-index.index c.loop-index-test.false) c.loop-index.invariant.accepted
 
 pub returns-clause-rules : goal.returns-clause-rules
-returns-clause-rules c = c.loop-index.invariant.same ∙ ap (all_rules c.args.setting.now) (at_end c)
+returns-clause-rules c = c.loop-index.invariant.same ∙ ap (all_rules c.args.setting.now) (at_end c.args.scans.now c.loop-index.index c.loop-index-test.false)
