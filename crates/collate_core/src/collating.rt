@@ -2,12 +2,11 @@
 ghost use Rattle.std.specs.Prelude.{◌≡◌, map, None, Ok, IfOk, IfErr};
 ghost use Rattle.std.specs.Option.{option_copied, option_map};
 ghost use Rattle.ninja_text.specs.Failure.{ForFault};
-ghost use Rattle.module_table.specs.TableValue.{table_with};
 ghost use Rattle.module_table.specs.Sound.{IsSound};
 ghost use Rattle.collate_core.specs.Documents.{table_of};
 ghost use Rattle.collate_core.specs.Collation.{Collates};
 ghost use Rattle.collate_core.specs.Headline.{IsHeadline, IsDyndepOf};
-ghost use Rattle.collate_core.specs.Refusals.{IsRefusal, WasRead};
+ghost use Rattle.collate_core.specs.Refusals.{IsRefusal, HasReadOf};
 ghost use Rattle.collate_core.specs.inner.Parts.{IsTableText, IsTextsRefusal, IsWrittenOf};
 
 use crate::collated::{Collated, CollatedParts};
@@ -92,8 +91,7 @@ pub fn collate_or_refused<M: MapStyle>(
     ensures headline { IfOk result (IsHeadline target.now) }
     ensures refused { IfErr result (ForFault (λ refused. IsRefusal target.now
         (option_map M.written (option_copied style.entry)) refused.refusal)) }
-    ensures read { IfErr result (ForFault (λ refused. WasRead target.now refused.refusal
-        (table_with refused.objects.items refused.infos.items))) }
+    ensures read { IfErr result (ForFault (HasReadOf target.now)) }
 {
     crate::laws::headline();
     let table = table_of(alloc, target)?;
@@ -160,8 +158,7 @@ pub fn collate_dyndep_or_refused(
     ensures dyndep { IfOk result (λ text. IsDyndepOf target.now text.items) }
     ensures refused { IfErr result
         (ForFault (λ refused. IsRefusal target.now None refused.refusal)) }
-    ensures read { IfErr result (ForFault (λ refused. WasRead target.now refused.refusal
-        (table_with refused.objects.items refused.infos.items))) }
+    ensures read { IfErr result (ForFault (HasReadOf target.now)) }
 {
     crate::laws::headline();
     module_table::laws::added_files_can_be_ordered();

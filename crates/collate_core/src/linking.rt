@@ -2,9 +2,8 @@
 ghost use Rattle.std.specs.Prelude.{◌≡◌, ◌<◌, MatchOption, IfOk, IfErr, IfSome, IsTrue, All, map, length};
 ghost use Rattle.std.specs.Option.{option_copied, option_map};
 ghost use Rattle.ninja_text.specs.Failure.{ForFault};
-ghost use Rattle.module_table.specs.TableValue.{table_with};
 ghost use Rattle.module_table.specs.Sound.{IsSound, PrivateAreProvided};
-ghost use Rattle.collate_core.specs.Refusals.{WasRead};
+ghost use Rattle.collate_core.specs.Refusals.{HasReadOf};
 ghost use Rattle.collate_core.specs.Projects.{IsLinkedRefusal, target_of, linked_infos};
 ghost use Rattle.collate_core.specs.inner.Parts.{CollatesLinked};
 ghost use Rattle.collate_core.specs.inner.PartTables.{IsEnoughFor};
@@ -48,9 +47,7 @@ pub(crate) fn collate_linked<M: MapStyle>(
     ensures refused { IfErr result (ForFault (λ refused. IsLinkedRefusal
         (option_map M.written (option_copied style.entry))
         outs.now (length outs.now) target.now refused.refusal)) }
-    ensures read { IfErr result (ForFault (λ refused.
-        WasRead (target_of outs.now target.now) refused.refusal
-        (table_with refused.objects.items refused.infos.items))) }
+    ensures read { IfErr result (ForFault (HasReadOf (target_of outs.now target.now))) }
 {
     let Some(infos) = infos_of(alloc, target.linked, outs)? else {
         return Err(Failure::Fault(without_table(alloc, Refusal::LinkedLater)));

@@ -33,15 +33,15 @@ loop-index-init g c =
       held = rw c.new-pool.ensures.infos (λ k info at. absurd (cc));
     }
 
-pub returns-in-Err-clause-refused : goal.returns-in-Err-clause-refused
-returns-in-Err-clause-refused g c =
+pub returns-in-Err-clause-outcome : goal.returns-in-Err-clause-outcome
+returns-in-Err-clause-outcome g c =
     let style : Option Written = option_map g.M.MapStyle.written (option_copied c.args.style) in
     let targets : List ProjectTargetValue = c.args.targets.now in
     let outs : List CollatedValue = c.loop-index.outs.items in
     let n : ℕ = c.loop-index.index-counter in
     let p : ProjectTargetValue = c.index-targets-index.result in
     let here : slice_get targets n ≡ Some p = slice_get_read targets _ n _ refl c.loop-index-test.true c.index-targets-index.is in
-    turned (λ refused (found : ℕ × RefusedTarget). found ≡ (n, refused))
+    let refused = turned (λ refused (found : ℕ × RefusedTarget). found ≡ (n, refused))
     (λ (refused : RefusedTarget). IsLinkedRefusal style outs (length outs) p refused.refusal)
     (λ (found : ℕ × RefusedTarget). IsProjectRefusal style targets found.0 found.1.refusal)
     (λ refused found same h.
@@ -50,7 +50,8 @@ returns-in-Err-clause-refused g c =
     c.in-Err.failure c.map.result
     (turns_weaker _ (λ refused (found : ℕ × RefusedTarget). found ≡ (n, refused)) (λ refused found post. search rules) c.in-Err.failure c.map.result
     c.map.ensures) (subst (λ os. ForFault (λ (refused : RefusedTarget). IsLinkedRefusal style os (length os) p refused.refusal) c.in-Err.failure)
-    c.as_slice.ensures.value c.in-Err.ensures.refused)
+    c.as_slice.ensures.value c.in-Err.ensures.refused) in
+    record { collated = tt; orders = tt; numbered = tt; maps = tt; orderable = tt; refused = refused }
 
 pub returns-in-Err-clause-read : goal.returns-in-Err-clause-read
 returns-in-Err-clause-read g c =
@@ -143,26 +144,21 @@ loop-index-preserved g c =
           (known_read _ _ c.in-Ok.info c.in-Ok.ensures.known) c.in_ok-pool-in-Ok.pool.infos added);
     }
 
-pub returns-clause-collated : goal.returns-clause-collated
-returns-clause-collated g c =
-    subst (λ (ts : List ProjectTargetValue). CollatesProject (option_map g.M.MapStyle.written (option_copied c.args.style)) ts c.loop-index.outs.items)
-    (take_all c.loop-index.index-counter c.args.targets.now c.loop-index-test.false) c.loop-index.invariant.collated
-
-pub returns-clause-orders : goal.returns-clause-orders
-returns-clause-orders g c = c.project_orders.ensures.orders _ _ _ (returns-clause-collated g c)
-
-pub returns-clause-numbered : goal.returns-clause-numbered
-returns-clause-numbered g c = c.project_orders.ensures.numbered _ _ _ (returns-clause-collated g c)
-
-pub returns-clause-orderable : goal.returns-clause-orderable
-returns-clause-orderable g c = c.project_orders.ensures.orderable _ _ _ (returns-clause-collated g c)
-
-pub returns-clause-maps : goal.returns-clause-maps
-returns-clause-maps g c =
-    maps_of_style (option_copied c.args.style) g.M.MapStyle.written g.M.MapStyle.kept g.M.MapStyle.entries
-    (λ s. record {
-      reads_back = λ m text is e. g.met.M.MapStyle.reads_back s m text is e;
-      faults_of_maps = λ m line is. g.met.M.MapStyle.faults_of_maps s m line is;
-      keeps_pairs = λ m is. g.met.M.MapStyle.keeps_pairs s m is;
-    })
-    c.project_maps.ensures.maps c.args.targets.now c.loop-index.outs.items (returns-clause-collated g c)
+pub returns-clause-outcome : goal.returns-clause-outcome
+returns-clause-outcome g c =
+    let collated = subst (λ (ts : List ProjectTargetValue). CollatesProject (option_map g.M.MapStyle.written (option_copied c.args.style)) ts
+    c.loop-index.outs.items) (take_all c.loop-index.index-counter c.args.targets.now c.loop-index-test.false) c.loop-index.invariant.collated in
+    record {
+      collated = collated;
+      orders = c.project_orders.ensures.orders _ _ _ collated;
+      numbered = c.project_orders.ensures.numbered _ _ _ collated;
+      maps = maps_of_style (option_copied c.args.style) g.M.MapStyle.written g.M.MapStyle.kept g.M.MapStyle.entries
+          (λ s. record {
+            reads_back = λ m text is e. g.met.M.MapStyle.reads_back s m text is e;
+            faults_of_maps = λ m line is. g.met.M.MapStyle.faults_of_maps s m line is;
+            keeps_pairs = λ m is. g.met.M.MapStyle.keeps_pairs s m is;
+          })
+          c.project_maps.ensures.maps c.args.targets.now c.loop-index.outs.items collated;
+      orderable = c.project_orders.ensures.orderable _ _ _ collated;
+      refused = tt;
+    }
