@@ -12,7 +12,7 @@ from pathlib import Path
 # The processor time in seconds that a proof by one job takes: of a run of rt all check with other work on the machine, and of the two
 # shortest, of bench/run build. Only the proportions count: for the order and the progress.
 SECONDS = {"ninja_text": 121, "dep_order": 98, "dyndep_file": 89, "table_keys": 9, "document_values": 56, "scan_docs": 208,
-           "module_maps": 72, "module_table": 191, "info_pool": 106, "build_effect": 204, "collate_core": 175, "command_line": 46,
+           "module_maps": 72, "module_table": 297, "build_effect": 204, "collate_core": 175, "command_line": 46,
            "system_files": 27, "commands": 234, "dyncollate": 112, "in_memory": 118, "c_library": 94}
 
 

@@ -12,8 +12,8 @@ from collections import defaultdict
 
 from tests.reading import CRATES, TOP, functions
 
-SHARES = {"ninja_text": 22, "dep_order": 34, "dyndep_file": 31, "table_keys": 0, "document_values": 5, "scan_docs": 37,
-          "module_maps": 27, "module_table": 38, "info_pool": 47, "build_effect": 36, "collate_core": 34, "command_line": 75, "system_files": 38,
+SHARES = {"ninja_text": 22, "dep_order": 31, "dyndep_file": 31, "table_keys": 0, "document_values": 5, "scan_docs": 36,
+          "module_maps": 25, "module_table": 40, "build_effect": 36, "collate_core": 34, "command_line": 75, "system_files": 38,
           "commands": 37, "dyncollate": 17, "in_memory": 36, "c_library": 0}
 
 

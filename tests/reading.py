@@ -368,7 +368,7 @@ class Reading(unittest.TestCase):
 # ---- the words of definitions
 
 # The files that give names to lists of numbers, and to the numbers of bytes.
-FILES_OF_NAMES = ("ninja_text/specs/Bytes.antt", "dep_order/specs/Numbers.antt", "info_pool/specs/Indexes.antt",
+FILES_OF_NAMES = ("ninja_text/specs/Bytes.antt", "dep_order/specs/Numbers.antt", "module_table/specs/Indexes.antt",
                   "table_keys/specs/Hashed.antt", "command_line/specs/Arguments.antt")
 BYTE_NUMBER = re.compile(r"(?:== |∷ |\bthen |\belse |\bnat_l[et] (?:\w+ )?)\d\d+\b|\b\d\d+ ∷")
 

@@ -2,7 +2,7 @@ mod Lists
 mod MakerTables
 mod PathTexts
 mod StatementChecks
-mod Strings
+mod StringTexts
 mod Effects
 mod Extensions
 mod FileOrders

@@ -1,6 +1,6 @@
 -- The row and the class that the walk finds for a line are those of its definition.
 use Rattle.std.proofs.Common.{inl, inr, ◌⊎◌, ◌≡◌, ℕ, Bool, true, false, List, [], ◌∷◌, ◌++◌, append_assoc, length, map, Ok, Err, refl, sym, ap, ◌∙◌, subst, Option, Some, None}
-use Rattle.std.specs.Prelude.{codes, nat_lt, Result}
+use Rattle.std.specs.Prelude.{codes, nat_lt, Result, bytes_eq}
 use Rattle.std.proofs.lemmas.List.{map-append, append-nil}
 use Rattle.std.proofs.lemmas.Bool.{cases_Bool, false≢true}
 use Rattle.ninja_text.specs.Lexical.{lexical_fault}
@@ -9,10 +9,9 @@ use Rattle.ninja_text.specs.Assignments.{SeenAssignment, assignment_of}
 use Rattle.ninja_text.specs.Paths.{path_of, is_empty}
 use Rattle.ninja_text.specs.declared.fault.LexFault.{LexFault}
 use Rattle.ninja_text.specs.declared.fault.PathFault.{PathFault}
-use Rattle.ninja_text.proofs.ForCallers.{assignment_not_empty}
-use Rattle.dyndep_file.specs.Classes.{Symbol, symbols, begins_at_start, begins_with_space}
-use Rattle.dyndep_file.specs.Faults.{same_bytes, after_build}
-use Rattle.dyndep_file.proofs.ForCallers.{after_keyword, keyword_first, same_bytes-true, no_indent_at_token}
+use Rattle.ninja_text.proofs.ForCallers.{assignment_not_empty, after_keyword, keyword_first, no_indent_at_token}
+use Rattle.ninja_text.specs.Symbols.{Symbol, symbols, begins_at_start, begins_with_space, after_build}
+use Rattle.std.proofs.lemmas.Slice.Eq.{bytes_eq-Decides}
 use Rattle.build_effect.specs.Effect.{ArePaths}
 use Rattle.build_effect.specs.ListingLines.{EdgeTexts, IsEdgeLine, Row, CommentRow, BlankRow, BuildRow, DyndepRow, RestatRow, TextIsOfRow, AreEdgePaths, ListingClass, Comment, Blank, Build, Dyndep, Restat, RowIsOfClass, IsListingLine}
 use Rattle.build_effect.specs.inner.ListingWalk.{edge_texts, edge_paths, then_paths, build_class, binding_row, build_row, unindented_row, sound_row, row_of, paths_of, dyndep_class, class_of_row, FindsClass}
@@ -90,11 +89,11 @@ module _ (text : List ℕ) (comment : Bool) where
   indented_cases : comment ≡ false → lexical_fault text ≡ None → is_empty (tokens text) ≡ false → begins_with_space text ≡ true
       → (o : Option SeenAssignment) → assignment_of text ≡ o → RowCases text comment
   indented_cases c l e s None at = form_is c l (sound_found c l (Err Form) (rw (e, s) (ap binding_row at)))
-  indented_cases c l e s (Some a) at = elim (cases_Bool (same_bytes a.name (codes "dyndep"))) [
-    | inl d ↦ row_is (DyndepRow (value_of a.raw_value)) (c, l, s, a.name_start, (a, at, refl, same_bytes-true a.name (codes "dyndep") d, refl))
-    | inr d ↦ elim (cases_Bool (same_bytes a.name (codes "restat"))) [
+  indented_cases c l e s (Some a) at = elim (cases_Bool (bytes_eq a.name (codes "dyndep"))) [
+    | inl d ↦ row_is (DyndepRow (value_of a.raw_value)) (c, l, s, a.name_start, (a, at, refl, (bytes_eq-Decides a.name (codes "dyndep")).0 d, refl))
+    | inr d ↦ elim (cases_Bool (bytes_eq a.name (codes "restat"))) [
       | inl r ↦ row_is (RestatRow (nat_lt 0 (length (value_of a.raw_value))))
-          (c, l, s, a.name_start, value_of a.raw_value, (a, at, refl, same_bytes-true a.name (codes "restat") r, refl), refl)
+          (c, l, s, a.name_start, value_of a.raw_value, (a, at, refl, (bytes_eq-Decides a.name (codes "restat")).0 r, refl), refl)
       | inr r ↦ form_is c l (sound_found c l (Err Form) (rw (e, s) (ap binding_row at ∙ rw (d, r) refl)))
     ]
   ]

@@ -7,73 +7,19 @@ use Rattle.std.proofs.lemmas.Bool.{cases_Bool, and_parts, false≢true, true≢f
 use Rattle.ninja_text.specs.Tokens.{value_of}
 use Rattle.ninja_text.specs.declared.token.TokenKind.{TokenKind}
 use Rattle.ninja_text.specs.declared.token.TokenKind.TheVariants.{Bar, DoubleBar, Colon}
-use Rattle.dyndep_file.specs.Classes.{Symbol, WordSymbol, SignSymbol, IsPart}
 use Rattle.ninja_text.specs.Paths.{is_empty}
+use Rattle.ninja_text.specs.Symbols.{Symbol, WordSymbol, SignSymbol, IsPart, front_words, past_words, is_sign, past_sign, part_words, past_part}
+use Rattle.ninja_text.proofs.ForCallers.{raw_words, front_at, front_meant, part_symbols, part_raw, is_part, part_meant, sign_at, part_at}
 use Rattle.build_effect.specs.ListingLines.{EdgeTexts, is_rule_name, IsEdgeLine, meant}
-use Rattle.build_effect.specs.inner.ListingWalk.{front_words, past_words, is_sign, past_sign, part_words, past_part, right_texts, edge_texts}
+use Rattle.build_effect.specs.inner.ListingWalk.{right_texts, edge_texts}
 use Rattle.build_effect.proofs.ListingLineLemmas.{left_texts, right_are}
 
 -- ---- what the walk finds is there
-
--- the words at the front, in their escaped form
-abbrev raw_words : List Symbol → List (List ℕ)
-raw_words [] = []
-raw_words (WordSymbol word ∷ more) = word ∷ raw_words more
-raw_words (SignSymbol sign ∷ more) = []
-
-front_at : (ss : List Symbol) → ss ≡ map WordSymbol (raw_words ss) ++ past_words ss
-front_at [] = refl
-front_at (WordSymbol word ∷ more) = ap (λ s. WordSymbol word ∷ s) (front_at more)
-front_at (SignSymbol sign ∷ more) = refl
-
-front_meant : (ss : List Symbol) → front_words ss ≡ map value_of (raw_words ss)
-front_meant [] = refl
-front_meant (WordSymbol word ∷ more) = ap (λ ws. value_of word ∷ ws) (front_meant more)
-front_meant (SignSymbol sign ∷ more) = refl
 
 some_raw : (ss : List Symbol) → is_empty (front_words ss) ≡ false → raw_words ss ≢ []
 some_raw [] h = absurd (true≢false h)
 some_raw (WordSymbol word ∷ more) h = λ e. (let x = e in cc)
 some_raw (SignSymbol sign ∷ more) h = absurd (true≢false h)
-
--- the part that a sign begins, or nothing, and its words in their escaped form
-abbrev part_symbols : TokenKind → Option (List Symbol) → List Symbol
-part_symbols sign None = []
-part_symbols sign (Some more) = SignSymbol sign ∷ map WordSymbol (raw_words more)
-
-abbrev part_raw : Option (List Symbol) → List (List ℕ)
-part_raw None = []
-part_raw (Some more) = raw_words more
-
-is_part : (sign : TokenKind) (o : Option (List Symbol)) → IsPart sign (part_symbols sign o) (part_raw o)
-is_part sign None = inl (refl, refl)
-is_part sign (Some more) = inr refl
-
-part_meant : (o : Option (List Symbol)) → part_words o ≡ map value_of (part_raw o)
-part_meant None = refl
-part_meant (Some more) = front_meant more
-
--- only the sign itself passes the test for it
-sign_is : (sign kind : TokenKind) → is_sign sign kind ≡ true → kind ≡ sign
-sign_is Bar Bar h = refl
-sign_is DoubleBar DoubleBar h = refl
-sign_is Colon Colon h = refl
-sign_is sign kind h = absurd (false≢true h)
-
-sign_at : (sign : TokenKind) (ss more : List Symbol) → past_sign sign ss ≡ Some more → ss ≡ SignSymbol sign ∷ more
-sign_at sign [] more h = none_some h
-sign_at sign (WordSymbol word ∷ others) more h = none_some h
-sign_at sign (SignSymbol kind ∷ others) more h = elim (cases_Bool (is_sign sign kind)) [
-  | inl t ↦
-      let k = sign_is sign kind t in
-      let m : others ≡ more = cc in
-      rw (k, m) refl
-  | inr f ↦ none_some (rw f at h)
-]
-
-part_at : (sign : TokenKind) (ss : List Symbol) (o : Option (List Symbol)) → past_sign sign ss ≡ o → ss ≡ part_symbols sign o ++ past_part o ss
-part_at sign ss None h = refl
-part_at sign ss (Some more) h = sign_at sign ss more h ∙ ap (λ s. SignSymbol sign ∷ s) (front_at more)
 
 -- what follows the rule: from the order-only inputs on, and after them
 abbrev from_order : List Symbol → List Symbol

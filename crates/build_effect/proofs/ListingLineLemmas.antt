@@ -1,89 +1,44 @@
 -- The row of a line, by its tokens or its assignment, and what a build line says, by its parts.
-use Rattle.std.proofs.Common.{◌≡◌, ℕ, arith, length, ◌==◌, ◌&&◌, Bool, true, false, List, [], ◌∷◌, map, Ok, Err, refl, sym, ap, ◌∙◌, Option, Some, None}
-use Rattle.std.specs.Prelude.{codes, not, if◌then◌else◌}
-use Rattle.ninja_text.specs.Lexical.{lexical_fault}
-use Rattle.ninja_text.specs.Tokens.{TokenAt, SeenToken, tokens, raw, with_raw, seen_tokens}
-use Rattle.ninja_text.specs.Assignments.{assignment_of}
-use Rattle.ninja_text.specs.declared.fault.LexFault.{LexFault}
-use Rattle.ninja_text.specs.declared.token.TokenKind.{TokenKind}
-use Rattle.ninja_text.specs.declared.token.TokenKind.TheVariants.{Word, Bar, DoubleBar, BarAt, Colon}
-use Rattle.dyndep_file.specs.Classes.{Symbol, WordSymbol, SignSymbol, symbol, symbols, begins_at_start, begins_with_space}
-use Rattle.dyndep_file.specs.Faults.{after_build}
-use Rattle.ninja_text.specs.Paths.{is_empty}
-use Rattle.dyndep_file.specs.BuildTokens.{symbol_of, symbols_left, is_this_word}
+use Rattle.std.proofs.Common.{◌≡◌, ℕ, arith, length, ◌&&◌, Bool, true, false, List, [], ◌∷◌, Err, refl, sym, ap, ◌∙◌, Option, Some, None}
+use Rattle.std.specs.Prelude.{not, if◌then◌else◌}
 use Rattle.std.specs.Option.{is_some}
 use Rattle.std.specs.Iterator.{YieldsFirstBy}
-use Rattle.ninja_text.specs.TokenViews.{seen_token, tokens_left}
-use Rattle.ninja_text.specs.declared.token.Words.{Words}
+use Rattle.ninja_text.specs.Assignments.{assignment_of}
+use Rattle.ninja_text.specs.Lexical.{lexical_fault}
+use Rattle.ninja_text.specs.LineForms.{HasTokens}
+use Rattle.ninja_text.specs.Lines.{LogicalLine}
+use Rattle.ninja_text.specs.Paths.{is_empty}
+use Rattle.ninja_text.specs.Symbols.{Symbol, WordSymbol, SignSymbol, symbols, begins_at_start, begins_with_space, after_build, front_words, past_words, past_sign, part_words, past_part}
+use Rattle.ninja_text.specs.Tokens.{tokens}
+use Rattle.ninja_text.specs.TokenViews.{seen_token, tokens_left, symbols_left}
+use Rattle.ninja_text.specs.declared.fault.LexFault.{LexFault}
 use Rattle.ninja_text.specs.declared.token.Token.{Token}
-use Rattle.build_effect.specs.ListingLines.{BlankRow, is_rule_name}
-use Rattle.build_effect.specs.inner.ListingWalk.{row_of, binding_row, unindented_row, edge_texts, right_texts, front_words, past_words, past_sign, part_words, past_part}
-use Rattle.build_effect.specs.declared.fault.LineCause.TheVariants.{Lexical}
-
--- if there is a first token, the line is not blank
-not_blank : (text : List ℕ) (ts : List TokenAt) (head : SeenToken) (others : List SeenToken) → head ∷ others ≡ map (with_raw text) ts → is_empty ts ≡ false
-not_blank text [] head others h = absurd (let x = h in cc)
-not_blank text (t ∷ ts) head others h = refl
+use Rattle.ninja_text.specs.declared.token.TokenKind.TheVariants.{Bar, DoubleBar, Colon}
+use Rattle.ninja_text.specs.declared.token.Words.{Words}
+use Rattle.ninja_text.proofs.ForCallers.{keyword_first, no_indent_at_token}
+use Rattle.build_effect.specs.ListingLines.{is_rule_name}
+use Rattle.build_effect.specs.inner.ListingRows.{line_row}
+use Rattle.build_effect.specs.inner.ListingWalk.{row_of, binding_row, build_row, edge_texts, right_texts}
+use Rattle.build_effect.specs.declared.fault.LineCause.TheVariants.{Lexical, Form}
 
 -- a line with a lexical fault
 pub faulty_row : (text : List ℕ) (comment : Bool) (fault : LexFault) → comment ≡ false → lexical_fault text ≡ Some fault →
     row_of text comment ≡ Err (Lexical fault)
 faulty_row text comment fault no_comment is = rw (no_comment, is) refl
 
--- if there is no token, the line is blank
-no_token : (text : List ℕ) (ts : List TokenAt) → [] ≡ map (with_raw text) ts → is_empty ts ≡ true
-no_token text [] h = refl
-no_token text (t ∷ ts) h = absurd (let x = h in cc)
+-- the row of a line that has tokens, by its form
+module _ (line : LogicalLine) (has : HasTokens line) where
+  pub build_line_row : (more : List Symbol) → after_build (begins_at_start (tokens line.text)) (symbols line.text) ≡ Some more →
+      line_row line ≡ build_row (edge_texts more)
+  build_line_row more is =
+      let begins = keyword_first (begins_at_start (tokens line.text)) (symbols line.text) more is in
+      rw (has.no_comment, has.no_fault, has.some, no_indent_at_token line.text begins.0, is) refl
 
-pub blank_row : (text : List ℕ) (comment : Bool) → comment ≡ false → lexical_fault text ≡ None → [] ≡ seen_tokens text → row_of text comment ≡ Ok BlankRow
-blank_row text comment no_comment sound all = rw (no_comment, sound, no_token text (tokens text) all) refl
+  pub indented_row : begins_with_space line.text ≡ true → line_row line ≡ binding_row (assignment_of line.text)
+  indented_row space = rw (has.no_comment, has.no_fault, has.some, space) refl
 
--- the symbols of tokens
-symbols_are : (text : List ℕ) (ts : List TokenAt) → map symbol_of (map (with_raw text) ts) ≡ map (λ t. symbol t.kind (raw text t)) ts
-symbols_are text [] = refl
-symbols_are text (t ∷ ts) = ap (λ s. symbol t.kind (raw text t) ∷ s) (symbols_are text ts)
-
--- the tokens after the keyword `build`, by the first symbol
-built_by : (kind : TokenKind) (at_start : Bool) (bytes : List ℕ) (more others : List Symbol) → others ≡ more
-    → after_build at_start (symbol kind bytes ∷ more) ≡ (if at_start && is_this_word (codes "build") (symbol kind bytes) then Some others else None)
-built_by Word at_start bytes more others h = rw h refl
-built_by Bar true bytes more others h = refl
-built_by Bar false bytes more others h = refl
-built_by DoubleBar true bytes more others h = refl
-built_by DoubleBar false bytes more others h = refl
-built_by BarAt true bytes more others h = refl
-built_by BarAt false bytes more others h = refl
-built_by Colon true bytes more others h = refl
-built_by Colon false bytes more others h = refl
-
--- and by the first token
-built : (text : List ℕ) (ts : List TokenAt) (head : SeenToken) (others : List SeenToken) → head ∷ others ≡ map (with_raw text) ts
-    → after_build (begins_at_start ts) (map (λ t. symbol t.kind (raw text t)) ts)
-    ≡ (if (head.start == 0) && is_this_word (codes "build") (symbol_of head) then Some (map symbol_of others) else None)
-built text [] head others h = absurd (let x = h in cc)
-built text (t ∷ ts) head others h =
-    let first : head ≡ with_raw text t = cc in
-    let rest : others ≡ map (with_raw text) ts = cc in
-    built_by t.kind (t.start == 0) (raw text t) (map (λ t. symbol t.kind (raw text t)) ts) (map symbol_of others)
-    (ap (map symbol_of) rest ∙ symbols_are text ts)
-    ∙ ap (λ (h : SeenToken). if (h.start == 0) && is_this_word (codes "build") (symbol_of h) then Some (map symbol_of others) else None) (sym first)
-
-module _ (text : List ℕ) (comment : Bool) (no_comment : comment ≡ false) (sound : lexical_fault text ≡ None) (head : SeenToken) (others : List SeenToken)
-    (all : head ∷ others ≡ seen_tokens text) where
-  -- the row of a line that is neither a comment nor blank
-  some_row : row_of text comment ≡
-      (if begins_with_space text then binding_row (assignment_of text) else unindented_row (after_build (begins_at_start (tokens text)) (symbols text)))
-  some_row = rw (no_comment, sound, not_blank text (tokens text) head others all) refl
-
-  -- an indented line
-  pub indented : begins_with_space text ≡ true → row_of text comment ≡ binding_row (assignment_of text)
-  indented space = some_row ∙ rw space refl
-
-  -- a line that is not indented
-  pub unindented : (builds : Bool) → begins_with_space text ≡ false → builds ≡ (head.start == 0) && is_this_word (codes "build") (symbol_of head)
-      → row_of text comment ≡ unindented_row (if builds then Some (map symbol_of others) else None)
-  unindented builds space is = some_row ∙
-      rw space (ap unindented_row (built text (tokens text) head others all ∙ ap (λ b. if b then Some (map symbol_of others) else None) (sym is)))
+  pub other_row : begins_with_space line.text ≡ false → after_build (begins_at_start (tokens line.text)) (symbols line.text) ≡ None → line_row line ≡ Err Form
+  other_row space is = rw (has.no_comment, has.no_fault, has.some, space, is) refl
 
 -- what a build line says, by what is on the left of the colon
 pub left_texts : (symbols s1 s2 : List Symbol) (outputs implicit_outputs : List (List ℕ)) → outputs ≡ front_words symbols → s1 ≡ past_words symbols

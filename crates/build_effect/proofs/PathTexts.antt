@@ -1,17 +1,20 @@
 -- Strings that are valid paths, and the first one that is not.
-use Rattle.std.proofs.Common.{◌≡◌, ℕ, zero, suc, ◌+◌, ◌<◌, List, [], ◌∷◌, ◌++◌, length, map, take, Some, Result, Ok, Err, refl, ap, sym, subst, ◌∙◌, inl, inr, arith, slice_get, length-append}
+use Rattle.std.proofs.Common.{◌≡◌, ℕ, zero, suc, ◌+◌, ◌<◌, List, [], ◌∷◌, ◌++◌, length, map, take, Some, Result, Ok, Err, refl, ap, sym, subst, ◌∙◌, inl, inr, arith, slice_get, length-append, get_or, drop, drop_at, Bool}
 use Rattle.build_effect.proofs.Lists.{from_some}
-use Rattle.std.proofs.lemmas.List.{map-append}
+use Rattle.std.proofs.lemmas.List.{map-append, length-map, drop-map}
 use Rattle.std.proofs.lemmas.Option.{slice_get_within}
 use Rattle.ninja_text.specs.Paths.{path_of}
 use Rattle.ninja_text.specs.declared.fault.PathFault.{PathFault}
 use Rattle.dyndep_file.specs.StatementValue.{StatementValue}
 use Rattle.build_effect.specs.Effect.{ArePaths, IsCanonical, AreCanonical}
-use Rattle.build_effect.specs.Faults.{IsNoPath, HasRefused}
+use Rattle.std.specs.Prelude.{slice_range}
+use Rattle.build_effect.specs.Faults.{path_texts, IsNoPath, HasRefused}
+use Rattle.build_effect.specs.inner.Added.{addition_of}
 use Rattle.build_effect.specs.inner.BadPaths.{IsBadText, IsBadTextFrom, IsBadTextOf, IsBadStatement}
 use Rattle.build_effect.specs.declared.fault.EffectFault.{EffectFault}
 use Rattle.ninja_text.proofs.ForCallers.{in_append, in_first, in_second, from_push, in_take, take_next}
 use Rattle.build_effect.proofs.Effects.{path_at, all_paths}
+use Rattle.build_effect.proofs.StringTexts.{between, range_map}
 
 not_both : (text path : List ℕ) → path_of text ≡ Ok path → IsNoPath text → ⊥
 not_both text path ok refused = let both = sym ok ∙ refused.1 in cc
@@ -44,61 +47,33 @@ first_bad texts paths i statement_index from text fault at are bad = (
   bad,
 )
 
-pub bad_before : (xs ys : List (List ℕ)) (statement_index from : ℕ) (fault : EffectFault) → IsBadTextFrom xs statement_index from fault →
-    IsBadTextFrom (xs ++ ys) statement_index from fault
-bad_before xs ys statement_index from fault (j, text, first, bad) =
-    (j, text, record { here = in_first xs ys j text first.here; holds = first.holds; before = before }, bad)
-  where
-    before : (k : ℕ) (y : List ℕ) → k < j → slice_get (xs ++ ys) k ≡ Some y → IsNoPath y → ⊥
-    before k y less at refused =
-        elim (in_append xs ys k y at) [
-          | inl h ↦ first.before k y less h refused
-          | inr h ↦ let within = slice_get_within xs j text first.here in absurd (omega arith)
-        ]
+-- the paths of a statement, by those of all its strings
+module _ (s : StatementValue) (paths : List (List ℕ)) (outputs : ℕ) (are : ArePaths (path_texts s) paths) (end : outputs ≡ 1 + length s.implicit_outputs) where
+  first : (ps : List (List ℕ)) → ArePaths (path_texts s) ps → path_of s.output ≡ Ok (get_or ps 0 [])
+  first [] h = absurd (let x = h in cc)
+  first (p ∷ ps) h = let x = h in let found : path_of s.output ≡ Ok p = cc in found
 
-pub bad_after : (xs ys : List (List ℕ)) (statement_index from : ℕ) (fault : EffectFault) → from ≡ length xs → NoneRefused xs →
-    IsBadTextFrom ys statement_index from fault → IsBadTextFrom (xs ++ ys) statement_index 0 fault
-bad_after xs ys statement_index from fault same none (j, text, first, bad) =
-    let same_index : from + j ≡ 0 + (length xs + j) = omega arith in (
-      length xs + j,
-      text,
-      record { here = in_second xs ys j text first.here; holds = first.holds; before = before },
-      subst (λ n. IsBadText text statement_index n fault) same_index bad,
-    )
-  where
-    before : (k : ℕ) (y : List ℕ) → k < length xs + j → slice_get (xs ++ ys) k ≡ Some y → IsNoPath y → ⊥
-    before k y less at refused =
-        elim (in_append xs ys k y at) [
-          | inl h ↦ none k y h refused
-          | inr h ↦ first.before h.0 y (omega arith) h.2 refused
-        ]
+  pub as_many : length paths ≡ 1 + (length s.implicit_outputs + length s.implicit_inputs)
+  as_many =
+      sym (length-map paths (λ (p : List ℕ). ok p)) ∙ ap length (sym are) ∙ length-map (path_texts s) path_of
+      ∙ both
+    where
+      ok : List ℕ → Result (List ℕ) PathFault
+      ok p = Ok p
 
-one_refused : (text path : List ℕ) → path_of text ≡ Ok path → NoneRefused (text ∷ [])
-one_refused text path ok zero y at refused = not_both y path (ap path_of (sym (from_some at)) ∙ ok) refused
-one_refused text path ok (suc j) y at refused = cc
+      both : length (path_texts s) ≡ 1 + (length s.implicit_outputs + length s.implicit_inputs)
+      both = omega (arith, length-append s.implicit_outputs s.implicit_inputs)
 
-more_refused : (xs ys : List (List ℕ)) → NoneRefused xs → NoneRefused ys → NoneRefused (xs ++ ys)
-more_refused xs ys p q j y at refused = elim (in_append xs ys j y at) [ inl h ↦ p j y h refused | inr h ↦ q h.0 y h.2 refused ]
-
--- which string of a statement is reported
-pub bad_output : (s : StatementValue) (statement_index : ℕ) (fault : EffectFault) → IsBadText s.output statement_index 0 fault →
-    IsBadTextOf s statement_index fault
-bad_output s statement_index fault bad =
-    (0, s.output, record { here = refl; holds = (bad.0, bad.1); before = λ j y less at refused. omega arith }, bad)
-
-pub bad_outputs : (s : StatementValue) (statement_index : ℕ) (fault : EffectFault) (path : List ℕ) → path_of s.output ≡ Ok path →
-    IsBadTextFrom s.implicit_outputs statement_index 1 fault → IsBadTextOf s statement_index fault
-bad_outputs s statement_index fault path ok bad =
-    bad_before (s.output ∷ s.implicit_outputs) s.implicit_inputs statement_index 0 fault
-    (bad_after (s.output ∷ []) s.implicit_outputs statement_index 1 fault refl (one_refused s.output path ok) bad)
-
-pub bad_inputs : (s : StatementValue) (statement_index from : ℕ) (fault : EffectFault) (path : List ℕ) (paths : List (List ℕ)) → path_of s.output ≡ Ok path →
-    ArePaths s.implicit_outputs paths → from ≡ 1 + length s.implicit_outputs → IsBadTextFrom s.implicit_inputs statement_index from fault →
-    IsBadTextOf s statement_index fault
-bad_inputs s statement_index from fault path paths ok are same bad =
-    let start : from ≡ length (s.output ∷ s.implicit_outputs) = omega arith in
-    bad_after (s.output ∷ s.implicit_outputs) s.implicit_inputs statement_index from fault start
-    (more_refused (s.output ∷ []) s.implicit_outputs (one_refused s.output path ok) (none_refused s.implicit_outputs paths are)) bad
+  pub canonical_of : (restat : Bool) → s.restat ≡ restat → IsCanonical s (addition_of paths outputs restat)
+  canonical_of restat same = record {
+    output = first paths are;
+    outputs = ap (map path_of) (sym (between {joined = s.output ∷ s.implicit_outputs}
+        (s.output ∷ []) s.implicit_outputs s.implicit_inputs refl refl refl (omega (arith, end))))
+        ∙ sym (range_map path_of (path_texts s) 1 outputs) ∙ ap (λ xs. slice_range xs 1 outputs) are ∙ range_map (λ p. Ok p) paths 1 outputs;
+    inputs = ap (map path_of) (sym (drop_at (s.output ∷ s.implicit_outputs) s.implicit_inputs outputs (omega (arith, end))))
+        ∙ sym (drop-map path_of outputs (path_texts s)) ∙ ap (drop outputs) are ∙ drop-map (λ p. Ok p) outputs paths;
+    restat = same;
+  }
 
 -- one more statement in a loop
 pub more_statements : (ss additions : List StatementValue) (i : ℕ) (s a : StatementValue) → slice_get ss i ≡ Some s → AreCanonical (take i ss) additions →

@@ -13,11 +13,11 @@ use Rattle.ninja_text.specs.Assignments.{SeenAssignment, after_run, begins_with_
 use Rattle.ninja_text.specs.Escapes.{is_unwritable, IsWritable, is_escaped, escaped_byte, escaped}
 use Rattle.ninja_text.specs.Paths.{IsPath, is_empty}
 use Rattle.ninja_text.proofs.ForCallers.{shape, path_writable, path_unit, path_units, value_of_escaped, word_and, word_token, lexical_none, is_line, text_is}
-use Rattle.dyndep_file.specs.Classes.{Symbol, WordSymbol, symbol, symbols, begins_at_start}
 use Rattle.dyndep_file.specs.Writing.{spaced}
 use Rattle.build_effect.specs.EdgeValue.{EdgeValue}
 use Rattle.build_effect.specs.Effect.{ArePaths}
 use Rattle.ninja_text.specs.LineFormats.{IsOfClass}
+use Rattle.ninja_text.specs.Symbols.{Symbol, WordSymbol, symbol, symbols, begins_at_start}
 use Rattle.build_effect.specs.ListingReading.{listing_format}
 use Rattle.build_effect.specs.ListingLines.{is_rule_name, IsEdgeLine, BuildRow, DyndepRow, RestatRow, TextIsOfRow, ListingClass, Build, Dyndep, Restat, RowIsOfClass, IsListingLine}
 use Rattle.build_effect.specs.ListingWriting.{marked_text, edge_line, dyndep_line, restat_line}

@@ -14,8 +14,8 @@ use Rattle.ninja_text.specs.Tokens.{is_piece, goes_on, tokens_from, value_of}
 use Rattle.ninja_text.specs.Assignments.{is_identifier_byte}
 use Rattle.ninja_text.specs.Escapes.{is_unwritable, IsWritable, escaped_byte, escaped}
 use Rattle.ninja_text.proofs.ForCallers.{is_sound, text_of_units, unit_text, units_read, path_unit, path_units, path_text, path_sound, path_pieces, has_spelling, value_of_escaped, Yields, viewed, no_units, goes_on_piece, space_yields, colon_yields, bar_yields, path_yields, units_are}
-use Rattle.dyndep_file.specs.Classes.{Symbol, WordSymbol, SignSymbol, symbol, IsPart}
 use Rattle.ninja_text.specs.Paths.{is_empty}
+use Rattle.ninja_text.specs.Symbols.{Symbol, WordSymbol, SignSymbol, symbol, IsPart}
 use Rattle.dyndep_file.specs.Writing.{spaced}
 use Rattle.build_effect.specs.EdgeValue.{EdgeValue}
 use Rattle.build_effect.specs.ListingLines.{EdgeTexts, is_rule_name, IsEdgeLine, meant}

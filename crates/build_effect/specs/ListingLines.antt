@@ -4,10 +4,10 @@ use Rattle.std.specs.List.{list_all}
 use Rattle.ninja_text.specs.Bytes.{Text, PathText, Name}
 use Rattle.ninja_text.specs.Lexical.{lexical_fault}
 use Rattle.ninja_text.specs.Tokens.{tokens, value_of}
-use Rattle.ninja_text.specs.Assignments.{is_identifier_byte}
+use Rattle.ninja_text.specs.Assignments.{is_identifier_byte, Assigns}
 use Rattle.ninja_text.specs.Paths.{path_of, is_empty}
 use Rattle.ninja_text.specs.declared.token.TokenKind.TheVariants.{Bar, DoubleBar, Colon}
-use Rattle.dyndep_file.specs.Classes.{Symbol, WordSymbol, SignSymbol, symbols, begins_at_start, begins_with_space, Assigns, IsPart}
+use Rattle.ninja_text.specs.Symbols.{Symbol, WordSymbol, SignSymbol, symbols, begins_at_start, begins_with_space, IsPart}
 use Rattle.build_effect.specs.Effect.{ArePaths}
 
 -- The parts of a build line: the name of a rule, and five lists of raw words, strings or paths.

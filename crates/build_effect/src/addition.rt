@@ -1,14 +1,13 @@
 //! What statements add: their canonical paths (E8), who makes the added outputs (E7), and the edges
 //! with what is added.
-ghost use Rattle.std.specs.Prelude.{◌≡◌, ◌<◌, ◌+◌, ◌^◌, ◌++◌, ℕ, length, Some, Ok, IfOk, IfErr, OnOk};
-ghost use Rattle.dep_order.specs.Rows.{rows};
+ghost use Rattle.std.specs.Prelude.{◌≡◌, ◌<◌, ◌≤◌, ◌++◌, ℕ, [], length, get_or, Some, Ok, IfOk, IfErr, OnOk};
 ghost use Rattle.ninja_text.specs.Failure.{ForFault};
 ghost use Rattle.ninja_text.specs.Paths.{path_of};
 ghost use Rattle.dyndep_file.specs.StatementValue.{StatementValue};
 ghost use Rattle.build_effect.specs.Effect.{ArePaths, AreCanonical};
 ghost use Rattle.build_effect.specs.inner.BadPaths.{IsBadText, IsBadTextFrom, IsBadStatement};
-ghost use Rattle.build_effect.specs.Faults.{added_outputs};
-ghost use Rattle.build_effect.specs.inner.Added.{added_files, IsFirstAddedTwice};
+ghost use Rattle.build_effect.specs.Faults.{path_texts, added_outputs};
+ghost use Rattle.build_effect.specs.inner.Added.{addition_of, added_files, IsFirstAddedTwice};
 ghost use Rattle.build_effect.specs.inner.Extended.{AreExtended};
 ghost use Rattle.build_effect.specs.inner.Makers.{NoneMadeTwice};
 ghost use Rattle.build_effect.specs.inner.StatementEdges.{statement_on};
@@ -16,6 +15,7 @@ ghost use Rattle.build_effect.specs.inner.StatementEdges.{statement_on};
 use crate::fault::EffectFault;
 use crate::graph::Edge;
 use crate::makers::{MadeFiles, Makers};
+use crate::strings::SharedStrings;
 use dyndep_file::Statement;
 use ninja_text::{Failure, Path};
 use std::alloc::{AllocError, Global};
@@ -24,24 +24,43 @@ use std::marker::Model;
 /// A statement of a dyndep file with its paths made canonical.
 #[derive(Drop)]
 pub(crate) struct Addition {
-    pub output: Path,
-    pub implicit_outputs: Vec<Path>,
-    pub implicit_inputs: Vec<Path>,
-    pub restat: bool,
+    /// The output, then the implicit outputs, then the implicit inputs.
+    paths: Vec<Path>,
+    /// How many paths there are up to the end of the implicit outputs.
+    outputs: usize,
+    restat: bool,
 }
 
 impl Model for Addition {
     ghost Value = { StatementValue };
 
-    ghost view = { λ a. record {
-      output = a.output;
-      implicit_outputs = a.implicit_outputs.items;
-      implicit_inputs = a.implicit_inputs.items;
-      restat = a.restat;
-    } };
+    ghost view = { λ a. addition_of a.paths.items a.outputs a.restat };
+
+    ghost invariant = { λ a. (1 ≤ a.outputs) × (a.outputs ≤ length a.paths.items) };
 }
 
-/// Returns the statements with canonical paths, or E8 for the first string that is not a valid path.
+impl Addition {
+    pub(crate) fn output(&self) -> &Path
+        ensures { result.now ≡ self.now.output }
+    {
+        &self.paths[0]
+    }
+
+    fn implicit_outputs(&self) -> &[Path]
+        ensures { result.now ≡ self.now.implicit_outputs }
+    {
+        &self.paths[1..self.outputs]
+    }
+
+    fn implicit_inputs(&self) -> &[Path]
+        ensures { result.now ≡ self.now.implicit_inputs }
+    {
+        &self.paths[self.outputs..]
+    }
+}
+
+/// Returns the statements with canonical paths, or E8 for the first string that is not a valid
+/// path. The paths of a statement share one text.
 pub(crate) fn canonical_statements(
     alloc: Global,
     statements: &[Statement],
@@ -51,59 +70,42 @@ pub(crate) fn canonical_statements(
 {
     let mut additions = Vec::with_capacity(alloc, statements.len())?;
     for (index, statement) in statements.iter().enumerate() {
-        let from = 1 + statement.implicit_outputs.len();
-        let output = canonical_path(alloc, &statement.output, index, 0)?;
-        let implicit_outputs = canonical_paths(alloc, &statement.implicit_outputs, index, 1)?;
-        let implicit_inputs = canonical_paths(alloc, &statement.implicit_inputs, index, from)?;
+        let strings = SharedStrings::of(alloc, statement)?;
+        let paths = canonical_paths(alloc, &strings, index)?;
         additions.push(Addition {
-            output,
-            implicit_outputs,
-            implicit_inputs,
+            paths,
+            outputs: 1 + statement.implicit_outputs.len(),
             restat: statement.restat,
         })?;
     }
     Ok(additions)
 }
 
-/// Returns the canonical paths of these strings. `from` is the index of the first of them among all
-/// strings of the statement.
+/// Returns the canonical paths of the strings of the statement with this index.
 fn canonical_paths(
     alloc: Global,
-    texts: &[Vec<u8>],
+    strings: &SharedStrings,
     statement: usize,
-    from: usize,
 ) -> Result<Vec<Path>, Failure<EffectFault>>
-    requires { from + length texts.now < 2 ^ 64 }
-    ensures paths { IfOk result (λ paths. ArePaths (rows texts.now) paths.items) }
-    ensures fault { IfErr result (ForFault (IsBadTextFrom (rows texts.now) statement from)) }
+    ensures paths { IfOk result (λ paths. ArePaths strings.now paths.items) }
+    ensures fault { IfErr result (ForFault (IsBadTextFrom strings.now statement 0)) }
 {
-    let mut paths = Vec::with_capacity(alloc, texts.len())?;
-    for (text_index, text) in texts.iter().enumerate() {
-        let path = canonical_path(alloc, text, statement, from + text_index)?;
-        paths.push(path)?;
+    let count = strings.len();
+    let mut paths = Vec::with_capacity(alloc, count)?;
+    for path in 0..count {
+        match strings.path(alloc, path) {
+            Ok(canonical) => paths.push(canonical)?,
+            Err(Failure::Memory) => return Err(Failure::Memory),
+            Err(Failure::Fault(fault)) => {
+                return Err(Failure::Fault(EffectFault::BadPath {
+                    statement,
+                    path,
+                    fault,
+                }));
+            }
+        }
     }
     Ok(paths)
-}
-
-/// Returns the canonical path of a string, which has the index `path` in its statement.
-fn canonical_path(
-    alloc: Global,
-    text: &[u8],
-    statement: usize,
-    path: usize,
-) -> Result<Path, Failure<EffectFault>>
-    ensures path { IfOk result (λ path. path_of text.now ≡ Ok path) }
-    ensures fault { IfErr result (ForFault (IsBadText text.now statement path)) }
-{
-    match Path::of(alloc, text) {
-        Ok(path) => Ok(path),
-        Err(Failure::Memory) => Err(Failure::Memory),
-        Err(Failure::Fault(fault)) => Err(Failure::Fault(EffectFault::BadPath {
-            statement,
-            path,
-            fault,
-        })),
-    }
 }
 
 /// Returns the makers with the added outputs, each on the edge of its statement, or E7 if an edge
@@ -122,7 +124,7 @@ pub(crate) fn added_makers(
 {
     let mut files = MadeFiles::new(alloc);
     for (index, addition) in additions.iter().enumerate() {
-        files.push(&addition.implicit_outputs, edge_of[index])?;
+        files.push(addition.implicit_outputs(), edge_of[index])?;
     }
     match makers.with(alloc, files) {
         Ok(makers) => Ok(makers),
@@ -148,9 +150,9 @@ pub(crate) fn extended_edges(
         if let Some(statement_index) = statement_of[edge_index] {
             let addition = &additions[statement_index];
             let outputs = &mut after.implicit_outputs;
-            outputs.extend_from_slice(&addition.implicit_outputs)?;
+            outputs.extend_from_slice(addition.implicit_outputs())?;
             let inputs = &mut after.implicit_inputs;
-            inputs.extend_from_slice(&addition.implicit_inputs)?;
+            inputs.extend_from_slice(addition.implicit_inputs())?;
             after.restat |= addition.restat;
         }
         new.push(after)?;

@@ -76,10 +76,10 @@ fn edges_of_statements(
 {
     let mut edge_of = Vec::with_capacity(alloc, additions.len())?;
     for addition in additions {
-        match makers.maker_of(&addition.output) {
+        match makers.maker_of(addition.output()) {
             Some(edge) if names(&edges[edge], name) => edge_of.push(edge)?,
             _ => {
-                let output = addition.output.copy(alloc)?;
+                let output = addition.output().copy(alloc)?;
                 return Err(Failure::Fault(EffectFault::NotBound { output }));
             }
         }
@@ -114,7 +114,7 @@ fn statements_of_edges(
     for (statement_index, edge) in edge_of.iter().enumerate() {
         if statement_of[*edge].is_some() {
             let addition = &additions[statement_index];
-            let output = addition.output.copy(alloc)?;
+            let output = addition.output().copy(alloc)?;
             return Err(Failure::Fault(EffectFault::StatementTwice { output }));
         }
         statement_of[*edge] = Some(statement_index);

@@ -1,7 +1,7 @@
 //! The fault types of graphs, of effects, and of reading and writing edge listings.
 //!
-//! A path need not be UTF-8, so a fault does not print the file that it is about. `path` returns the
-//! file.
+//! A path need not be UTF-8, so a fault does not print the file that it is about. `path` returns
+//! the file.
 ghost use Rattle.std.specs.Prelude.{◌≡◌, Some, option_copied};
 ghost use Rattle.build_effect.specs.FaultTexts.{graph_fault_text, graph_fault_path, effect_fault_text, effect_fault_path};
 ghost use Rattle.build_effect.specs.ListingFaultTexts.{line_cause_text, listing_line_fault_text, listing_fault_text, listing_write_fault_text};
@@ -15,8 +15,8 @@ use thiserror::Error;
 pub enum GraphFault {
     /// E1: a file is made twice.
     ProducedTwice { path: Path },
-    /// E2: an edge names a dyndep file that is not among its inputs. `edge` is the index of the edge,
-    /// and `output` its first output.
+    /// E2: an edge names a dyndep file that is not among its inputs. `edge` is the index of the
+    /// edge, and `output` its first output.
     DyndepNotInput { edge: usize, output: Path },
 }
 
@@ -62,8 +62,8 @@ pub enum EffectFault {
     StatementTwice {
         output: Path,
     },
-    /// E6: an edge names the dyndep file, and no statement is on it. `output` is the first output of
-    /// the edge.
+    /// E6: an edge names the dyndep file, and no statement is on it. `output` is the first output
+    /// of the edge.
     NotMentioned {
         output: Path,
     },
@@ -176,8 +176,8 @@ impl fmt::Display for ListFault {
 /// Why a graph was not written.
 #[derive(Clone, Copy, Debug, PartialEq, Eq, Error)]
 pub enum ListingWriteFault {
-    /// E9: the build line of this edge has more than 1,048,576 bytes, its end included. The first such
-    /// edge is reported.
+    /// E9: the build line of this edge has more than 1,048,576 bytes, its end included. The first
+    /// such edge is reported.
     ListingTooLong { edge: usize },
     /// Y3: a call of the writer returned an error or took no byte. This many bytes of the text went
     /// out before.

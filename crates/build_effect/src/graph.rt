@@ -50,8 +50,8 @@ impl Model for Edge {
     } };
 }
 
-/// Build edges, by index. Each edge has an explicit output, no file is made twice, and each edge that
-/// names a dyndep file has it among its inputs.
+/// Build edges, by index. Each edge has an explicit output, no file is made twice, and each edge
+/// that names a dyndep file has it among its inputs.
 #[derive(Drop)]
 pub struct Graph {
     pub(crate) makers: Makers,
@@ -74,8 +74,8 @@ impl Graph {
     ///
     /// - E1 `ProducedTwice`: a file is made twice. The first file that is made again is reported.
     ///   Edges are searched in order, and in each edge the outputs before the implicit outputs.
-    /// - E2 `DyndepNotInput`: otherwise, an edge names a dyndep file that is not among its inputs of
-    ///   any kind ("Dynamic dependencies"). The first such edge is reported.
+    /// - E2 `DyndepNotInput`: otherwise, an edge names a dyndep file that is not among its inputs
+    ///   of any kind ("Dynamic dependencies"). The first such edge is reported.
     /// - `Memory`: an allocation fails.
     ///
     /// The edges are dropped after an error.

@@ -35,14 +35,14 @@ pub fn checks()
 /// - The premises of [`one_effect`] hold of the file and the graph.
 /// - What the statements add can be ordered.
 /// - The graph with the added outputs alone can be ordered by levels. The edges that name the file
-///   are on one level, and each edge that makes an added input is on a lower level, unless the input
-///   is an added output.
+///   are on one level, and each edge that makes an added input is on a lower level, unless the
+///   input is an added output.
 pub fn level_orders()
     ensures { LevelOrders }
 {}
 
-/// The graph after the effects of several files can be ordered under the same premises. The edges of
-/// each file are on one level, and the level of a later file is not lower.
+/// The graph after the effects of several files can be ordered under the same premises. The edges
+/// of each file are on one level, and the level of a later file is not lower.
 pub fn files_order()
     ensures { FilesOrder }
 {}
@@ -64,15 +64,15 @@ pub fn one_listing_fault()
     ensures { OneListingFault }
 {}
 
-/// A fault that [`ListingReader::feed`](crate::ListingReader::feed) reports is the fault of every text
-/// that begins with the bytes fed so far.
+/// A fault that [`ListingReader::feed`](crate::ListingReader::feed) reports is the fault of every
+/// text that begins with the bytes fed so far.
 pub fn listing_fault_stays()
     ensures { ListingFaultStays }
 {}
 
 /// A line has at most one class, and at most one cause for which it is rejected. After lines with
-/// which some listing begins, a line either has a class with which a listing continues or has a cause,
-/// and not both. A line whose cause is not `Form` has no class.
+/// which some listing begins, a line either has a class with which a listing continues or has a
+/// cause, and not both. A line whose cause is not `Form` has no class.
 pub fn listing_lines()
     ensures class { OneClass }
     ensures decided { LineOrCause }

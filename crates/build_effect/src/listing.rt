@@ -1,11 +1,10 @@
-//! Edge listings: the reader, the rows that its lines have (`rows.rt`) with their strings
-//! (`strings.rt`), what each row does to the edges so far (`state.rt`), and the writer (`writing.rt`).
+//! Edge listings: the reader, the rows that its lines have (`rows.rt`), what each row does to the
+//! edges so far (`state.rt`), and the writer (`writing.rt`).
 ghost use Rattle.std.specs.Prelude.{◌≡◌, ◌++◌, [], Some, Err};
 ghost use Rattle.build_effect.specs.ListingReaders.{line_failure};
 
 mod rows;
 mod state;
-mod strings;
 mod writing;
 
 use crate::fault::{LineCause, LineFault, ListFault};

@@ -13,8 +13,8 @@ use table_keys::{KeyDigest, TableKey};
 
 /// The edge that makes each file, by the edge's index.
 ///
-/// The files of the edges that were listed have a table, and so have the files that each dyndep file
-/// adds. Graphs share the tables. The key of a table is made of exactly the files in it.
+/// The files of the edges that were listed have a table, and so have the files that each dyndep
+/// file adds. Graphs share the tables. The key of a table is made of exactly the files in it.
 #[derive(Drop)]
 pub(crate) struct Makers {
     tables: Vec<Rc<IndexMap<Path, usize, TableKey>>>,

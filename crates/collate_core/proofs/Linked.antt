@@ -11,7 +11,7 @@ use Rattle.scan_docs.specs.Document.{IsAccepted}
 use Rattle.module_maps.specs.Maps.{Written}
 use Rattle.module_table.specs.TableValue.{TableValue, table_with}
 use Rattle.module_table.specs.Sound.{IsSound}
-use Rattle.info_pool.proofs.ForCallers.{known_there}
+use Rattle.module_table.proofs.ForCallers.{known_there}
 use Rattle.scan_docs.specs.Values.{info_of}
 use Rattle.collate_core.specs.Values.{CollatedValue, ProjectTargetValue, TargetValue}
 use Rattle.collate_core.specs.Documents.{table_of, IsInfoAccepted, AreScansAccepted, all_rules}
@@ -22,8 +22,8 @@ use Rattle.collate_core.proofs.Lists.{all_at}
 use Rattle.scan_docs.specs.Scan.{IsRuleText, IsText}
 use Rattle.document_values.specs.Rule.{RuleValue}
 use Rattle.scan_docs.specs.InfoText.{IsInfoText, IsModuleText}
-use Rattle.document_values.specs.Parts.{HasModule, IsPartOf, KeepsRequired, IsEnough}
-use Rattle.info_pool.specs.Pool.{AreLinked}
+use Rattle.module_table.specs.Parts.{HasModule, IsPartOf, KeepsRequired, IsEnough}
+use Rattle.module_table.specs.Pool.{AreLinked}
 use Rattle.collate_core.specs.inner.ReadInfos.{IsReadAs, AreReadAs, AreKnown}
 use Rattle.collate_core.specs.inner.PartTables.{IsEnoughFor}
 

@@ -8,7 +8,7 @@ use Rattle.ninja_text.proofs.ForCallers.{same_some, from_push, take_next}
 use Rattle.std.proofs.Math.Nat.{mul-le-mul_right}
 use Rattle.document_values.specs.Info.{InfoValue, ModuleValue}
 use Rattle.collate_core.specs.Values.{CollatedValue}
-use Rattle.info_pool.specs.Pool.{IsAdded}
+use Rattle.module_table.specs.Pool.{IsAdded}
 use Rattle.collate_core.specs.inner.ReadInfos.{IsReadAs, AreKnown}
 use Rattle.std.proofs.lemmas.Slice.Eq.{bytes_eq-Decides}
 use Rattle.indexmap.specs.IndexSet.{insert_key}

@@ -38,8 +38,8 @@ use Rattle.scan_docs.specs.InfoText.{info_text, ReadsBack}
 use Rattle.module_table.specs.Outcomes.{SoundHasNoFault}
 use Rattle.module_table.specs.Added.{Task, tasks_of}
 use Rattle.module_table.specs.Needed.{ArePairs, IsNeeded}
-use Rattle.module_table.specs.Parts.{PartIsSound, PartHasTasks, PartIsNeeded}
-use Rattle.document_values.specs.Parts.{IsEnough, KeepsRequired}
+use Rattle.module_table.specs.EnoughParts.{PartIsSound, PartHasTasks, PartIsNeeded}
+use Rattle.module_table.specs.Parts.{IsEnough, KeepsRequired}
 use Rattle.collate_core.specs.Infos.{modules_of}
 use Rattle.collate_core.specs.inner.PartTables.{IsEnoughFor}
 

@@ -12,15 +12,18 @@ use Rattle.table_keys.specs.Keys.{Covers, IsKeyOf}
 use Rattle.table_keys.specs.declared.TableKey.{TableKey}
 use Rattle.document_values.specs.Rule.{RuleValue}
 use Rattle.document_values.specs.Info.{InfoValue, ModuleValue}
-use Rattle.document_values.specs.Parts.{HasModule, IsPartOf}
+use Rattle.module_table.specs.Parts.{HasModule, IsPartOf}
 use Rattle.scan_docs.specs.InfoText.{ReadsBack}
-use Rattle.info_pool.specs.Pool.{AreLinked, IsAdded}
-use Rattle.info_pool.proofs.ForCallers.{known_there}
+use Rattle.module_table.specs.Pool.{PoolValue, pool_entries, AreLinked, IsAdded}
+use Rattle.module_table.proofs.ForCallers.{known_there}
 use Rattle.module_table.specs.TableValue.{TableValue, table_with}
 use Rattle.module_table.specs.Added.{required_of}
 use Rattle.module_table.specs.Entries.{object_entries, info_entries, table_entries}
-use Rattle.collate_core.specs.Values.{ProjectTargetValue}
-use Rattle.collate_core.specs.Documents.{all_rules}
+use Rattle.collate_core.specs.Values.{CollatedValue, ProjectTargetValue}
+use Rattle.collate_core.specs.Documents.{all_rules, table_of}
+use Rattle.collate_core.specs.Collation.{Collates}
+use Rattle.collate_core.specs.Projects.{target_of}
+use Rattle.module_maps.specs.Maps.{Written}
 use Rattle.collate_core.specs.Infos.{module_of, modules_of, info_of_table}
 use Rattle.collate_core.specs.inner.ReadInfos.{IsReadAs}
 use Rattle.collate_core.specs.inner.ReadTargets.{target_entries, project_entries, AreRulesOf, AreRulesOfEach, AreHeld, AreInfosHeld, CoversLinked}
@@ -97,13 +100,13 @@ module _ (known : List (Option InfoValue)) (linked : List ℕ) (part infos : Lis
       (all_of_parts (Contains all) entries_of_module v.modules (λ j m here. held_module i j m (v, at, here))))
 
 -- the key of the project covers the table of a part
-pub covers_part : (key : TableKey) (known : List (Option InfoValue)) (linked : List ℕ) (objects : List RuleValue) (part infos : List InfoValue) →
-    CoversLinked key known objects → AreLinked known linked infos → IsPartOf part infos → Covers key (table_entries (table_with objects part))
-covers_part key known linked objects part infos covers links is = (
+pub covers_part : (pool : PoolValue) (linked : List ℕ) (objects : List RuleValue) (part infos : List InfoValue) → CoversLinked pool objects →
+    AreLinked pool.infos linked infos → IsPartOf part infos → Covers pool.key (table_entries (table_with objects part))
+covers_part pool linked objects part infos covers links is = (
   covers.all,
   covers.made_of,
   All-append (Contains covers.all) (flat_map object_entries objects) (flat_map info_entries part) covers.own
-      (held_part known linked part infos links is covers.all covers.infos),
+      (held_part pool.infos linked part infos links is covers.all covers.infos),
 )
 
 -- ---- what a table holds of a target's info file is among what it holds of the target
@@ -182,10 +185,10 @@ module _ (targets : List ProjectTargetValue) (rules : List (Vec RuleValue Global
   own_rules (Some r) is = each n p r at (left_at rules n r new (sym was ∙ is))
 
   -- the key covers what a table holds of them
-  pub own_covered : (key : TableKey) (known : List (Option InfoValue)) → IsKeyOf key all → AreInfosHeld all known → (own : Option (Vec RuleValue Global)) →
-      old ≡ option_to_list own ++ new → IfSome own (λ r. CoversLinked key known r.items)
-  own_covered key known made infos None is = tt
-  own_covered key known made infos (Some r) is = record {
+  pub own_covered : (pool : PoolValue) → IsKeyOf pool.key all → AreInfosHeld all pool.infos → (own : Option (Vec RuleValue Global)) →
+      old ≡ option_to_list own ++ new → IfSome own (λ r. CoversLinked pool r.items)
+  own_covered pool made infos None is = tt
+  own_covered pool made infos (Some r) is = record {
     all = all;
     made_of = made;
     infos = infos;
@@ -193,17 +196,23 @@ module _ (targets : List ProjectTargetValue) (rules : List (Vec RuleValue Global
         (All-tail (Contains all) p.name (flat_map object_entries (all_rules p.setting p.scans)) (held_here r is));
   }
 
-  pub own_held : (own : Option (Vec RuleValue Global)) → old ≡ option_to_list own ++ new → is_some own ≡ true → AreHeld all (target_entries p)
+  own_held : (own : Option (Vec RuleValue Global)) → old ≡ option_to_list own ++ new → is_some own ≡ true → AreHeld all (target_entries p)
   own_held None is h = cc
   own_held (Some r) is h = held_here r is
 
--- what is known of a target's info file, if it is read
-pub known_held : (entries : TableEntries) (is_read : Bool) (name : List ℕ) (kept : List (List ℕ)) (t : TableValue) (document : List ℕ)
-    (info : Option InfoValue) → InfoIs → ReadsBack (info_of_table name kept t) document →
-    (IsTrue is_read → AreHeld entries (name ∷ flat_map object_entries t.objects)) → IfSome info (λ i. IsTrue is_read × IsReadAs document i) →
-    IfSome info (λ i. AreHeld entries (info_entries i))
-known_held entries is_read name kept t document None info_is back held read = tt
-known_held entries is_read name kept t document (Some i) info_is back held read = held_read entries name kept t document i info_is back read.1 (held read.0)
+  -- the key also covers what is known of its info file, if it is read
+  pub own_info : (own : Option (Vec RuleValue Global)) → old ≡ option_to_list own ++ new → (is_read : Bool) → (IsTrue is_read → is_some own ≡ true) →
+      InfoIs → (style : Option Written) (outs : List CollatedValue) (out : CollatedValue) → Collates (target_of outs p) style out →
+      (info : Option InfoValue) → IfSome info (λ i. IsTrue is_read × IsReadAs out.info i) → IfSome info (λ i. AreHeld all (info_entries i))
+  own_info own is is_read there info_is style outs out collates None read = tt
+  own_info own is is_read there info_is style outs out collates (Some i) read =
+      held_read all p.name p.kept (table_of (target_of outs p)) out.info i info_is collates.info_reads read.1 (own_held own is (there read.0))
+
+-- so it may be added to a pool that has the key
+pub may_be_added : (key : TableKey) (all : TableEntries) → IsKeyOf key all → (info : Option InfoValue) → IfSome info (λ i. AreHeld all (info_entries i)) →
+    IfSome info (λ i. Covers key (pool_entries i))
+may_be_added key all made None held = tt
+may_be_added key all made (Some i) held = (all, made, All-tail (Contains all) i.target (pool_entries i) held)
 
 pub known_read : (is_read : Bool) (document : List ℕ) (info : Option InfoValue) → IfSome info (λ i. IsTrue is_read × IsReadAs document i) →
     IfSome info (IsReadAs document)

@@ -10,6 +10,7 @@ pub mod Rehearsal
 pub mod Projects
 pub mod ProjectOrders
 pub mod ProjectNeeds
+pub mod Outcomes
 pub mod Laws
 pub mod Builds
 pub mod BuildLaws

@@ -11,7 +11,7 @@ use Rattle.scan_docs.specs.InfoChecks.{info_checks}
 use Rattle.scan_docs.specs.declared.fault.DocFault.{DocFault}
 use Rattle.scan_docs.specs.declared.fault.DocFault.TheVariants.{TooLarge}
 use Rattle.scan_docs.specs.declared.fault.Place.TheVariants.{Document}
-use Rattle.module_table.specs.TableValue.{TableValue}
+use Rattle.module_table.specs.TableValue.{TableValue, table_with}
 use Rattle.module_table.specs.Faults.{IsReported}
 use Rattle.module_maps.specs.Values.{ModuleMapValue}
 use Rattle.module_maps.specs.Maps.{Written, map_fault}
@@ -22,6 +22,7 @@ use Rattle.collate_core.specs.Statements.{statements_of}
 use Rattle.collate_core.specs.Maps.{IsMapOf}
 use Rattle.collate_core.specs.Collation.{IsMapText}
 use Rattle.collate_core.specs.declared.fault.Refusal.{Refusal}
+use Rattle.collate_core.specs.declared.fault.RefusedTarget.{RefusedTarget}
 use Rattle.collate_core.specs.declared.fault.Refusal.TheVariants.{Scan, Info, Table, StatementTooLong, Map, LinkedLater}
 
 -- the scan document is rejected by itself, or takes the number of rules past the limit
@@ -98,3 +99,8 @@ abbrev pub WasRead : TargetValue → Refusal → TableValue → Type 0
 WasRead target (Table fault) read = read ≡ table_of target
 WasRead target (Map o fault) read = read ≡ table_of target
 WasRead target other read = Unit {0}
+
+-- a rejected target has what was read of it
+abbrev pub HasRead : TargetValue → RefusedTarget → Type 0
+HasRead target refused =
+    WasRead target refused.refusal (table_with refused.objects.items refused.infos.items)

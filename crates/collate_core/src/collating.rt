@@ -2,32 +2,30 @@
 ghost use Rattle.std.specs.Prelude.{◌≡◌, map, None, Ok, IfOk, IfErr};
 ghost use Rattle.std.specs.Option.{option_copied, option_map};
 ghost use Rattle.ninja_text.specs.Failure.{ForFault};
-ghost use Rattle.module_table.specs.TableValue.{table_with};
 ghost use Rattle.module_table.specs.Sound.{IsSound};
 ghost use Rattle.collate_core.specs.Documents.{table_of};
 ghost use Rattle.collate_core.specs.Collation.{Collates};
 ghost use Rattle.collate_core.specs.Headline.{IsHeadline, IsDyndepOf};
-ghost use Rattle.collate_core.specs.Refusals.{IsRefusal, WasRead};
+ghost use Rattle.collate_core.specs.Refusals.{IsRefusal, HasRead};
 ghost use Rattle.collate_core.specs.inner.Parts.{IsTableText, IsTextsRefusal, IsWrittenOf};
 
 use crate::collated::{Collated, CollatedParts};
 use crate::fault::{Refusal, RefusedTarget, nothing_read, refusal_alone};
 use crate::info::lent_info;
-use crate::laws::headline;
 use crate::object_maps::maps_of;
 use crate::statements::dyndep_text;
 use crate::table::table_of;
 use document_values::{Name, TargetName};
 use module_maps::MapStyle;
-use module_table::{Table, laws};
+use module_table::Table;
 use ninja_text::{Failure, Path};
-use scan_docs::laws::{info_again, target_names};
 use scan_docs::{Setting, lent_info_write};
 use std::alloc::{AllocError, Global};
 use std::marker::Model;
 
-/// A target to collate: what its target document names (`scan_docs::TargetSpec`), with its documents
-/// as bytes. It borrows all its parts, because the info files may be those of other targets.
+/// A target to collate: what its target document names (`scan_docs::TargetSpec`), with its
+/// documents as bytes. It borrows all its parts, because the info files may be those of other
+/// targets.
 #[derive(Drop)]
 pub struct Target<'a> {
     pub name: &'a TargetName,
@@ -56,8 +54,8 @@ impl<'a> Model for Target<'a> {
 }
 
 /// Collates a target: its documents make a table, and the objects of the table make the dyndep
-/// file, the info file and, with a style, a map for each object (P1689R5 for the scan documents, the
-/// Ninja 1.11 manual, "Dynamic dependencies", for the dyndep file).
+/// file, the info file and, with a style, a map for each object (P1689R5 for the scan documents,
+/// the Ninja 1.11 manual, "Dynamic dependencies", for the dyndep file).
 ///
 /// The result has the headline: in every build that names the dyndep file on exactly the objects,
 /// the file adds to each object's edge exactly what the object provides and requires.
@@ -93,10 +91,9 @@ pub fn collate_or_refused<M: MapStyle>(
     ensures headline { IfOk result (IsHeadline target.now) }
     ensures refused { IfErr result (ForFault (λ refused. IsRefusal target.now
         (option_map M.written (option_copied style.entry)) refused.refusal)) }
-    ensures read { IfErr result (ForFault (λ refused. WasRead target.now refused.refusal
-        (table_with refused.objects.items refused.infos.items))) }
+    ensures read { IfErr result (ForFault (HasRead target.now)) }
 {
-    headline();
+    crate::laws::headline();
     let table = table_of(alloc, target)?;
     match written_of(alloc, target, &table, style) {
         Ok(collated) => Ok(collated),
@@ -125,7 +122,7 @@ pub(crate) fn written_of<M: MapStyle>(
     ensures refused { IfErr result (ForFault (IsTextsRefusal table.now
         (option_map M.written (option_copied style.entry)))) }
 {
-    laws::added_files_can_be_ordered();
+    module_table::laws::added_files_can_be_ordered();
     let text = dyndep_text(alloc, table.resolved())?;
     let maps = maps_of(alloc, table, style)?;
     let info = lent_info(alloc, target.name, target.kept, table)?;
@@ -139,8 +136,8 @@ pub(crate) fn written_of<M: MapStyle>(
     }))
 }
 
-/// Collates a target to its dyndep text alone: the text that [`collate`] without a style returns. It
-/// writes no info file, so it takes less time and less memory.
+/// Collates a target to its dyndep text alone: the text that [`collate`] without a style returns.
+/// It writes no info file, so it takes less time and less memory.
 ///
 /// # Errors
 ///
@@ -161,14 +158,13 @@ pub fn collate_dyndep_or_refused(
     ensures dyndep { IfOk result (λ text. IsDyndepOf target.now text.items) }
     ensures refused { IfErr result
         (ForFault (λ refused. IsRefusal target.now None refused.refusal)) }
-    ensures read { IfErr result (ForFault (λ refused. WasRead target.now refused.refusal
-        (table_with refused.objects.items refused.infos.items))) }
+    ensures read { IfErr result (ForFault (HasRead target.now)) }
 {
-    headline();
-    laws::added_files_can_be_ordered();
+    crate::laws::headline();
+    module_table::laws::added_files_can_be_ordered();
     // The contract is also about the info file, which is not written.
-    info_again();
-    target_names(target.name);
+    scan_docs::laws::info_reads_back();
+    scan_docs::laws::target_names_are_valid(target.name);
     let table = table_of(alloc, target)?;
     let resolved = table.into_resolved();
     match dyndep_text(alloc, &resolved) {

@@ -12,12 +12,12 @@ use scan_docs::DocFault;
 use std::alloc::{AllocError, Global};
 use thiserror::Error;
 
-/// Why a target does not collate. If several apply, the first in this order is reported, and the one
-/// with the lowest index if they are of one kind.
+/// Why a target does not collate. If several apply, the first in this order is reported, and the
+/// one with the lowest index if they are of one kind.
 #[derive(Debug, Drop, Error)]
 pub enum Refusal {
-    /// The scan document of this index has a fault (S1 to S8), or the target has too many rules with
-    /// it (S8).
+    /// The scan document of this index has a fault (S1 to S8), or the target has too many rules
+    /// with it (S8).
     #[error("scan {index}: {fault}")]
     Scan { index: usize, fault: DocFault },
     /// The info document of this index has a fault (S1 to S8).

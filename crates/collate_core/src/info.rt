@@ -10,9 +10,8 @@ ghost use Rattle.collate_core.specs.inner.ReadInfos.{IsReadAs};
 
 use document_values::{Info, Name, Rule, TargetName};
 use indexmap::IndexSet;
-use module_table::{Table, laws};
+use module_table::Table;
 use ninja_text::Path;
-use scan_docs::laws::value_of_bytes;
 use scan_docs::{DOCUMENT_LIMIT, LentInfo, LentModule};
 use std::alloc::{AllocError, Global};
 use table_keys::{KeyDigest, TableKey};
@@ -32,8 +31,8 @@ pub(crate) fn info_again(
     ensures { IfOk result (λ info. IfSome info
         (λ info. IsTrue is_read × IsReadAs text.now info)) }
 {
-    laws::added_files_can_be_ordered();
-    value_of_bytes();
+    module_table::laws::added_files_can_be_ordered();
+    scan_docs::laws::bytes_determine_the_value();
     if !is_read {
         return Ok(None);
     }

@@ -3,16 +3,12 @@
 ghost use Rattle.collate_core.specs.BuildLaws.{TargetHasNoRace, ProjectHasNoRace, ProjectMakesAll, LeastOrderRuns, TargetHasNoFalseWait, ProjectHasNoFalseWait, TargetHasNoFalseRebuild, ProjectHasNoFalseRebuild, TargetHasNoFalseCycle, ProjectHasNoFalseCycle};
 ghost use Rattle.collate_core.specs.Laws.{HeadlineHolds, CollatedIsNotRefused, OneRefusal, ProjectIsNotRefused, OneProjectRefusal, ProjectOrders, ProjectNumbered, ProjectEndOrderable, ProjectNeeds, ProjectMaps};
 
-use build_effect::laws::{any_order, files_order, one_effect};
-use module_table::laws;
-use scan_docs::laws::{one_answer, value_of_bytes};
-
 /// Whatever a target collates to has the headline.
 pub fn headline()
     ensures { HeadlineHolds }
 {
-    one_effect();
-    laws::added_files_can_be_ordered();
+    build_effect::laws::one_effect();
+    module_table::laws::added_files_can_be_ordered();
 }
 
 /// The dyndep files of a project may be applied in any order. All objects can be numbered so that
@@ -23,10 +19,10 @@ pub fn project_orders()
     ensures numbered { ProjectNumbered }
     ensures orderable { ProjectEndOrderable }
 {
-    any_order();
-    files_order();
-    laws::added_files_can_be_ordered();
-    value_of_bytes();
+    build_effect::laws::any_order();
+    build_effect::laws::files_order();
+    module_table::laws::added_files_can_be_ordered();
+    scan_docs::laws::bytes_determine_the_value();
 }
 
 /// In a project in which no two targets add the same file, an object needs in the table of its
@@ -35,8 +31,8 @@ pub fn project_maps()
     ensures needs { ProjectNeeds }
     ensures maps { ProjectMaps }
 {
-    laws::added_files_can_be_ordered();
-    value_of_bytes();
+    module_table::laws::added_files_can_be_ordered();
+    scan_docs::laws::bytes_determine_the_value();
 }
 
 /// A target that collates has no rejection, and every target has at most one. The same holds of a
@@ -48,38 +44,38 @@ pub fn one_outcome()
     ensures project { ProjectIsNotRefused }
     ensures one_of_project { OneProjectRefusal }
 {
-    one_answer();
-    laws::one_fault_is_reported();
+    scan_docs::laws::bytes_have_one_result();
+    module_table::laws::one_fault_is_reported();
 }
 
 /// No race: take any order of the edges after the effect in which each edge comes after the edges
-/// that make its inputs. Then the edge of an object comes after the edges that make the files of the
-/// modules that the object requires, and the edge of an object makes the files of the modules that
-/// the object provides. This holds after the dyndep file of a target that has the headline, and
-/// after the files of any targets of a project, under the premises of the headline and of
-/// [`project_orders`]. After the files of targets and of those that they link, an edge makes each file
-/// that an object of these targets requires. [`edge_order`](build_effect::edge_order) returns such an
-/// order.
+/// that make its inputs. Then the edge of an object comes after the edges that make the files of
+/// the modules that the object requires, and the edge of an object makes the files of the modules
+/// that the object provides. This holds after the dyndep file of a target that has the headline,
+/// and after the files of any targets of a project, under the premises of the headline and of
+/// [`project_orders`]. After the files of targets and of those that they link, an edge makes each
+/// file that an object of these targets requires. [`edge_order`](build_effect::edge_order) returns
+/// such an order.
 pub fn no_race()
     ensures target { TargetHasNoRace }
     ensures project { ProjectHasNoRace }
     ensures all_made { ProjectMakesAll }
     ensures order { LeastOrderRuns }
 {
-    laws::added_files_can_be_ordered();
-    project_orders();
+    module_table::laws::added_files_can_be_ordered();
+    crate::laws::project_orders();
 }
 
-/// No false wait, under the same premises: after the effect an edge needs what it needed before. The
-/// edge of an object also needs the edges that make the files of the modules that the object
+/// No false wait, under the same premises: after the effect an edge needs what it needed before.
+/// The edge of an object also needs the edges that make the files of the modules that the object
 /// requires. An edge that read a file which is now an added output needs the edge that makes the
 /// file. No edge needs anything else.
 pub fn no_false_wait()
     ensures target { TargetHasNoFalseWait }
     ensures project { ProjectHasNoFalseWait }
 {
-    laws::added_files_can_be_ordered();
-    project_orders();
+    module_table::laws::added_files_can_be_ordered();
+    crate::laws::project_orders();
 }
 
 /// No false rebuild, under the same premises. After the effect a chain of needs leads from one edge
@@ -94,8 +90,8 @@ pub fn no_false_rebuild()
     ensures target { TargetHasNoFalseRebuild }
     ensures project { ProjectHasNoFalseRebuild }
 {
-    laws::added_files_can_be_ordered();
-    project_orders();
+    module_table::laws::added_files_can_be_ordered();
+    crate::laws::project_orders();
 }
 
 /// No false cycle, under the same premises. If the edges cannot be ordered after the effect, every
@@ -105,6 +101,6 @@ pub fn no_false_cycle()
     ensures target { TargetHasNoFalseCycle }
     ensures project { ProjectHasNoFalseCycle }
 {
-    laws::added_files_can_be_ordered();
-    project_orders();
+    module_table::laws::added_files_can_be_ordered();
+    crate::laws::project_orders();
 }

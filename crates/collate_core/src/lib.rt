@@ -7,7 +7,7 @@
 //!   `IsRefusal`). The law [`one_outcome`] says that there are never both, nor two errors.
 //!   [`collate_dyndep`] returns only the dyndep text (`specs/Headline.antt`, `IsDyndepOf`). An
 //!   error has objects and info files by their indexes. [`collate_or_refused`] and its like also
-//!   return what was read of the target (`specs/Refusals.antt`, `WasRead`).
+//!   return what was read of the target (`specs/Refusals.antt`, `HasRead`).
 //! - The result has the headline (`specs/Headline.antt`, `IsHeadline`): the dyndep text stands for
 //!   one statement per object and for nothing else. On every build that names the file on exactly
 //!   the objects it has exactly one effect, which adds to each object's edge exactly what the
@@ -42,17 +42,18 @@
 //! [`CollatedParts`] are its texts, to be written.
 //!
 //! `must-fail/` has a wrong body of each public function, except for the laws, for the methods of
-//! [`Collated`], which return fields, and for the calls that only pass on what another returns, with
-//! its clauses: [`collate`], [`collate_dyndep`] and [`project`] return what their `_or_refused` calls
-//! do, without what was read. `required_module_left_out` changes the text that both [`collate`] and
-//! [`collate_dyndep`] return. The README lists the edits of other crates that cover a clause here.
+//! [`Collated`], which return fields, and for the calls that only pass on what another returns,
+//! with its clauses: [`collate`], [`collate_dyndep`] and [`project`] return what their
+//! `_or_refused` calls do, without what was read. `required_module_left_out` changes the text that
+//! both [`collate`] and [`collate_dyndep`] return. The README lists the edits of other crates that
+//! cover a clause here.
 #![tactic(auto)]
 
 mod collated;
 mod collating;
 mod fault;
 mod info;
-mod laws;
+pub mod laws;
 mod linking;
 mod object_maps;
 mod projects;

@@ -2,9 +2,8 @@
 ghost use Rattle.std.specs.Prelude.{◌≡◌, ◌<◌, MatchOption, IfOk, IfErr, IfSome, IsTrue, All, map, length};
 ghost use Rattle.std.specs.Option.{option_copied, option_map};
 ghost use Rattle.ninja_text.specs.Failure.{ForFault};
-ghost use Rattle.module_table.specs.TableValue.{table_with};
 ghost use Rattle.module_table.specs.Sound.{IsSound, PrivateAreProvided};
-ghost use Rattle.collate_core.specs.Refusals.{WasRead};
+ghost use Rattle.collate_core.specs.Refusals.{HasRead};
 ghost use Rattle.collate_core.specs.Projects.{IsLinkedRefusal, target_of, linked_infos};
 ghost use Rattle.collate_core.specs.inner.Parts.{CollatesLinked};
 ghost use Rattle.collate_core.specs.inner.PartTables.{IsEnoughFor};
@@ -17,32 +16,29 @@ use crate::fault::{Refusal, RefusedTarget, unless_faulty, without_table};
 use crate::info::info_again;
 use crate::projects::ProjectTarget;
 use document_values::{Info, Rule};
-use info_pool::{Pool, Requirements, Scratch};
 use module_maps::MapStyle;
-use module_table::{Table, laws};
+use module_table::{Pool, Requirements, Scratch, Table, laws};
 use ninja_text::Failure;
 use scan_docs::info_read;
 use std::alloc::{AllocError, Global};
-use table_keys::TableKey;
 
 /// Collates a target with the info files of the targets that it links, all of which have to be
-/// earlier. `rules` has its rules, unless its scan documents are rejected. Also returns its own info
-/// file as it is read, if it `is_read` later and it is known.
+/// earlier. `rules` has its rules, unless its scan documents are rejected. Also returns its own
+/// info file as it is read, if it `is_read` later and it is known.
 pub(crate) fn collate_linked<M: MapStyle>(
     alloc: Global,
     target: &ProjectTarget<'_>,
     rules: Option<Vec<Rule>>,
-    key: TableKey,
     is_read: bool,
     outs: &[Collated],
     pool: &Pool,
     scratch: &mut Scratch,
     style: Option<&M>,
 ) -> Result<(Collated, Option<Info>), Failure<RefusedTarget>>
-    requires known { AreKnown outs.now pool.now }
+    requires known { AreKnown outs.now pool.now.infos }
     requires rules { IfSome rules
         (λ rules. AreRulesOf target.now.setting target.now.scans rules.items) }
-    requires key { IfSome rules (λ rules. CoversLinked key pool.now rules.items) }
+    requires key { IfSome rules (λ rules. CoversLinked pool.now rules.items) }
     ensures collated { IfOk result (λ found. CollatesLinked
         (option_map M.written (option_copied style.entry)) outs.now target.now found.0) }
     ensures known { IfOk result (λ found. IfSome found.1
@@ -50,9 +46,7 @@ pub(crate) fn collate_linked<M: MapStyle>(
     ensures refused { IfErr result (ForFault (λ refused. IsLinkedRefusal
         (option_map M.written (option_copied style.entry))
         outs.now (length outs.now) target.now refused.refusal)) }
-    ensures read { IfErr result (ForFault (λ refused.
-        WasRead (target_of outs.now target.now) refused.refusal
-        (table_with refused.objects.items refused.infos.items))) }
+    ensures read { IfErr result (ForFault (HasRead (target_of outs.now target.now))) }
 {
     let Some(infos) = infos_of(alloc, target.linked, outs)? else {
         return Err(Failure::Fault(without_table(alloc, Refusal::LinkedLater)));
@@ -70,7 +64,6 @@ pub(crate) fn collate_linked<M: MapStyle>(
         &with_infos,
         rules,
         linked,
-        key,
         is_read,
         pool,
         scratch,
@@ -80,20 +73,11 @@ pub(crate) fn collate_linked<M: MapStyle>(
         return Ok(found);
     }
     let out = collate_or_refused(alloc, &with_infos, style)?;
-    let info = info_if_read(alloc, out.info(), is_read)?;
-    Ok((out, info))
-}
-
-/// Returns the info file that the text is read as, or `None` if it is not to be read or is rejected.
-fn info_if_read(alloc: Global, text: &[u8], is_read: bool) -> Result<Option<Info>, AllocError>
-    ensures { IfOk result (λ found. IfSome found
-        (λ info. IsTrue is_read × IsReadAs text.now info)) }
-{
     if !is_read {
-        return Ok(None);
+        return Ok((out, None));
     }
-    let info = unless_faulty(info_read(alloc, text))?;
-    Ok(info)
+    let info = unless_faulty(info_read(alloc, out.info()))?;
+    Ok((out, info))
 }
 
 /// Returns the info files that the targets of these indexes wrote, or `None` if one of them is not
@@ -118,24 +102,23 @@ fn infos_of<'a>(
     Ok(Some(infos))
 }
 
-/// Collates a target, which has these rules, by a table of few of the modules that it links. Returns
-/// `None` if there are no rules, or if the table of all has to be built, because the target may have
-/// a fault.
+/// Collates a target, which has these rules, by a table of few of the modules that it links.
+/// Returns `None` if there are no rules, or if the table of all has to be built, because the target
+/// may have a fault.
 fn collate_by_part<M: MapStyle>(
     alloc: Global,
     target: &Target<'_>,
     rules: Option<Vec<Rule>>,
     linked: &[usize],
-    key: TableKey,
     is_read: bool,
     pool: &Pool,
     scratch: &mut Scratch,
     style: Option<&M>,
 ) -> Result<Option<(Collated, Option<Info>)>, AllocError>
-    requires infos { AreLinkedInfos pool.now linked.now target.now.infos }
+    requires infos { AreLinkedInfos pool.now.infos linked.now target.now.infos }
     requires rules { IfSome rules
         (λ rules. AreRulesOf target.now.setting target.now.scans rules.items) }
-    requires key { IfSome rules (λ rules. CoversLinked key pool.now rules.items) }
+    requires key { IfSome rules (λ rules. CoversLinked pool.now rules.items) }
     ensures { IfOk result (λ found. IfSome found
         (CollatesAndReads target.now (option_map M.written (option_copied style.entry)) is_read)) }
 {
@@ -150,7 +133,7 @@ fn collate_by_part<M: MapStyle>(
     let Some(part) = pool.part(alloc, &objects, linked, requirements, scratch)? else {
         return Ok(None);
     };
-    let built = Table::build_or_refused(alloc, objects, part, target.kept, Some(key));
+    let built = Table::build_or_refused(alloc, objects, part, target.kept, Some(pool.key()));
     let Some(table) = unless_faulty(built)? else {
         return Ok(None);
     };

@@ -15,8 +15,8 @@ use module_table::{Needs, Table};
 use ninja_text::Failure;
 use std::alloc::{AllocError, Global};
 
-/// Returns the text of each object's map, or the fault of the first that has one. Without a style the
-/// list is empty.
+/// Returns the text of each object's map, or the fault of the first that has one. Without a style
+/// the list is empty.
 pub(crate) fn maps_of<M: MapStyle>(
     alloc: Global,
     table: &Table,

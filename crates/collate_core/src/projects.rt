@@ -1,28 +1,25 @@
 //! Projects: targets that link earlier ones.
-ghost use Rattle.std.specs.Prelude.{IfOk, IfErr, IfSome};
+ghost use Rattle.std.specs.Prelude.{IfErr};
 ghost use Rattle.std.specs.Option.{option_copied, option_map};
 ghost use Rattle.ninja_text.specs.Failure.{ForFault};
 ghost use Rattle.module_table.specs.TableValue.{table_with};
-ghost use Rattle.collate_core.specs.Projects.{CollatesProject, IsProjectRefusal, WasReadAt, project_tables};
-ghost use Rattle.collate_core.specs.ProjectOrders.{AllOrders, IsProjectOrdered, EndIsOrderable};
-ghost use Rattle.collate_core.specs.ProjectNeeds.{MapsReadBack};
+ghost use Rattle.collate_core.specs.Projects.{WasReadAt};
+ghost use Rattle.collate_core.specs.Outcomes.{IsProjectOutcome};
 
 use crate::collated::Collated;
 use crate::fault::{Refusal, RefusedTarget};
-use crate::laws::{project_maps, project_orders};
 use crate::linking::collate_linked;
 use crate::reading::read_targets;
 use document_values::{Name, TargetName};
-use info_pool::{Pool, Scratch};
 use module_maps::MapStyle;
+use module_table::{Pool, Scratch};
 use ninja_text::Failure;
 use scan_docs::Setting;
-use scan_docs::laws::value_of_bytes;
 use std::alloc::{AllocError, Global};
 use std::marker::Model;
 
-/// A target of a project to collate: a [`Target`](crate::Target) that links earlier ones by index in
-/// place of the info files, which the project writes. It borrows all its parts.
+/// A target of a project to collate: a [`Target`](crate::Target) that links earlier ones by index
+/// in place of the info files, which the project writes. It borrows all its parts.
 #[derive(Drop)]
 pub struct ProjectTarget<'a> {
     pub name: &'a TargetName,
@@ -68,24 +65,8 @@ pub fn project<M: MapStyle>(
     targets: &[ProjectTarget<'_>],
     style: Option<&M>,
 ) -> Result<ProjectOut, Failure<(usize, Refusal)>>
-    ensures collated { IfOk result (λ out.
-        CollatesProject (option_map M.written (option_copied style.entry))
-        targets.now out.targets.items) }
-    // the dyndep files may be applied in any order, with the same result
-    ensures orders { IfOk result (λ out. AllOrders (project_tables targets.now out.targets.items)) }
-    // all objects can be numbered so that producers of files have smaller numbers than users
-    ensures numbered { IfOk result (λ out.
-        IsProjectOrdered targets.now (project_tables targets.now out.targets.items)) }
-    // the style reads in each object's map what the object provides and needs in the project
-    ensures maps { IfOk result (λ out. IfSome (option_copied style.entry) (λ s.
-        MapsReadBack (M.entries s) targets.now
-        (project_tables targets.now out.targets.items) out.targets.items)) }
-    // the graph after all dyndep files can be ordered
-    ensures orderable { IfOk result
-        (λ out. EndIsOrderable (project_tables targets.now out.targets.items)) }
-    ensures refused { IfErr result (ForFault (λ refused.
-        IsProjectRefusal (option_map M.written (option_copied style.entry))
-        targets.now refused.0 refused.1)) }
+    ensures { IsProjectOutcome M.written M.entries (option_copied style.entry)
+        (λ refused. refused) targets.now result }
 {
     match project_or_refused(alloc, targets, style) {
         Ok(out) => Ok(out),
@@ -101,34 +82,21 @@ pub fn project_or_refused<M: MapStyle>(
     targets: &[ProjectTarget<'_>],
     style: Option<&M>,
 ) -> Result<ProjectOut, Failure<(usize, RefusedTarget)>>
-    ensures collated { IfOk result (λ out.
-        CollatesProject (option_map M.written (option_copied style.entry))
-        targets.now out.targets.items) }
-    ensures orders { IfOk result (λ out. AllOrders (project_tables targets.now out.targets.items)) }
-    ensures numbered { IfOk result (λ out.
-        IsProjectOrdered targets.now (project_tables targets.now out.targets.items)) }
-    ensures maps { IfOk result (λ out. IfSome (option_copied style.entry) (λ s.
-        MapsReadBack (M.entries s) targets.now
-        (project_tables targets.now out.targets.items) out.targets.items)) }
-    ensures orderable { IfOk result
-        (λ out. EndIsOrderable (project_tables targets.now out.targets.items)) }
-    ensures refused { IfErr result (ForFault (λ refused.
-        IsProjectRefusal (option_map M.written (option_copied style.entry))
-        targets.now refused.0 refused.1.refusal)) }
+    ensures outcome { IsProjectOutcome M.written M.entries (option_copied style.entry)
+        (λ refused. (refused.0, refused.1.refusal)) targets.now result }
     ensures read { IfErr result (ForFault (λ refused.
         WasReadAt (option_map M.written (option_copied style.entry))
         targets.now refused.0 refused.1.refusal
         (table_with refused.1.objects.items refused.1.infos.items))) }
 {
-    project_orders();
-    project_maps();
-    value_of_bytes();
+    crate::laws::project_orders();
+    crate::laws::project_maps();
+    scan_docs::laws::bytes_determine_the_value();
     let linked = linked_targets(alloc, targets)?;
     let mut outs = Vec::new(alloc);
     let read = read_targets(alloc, targets)?;
-    let key = read.key;
+    let mut pool = Pool::new(alloc, read.key);
     let mut rules = read.rules.into_iter();
-    let mut pool = Pool::new(alloc, key);
     let mut scratch = Scratch::new(alloc);
     for (index, target) in targets.iter().enumerate() {
         let own = rules.next();
@@ -137,7 +105,6 @@ pub fn project_or_refused<M: MapStyle>(
             alloc,
             target,
             own,
-            key,
             is_read,
             outs.as_slice(),
             &pool,

@@ -10,10 +10,9 @@ ghost use Rattle.collate_core.specs.Rehearsal.{HasEffect, IsRehearseFault, Lacks
 
 use crate::collated::Collated;
 use crate::fault::RehearseFault;
-use build_effect::laws::{level_orders, one_effect};
 use build_effect::{EffectFault, Graph, apply, edge_order};
 use dep_order::Sorting;
-use dyndep_file::{Dyndep, DyndepReader, ReadFault, laws};
+use dyndep_file::{Dyndep, DyndepReader, ReadFault};
 use ninja_text::{Failure, Path};
 use std::alloc::Global;
 
@@ -33,8 +32,8 @@ pub fn rehearse(
     ensures effect { IfOk result (HasEffect text.now name.now graph.now) }
     ensures fault { IfErr result (ForFault (IsRehearseFault text.now name.now graph.now)) }
 {
-    laws::one_list();
-    laws::list_or_fault();
+    dyndep_file::laws::one_list();
+    dyndep_file::laws::list_or_fault();
     match read_pieces(alloc, text, cuts) {
         Ok(dyndep) => apply(alloc, graph, name, &dyndep).map_err(|failure| failure.map(
             |fault| RehearseFault::Effect(fault),
@@ -44,8 +43,8 @@ pub fn rehearse(
     }
 }
 
-/// Applies the dyndep file of a collated target, which has that name, to the graph. Returns an order
-/// of the edges after the effect, or the least cycle.
+/// Applies the dyndep file of a collated target, which has that name, to the graph. Returns an
+/// order of the edges after the effect, or the least cycle.
 ///
 /// The result is an order if the graph meets the headline's premises and can be numbered, with the
 /// added outputs alone, so that each needed edge has a smaller number than its user, the edges of
@@ -66,8 +65,8 @@ pub fn check_edges(
     ensures ordered { IfOk result (IsOrderedAt collated.now name.now graph.now) }
     ensures fault { IfErr result (ForFault (LacksEffect collated.now.dyndep name.now graph.now)) }
 {
-    one_effect();
-    level_orders();
+    build_effect::laws::one_effect();
+    build_effect::laws::level_orders();
     // the reader accepts the text, because it stands for statements
     let new = match rehearse(alloc, collated.dyndep(), name, graph, &[]) {
         Ok(new) => new,
@@ -86,7 +85,7 @@ fn read_pieces(alloc: Global, text: &[u8], cuts: &[usize]) -> Result<Dyndep, Fai
     ensures read { IfOk result (StandsFor text.now) }
     ensures refused { IfErr result (ForFault (IsReadFaultOf text.now)) }
 {
-    laws::fault_stays();
+    dyndep_file::laws::fault_stays();
     let mut reader = DyndepReader::new(alloc);
     let mut rest = text;
     for cut in cuts {

@@ -15,11 +15,11 @@ use module_table::Resolved;
 use ninja_text::{Failure, Path};
 use std::alloc::{AllocError, Global};
 
-/// Returns the text of one statement per object, in the order of the objects, or the first statement
-/// whose build line is too long. The output of a statement is the object. Its implicit outputs are
-/// the files of the modules that the object provides, in order of provision, and its implicit inputs
-/// the files of the modules that the object requires, in order of first mention. It has `restat` if
-/// it has implicit outputs.
+/// Returns the text of one statement per object, in the order of the objects, or the first
+/// statement whose build line is too long. The output of a statement is the object. Its implicit
+/// outputs are the files of the modules that the object provides, in order of provision, and its
+/// implicit inputs the files of the modules that the object requires, in order of first mention. It
+/// has `restat` if it has implicit outputs.
 pub(crate) fn dyndep_text(alloc: Global, table: &Resolved) -> Result<Vec<u8>, Failure<Refusal>>
     ensures text { IfOk result (λ text. text_or_fault (statements_of table.now) ≡ Ok text.items) }
     ensures meaning { IfOk result (λ text. StandsForOnly text.items (statements_of table.now)) }

@@ -2,10 +2,9 @@
 ghost use Rattle.std.specs.Prelude.{◌≡◌, map, All, Option, IfOk, OnOk, IfErr};
 ghost use Rattle.ninja_text.specs.Failure.{ForFault, Turns};
 ghost use Rattle.scan_docs.specs.Scan.{IsRuleText};
-ghost use Rattle.module_table.specs.TableValue.{table_with};
 ghost use Rattle.module_maps.specs.Maps.{Written};
 ghost use Rattle.collate_core.specs.Documents.{all_rules, table_of, AreScansAccepted, IsResolved};
-ghost use Rattle.collate_core.specs.Refusals.{IsRefusal, IsScanRefusal, IsInfoRefusal, WasRead};
+ghost use Rattle.collate_core.specs.Refusals.{IsRefusal, IsScanRefusal, IsInfoRefusal, HasRead};
 ghost use Rattle.collate_core.specs.inner.Parts.{IsTableText, ForScan, ForInfo, IsOfTable};
 ghost use Rattle.collate_core.specs.inner.ReadInfos.{AreReadAs};
 
@@ -29,8 +28,7 @@ pub(crate) fn table_of(alloc: Global, target: &Target<'_>) -> Result<Table, Fail
     // whatever the style, since maps come later
     ensures refused { IfErr result (ForFault (λ refused.
         (style : Option Written) → IsRefusal target.now style refused.refusal)) }
-    ensures read { IfErr result (ForFault (λ refused. WasRead target.now refused.refusal
-        (table_with refused.objects.items refused.infos.items))) }
+    ensures read { IfErr result (ForFault (HasRead target.now)) }
 {
     let objects = match rules_of_all(alloc, target.setting, target.scans) {
         Ok(objects) => objects,
@@ -71,26 +69,9 @@ pub(crate) fn rules_of_all(
         (IsScanRefusal setting.now (map (λ scan. scan.now) scans.now)))) }
 {
     let reduced = ReducedSetting::of(alloc, setting)?;
-    rules_of_scans(alloc, &reduced, scans)
-}
-
-/// Does this for a setting that is reduced once for all scan documents.
-fn rules_of_scans(
-    alloc: Global,
-    setting: &ReducedSetting<'_>,
-    scans: &[&[u8]],
-) -> Result<Vec<Rule>, Failure<Refusal>>
-    ensures accepted { OnOk result
-        (AreScansAccepted setting.now (map (λ scan. scan.now) scans.now)) }
-    ensures rules { IfOk result (λ rules.
-        rules.items ≡ all_rules setting.now (map (λ scan. scan.now) scans.now)) }
-    ensures text { IfOk result (λ rules. All IsRuleText rules.items) }
-    ensures refused { IfErr result (ForFault (ForScan
-        (IsScanRefusal setting.now (map (λ scan. scan.now) scans.now)))) }
-{
     let mut rules = Vec::new(alloc);
     for (index, document) in scans.iter().enumerate() {
-        match scan_with(alloc, document, setting) {
+        match scan_with(alloc, document, &reduced) {
             Ok(found) => {
                 let mut more = found;
                 if more.len() > RULE_LIMIT - rules.len() {

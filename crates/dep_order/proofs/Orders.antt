@@ -1,12 +1,11 @@
 -- Chains, orders and cycles of any needs, that there is at most one, and the same under equal needs.
-use Rattle.std.proofs.Common.{◌≡◌, ℕ, ◌+◌, ◌<◌, [], ◌∷◌, ◌++◌, length, take, drop, slice_index, sym, ◌∙◌, ap, subst, arith, length-append, ◌≢◌, true, false, eqb, refl, inl, inr, ◌⊎◌, ⊎_elim, suc, ◌≤◌, get_or, map, zero, Ordering, ◌*◌, sum}
+use Rattle.std.proofs.Common.{◌≡◌, ℕ, ◌+◌, ◌<◌, [], ◌∷◌, ◌++◌, length, take, drop, slice_index, sym, ◌∙◌, ap, subst, arith, length-append, ◌≢◌, true, eqb, refl, inl, inr, ◌⊎◌, ⊎_elim, suc, ◌≤◌, get_or, map, zero, Ordering, ◌*◌, sum}
 use Rattle.std.specs.List.{Contains, list_any, position_or_len, range_with_len}
 use Rattle.std.proofs.lemmas.List.{take-append-drop, drop_more, get_or-take, length-take-le, take_more, take_all}
 use Rattle.dep_order.specs.Needs.{IsChain, IsNumbering, IsOrderable, Reaches}
 use Rattle.dep_order.specs.Cycles.{IsCycle, IsLeastCycle, first_of}
 use Rattle.dep_order.specs.inner.Users.{one_if, count_of}
 use Rattle.std.proofs.lemmas.Bool.{cases_Bool, cases_eq, false≢true, cases_lt}
-use Rattle.std.proofs.lemmas.Bool.Decides.{nat_tests}
 use Rattle.std.proofs.lemmas.Cmp.{nat_eq_equiv, nat_list_cmp_total}
 use Rattle.std.proofs.lemmas.Map.Views.{Contains-from_any, list_any-from_Contains}
 use Rattle.std.proofs.lemmas.Map.Made.{Contains-tail}
@@ -23,6 +22,8 @@ use Rattle.dep_order.specs.Sortings.{IsSortingOf}
 use Rattle.dep_order.specs.declared.Sorting.{Sorting}
 use Rattle.dep_order.specs.declared.Sorting.TheVariants.{Order, Cycle}
 use Rattle.dep_order.proofs.Words.{Numbers, Relation}
+-- equal by the test is equal, and what differs differs by the test
+pub use Rattle.std.proofs.Common.{eqb-true as same, ne_eqb as other_number}
 
 -- ---- chains of needs joined and cut, cycles begun at another of their things, and what a numbering rules out
 
@@ -79,17 +80,9 @@ no_cycle count Needs (first ∷ others) o h = absurd (omega (arith, numbers_fall
 
 -- ---- whether a list has a number: what can be decided, and how a number's count changes
 
--- equal by the test is equal
-pub same : (x y : ℕ) → eqb x y ≡ true → x ≡ y
-same x y h = grind (arith, nat_tests)
-
 -- a number is equal to itself by the test
 pub same_itself : (x : ℕ) → eqb x x ≡ true
 same_itself x = nat_eq_equiv.refl x
-
--- what differs differs by the test
-pub other_number : (x y : ℕ) → x ≢ y → eqb x y ≡ false
-other_number x y h = grind (arith, nat_tests)
 
 -- a list has a number if the search says so
 pub has_from_any : (xs : Numbers) (x : ℕ) → list_any (eqb x) xs ≡ true → Contains xs x

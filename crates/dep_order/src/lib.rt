@@ -60,8 +60,8 @@ mod rows;
 mod searching;
 mod users;
 
-ghost use Rattle.std.specs.Prelude.{◌≡◌, ◌<◌, All, length, IfOk};
-ghost use Rattle.dep_order.specs.Needs.{needs_of, NodeNeeds, NeedsAreNodes, IsReach};
+ghost use Rattle.std.specs.Prelude.{◌≡◌, ◌<◌, length, IfOk};
+ghost use Rattle.dep_order.specs.Needs.{NodeNeeds, NeedsAreNodes, IsReach};
 ghost use Rattle.dep_order.specs.Rows.{rows};
 ghost use Rattle.dep_order.specs.Sortings.{IsSortingOf};
 
@@ -101,15 +101,6 @@ impl Digraph {
         ensures { result ≡ rows needs.items }
     {
         Digraph { needs }
-    }
-
-    /// Returns what a node needs.
-    fn needs_of(&self, node: usize) -> &[usize]
-        requires { node < length self.now }
-        ensures needs { result.now ≡ needs_of self.now node }
-        ensures nodes { All (λ needed. needed < length self.now) result.now }
-    {
-        &self.needs[node]
     }
 }
 

@@ -59,13 +59,11 @@ impl<'g> Reaching<'g> {
         let mut found = Vec::with_capacity(alloc, 16)?;
         found.push(node)?;
         self.indexes[node] = 0;
+        let graph = self.graph;
         let mut next = 0;
         'search: while next < found.len() {
-            find_row(
-                self.graph.needs_of(found[next]),
-                &mut self.indexes,
-                &mut found,
-            )?;
+            let row = &graph.needs[found[next]];
+            find_row(row, &mut self.indexes, &mut found)?;
             next += 1;
         }
         Ok(found)

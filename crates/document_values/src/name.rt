@@ -178,7 +178,7 @@ impl SharedNames {
 }
 
 /// `is_empty` is about the part that is being read.
-#[tactic(auto, using(crate::proofs::Names::name_is))]
+#[tactic(auto, using(crate::proofs::Names::name_is, crate::proofs::Names::too_long))]
 fn is_name(text: &[u8]) -> bool
     ensures { result ≡ is_name text.now }
 {

@@ -1,20 +1,22 @@
 -- The class of a line: at most one, and one if the table has no fault for it.
-use Rattle.std.proofs.Common.{inl, inr, ◌≡◌, ℕ, List, [], ◌∷◌, ◌++◌, map, refl, ap, ◌∙◌, Some, None, ◌==◌, ◌&&◌, Bool, true, false, length, sym, arith}
-use Rattle.std.specs.Prelude.{Option, codes, is_some, if◌then◌else◌, nat_lt}
-use Rattle.std.proofs.lemmas.Bool.{cases_Bool, eqb-true, and_parts}
+use Rattle.std.proofs.Common.{inl, inr, ◌≡◌, ℕ, List, [], ◌∷◌, ◌++◌, map, refl, ap, ◌∙◌, Some, None, ◌==◌, Bool, true, false, length, sym, arith}
+use Rattle.std.specs.Prelude.{Option, codes, is_some, if◌then◌else◌, nat_lt, bytes_eq}
+use Rattle.std.proofs.lemmas.Bool.{cases_Bool, eqb-true}
 use Rattle.ninja_text.specs.declared.token.TokenKind.TheVariants.{Bar, DoubleBar, BarAt, Colon}
-use Rattle.dyndep_file.specs.Classes.{Symbol, WordSymbol, SignSymbol, IsPart, DyndepClass, Comment, Blank, Version, Build, Binding, symbols, begins_at_start, begins_with_space, IsBuild, Assigns, IsDyndepLine, is_version_one}
-use Rattle.dyndep_file.specs.Faults.{same_bytes, implicit_inputs_fault, after_rule_fault, rule_fault, implicit_outputs_fault, after_output_fault, output_fault, after_build, value_assigned, indented_fault, version_fault, build_or_other_fault, unindented_fault, text_fault, text_line_fault, lexical_fault_or}
+use Rattle.dyndep_file.specs.Classes.{DyndepClass, Comment, Blank, Version, Build, Binding, IsBuild, IsDyndepLine, is_version_one}
+use Rattle.dyndep_file.specs.Faults.{implicit_inputs_fault, after_rule_fault, rule_fault, implicit_outputs_fault, after_output_fault, output_fault, value_assigned, indented_fault, version_fault, build_or_other_fault, unindented_fault, text_fault, text_line_fault, lexical_fault_or}
 use Rattle.dyndep_file.specs.inner.BuildLines.{Names}
 use Rattle.dyndep_file.specs.declared.fault.LineFault.{LineFault}
-use Rattle.dyndep_file.proofs.LineLemmas.{never, build_class, same_bytes-true, first_word, starts, after_keyword, no_indent_at_token, no_indent_at_name, names_apart}
+use Rattle.dyndep_file.proofs.LineLemmas.{never, build_class, first_word, starts, no_indent_at_name, names_apart}
 use Rattle.ninja_text.specs.Lexical.{lexical_fault}
 use Rattle.ninja_text.specs.Tokens.{TokenAt, tokens, value_of}
-use Rattle.ninja_text.specs.Assignments.{SeenAssignment, assignment_of}
+use Rattle.ninja_text.specs.Assignments.{SeenAssignment, assignment_of, Assigns}
 use Rattle.ninja_text.specs.declared.fault.LexFault.{LexFault}
-use Rattle.ninja_text.proofs.ForCallers.{assignment_not_empty}
+use Rattle.ninja_text.proofs.ForCallers.{assignment_not_empty, after_keyword, keyword_first, no_indent_at_token}
 use Rattle.dyndep_file.specs.StatementValue.{StatementValue}
 use Rattle.ninja_text.specs.Paths.{is_empty}
+use Rattle.ninja_text.specs.Symbols.{Symbol, WordSymbol, SignSymbol, IsPart, symbols, begins_at_start, begins_with_space, after_build}
+use Rattle.std.proofs.lemmas.Slice.Eq.{bytes_eq-Decides}
 use Rattle.dyndep_file.specs.Steps.{ProgressValue, step}
 use Rattle.dyndep_file.specs.declared.progress.Stage.{Stage}
 use Rattle.dyndep_file.specs.declared.progress.Stage.TheVariants.{BeforeVersion, NoneOpen, Open}
@@ -42,8 +44,8 @@ inputs_part (other ∷ more) h = faulty h
 -- what comes after `:` without fault is the rule and a part of implicit inputs
 ruled : (symbols : List Symbol) → rule_fault symbols ≡ None
     → (after : List Symbol) × (words : List (List ℕ)) × (symbols ≡ WordSymbol (codes "dyndep") ∷ after) × IsPart Bar after words
-ruled (WordSymbol word ∷ more) h = elim (cases_Bool (same_bytes word (codes "dyndep"))) [
-  | inl t ↦ let later = inputs_part more (rw t at h) in (more, later.0, ap (λ w. WordSymbol w ∷ more) (same_bytes-true word (codes "dyndep") t), later.1)
+ruled (WordSymbol word ∷ more) h = elim (cases_Bool (bytes_eq word (codes "dyndep"))) [
+  | inl t ↦ let later = inputs_part more (rw t at h) in (more, later.0, ap (λ w. WordSymbol w ∷ more) ((bytes_eq-Decides word (codes "dyndep")).0 t), later.1)
   | inr f ↦ faulty (rw f at h)
 ]
 ruled other h = faulty h
@@ -104,19 +106,6 @@ index_of text comment =
     else if begins_with_space text then 3
     else if is_keyword_line text then 2
     else 4
-
--- a text with tokens after the keyword begins with the keyword
-pub keyword_first : (at : Bool) (all more : List Symbol) → after_build at all ≡ Some more → (at ≡ true) × (all ≡ WordSymbol (codes "build") ∷ more)
-keyword_first at [] more h = never h
-keyword_first at (SignSymbol k ∷ all) more h = never h
-keyword_first at (WordSymbol word ∷ all) more h = elim (cases_Bool (at && same_bytes word (codes "build"))) [
-  | inr f ↦ never (rw f at h)
-  | inl t ↦
-      let both = and_parts at (same_bytes word (codes "build")) t in
-      let e : ◌≡◌ {A = Option (List Symbol)} (Some all) (Some more) = rw t at h in
-      let rest : all ≡ more = cc in
-      (both.0, rw (same_bytes-true word (codes "build") both.1, rest) refl)
-]
 
 -- a version line does not begin with the keyword
 no_keyword : (text : List ℕ) (a : SeenAssignment) → assignment_of text ≡ Some a → a.name_start ≡ 0 → a.name ≡ codes "ninja_dyndep_version" →
@@ -245,12 +234,12 @@ module _ (ss : List StatementValue) (text : List ℕ) (sound : lexical_fault tex
   named_so : (name : List ℕ) (o : Option SeenAssignment) (n : ℕ) (v : List ℕ) → value_assigned name o ≡ Some (n, v)
       → (a : SeenAssignment) × (o ≡ Some a) × (a.name_start ≡ n) × (a.name ≡ name) × (value_of a.raw_value ≡ v)
   named_so name None n v h = never h
-  named_so name (Some a) n v h = elim (cases_Bool (same_bytes a.name name)) [
+  named_so name (Some a) n v h = elim (cases_Bool (bytes_eq a.name name)) [
     | inr f ↦ never (rw f at h)
     | inl t ↦
         let e : ◌≡◌ {A = Option (ℕ × List ℕ)} (Some (a.name_start, value_of a.raw_value)) (Some (n, v)) = rw t at h in
         let same : ◌≡◌ {A = ℕ × List ℕ} (a.name_start, value_of a.raw_value) (n, v) = cc in
-        (a, refl, ap (λ p. p.0) same, same_bytes-true a.name name t, ap (λ p. p.1) same)
+        (a, refl, ap (λ p. p.0) same, (bytes_eq-Decides a.name name).0 t, ap (λ p. p.1) same)
   ]
 
   -- an indented text without fault is a binding under an open statement
@@ -274,7 +263,7 @@ module _ (ss : List StatementValue) (text : List ℕ) (sound : lexical_fault tex
   built stage more e steps h =
       let k = keyword_first (begins_at_start (tokens text)) (symbols text) more e in
       let p = parts more h in
-      (Build (value_of p.0) (map value_of p.1) (map value_of p.2), build_class text sound more k.0 k.1 _ (p.0, p.1, p.2, p.3, refl), steps _ _ _)
+      (Build (value_of p.0) (map value_of p.1) (map value_of p.2), build_class text false refl sound more k.0 k.1 _ (p.0, p.1, p.2, p.3, refl), steps _ _ _)
 
   -- a text that is neither indented nor a version line, and has no fault, is a build line that is
   -- allowed

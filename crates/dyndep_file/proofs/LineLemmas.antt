@@ -1,50 +1,36 @@
 -- The class and the fault of a line: the tables of faults agree with the classes of lines, and both follow from the tokens or the assignment that are read.
-use Rattle.std.proofs.Common.{inl, inr, ◌≡◌, ℕ, Bool, true, false, List, [], ◌∷◌, ◌++◌, map, get_or, refl, sym, ap, ◌∙◌, subst, Some, None, arith, ◌==◌, eq-eqb, ◌⊎◌, ◌+◌, ◌&&◌, zero, suc, length, Ok, Err}
+use Rattle.std.proofs.Common.{inl, inr, ◌≡◌, ℕ, Bool, true, false, List, [], ◌∷◌, ◌++◌, map, get_or, refl, sym, ap, ◌∙◌, subst, Some, None, arith, ◌==◌, eq-eqb, ◌⊎◌, ◌+◌, zero, suc, length, Ok, Err}
 use Rattle.std.specs.Prelude.{bytes_eq, Option, IsTrue, codes, slice_range, is_some, Result, slice_set, slice_index_or, nat_lt, not}
 use Rattle.std.proofs.lemmas.List.{append-nil}
-use Rattle.std.proofs.lemmas.Bool.{cases_Bool, eqb-true, and_parts}
+use Rattle.std.proofs.lemmas.Bool.{cases_Bool, eqb-true}
 use Rattle.ninja_text.specs.Lexical.{lexical_fault}
-use Rattle.ninja_text.specs.Tokens.{is_word_kind, TokenAt, tokens, raw, value_of, SeenToken, with_raw, seen_tokens}
+use Rattle.ninja_text.specs.LineForms.{HasTokens}
+use Rattle.ninja_text.specs.Lines.{LogicalLine}
+use Rattle.ninja_text.specs.Tokens.{TokenAt, tokens, raw, value_of}
 use Rattle.ninja_text.specs.declared.token.TokenKind.{TokenKind}
 use Rattle.ninja_text.specs.declared.token.TokenKind.TheVariants.{Word, Bar, Colon}
-use Rattle.ninja_text.specs.Assignments.{SeenAssignment, assignment_of}
-use Rattle.ninja_text.proofs.ForCallers.{token_indented, name_indented, assignment_parts, assignment_not_empty, slice_first}
+use Rattle.ninja_text.specs.Assignments.{SeenAssignment, assignment_of, Assigns}
+use Rattle.ninja_text.proofs.ForCallers.{name_indented, assignment_parts, assignment_not_empty, slice_first, after_keyword, keyword_first, no_indent_at_token}
 use Rattle.dyndep_file.specs.StatementValue.{StatementValue}
-use Rattle.dyndep_file.specs.Classes.{DyndepClass, Comment, Blank, Version, Build, Binding, Symbol, WordSymbol, SignSymbol, symbol, symbols, begins_at_start, IsPart, IsBuild, Assigns, begins_with_space, is_version_one, IsDyndepLine}
-use Rattle.dyndep_file.specs.Faults.{same_bytes, implicit_inputs_fault, after_rule_fault, rule_fault, implicit_outputs_fault, after_output_fault, after_build, value_assigned, indented_fault, build_fault, build_or_other_fault, version_fault, unindented_fault, text_fault, text_line_fault}
+use Rattle.dyndep_file.specs.Classes.{DyndepClass, Comment, Blank, Version, Build, Binding, IsBuild, is_version_one, IsDyndepLine}
+use Rattle.dyndep_file.specs.Faults.{implicit_inputs_fault, after_rule_fault, rule_fault, implicit_outputs_fault, after_output_fault, value_assigned, indented_fault, build_fault, build_or_other_fault, version_fault, unindented_fault, text_fault, text_line_fault}
 use Rattle.ninja_text.specs.Paths.{is_empty}
-use Rattle.dyndep_file.specs.BuildTokens.{is_this_word, symbol_of}
 use Rattle.dyndep_file.specs.Steps.{ProgressValue, step, with_last_restat}
 use Rattle.dyndep_file.specs.declared.progress.Stage.{Stage}
 use Rattle.dyndep_file.specs.declared.progress.Stage.TheVariants.{BeforeVersion, NoneOpen, Open}
-use Rattle.std.specs.List.{starts_with}
 use Rattle.std.proofs.lemmas.Bool.Decides.{nat_tests}
 use Rattle.std.proofs.lemmas.Slice.Eq.{bytes_eq-Decides}
-use Rattle.std.proofs.lemmas.Simd.{map-map}
 use Rattle.ninja_text.specs.declared.failure.Failure.{Failure}
 use Rattle.ninja_text.specs.declared.failure.Failure.TheVariants.{Memory, Fault}
+use Rattle.ninja_text.specs.Symbols.{Symbol, WordSymbol, SignSymbol, symbol, symbols, begins_at_start, IsPart, begins_with_space, after_build}
 use Rattle.dyndep_file.specs.inner.BuildLines.{IsNamed}
 use Rattle.dyndep_file.specs.inner.LineReading.{PassesOr, IsBuildOf, with_name, IsBindingOf, IsVersionLineOf}
 use Rattle.dyndep_file.specs.declared.fault.LineFault.{LineFault}
 
 -- ---- a line of a class that is allowed at a stage has no fault there
 
--- lists of bytes that are found equal are equal
-pub same_bytes-true : (xs ys : List ℕ) → same_bytes xs ys ≡ true → xs ≡ ys
-same_bytes-true xs ys = (bytes_eq-Decides xs ys).0
-
--- a token is a keyword if the grammar sees that word
-pub keyword_is : (word : List ℕ) (kind : TokenKind) (bytes : List ℕ) → (is_word_kind kind && bytes_eq bytes word) ≡ is_this_word word (symbol kind bytes)
-keyword_is word Word bytes = refl
-keyword_is word other bytes = refl
-
--- only the word of these bytes passes the test for it
-pub is_word-true : (bytes : List ℕ) (s : Symbol) → is_this_word bytes s ≡ true → s ≡ WordSymbol bytes
-is_word-true bytes (WordSymbol word) h = ap WordSymbol (same_bytes-true word bytes h)
-is_word-true bytes (SignSymbol kind) h = cc
-
 -- words among the implicit inputs have no fault
-pub inputs_pass : (words : List (List ℕ)) (more : List Symbol) → implicit_inputs_fault (map WordSymbol words ++ more) ≡ implicit_inputs_fault more
+inputs_pass : (words : List (List ℕ)) (more : List Symbol) → implicit_inputs_fault (map WordSymbol words ++ more) ≡ implicit_inputs_fault more
 inputs_pass [] more = refl
 inputs_pass (w ∷ words) more = inputs_pass words more
 
@@ -54,7 +40,7 @@ after_rule_passes after words (inl h) = ap after_rule_fault h.0
 after_rule_passes after words (inr h) = ap after_rule_fault (h ∙ ap (λ s. SignSymbol Bar ∷ s) (sym (append-nil (map WordSymbol words)))) ∙ inputs_pass words []
 
 -- words among the implicit outputs have no fault
-pub outputs_pass : (words : List (List ℕ)) (more : List Symbol) → implicit_outputs_fault (map WordSymbol words ++ more) ≡ implicit_outputs_fault more
+outputs_pass : (words : List (List ℕ)) (more : List Symbol) → implicit_outputs_fault (map WordSymbol words ++ more) ≡ implicit_outputs_fault more
 outputs_pass [] more = refl
 outputs_pass (w ∷ words) more = outputs_pass words more
 
@@ -91,10 +77,6 @@ first_word text word more (t ∷ ts) e h =
     let head : symbol t.kind (raw text t) ≡ WordSymbol word = cc in
     record { token = t; rest = ts; are = e; bytes = symbol_is_word t.kind (raw text t) word head }
 
--- what comes after the keyword `build` at the first byte
-pub after_keyword : (at : Bool) (more : List Symbol) → at ≡ true → after_build at (WordSymbol (codes "build") ∷ more) ≡ Some more
-after_keyword at more h = rw h refl
-
 -- what an assignment to a name assigns
 value_named : (name : List ℕ) (found : Option SeenAssignment) (a : SeenAssignment) → found ≡ Some a → a.name ≡ name →
     value_assigned name found ≡ Some (a.name_start, value_of a.raw_value)
@@ -106,20 +88,7 @@ pub unindented_version : (stage : Stage) (build : Option (List Symbol)) (found :
     → unindented_fault stage (value_assigned (codes "ninja_dyndep_version") found) build ≡ version_fault stage (value_of a.raw_value)
 unindented_version stage build found a h name start = rw (value_named (codes "ninja_dyndep_version") found a h name, eq-eqb a.name_start 0 start) refl
 
--- a text whose first token is at its first byte is not indented
-pub no_indent_at_token : (text : List ℕ) → IsTrue (begins_at_start (tokens text)) → begins_with_space text ≡ false
-no_indent_at_token [] h = refl
-no_indent_at_token (b ∷ bytes) h = elim (cases_Bool (b == 32)) [
-  | inr n ↦ n
-  | inl s ↦ absurd (clash bytes (tokens (32 ∷ bytes)) refl (subst (λ x. IsTrue (begins_at_start (tokens (x ∷ bytes)))) (eqb-true b 32 s) h))
-] where
-  clash : (bytes : List ℕ) (ts : List TokenAt) → tokens (32 ∷ bytes) ≡ ts → IsTrue (begins_at_start (tokens (32 ∷ bytes))) → ⊥
-  clash bytes [] e h = let x : false ≡ true = subst (λ ts. IsTrue (begins_at_start ts)) e h in cc
-  clash bytes (t ∷ ts) e h =
-      let zero : (t.start == 0) ≡ true = subst (λ ts. IsTrue (begins_at_start ts)) e h in
-      omega (arith, eqb-true t.start 0 zero, token_indented bytes t ts e)
-
--- nor is one that assigns to a name at its first byte
+-- a text that assigns to a name at its first byte is not indented
 pub no_indent_at_name : (text : List ℕ) (a : SeenAssignment) → assignment_of text ≡ Some a → a.name_start ≡ 0 → begins_with_space text ≡ false
 no_indent_at_name [] a h start = refl
 no_indent_at_name (b ∷ bytes) a h start = elim (cases_Bool (b == 32)) [
@@ -161,13 +130,13 @@ module _ (text : List ℕ) where
     no_version : (stage : Stage) (build : Option (List Symbol)) (o : Option SeenAssignment) → assignment_of text ≡ o
         → unindented_fault stage (value_assigned (codes "ninja_dyndep_version") o) build ≡ build_or_other_fault stage build
     no_version stage build None e = refl
-    no_version stage build (Some a) e = elim (cases_Bool (same_bytes a.name (codes "ninja_dyndep_version"))) [
+    no_version stage build (Some a) e = elim (cases_Bool (bytes_eq a.name (codes "ninja_dyndep_version"))) [
       | inr f ↦ rw f refl
       | inl s ↦ elim (cases_Bool (a.name_start == 0)) [
         | inr f ↦ rw (s, f) refl
         | inl z ↦
             let word = first_word text (codes "build") more (tokens text) refl are in
-            absurd (names_apart text word.token a e (eqb-true a.name_start 0 z) (same_bytes-true a.name (codes "ninja_dyndep_version") s)
+            absurd (names_apart text word.token a e (eqb-true a.name_start 0 z) ((bytes_eq-Decides a.name (codes "ninja_dyndep_version")).0 s)
             (starts word.token word.rest word.are at_start) word.bytes)
       ]
     ]
@@ -238,9 +207,9 @@ opens stage before after statement symbols may pushed named = (
 -- an assignment that has the name
 pub has_name : (name : List ℕ) (found : Option SeenAssignment) (a : SeenAssignment) → Some a ≡ with_name name found → (found ≡ Some a) × (a.name ≡ name)
 has_name name None a h = cc
-has_name name (Some b) a h = elim (cases_Bool (same_bytes b.name name)) [
+has_name name (Some b) a h = elim (cases_Bool (bytes_eq b.name name)) [
   | inl t ↦ let same : ◌≡◌ {A = Option SeenAssignment} (Some a) (Some b) = rw t at h in
-      (sym same, ap (λ (x : SeenAssignment). x.name) (let e : a ≡ b = cc in e) ∙ same_bytes-true b.name name t)
+      (sym same, ap (λ (x : SeenAssignment). x.name) (let e : a ≡ b = cc in e) ∙ (bytes_eq-Decides b.name name).0 t)
   | inr f ↦ never (sym (rw f at h))
 ]
 
@@ -250,88 +219,53 @@ blank_stays BeforeVersion ss h = refl
 blank_stays NoneOpen ss h = refl
 blank_stays Open ss h = absurd (h refl)
 
--- a text is indented if it starts with a space
-pub starts_with_space : (text : List ℕ) → starts_with (λ a b. a == b) text (32 ∷ []) ≡ begins_with_space text
-starts_with_space [] = refl
-starts_with_space (b ∷ text) = grind (arith, nat_tests)
+-- the class of a build line, by the tokens after the keyword
+pub build_class : (text : List ℕ) (comment : Bool) → comment ≡ false → lexical_fault text ≡ None → (more : List Symbol) → begins_at_start (tokens text) ≡ true
+    → symbols text ≡ WordSymbol (codes "build") ∷ more → (c : DyndepClass) → IsBuildOf more c → IsDyndepLine text comment c
+build_class text comment no_comment sound more at_start are c is =
+    let n = is.3 in
+    subst (IsDyndepLine text comment) (sym is.4) (
+      no_comment,
+      sound,
+      is.0,
+      is.1,
+      is.2,
+      (n.before, n.after, n.is_before, n.is_after, at_start, are ∙ ap (λ s. WordSymbol (codes "build") ∷ s) n.are),
+      refl,
+      refl,
+      refl,
+    )
 
-module _ (text : List ℕ) (sound : lexical_fault text ≡ None) where
-  -- the symbols of the tokens that are read are those of the text
-  symbols_seen : (ts : List SeenToken) → ts ≡ seen_tokens text → map symbol_of ts ≡ symbols text
-  symbols_seen ts e = ap (map symbol_of) e ∙ map-map symbol_of (with_raw text) (tokens text)
+-- a line that has tokens, by its form
+module _ (line : LogicalLine) (has : HasTokens line) where
+  module _ (more : List Symbol) (is : after_build (begins_at_start (tokens line.text)) (symbols line.text) ≡ Some more) where
+    begins : (begins_at_start (tokens line.text) ≡ true) × (symbols line.text ≡ WordSymbol (codes "build") ∷ more)
+    begins = keyword_first (begins_at_start (tokens line.text)) (symbols line.text) more is
 
-  -- a text without tokens is blank
-  pub blank : (ts : List SeenToken) → ts ≡ seen_tokens text → ts ≡ [] → IsDyndepLine text false Blank
-  blank ts e none = (refl, sound, nothing (tokens text) (sym e ∙ none)) where
-    nothing : (ts : List TokenAt) → map (with_raw text) ts ≡ [] → ts ≡ []
-    nothing [] h = refl
-    nothing (t ∷ ts) h = cc
+    pub build_line_fault : (stage : Stage) → text_line_fault stage line.text line.comment ≡ build_fault stage more
+    build_line_fault stage = rw (has.no_comment, has.no_fault) (keyword_fault line.text more begins.0 begins.1 stage)
 
-  -- a text whose tokens are read has some, and they begin at its first byte if the first one that is read does
-  seen_start : (head : SeenToken) (others : List SeenToken) (ts : List TokenAt) → head ∷ others ≡ map (with_raw text) ts →
-      (is_empty ts ≡ false) × (begins_at_start ts ≡ (head.start == 0))
-  seen_start head others [] h = cc
-  seen_start head others (t ∷ ts) h = (refl, ap (λ (s : SeenToken). s.start == 0) (let same : with_raw text t ≡ head = cc in same))
+    pub build_line_class : (c : DyndepClass) → IsBuildOf more c → IsDyndepLine line.text line.comment c
+    build_line_class = build_class line.text line.comment has.no_comment has.no_fault more begins.0 begins.1
 
-  -- the class of a build line, by the tokens after the keyword
-  pub build_class : (more : List Symbol) → begins_at_start (tokens text) ≡ true → symbols text ≡ WordSymbol (codes "build") ∷ more → (c : DyndepClass) →
-      IsBuildOf more c → IsDyndepLine text false c
-  build_class more at_start are c is =
-      let n = is.3 in
-      subst (IsDyndepLine text false) (sym is.4) (
-        refl,
-        sound,
-        is.0,
-        is.1,
-        is.2,
-        (n.before, n.after, n.is_before, n.is_after, at_start, are ∙ ap (λ s. WordSymbol (codes "build") ∷ s) n.are),
-        refl,
-        refl,
-        refl,
-      )
+  pub indented_line_fault : begins_with_space line.text ≡ true → (stage : Stage)
+      → text_line_fault stage line.text line.comment ≡ indented_fault stage (is_some (value_assigned (codes "restat") (assignment_of line.text)))
+  indented_line_fault indent stage = rw (has.no_comment, has.no_fault, has.some, indent) refl
 
-  module _ (stage : Stage) (head : SeenToken) (others : List SeenToken) (all : head ∷ others ≡ seen_tokens text) where
-    -- an indented text
-    pub indented_text : begins_with_space text ≡ true →
-        text_line_fault stage text false ≡ indented_fault stage (is_some (value_assigned (codes "restat") (assignment_of text)))
-    indented_text indent = rw (sound, (seen_start head others (tokens text) all).0, indent) refl
-
-    -- a text that begins with the keyword
-    module _ (begins : ((head.start == 0) && is_this_word (codes "build") (symbol_of head)) ≡ true) where
-      both : ((head.start == 0) ≡ true) × (is_this_word (codes "build") (symbol_of head) ≡ true)
-      both = and_parts (head.start == 0) (is_this_word (codes "build") (symbol_of head)) begins
-
-      at_start : begins_at_start (tokens text) ≡ true
-      at_start = (seen_start head others (tokens text) all).1 ∙ both.0
-
-      are : symbols text ≡ WordSymbol (codes "build") ∷ map symbol_of others
-      are = sym (symbols_seen (head ∷ others) all) ∙ ap (λ s. s ∷ map symbol_of others) (is_word-true (codes "build") (symbol_of head) both.1)
-
-      pub keyword_text : text_line_fault stage text false ≡ build_fault stage (map symbol_of others)
-      keyword_text = rw sound (keyword_fault text (map symbol_of others) at_start are stage)
-
-      pub keyword_class : (c : DyndepClass) → IsBuildOf (map symbol_of others) c → IsDyndepLine text false c
-      keyword_class = build_class (map symbol_of others) at_start are
-
-    -- a text that is not indented and does not begin with the keyword
-    pub other_text : ((head.start == 0) && is_this_word (codes "build") (symbol_of head)) ≡ false → begins_with_space text ≡ false
-        → text_line_fault stage text false ≡ unindented_fault stage (value_assigned (codes "ninja_dyndep_version") (assignment_of text)) None
-    other_text begins indent =
-        let start = seen_start head others (tokens text) all in
-        rw (sound, start.0, indent, start.1, ← symbols_seen (head ∷ others) all, refused (symbol_of head) (head.start == 0) (map symbol_of others) begins) refl
-      where
-        refused : (s : Symbol) (b : Bool) (more : List Symbol) → (b && is_this_word (codes "build") s) ≡ false → after_build b (s ∷ more) ≡ None
-        refused (WordSymbol word) b more h = rw h refl
-        refused (SignSymbol kind) b more h = refl
+  pub unindented_line_fault : begins_with_space line.text ≡ false → after_build (begins_at_start (tokens line.text)) (symbols line.text) ≡ None
+      → (stage : Stage)
+      → text_line_fault stage line.text line.comment ≡ unindented_fault stage (value_assigned (codes "ninja_dyndep_version") (assignment_of line.text)) None
+  unindented_line_fault indent is stage = rw (has.no_comment, has.no_fault, has.some, indent, is) refl
 
   -- an indented assignment to `restat` is a binding
-  pub binding_class : begins_with_space text ≡ true → (c : DyndepClass) → IsBindingOf (assignment_of text) c → IsDyndepLine text false c
-  binding_class indent c is = subst (IsDyndepLine text false) (sym is.3)
-      (refl, sound, indent, is.0.name_start, value_of is.0.raw_value, (is.0, is.1, refl, is.2, refl), refl)
+  pub binding_class : begins_with_space line.text ≡ true → (c : DyndepClass) → IsBindingOf (assignment_of line.text) c → IsDyndepLine line.text line.comment c
+  binding_class indent c is = subst (IsDyndepLine line.text line.comment) (sym is.3)
+      (has.no_comment, has.no_fault, indent, is.0.name_start, value_of is.0.raw_value, (is.0, is.1, refl, is.2, refl), refl)
 
   -- an assignment at the first byte to a version that is read is a version line
-  pub version_class : (c : DyndepClass) → IsVersionLineOf (assignment_of text) c → IsDyndepLine text false c
-  version_class c is = subst (IsDyndepLine text false) (sym is.4.0) (refl, sound, value_of is.0.raw_value, (is.0, is.1, is.2, is.3, refl), is.4.1)
+  pub version_class : (c : DyndepClass) → IsVersionLineOf (assignment_of line.text) c → IsDyndepLine line.text line.comment c
+  version_class c is = subst (IsDyndepLine line.text line.comment) (sym is.4.0)
+      (has.no_comment, has.no_fault, value_of is.0.raw_value, (is.0, is.1, is.2, is.3, refl), is.4.1)
 
 -- a binding sets the flag and closes the statement
 pub binds : (stage : Stage) (before after : List StatementValue) (flag other : Bool) → stage ≡ Open → flag ≡ other → after ≡ with_last_restat other before

@@ -1,32 +1,29 @@
 -- The parts of a build line: the values of its words, and its paths as they are borrowed, read and written.
-use Rattle.std.proofs.Common.{◌≡◌, ℕ, Bool, false, List, [], ◌∷◌, refl, ap, ◌+◌, ◌<◌, cond, ◌++◌, length, map, get_or, Some, Bor, sym, ◌∙◌, take, codes, subst, append_assoc, Option, inr, Vec, Global, Ok, Err}
+use Rattle.std.proofs.Common.{◌≡◌, ℕ, Bool, false, List, [], ◌∷◌, refl, ap, ◌+◌, ◌<◌, cond, ◌++◌, length, map, get_or, Some, None, Bor, sym, ◌∙◌, take, codes, subst, append_assoc, Option, Vec, Global, Ok, Err}
 use Rattle.std.specs.List.{position_from, flat_map}
 use Rattle.ninja_text.specs.Bytes.{line_feed}
 use Rattle.ninja_text.specs.Tokens.{value_of}
 use Rattle.std.specs.Prelude.{position, All, Result}
-use Rattle.std.proofs.lemmas.List.{map-append, take_more, get_or-map, length-map}
+use Rattle.std.proofs.lemmas.List.{append-nil, map-append, take_more, get_or-map, length-map}
 use Rattle.std.proofs.lemmas.Iterator.Adapters.{position_from-zero}
 use Rattle.dyndep_file.specs.inner.Paths.{lent_texts, texts}
 use Rattle.ninja_text.specs.Escapes.{escaped}
 use Rattle.dyndep_file.specs.StatementValue.{StatementValue, statement_with}
 use Rattle.dyndep_file.specs.Writing.{part_text, build_line}
 use Rattle.std.specs.Result.{IsErrAnd}
-use Rattle.ninja_text.specs.TokenViews.{seen_token, tokens_left}
 use Rattle.ninja_text.specs.declared.failure.Failure.{Failure}
-use Rattle.ninja_text.specs.declared.token.Token.{Token}
-use Rattle.ninja_text.specs.declared.token.TokenKind.{TokenKind}
-use Rattle.ninja_text.specs.declared.token.TokenKind.TheVariants.{Word, Bar, Colon}
-use Rattle.ninja_text.specs.declared.token.Words.{Words}
-use Rattle.dyndep_file.specs.Classes.{Symbol, WordSymbol, SignSymbol, symbol}
+use Rattle.ninja_text.specs.declared.token.TokenKind.TheVariants.{Bar, DoubleBar, BarAt, Colon}
 use Rattle.dyndep_file.specs.Faults.{output_fault, after_output_fault, implicit_outputs_fault, rule_fault, after_rule_fault, implicit_inputs_fault}
-use Rattle.dyndep_file.specs.BuildTokens.{symbol_of, symbols_left}
-use Rattle.dyndep_file.specs.inner.BuildLines.{IsNamed, IsFailureOf, TakesOr, TakesOutput, TakesWords, TakesOutputs, TakesInputs}
+use Rattle.dyndep_file.specs.inner.BuildLines.{IsNamed, IsFailureOf, TakesOr, TakesOutput, TakesOutputs, TakesInputs, misplaced}
 use Rattle.dyndep_file.specs.declared.fault.LineFault.{LineFault}
+use Rattle.dyndep_file.specs.declared.fault.LineFault.TheVariants.{SecondOutput, ExplicitInput, BadLine}
 use Rattle.ninja_text.specs.Escapes.{IsWritable}
 use Rattle.std.proofs.lemmas.List.{flat_map_more}
 use Rattle.std.proofs.lemmas.List.Elements.{All-from_recursion, recursion_from_All}
+use Rattle.ninja_text.specs.Symbols.{Symbol, WordSymbol, SignSymbol, IsPart, front_words, past_words, past_sign, words_of_part, symbols_past_part}
+use Rattle.ninja_text.proofs.ForCallers.{part_symbols, part_raw, is_part, part_meant, sign_at, part_at}
 use Rattle.dyndep_file.proofs.WrittenText.{both_parts}
-use Rattle.dyndep_file.proofs.LineLemmas.{inputs_pass, outputs_pass, after_output_passes}
+use Rattle.dyndep_file.proofs.LineLemmas.{never, after_output_passes}
 
 -- ---- the index of the first element that passes a test, in a list and in a mapped list
 
@@ -86,16 +83,6 @@ line_written s none word output outputs rule inputs end =
 
 -- ---- what reading the parts one after another gives
 
--- one more word after words that were read
-takes_more : (old : List Symbol) (values : List (List ℕ)) (word value : List ℕ) (new : List Symbol)
-    → TakesWords old values (WordSymbol word ∷ new) → value ≡ value_of word → TakesWords old (values ++ value ∷ []) new
-takes_more old values word value new t is = record {
-  words = t.words ++ word ∷ [];
-  are = t.are ∙ sym (append_assoc (map WordSymbol t.words) (WordSymbol word ∷ []) new)
-      ∙ ap (λ s. s ++ new) (sym (map-append WordSymbol t.words (word ∷ [])));
-  is = ap (λ vs. vs ++ value ∷ []) t.is ∙ ap (λ v. map value_of t.words ++ v ∷ []) is ∙ sym (map-append value_of t.words (word ∷ []));
-}
-
 -- statements of equal parts are equal
 same_statement : {o p : List ℕ} {os ps is qs : List (List ℕ)} → o ≡ p → os ≡ ps → is ≡ qs
     → ◌≡◌ {A = StatementValue} (statement_with o os is false) (statement_with p ps qs false)
@@ -135,30 +122,12 @@ module _ {all : List Symbol} {output : List ℕ} {after_output : List Symbol} (t
         same_statement takes_output.is takes_outputs.is takes_inputs.is,
       )
 
--- the symbols to come begin with that of the token that was taken
-pub next_is : (words new : Words) (token : Token) (kind : TokenKind) → tokens_left words ≡ seen_token token ∷ tokens_left new → kind ≡ token.kind
-    → symbols_left words ≡ symbol kind token.raw.now ∷ symbols_left new
-next_is words new token kind steps is = ap (map symbol_of) steps ∙ ap (λ k. symbol k token.raw.now ∷ symbols_left new) (sym is)
-
--- one more word's value after those of the words before it
-pub takes_next : (all : List Symbol) (values new_values : List (Vec ℕ Global)) (value : Vec ℕ Global) (words new : Words) (token : Token)
-    → TakesWords all (texts values) (symbols_left words) → tokens_left words ≡ seen_token token ∷ tokens_left new → Word ≡ token.kind
-    → value.items ≡ value_of token.raw.now → new_values ≡ values ++ value ∷ [] → TakesWords all (texts new_values) (symbols_left new)
-takes_next all values new_values value words new token taken steps is_word is pushed =
-    subst (λ vs. TakesWords all vs (symbols_left new))
-    (sym (ap texts pushed ∙ map-append (λ (v : Vec ℕ Global). v.items) values (value ∷ [])))
-    (takes_more all (texts values) token.raw.now value.items (symbols_left new)
-    (subst (TakesWords all (texts values)) (next_is words new token Word steps is_word) taken) is)
-
--- the fault after words among the implicit outputs is that of all
-pub fault_in_outputs : {all : List Symbol} {values : List (List ℕ)} {left : List Symbol} → TakesWords all values left →
-    implicit_outputs_fault all ≡ implicit_outputs_fault left
-fault_in_outputs {all} {values} {left} taken = ap implicit_outputs_fault taken.are ∙ outputs_pass taken.words left
-
--- the same among the implicit inputs
-pub fault_in_inputs : {all : List Symbol} {values : List (List ℕ)} {left : List Symbol} → TakesWords all values left →
-    implicit_inputs_fault all ≡ implicit_inputs_fault left
-fault_in_inputs {all} {values} {left} taken = ap implicit_inputs_fault taken.are ∙ inputs_pass taken.words left
+-- one more value moves from the words that are left to those that were read
+pub one_more : (values new_values : List (Vec ℕ Global)) (value : Vec ℕ Global) (word : List ℕ) (more : List Symbol) → value.items ≡ value_of word
+    → new_values ≡ values ++ value ∷ [] → texts values ++ front_words (WordSymbol word ∷ more) ≡ texts new_values ++ front_words more
+one_more values new_values value word more is pushed =
+    ap (λ v. texts values ++ v ∷ front_words more) (sym is) ∙ sym (append_assoc (texts values) (value.items ∷ []) (front_words more))
+    ∙ ap (λ vs. vs ++ front_words more) (sym (ap texts pushed ∙ map-append (λ (v : Vec ℕ Global). v.items) values (value ∷ [])))
 
 -- what a reading fails with, another fails with that has the same fault
 pub refuses : {T : Type 0} {fault other : Option LineFault} (is : T → Type 0) (failure : Failure LineFault) (result : Result T (Failure LineFault))
@@ -166,15 +135,76 @@ pub refuses : {T : Type 0} {fault other : Option LineFault} (is : T → Type 0) 
 refuses is failure (Ok value) e same h = absurd e
 refuses {T} {fault} {other} is failure (Err reason) e same h = subst (IsFailureOf other) (sym e) (subst (λ f. IsFailureOf f failure) same h)
 
--- `|`, the words after it and a `:` are a part of implicit outputs and that `:`
-pub takes_bar : (old between new : List Symbol) (result : Result (Vec (Vec ℕ Global) Global) (Failure LineFault)) → old ≡ SignSymbol Bar ∷ between
-    → TakesOr (implicit_outputs_fault between) (λ outputs. TakesWords between (texts outputs.items) (SignSymbol Colon ∷ new)) result
-    → TakesOr (after_output_fault old) (λ outputs. TakesOutputs old (texts outputs.items) new) result
-takes_bar old between new (Ok outputs) e t = record {
-  part = SignSymbol Bar ∷ map WordSymbol t.words;
-  words = t.words;
-  is_part = inr refl;
-  are = e ∙ ap (λ s. SignSymbol Bar ∷ s) t.are;
-  is = t.is;
-}
-takes_bar old between new (Err failure) e t = subst (λ f. IsFailureOf f failure) (sym (ap after_output_fault e)) t
+-- ---- what follows a part
+
+-- the implicit outputs, if a `:` follows
+pub outputs_taken : (old between new : List Symbol) {values : List (List ℕ)} → values ≡ words_of_part Bar old → between ≡ symbols_past_part Bar old
+    → past_sign Colon between ≡ Some new → TakesOutputs old values new
+outputs_taken old between new words rest colon =
+    let part = past_sign Bar old in
+    record {
+      part = part_symbols Bar part;
+      words = part_raw part;
+      is_part = is_part Bar part;
+      are = part_at Bar old part refl ∙ ap (λ s. part_symbols Bar part ++ s) (sym rest ∙ sign_at Colon between new colon);
+      is = words ∙ part_meant part;
+    }
+
+-- the fault if none follows; at the end of the line it is `BadLine`
+abbrev pub or_bad : Option LineFault → LineFault
+or_bad None = BadLine
+or_bad (Some fault) = fault
+
+words_without_colon : (ss : List Symbol) → past_sign Colon (past_words ss) ≡ None →
+    implicit_outputs_fault ss ≡ Some (or_bad (misplaced SecondOutput (past_words ss)))
+words_without_colon [] h = refl
+words_without_colon (WordSymbol word ∷ more) h = words_without_colon more h
+words_without_colon (SignSymbol Colon ∷ more) h = never (sym h)
+words_without_colon (SignSymbol other ∷ more) h = refl
+
+part_without_colon : (ss : List Symbol) → past_sign Colon (symbols_past_part Bar ss) ≡ None →
+    after_output_fault ss ≡ Some (or_bad (misplaced SecondOutput (symbols_past_part Bar ss)))
+part_without_colon [] h = refl
+part_without_colon (WordSymbol word ∷ more) h = refl
+part_without_colon (SignSymbol Bar ∷ more) h = words_without_colon more h
+part_without_colon (SignSymbol Colon ∷ more) h = never (sym h)
+part_without_colon (SignSymbol other ∷ more) h = refl
+
+pub no_colon : (old new between : List Symbol) → between ≡ symbols_past_part Bar old → new ≡ between → past_sign Colon between ≡ None →
+    after_output_fault old ≡ Some (or_bad (misplaced SecondOutput new))
+no_colon old new between rest same none =
+    part_without_colon old (ap (past_sign Colon) (sym rest) ∙ none) ∙ ap (λ s. Some (or_bad (misplaced SecondOutput s))) (sym (same ∙ rest))
+
+-- the fault of what follows the implicit inputs
+words_to_end : (ss : List Symbol) → implicit_inputs_fault ss ≡ misplaced ExplicitInput (past_words ss)
+words_to_end [] = refl
+words_to_end (WordSymbol word ∷ more) = words_to_end more
+words_to_end (SignSymbol DoubleBar ∷ more) = refl
+words_to_end (SignSymbol BarAt ∷ more) = refl
+words_to_end (SignSymbol other ∷ more) = refl
+
+pub after_rule_is : (ss : List Symbol) → after_rule_fault ss ≡ misplaced ExplicitInput (symbols_past_part Bar ss)
+after_rule_is [] = refl
+after_rule_is (WordSymbol word ∷ more) = refl
+after_rule_is (SignSymbol Bar ∷ more) = words_to_end more
+after_rule_is (SignSymbol other ∷ more) = refl
+
+-- the implicit inputs, if nothing follows
+none_left : (ss : List Symbol) → misplaced ExplicitInput ss ≡ None → ss ≡ []
+none_left [] h = refl
+none_left (WordSymbol word ∷ more) h = never (sym h)
+none_left (SignSymbol DoubleBar ∷ more) h = never (sym h)
+none_left (SignSymbol BarAt ∷ more) h = never (sym h)
+none_left (SignSymbol other ∷ more) h = never (sym h)
+
+pub inputs_taken : (old between : List Symbol) {values : List (List ℕ)} → values ≡ words_of_part Bar old → between ≡ symbols_past_part Bar old
+    → misplaced ExplicitInput between ≡ None → TakesInputs old values
+inputs_taken old between words rest none =
+    let part = past_sign Bar old in
+    let whole : old ≡ part_symbols Bar part = part_at Bar old part refl ∙
+    ap (λ s. part_symbols Bar part ++ s) (sym rest ∙ none_left between none) ∙ append-nil (part_symbols Bar part) in
+    record {
+      words = part_raw part;
+      is_part = subst (λ ss. IsPart Bar ss (part_raw part)) (sym whole) (is_part Bar part);
+      is = words ∙ part_meant part;
+    }

@@ -12,11 +12,12 @@ use Rattle.ninja_text.proofs.ForCallers.{value_of_escaped, Written, written_none
 use Rattle.dyndep_file.specs.StatementValue.{StatementValue}
 use Rattle.ninja_text.specs.LineFormats.{IsOfClass, AreOfClasses}
 use Rattle.dyndep_file.specs.Reading.{dyndep_format, StandsFor}
-use Rattle.dyndep_file.specs.Classes.{DyndepClass, Build, Symbol, WordSymbol, SignSymbol, symbol, IsPart, IsBuild, IsDyndepLine, Version, Binding, Assigns}
+use Rattle.dyndep_file.specs.Classes.{DyndepClass, Build, IsBuild, IsDyndepLine, Version, Binding}
 use Rattle.dyndep_file.specs.Writing.{part_text, build_line, statement_text, dyndep_text}
 use Rattle.dyndep_file.specs.WriteFaults.{paths_of, CanBeWritten}
 use Rattle.std.proofs.lemmas.Grind.{flat_map-append}
-use Rattle.ninja_text.specs.Assignments.{SeenAssignment}
+use Rattle.ninja_text.specs.Assignments.{SeenAssignment, Assigns}
+use Rattle.ninja_text.specs.Symbols.{Symbol, WordSymbol, SignSymbol, symbol, IsPart}
 use Rattle.dyndep_file.specs.Grammar.{IsDyndepBody, binding_here, body_end, body_build, body_build_binding, version_line}
 
 -- ---- a build line as it is written

@@ -1,13 +1,13 @@
 -- The kinds of lines of a dyndep file (Ninja 1.11 manual, "Dyndep file reference" and "Lexical
 -- syntax").
-use Rattle.std.specs.Prelude.{◌≡◌, ℕ, Bool, true, false, ◌==◌, ◌&&◌, ◌||◌, not, nat_lt, IsTrue, List, [], ◌∷◌, ◌++◌, length, map, codes, ◌⊎◌, Some, None}
+use Rattle.std.specs.Prelude.{◌≡◌, ℕ, Bool, true, false, ◌==◌, ◌&&◌, ◌||◌, not, nat_lt, IsTrue, List, [], ◌∷◌, ◌++◌, length, map, codes, None}
 use Rattle.ninja_text.specs.Units.{is_digit}
-use Rattle.ninja_text.specs.Bytes.{Text, PathText, Name, space, dot, digit_zero, digit_one}
+use Rattle.ninja_text.specs.Bytes.{Text, PathText, dot, digit_zero, digit_one}
 use Rattle.ninja_text.specs.Lexical.{lexical_fault}
-use Rattle.ninja_text.specs.Tokens.{TokenAt, tokens, raw, value_of}
-use Rattle.ninja_text.specs.declared.token.TokenKind.{TokenKind}
-use Rattle.ninja_text.specs.declared.token.TokenKind.TheVariants.{Word, Bar, DoubleBar, BarAt, Colon}
-use Rattle.ninja_text.specs.Assignments.{SeenAssignment, assignment_of}
+use Rattle.ninja_text.specs.Tokens.{tokens, value_of}
+use Rattle.ninja_text.specs.declared.token.TokenKind.TheVariants.{Bar, Colon}
+use Rattle.ninja_text.specs.Symbols.{Symbol, WordSymbol, SignSymbol, symbols, begins_at_start, begins_with_space, IsPart}
+use Rattle.ninja_text.specs.Assignments.{Assigns}
 
 -- The kind of a line: a comment, a blank line, the version line, a build line with its output, its
 -- implicit outputs and its implicit inputs, or a binding, which turns `restat` on or off.
@@ -18,53 +18,14 @@ pub data DyndepClass : Type 0 where
   Build : PathText → List PathText → List PathText → DyndepClass
   Binding : Bool → DyndepClass
 
--- a token of a line: a word with its raw bytes, or one of the signs `|`, `||`, `|@` and `:`
-pub data Symbol : Type 0 where
-  WordSymbol : Text → Symbol
-  SignSymbol : TokenKind → Symbol
-
--- the symbol of a token of this kind and with these bytes
-abbrev pub symbol : TokenKind → Text → Symbol
-symbol Word bytes = WordSymbol bytes
-symbol Bar bytes = SignSymbol Bar
-symbol DoubleBar bytes = SignSymbol DoubleBar
-symbol BarAt bytes = SignSymbol BarAt
-symbol Colon bytes = SignSymbol Colon
-
--- the symbols of a line's tokens
-abbrev pub symbols : Text → List Symbol
-symbols text = map (λ t. symbol t.kind (raw text t)) (tokens text)
-
--- whether there is a token, and the first one begins at the line's first byte
-abbrev pub begins_at_start : List TokenAt → Bool
-begins_at_start [] = false
-begins_at_start (t ∷ ts) = t.start == 0
-
--- A part of a build line: it is missing, or it has this sign and any number of words. Implicit
--- outputs and implicit inputs have the sign `|`.
-abbrev pub IsPart : TokenKind → List Symbol → List Text → Type 0
-IsPart sign part words =
-    ((part ≡ []) × (words ≡ [])) ⊎ (part ≡ SignSymbol sign ∷ map WordSymbol words)
-
 -- The line is `build output | outputs : dyndep | inputs`, and the keyword begins at the first byte.
--- The words are given by their raw bytes.
+-- The words are given by their raw bytes. A `|` may be missing together with its words.
 abbrev pub IsBuild : Text → PathText → List PathText → List PathText → Type 0
 IsBuild text output outputs inputs =
     (before after : List Symbol) × IsPart Bar before outputs × IsPart Bar after inputs
     × IsTrue (begins_at_start (tokens text))
     × (symbols text ≡ WordSymbol (codes "build") ∷ WordSymbol output ∷ before
     ++ SignSymbol Colon ∷ WordSymbol (codes "dyndep") ∷ after)
-
--- The line assigns this value, without escapes, to this name, which begins at this offset.
-abbrev pub Assigns : Text → Name → ℕ → Text → Type 0
-Assigns text name start value =
-    (a : SeenAssignment) × (assignment_of text ≡ Some a) × (a.name_start ≡ start) × (a.name ≡ name)
-    × (value_of a.raw_value ≡ value)
-
--- whether the line is indented: its first byte is a space
-abbrev pub begins_with_space : Text → Bool
-begins_with_space [] = false
-begins_with_space (b ∷ bytes) = b == space
 
 -- whether a number ends before these bytes: no digit follows, and no `.` unless dots are allowed
 abbrev pub ends_number : Bool → Text → Bool

@@ -3,7 +3,7 @@
 -- reference".
 use Rattle.std.specs.Prelude.{bytes_eq, ℕ, Bool, true, false, ◌==◌, ◌&&◌, ◌||◌, not, nat_lt, if◌then◌else◌, is_some, List, [], ◌∷◌, length, codes, Option, Some, None}
 use Rattle.std.specs.List.{list_any, list_all}
-use Rattle.ninja_text.specs.Bytes.{Bytes, Text, Name}
+use Rattle.ninja_text.specs.Bytes.{Text, Name}
 use Rattle.ninja_text.specs.Paths.{is_empty}
 use Rattle.ninja_text.specs.Lines.{line_limit, is_comment, text_of_line}
 use Rattle.ninja_text.specs.Lexical.{lexical_fault}
@@ -11,16 +11,13 @@ use Rattle.ninja_text.specs.Tokens.{tokens, value_of}
 use Rattle.ninja_text.specs.declared.token.TokenKind.TheVariants.{Word, Bar, DoubleBar, BarAt, Colon}
 use Rattle.ninja_text.specs.Assignments.{SeenAssignment, assignment_of}
 use Rattle.ninja_text.specs.declared.fault.LexFault.{LexFault}
-use Rattle.dyndep_file.specs.Classes.{DyndepClass, Comment, Version, Build, Symbol, WordSymbol, SignSymbol, symbols, begins_at_start, begins_with_space, is_version_one}
+use Rattle.ninja_text.specs.Symbols.{Symbol, WordSymbol, SignSymbol, symbols, begins_at_start, begins_with_space, after_build}
+use Rattle.dyndep_file.specs.Classes.{DyndepClass, Comment, Version, Build, is_version_one}
 use Rattle.dyndep_file.specs.declared.fault.LineFault.{LineFault}
 use Rattle.dyndep_file.specs.declared.fault.LineFault.TheVariants.{LineTooLong, Lexical, NoVersion, BadVersion, SecondVersion, Indent, BadLine}
 use Rattle.dyndep_file.specs.declared.fault.LineFault.TheVariants.{NoOutput, SecondOutput, BadRule, ExplicitInput, OrderOnly, Validation, BadBinding}
 use Rattle.dyndep_file.specs.declared.progress.Stage.{Stage}
 use Rattle.dyndep_file.specs.declared.progress.Stage.TheVariants.{BeforeVersion, NoneOpen, Open}
-
--- whether two lists of bytes are equal
-abbrev pub same_bytes : Bytes → Bytes → Bool
-same_bytes = bytes_eq
 
 -- ---- the columns of the table of lines: what comes before a line
 
@@ -75,7 +72,7 @@ after_rule_fault (SignSymbol other ∷ more) = Some BadLine
 abbrev pub rule_fault : List Symbol → Option LineFault
 rule_fault [] = Some BadRule
 rule_fault (WordSymbol word ∷ more) =
-    if same_bytes word (codes "dyndep") then after_rule_fault more else Some BadRule
+    if bytes_eq word (codes "dyndep") then after_rule_fault more else Some BadRule
 rule_fault (SignSymbol other ∷ more) = Some BadRule
 
 -- the error in the tokens from the implicit outputs on; `:` ends the implicit outputs
@@ -132,20 +129,12 @@ other_fault Open = BadLine
 
 -- ---- the row of a line, and its error
 
--- the tokens after the keyword `build`, if the line begins with it at its first byte; None for any
--- other line
-abbrev pub after_build : Bool → List Symbol → Option (List Symbol)
-after_build at_start [] = None
-after_build at_start (WordSymbol word ∷ more) =
-    if at_start && same_bytes word (codes "build") then Some more else None
-after_build at_start (SignSymbol other ∷ more) = None
-
 -- the offset of the name, and the value, if the line is an assignment to this name; None for any
 -- other line
 abbrev pub value_assigned : Name → Option SeenAssignment → Option (ℕ × Text)
 value_assigned name None = None
 value_assigned name (Some a) =
-    if same_bytes a.name name then Some (a.name_start, value_of a.raw_value) else None
+    if bytes_eq a.name name then Some (a.name_start, value_of a.raw_value) else None
 
 -- a line that is neither indented nor a version line, given its tokens after `build`, if it is a
 -- build line

@@ -5,7 +5,6 @@ pub mod FaultTexts
 pub mod Classes
 pub mod Grammar
 pub mod Faults
-pub mod BuildTokens
 pub mod Steps
 pub mod Reading
 pub mod Texts

@@ -22,11 +22,11 @@ pub enum LineFault {
     BadVersion,
     /// A second version line.
     SecondVersion,
-    /// An indented line without a statement: no build line precedes it, or a blank line or a binding is
-    /// in between.
+    /// An indented line without a statement: no build line precedes it, or a blank line or a
+    /// binding is in between.
     Indent,
-    /// The line is not a version line, a build line, a binding, a comment or blank, or it is a build
-    /// line that is incomplete or has a misplaced `|` or `:`.
+    /// The line is not a version line, a build line, a binding, a comment or blank, or it is a
+    /// build line that is incomplete or has a misplaced `|` or `:`.
     BadLine,
     /// No explicit output follows `build`.
     NoOutput,
@@ -84,8 +84,8 @@ impl fmt::Display for LineFault {
 /// Why a dyndep file cannot be read.
 #[derive(Clone, Copy, Debug, PartialEq, Eq, Error)]
 pub enum ReadFault {
-    /// The error of the first faulty line, or of the end of the file. Lines are counted from 1. A line
-    /// with continuations has the number of its first physical line.
+    /// The error of the first faulty line, or of the end of the file. Lines are counted from 1. A
+    /// line with continuations has the number of its first physical line.
     AtLine { line: u64, fault: LineFault },
     /// A call of the reader failed, or 2^64 - 1 bytes were read without reaching the end.
     Io,
@@ -109,8 +109,8 @@ impl fmt::Display for ReadFault {
 /// statement, paths precede the line.
 #[derive(Clone, Copy, Debug, PartialEq, Eq, Error)]
 pub enum WriteFault {
-    /// A path is empty or contains `|`, NUL, CR or LF, which cannot be escaped. Paths are counted from
-    /// 0: the output, the implicit outputs, the implicit inputs.
+    /// A path is empty or contains `|`, NUL, CR or LF, which cannot be escaped. Paths are counted
+    /// from 0: the output, the implicit outputs, the implicit inputs.
     Unwritable { statement: usize, path: usize },
     /// The build line has more than 1,048,576 bytes, including its end.
     StatementTooLong { statement: usize },

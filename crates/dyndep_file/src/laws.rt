@@ -1,5 +1,5 @@
-//! Laws about the definitions. A law is the contract of a function that does nothing; callers call it
-//! to use the law in a proof.
+//! Laws about the definitions. A law is the contract of a function that does nothing; callers call
+//! it to use the law in a proof.
 ghost use Rattle.std.specs.Prelude.{◌≡◌, ◌↔◌, List, All, None};
 ghost use Rattle.dyndep_file.specs.StatementValue.{StatementValue};
 ghost use Rattle.dyndep_file.specs.Writing.{dyndep_text};
@@ -33,8 +33,8 @@ pub fn fault_stays()
     ensures { FaultStays }
 {}
 
-/// If all paths of the statements can be escaped, the only possible error is a build line that is too
-/// long. The same holds for one statement.
+/// If all paths of the statements can be escaped, the only possible error is a build line that is
+/// too long. The same holds for one statement.
 pub fn long_lines()
     ensures lists { OnlyTooLong }
     ensures statements { TooLongIfWritable }

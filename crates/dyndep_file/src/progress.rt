@@ -3,15 +3,15 @@ ghost use Rattle.std.specs.Prelude.{◌≡◌, codes, is_some, option_map, IfOk}
 ghost use Rattle.ninja_text.specs.LineViews.{seen_line};
 ghost use Rattle.ninja_text.specs.Tokens.{value_of};
 ghost use Rattle.ninja_text.specs.AssignmentViews.{seen_assignment};
+ghost use Rattle.ninja_text.specs.TokenViews.{symbols_left};
 ghost use Rattle.dyndep_file.specs.Classes.{is_version_one, IsDyndepLine};
 ghost use Rattle.dyndep_file.specs.Faults.{value_assigned, indented_fault, build_fault, text_line_fault, unindented_fault};
-ghost use Rattle.dyndep_file.specs.BuildTokens.{symbols_left};
 ghost use Rattle.dyndep_file.specs.inner.LineReading.{PassesOr, IsBuildOf, IsBindingOf, IsVersionLineOf, with_name};
 
 use crate::build_line::statement;
 use crate::fault::{LineFault, ReadFault};
 use crate::statement::Statement;
-use ninja_text::{Assignment, CutFault, Failure, Line, LineState, Words, assignment, words};
+use ninja_text::{Assignment, CutFault, Failure, Line, LineForm, LineState, Words, line_form};
 use std::alloc::Global;
 use std::marker::Model;
 
@@ -65,7 +65,7 @@ impl LineState for Progress {
     }
 }
 
-/// Reads the text of a line that is not a comment.
+/// Reads the text of a line.
 fn read_text(
     alloc: Global,
     progress: &mut Progress,
@@ -76,27 +76,19 @@ fn read_text(
         (IsDyndepLine view.text view.comment)
         progress.old result progress.new }
 {
-    if line.is_comment() {
-        return Ok(());
-    }
-    let mut tokens = match words(line) {
-        Ok(tokens) => tokens,
-        Err(fault) => return Err(Failure::Fault(LineFault::Lexical(fault))),
-    };
-    let Some(first) = tokens.next() else {
-        // A blank line closes the open statement.
-        if let Stage::Open = progress.stage {
-            progress.stage = Stage::NoneOpen;
-        }
-        return Ok(());
-    };
-    if first.start() == 0 && first.is_keyword(b"build") {
-        return build_line(alloc, progress, tokens);
-    }
-    match assignment(line) {
+    match line_form(line) {
         Err(fault) => Err(Failure::Fault(LineFault::Lexical(fault))),
-        Ok(found) if line.text().starts_with(b" ") => indented_line(alloc, progress, found),
-        Ok(found) => unindented_line(alloc, progress, found),
+        Ok(LineForm::Comment) => Ok(()),
+        Ok(LineForm::Blank) => {
+            // A blank line closes the open statement.
+            if let Stage::Open = progress.stage {
+                progress.stage = Stage::NoneOpen;
+            }
+            Ok(())
+        }
+        Ok(LineForm::Build(tokens)) => build_line(alloc, progress, tokens),
+        Ok(LineForm::Indented(found)) => indented_line(alloc, progress, found),
+        Ok(LineForm::Unindented(found)) => unindented_line(alloc, progress, found),
     }
 }
 
@@ -148,8 +140,8 @@ fn build_line(
     Ok(())
 }
 
-/// A line that is neither indented nor a build line is a version line, or it is not allowed. A version
-/// line is allowed once, before all statements, with the value `1` or `1.0`.
+/// A line that is neither indented nor a build line is a version line, or it is not allowed. A
+/// version line is allowed once, before all statements, with the value `1` or `1.0`.
 fn unindented_line(
     alloc: Global,
     progress: &mut Progress,

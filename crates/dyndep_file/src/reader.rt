@@ -9,9 +9,9 @@ use ninja_text::{Counted, Failure, LineReader, ReadCall};
 use std::alloc::Global;
 use std::marker::Model;
 
-/// Reads a dyndep file that arrives in pieces (Ninja 1.11 manual, "Dyndep file reference"). A piece may
-/// end anywhere, also within a continuation or between CR and LF. The result is the same for all
-/// divisions of a text into pieces.
+/// Reads a dyndep file that arrives in pieces (Ninja 1.11 manual, "Dyndep file reference"). A piece
+/// may end anywhere, also within a continuation or between CR and LF. The result is the same for
+/// all divisions of a text into pieces.
 #[derive(Drop)]
 pub struct DyndepReader {
     lines: LineReader<Progress, ReadFault>,
@@ -49,8 +49,8 @@ impl DyndepReader {
     /// # Errors
     ///
     /// Returns the error of the first faulty line as soon as the line is complete, `LineTooLong` as
-    /// soon as 1,048,576 bytes contain no end of a line, or [`Failure::Memory`] if an allocation fails.
-    /// It never returns `Io`. After an error every later call returns the same error.
+    /// soon as 1,048,576 bytes contain no end of a line, or [`Failure::Memory`] if an allocation
+    /// fails. It never returns `Io`. After an error every later call returns the same error.
     pub fn feed(&mut self, piece: &[u8]) -> Result<(), Failure<ReadFault>>
         ensures failed { (failure : Failure ReadFault) → self.old.failed ≡ Some failure →
             (result ≡ Err failure) × (self.new ≡ self.old) }
@@ -108,8 +108,8 @@ impl Dyndep {
 /// # Errors
 ///
 /// Returns `Io` if a call of the reader fails, or if 2^64 - 1 bytes were read without reaching the
-/// end. Returns the other errors as [`DyndepReader`] does. After the end or an error the reader is not
-/// called again.
+/// end. Returns the other errors as [`DyndepReader`] does. After the end or an error the reader is
+/// not called again.
 pub fn read_all<R: ReadCall>(
     alloc: Global,
     input: &mut Counted<R>,

@@ -28,8 +28,8 @@ pub struct DyndepText {
     text: Vec<u8>,
     /// The number of statements.
     count: usize,
-    /// The lines of the statement that is being added. They are appended as a whole, so that the text
-    /// is unchanged after an error.
+    /// The lines of the statement that is being added. They are appended as a whole, so that the
+    /// text is unchanged after an error.
     lines: Vec<u8>,
 }
 
@@ -63,9 +63,10 @@ impl DyndepText {
     ///
     /// # Errors
     ///
-    /// Returns Y1 `Unwritable` if a path cannot be escaped. Otherwise returns Y2 `StatementTooLong` if
-    /// the build line has more than 1,048,576 bytes, including its end. Returns [`Failure::Memory`] if
-    /// an allocation fails. After an error the text is unchanged, and other statements can be added.
+    /// Returns Y1 `Unwritable` if a path cannot be escaped. Otherwise returns Y2 `StatementTooLong`
+    /// if the build line has more than 1,048,576 bytes, including its end. Returns
+    /// [`Failure::Memory`] if an allocation fails. After an error the text is unchanged, and other
+    /// statements can be added.
     pub fn add(&mut self, statement: &LentStatement<'_>) -> Result<(), Failure<WriteFault>>
         // Whatever statements were added before this one.
         ensures added { OnOk result ((statements : List StatementValue) →
@@ -92,8 +93,8 @@ impl DyndepText {
     ///
     /// # Errors
     ///
-    /// Returns Y2 `StatementTooLong` or [`Failure::Memory`], as [`add`](DyndepText::add) does. After an
-    /// error the text is unchanged.
+    /// Returns Y2 `StatementTooLong` or [`Failure::Memory`], as [`add`](DyndepText::add) does.
+    /// After an error the text is unchanged.
     pub fn add_writable(&mut self, statement: &LentStatement<'_>) -> Result<(), Failure<WriteFault>>
         requires { All IsWritable (paths_of statement.now) }
         ensures added { OnOk result ((statements : List StatementValue) →
@@ -137,8 +138,8 @@ impl Dyndep {
     ///
     /// # Errors
     ///
-    /// Returns the error of the first statement that has one, or [`Failure::Memory`] if an allocation
-    /// fails.
+    /// Returns the error of the first statement that has one, or [`Failure::Memory`] if an
+    /// allocation fails.
     pub fn to_text(&self, alloc: Global) -> Result<Vec<u8>, Failure<WriteFault>>
         ensures text { Gives (λ text. text.items) result (text_or_fault self.now) }
         ensures unfaulted { IfOk result (λ _. write_fault self.now ≡ None) }
@@ -165,9 +166,9 @@ impl Dyndep {
 ///
 /// # Errors
 ///
-/// Returns Y1 or Y2 if a statement cannot be written, or [`Failure::Memory`] if an allocation fails.
-/// Nothing is written then. Returns `Io` after the first failed call; exactly the first `written` bytes
-/// of the text were written.
+/// Returns Y1 or Y2 if a statement cannot be written, or [`Failure::Memory`] if an allocation
+/// fails. Nothing is written then. Returns `Io` after the first failed call; exactly the first
+/// `written` bytes of the text were written.
 pub fn write<W: WriteCall>(
     alloc: Global,
     dyndep: &Dyndep,

@@ -249,17 +249,17 @@ which (of_file name) = (0, 0, no_spot)
 abbrev pub Where : Type 0
 Where = ℕ × ℕ × ℕ
 
--- where an error of a dyndep file is
+-- the place of an error of a dyndep file
 abbrev pub in_line : ReadFault → Where
 in_line (read.AtLine line fault) = (7, absent, line)
 in_line read.Io = (0, absent, absent)
 
--- where an error of an edge list is
+-- the place of an error of an edge list
 abbrev pub in_listing : ListFault → Where
 in_listing (edges.AtLine fault) = (5, absent, fault.line)
 in_listing (edges.NoGraph fault) = (0, absent, absent)
 
--- where this error is
+-- the place of this error
 abbrev pub place_of : CommandError → Where
 place_of (in_target fault) = (1, absent, absent)
 place_of (in_project fault) = (2, absent, absent)

@@ -7,7 +7,6 @@ mod dep_order_example;
 mod document_values_example;
 mod dyndep_file_example;
 mod in_memory_example;
-mod info_pool_example;
 mod module_maps_example;
 mod module_table_example;
 mod ninja_text_example;

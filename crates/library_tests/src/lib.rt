@@ -26,8 +26,6 @@ mod failing;
 #[cfg(test)]
 mod in_memory_tests;
 #[cfg(test)]
-mod info_pool_tests;
-#[cfg(test)]
 mod module_maps_tests;
 #[cfg(test)]
 mod module_table_tests;

@@ -1,6 +1,8 @@
 //! What a table of modules returns to its caller.
 
 mod growths;
+mod part;
+mod pool;
 
 use crate::common::setting;
 use document_values::Name;

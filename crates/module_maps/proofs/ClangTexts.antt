@@ -1,13 +1,6 @@
 -- The texts that are read as maps of Clang were written for maps.
-use Rattle.std.proofs.Common.{◌≡◌, ℕ, ◌-◌, Bool, true, false, cond, List, [], ◌∷◌, ◌++◌, length, Option, Some, None, Result, Ok, Err, refl, ap, ap₂, sym, subst, ◌∙◌, arith, take, drop, slice_get, codes}
-use Rattle.std.specs.Prelude.{bytes_eq, IfOk, Vec}
-use Rattle.std.specs.declared.alloc.Global.{Global}
-use Rattle.ninja_text.specs.Failure.{Gives}
-use Rattle.ninja_text.specs.declared.failure.Failure.{Failure}
-use Rattle.std.specs.Ordering.{nat_cmp, is_lt}
-use Rattle.std.specs.Cmp.Lexicographic.{slice_cmp}
-use Rattle.std.specs.declared.cmp.Ordering.{Ordering}
-use Rattle.std.specs.declared.cmp.Ordering.TheVariants.{Less, Equal, Greater}
+use Rattle.std.proofs.Common.{◌≡◌, ◌-◌, Bool, true, false, cond, List, [], ◌∷◌, ◌++◌, length, Option, Some, None, Ok, refl, ap, ap₂, sym, subst, ◌∙◌, arith, take, drop, slice_get, codes}
+use Rattle.std.specs.Prelude.{bytes_eq}
 use Rattle.std.proofs.lemmas.Cmp.{nat_list_cmp_total}
 use Rattle.std.proofs.lemmas.List.Kept.{AllPairs-cons}
 use Rattle.std.proofs.lemmas.List.Splits.{join_with_byte-slice_split}
@@ -21,11 +14,10 @@ use Rattle.module_maps.specs.Values.{ModuleMapValue}
 use Rattle.module_maps.specs.Maps.{IsModulePair, IsWrittenText, IsRising}
 use Rattle.module_maps.specs.MapLines.{behind, pair_in, is_fit, first_unfit, named, nameless, lines_of, read_lines}
 use Rattle.module_maps.specs.ClangMaps.{module_flag, output_flag, file_flag, file_line, clang_text, clang_result, clang_written, clang_kept, rises_behind, file_entry, file_pair, output_path, clang_form, read_behind, read_provided, clang_read, clang_entries}
-use Rattle.module_maps.specs.map_laws.LineLemmas.{Pairs, AreModules, AreFit, lines_text}
+use Rattle.module_maps.specs.map_laws.LineLemmas.{Pairs, lines_text}
 use Rattle.module_maps.specs.declared.module_map.MapEntry.{MapEntry}
-use Rattle.module_maps.specs.declared.fault.MapFault.{MapFault}
 use Rattle.module_maps.specs.map_laws.ClangLemmas.{RisesBehind, last-entry, map_with, one-text, read_behind_first}
-use Rattle.module_maps.proofs.LinesOnly.{pair-is, EachBehind, IsLineOf, lines-only, none-unfit, some-module, path-is}
+use Rattle.module_maps.proofs.LinesOnly.{pair-is, EachBehind, IsLineOf, lines-only, none-unfit, modules-of, precedes, some-module, path-is}
 
 -- what follows a prefix
 behind-is : (prefix text rest : Text) → behind prefix text ≡ Some rest → text ≡ prefix ++ rest
@@ -70,17 +62,10 @@ file-only entries text e read = by (behind file_flag text) refl read where
   by (Some rest) is found = paired rest (pair_in 61 rest) is refl found
 
 -- the names of modules that were read rise
-before : (a b : Text) → is_lt (slice_cmp nat_cmp a b) ≡ true → Precedes a b
-before a b e = by (slice_cmp nat_cmp a b) e where
-  by : (o : Ordering) → is_lt o ≡ true → o ≡ Less
-  by Less e = refl
-  by Equal e = absurd cc
-  by Greater e = absurd cc
-
 next-is : (entries : List MapEntry) (x y : Text × Text) → IsFile (entries ++ named x ∷ []) y → Precedes x.0 y.0
 next-is entries x y is =
     let behind_x : rises_behind (Some (named x)) y.0 ≡ true = ap (λ o. rises_behind o y.0) (sym (last-entry entries (named x))) ∙ is.2 in
-    before x.0 y.0 behind_x
+    precedes x.0 y.0 behind_x
 
 -- the name comes before all of these
 abbrev PrecedesAll : Text → Pairs → Type 0
@@ -108,12 +93,6 @@ rising-only entries (x ∷ xs) each =
     (All-from_recursion (λ (y : Text × Text). Precedes x.0 y.0) xs (rises-from entries x xs each.1))
     (rising-only (entries ++ named x ∷ []) xs each.1)
 
-modules-of : (entries : List MapEntry) (xs : Pairs) → EachBehind named IsFile entries xs → AreModules xs × AreFit xs
-modules-of entries [] each = (tt, tt)
-modules-of entries (x ∷ xs) each =
-    let rest = modules-of (entries ++ named x ∷ []) xs each.1 in
-    ((each.0.0, rest.0), (each.0.1, rest.1))
-
 -- the text is that of a map of which these entries are kept
 abbrev IsWritten : Text → List MapEntry → Type 0
 IsWritten text found = IsWrittenText clang_written clang_kept text found
@@ -123,7 +102,7 @@ files-only : (lines : List Text) (found : List MapEntry) →
     read_lines clang_form [] 1 lines ≡ Ok found → IsWritten (join_with_byte 10 lines) found
 files-only lines found e =
     let w = lines-only clang_form file_line named IsFile file-only [] 1 lines found e in
-    let both = modules-of [] w.xs w.each in
+    let both = modules-of named IsFile (λ entries x is. (is.0, is.1)) [] w.xs w.each in
     let m : ModuleMapValue = map_with [] w.xs in
     record {
       value = m;
@@ -147,7 +126,7 @@ provided-only path lines found is fit e =
     let x : Text × Text = (codes "A", path) in
     let earlier : List MapEntry = nameless x ∷ [] in
     let w = lines-only clang_form file_line named IsFile file-only earlier 3 lines found e in
-    let both = modules-of earlier w.xs w.each in
+    let both = modules-of named IsFile (λ entries x is. (is.0, is.1)) earlier w.xs w.each in
     let m : ModuleMapValue = map_with (x ∷ []) w.xs in
     let fits : first_unfit (x ∷ w.xs) ≡ None = none-unfit (x ∷ w.xs) (fit, both.1) in
     let same : clang_text m ≡ provided_text path (join_with_byte 10 lines) =
@@ -208,10 +187,3 @@ pub clang-only : (text : Text) (found : List MapEntry) → clang_entries text �
     IsWrittenText clang_written clang_kept text found
 clang-only text found e =
     rw (join_with_byte-slice_split 10 text) at (read-only (lines_of text) found e)
-
--- so what the style reads was written
-pub clang-read : (text : Text) (result : Result (Vec MapEntry Global) (Failure MapFault)) →
-    Gives (λ found. found.items) result (clang_entries text) →
-    IfOk result (λ found. IsWrittenText clang_written clang_kept text found.items)
-clang-read text (Ok found) gives = clang-only text found.items gives
-clang-read text (Err failure) gives = tt

@@ -1,20 +1,15 @@
 -- The texts that are read as maps of GCC were written for maps.
-use Rattle.std.proofs.Common.{◌≡◌, ℕ, ◌∷◌, [], ◌++◌, List, Option, Some, None, Ok, refl, ap, sym, ◌∙◌, true, map, arith, append-nil}
+use Rattle.std.proofs.Common.{◌≡◌, [], List, Option, Some, None, Ok, refl, ap, sym, ◌∙◌, true, map, arith, append-nil}
 use Rattle.ninja_text.specs.Bytes.{Text}
-use Rattle.std.specs.Prelude.{option_map, Result, Err, IfOk, Vec}
-use Rattle.std.specs.declared.alloc.Global.{Global}
-use Rattle.ninja_text.specs.Failure.{Gives}
-use Rattle.ninja_text.specs.declared.failure.Failure.{Failure}
+use Rattle.std.specs.Prelude.{option_map}
 use Rattle.std.proofs.lemmas.List.Elements.{All-nil, All-from_recursion}
 use Rattle.std.proofs.lemmas.List.Splits.{join_with_byte-slice_split}
 use Rattle.module_maps.specs.Values.{ModuleMapValue}
 use Rattle.module_maps.specs.Maps.{IsModulePair, IsWrittenText}
 use Rattle.module_maps.specs.MapLines.{pair_in, is_fit, first_unfit, named, lines_of}
 use Rattle.module_maps.specs.GccMaps.{gcc_line, gcc_text, gcc_form, gcc_written, gcc_kept, gcc_entries}
-use Rattle.module_maps.specs.map_laws.LineLemmas.{Pairs, AreModules, AreFit, lines_text}
-use Rattle.module_maps.proofs.LinesOnly.{pair-is, EachBehind, IsLineOf, lines-only, none-unfit}
+use Rattle.module_maps.proofs.LinesOnly.{pair-is, IsLineOf, lines-only, none-unfit, modules-of}
 use Rattle.module_maps.specs.declared.module_map.MapEntry.{MapEntry}
-use Rattle.module_maps.specs.declared.fault.MapFault.{MapFault}
 
 -- a line that is read is that of a module which fits
 abbrev IsGccModule : List MapEntry → Text × Text → Type 0
@@ -31,18 +26,12 @@ line-only entries text e read = by (pair_in 32 text) refl read where
       let same : named x ≡ e = cc in
       (x, facts.0, sym same, (facts.1, facts.2))
 
-modules-of : (entries : List MapEntry) (xs : Pairs) → EachBehind named IsGccModule entries xs → AreModules xs × AreFit xs
-modules-of entries [] each = (tt, tt)
-modules-of entries (x ∷ xs) each =
-    let rest = modules-of (entries ++ named x ∷ []) xs each.1 in
-    ((each.0.0, rest.0), (each.0.1, rest.1))
-
 -- what is read was written
 pub gcc-only : (text : Text) (found : List MapEntry) → gcc_entries text ≡ Ok found → IsWrittenText gcc_written gcc_kept text found
 gcc-only text found e =
     let w = lines-only gcc_form gcc_line named IsGccModule line-only [] 1 (lines_of text) found e in
     let m : ModuleMapValue = record { provided = w.xs; needed = [] } in
-    let both = modules-of [] w.xs w.each in
+    let both = modules-of named IsGccModule (λ entries x is. is) [] w.xs w.each in
     let pairs = append-nil w.xs in
     let same = sym w.text ∙ join_with_byte-slice_split 10 text in
     record {
@@ -55,10 +44,3 @@ gcc-only text found e =
       is_written = ap (λ ps. gcc_text ps (first_unfit ps)) pairs ∙ ap (gcc_text w.xs) (none-unfit w.xs both.1) ∙ ap (λ t. Ok t) same;
       is_kept = w.all ∙ sym (ap (map named) pairs);
     }
-
--- so what the style reads was written
-pub gcc-read : (text : Text) (result : Result (Vec MapEntry Global) (Failure MapFault)) →
-    Gives (λ found. found.items) result (gcc_entries text) →
-    IfOk result (λ found. IsWrittenText gcc_written gcc_kept text found.items)
-gcc-read text (Ok found) gives = gcc-only text found.items gives
-gcc-read text (Err failure) gives = tt

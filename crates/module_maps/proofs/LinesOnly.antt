@@ -1,7 +1,14 @@
 -- The lines that are read were written.
-use Rattle.std.proofs.Common.{◌≡◌, ℕ, ◌+◌, ◌<◌, ◌==◌, ◌&&◌, Bool, true, false, cond, List, [], ◌∷◌, ◌++◌, length, take, drop, get_or, Option, Some, None, Result, Ok, Err, refl, ap, ap₂, subst, sym, ◌∙◌, arith, position, IsTrue, map, append_assoc, append-nil, suc, eqb-true, codes}
-use Rattle.ninja_text.specs.Bytes.{Text}
-use Rattle.std.specs.Prelude.{⊤, bytes_eq, IsUtf8, option_map}
+use Rattle.std.proofs.Common.{◌≡◌, ℕ, ◌+◌, ◌==◌, ◌&&◌, Bool, true, false, cond, List, [], ◌∷◌, ◌++◌, take, drop, get_or, Option, Some, None, Result, Ok, Err, refl, ap, ap₂, subst, sym, ◌∙◌, arith, position, IsTrue, map, append_assoc, append-nil, suc, eqb-true, codes}
+use Rattle.ninja_text.specs.Bytes.{Precedes, Text}
+use Rattle.std.specs.Prelude.{⊤, bytes_eq, IsUtf8, IfOk, Vec, option_map}
+use Rattle.std.specs.declared.alloc.Global.{Global}
+use Rattle.std.specs.declared.cmp.Ordering.{Ordering}
+use Rattle.std.specs.declared.cmp.Ordering.TheVariants.{Less, Equal, Greater}
+use Rattle.std.specs.Ordering.{nat_cmp, is_lt}
+use Rattle.std.specs.Cmp.Lexicographic.{slice_cmp}
+use Rattle.ninja_text.specs.Failure.{Gives}
+use Rattle.ninja_text.specs.declared.failure.Failure.{Failure}
 use Rattle.std.specs.List.{join_with_byte}
 use Rattle.std.specs.Str.{is_utf8, IsAscii}
 use Rattle.std.proofs.lemmas.List.Quantifiers.{position-Some}
@@ -16,8 +23,9 @@ use Rattle.document_values.specs.Name.{is_name}
 use Rattle.module_maps.specs.Maps.{IsModulePair}
 use Rattle.module_maps.specs.MapLines.{canonical_in, is_fit, first_unfit, name_in, path_in, cut, both, pair_in, LineForm, read_lines}
 use Rattle.module_maps.specs.declared.module_map.MapEntry.{MapEntry}
+use Rattle.module_maps.specs.declared.fault.MapFault.{MapFault}
 use Rattle.module_maps.specs.declared.fault.MapFault.TheVariants.{BadMapLine}
-use Rattle.module_maps.specs.map_laws.LineLemmas.{Pairs, AreFit, lines_text, read_on, parts_at, pair-of}
+use Rattle.module_maps.specs.map_laws.LineLemmas.{Pairs, AreModules, AreFit, lines_text, read_on, parts_at, pair-of}
 
 -- a text that is cut is what is before the mark, the mark, and what is after it
 cut-whole : (mark : ℕ) (text first rest : Text) → cut mark text ≡ Some (first, rest) → text ≡ first ++ mark ∷ rest
@@ -178,3 +186,27 @@ lines-only {X} form line entry Q back entries n (first ∷ next ∷ lines) found
 pub none-unfit : (pairs : Pairs) → AreFit pairs → first_unfit pairs ≡ None
 none-unfit [] fits = refl
 none-unfit (x ∷ xs) fits = ap (λ t. cond t (first_unfit xs) (Some x.1)) fits.0 ∙ none-unfit xs fits.1
+
+-- each thing that was read is a module that can be in a map
+pub modules-of : (entry : Text × Text → MapEntry) (Q : List MapEntry → Text × Text → Type 0) →
+    ((entries : List MapEntry) (x : Text × Text) → Q entries x → IsModulePair x × (is_fit x.1 ≡ true)) →
+    (entries : List MapEntry) (xs : Pairs) → EachBehind entry Q entries xs → AreModules xs × AreFit xs
+modules-of entry Q fits entries [] each = (tt, tt)
+modules-of entry Q fits entries (x ∷ xs) each =
+    let one = fits entries x each.0 in
+    let rest = modules-of entry Q fits (entries ++ entry x ∷ []) xs each.1 in
+    ((one.0, rest.0), (one.1, rest.1))
+
+-- what holds of what is read holds of what a call returns
+pub of-result : (P : List MapEntry → Type 0) (read : Result (List MapEntry) MapFault) → ((found : List MapEntry) → read ≡ Ok found → P found) →
+    (result : Result (Vec MapEntry Global) (Failure MapFault)) → Gives (λ found. found.items) result read → IfOk result (λ found. P found.items)
+of-result P read holds (Ok found) gives = holds found.items gives
+of-result P read holds (Err failure) gives = tt
+
+-- a name comes before another if they compare so
+pub precedes : (a b : Text) → is_lt (slice_cmp nat_cmp a b) ≡ true → Precedes a b
+precedes a b e = by (slice_cmp nat_cmp a b) e where
+  by : (o : Ordering) → is_lt o ≡ true → o ≡ Less
+  by Less e = refl
+  by Equal e = absurd cc
+  by Greater e = absurd cc

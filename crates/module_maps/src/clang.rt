@@ -1,10 +1,10 @@
 //! The maps of Clang.
-ghost use Rattle.std.specs.Prelude.{◌≡◌, ◌++◌, ◌-◌, length, slice_get, option_copied, IfOk, OnOk};
+ghost use Rattle.std.specs.Prelude.{◌≡◌, ◌++◌, ◌-◌, length, slice_get, IfOk, OnOk};
 ghost use Rattle.std.specs.List.{flat_map};
 ghost use Rattle.ninja_text.specs.Failure.{Gives};
 ghost use Rattle.module_maps.specs.Maps.{IsWrittenText, lent_pairs};
 ghost use Rattle.module_maps.specs.MapLines.{lines_of};
-ghost use Rattle.module_maps.specs.ClangMaps.{output_text, rises, rises_behind, read_provided};
+ghost use Rattle.module_maps.specs.ClangMaps.{output_text, rises_behind, read_provided};
 
 use crate::fault::MapFault;
 use crate::map_lines::{
@@ -137,17 +137,7 @@ fn read_provided(alloc: Global, text: &[u8]) -> Result<Vec<MapEntry>, Failure<Ma
 fn rises_behind(entries: &[MapEntry], name: &Name) -> bool
     ensures { result ≡ rises_behind (slice_get entries.now (length entries.now - 1)) name.now }
 {
-    match entries.last() {
-        Some(entry) => rises(entry.name.as_ref(), name),
-        None => true,
-    }
-}
-
-/// Returns whether a name comes after another one, if there is one.
-fn rises(before: Option<&Name>, name: &Name) -> bool
-    ensures { result ≡ rises (option_copied before.entry) name.now }
-{
-    match before {
+    match entries.last().and_then(|entry| entry.name.as_ref()) {
         Some(before) => before < name,
         None => true,
     }

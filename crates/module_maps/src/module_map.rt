@@ -124,10 +124,5 @@ fn bytes_in(pairs: &[(&Name, &Path)]) -> usize
 fn is_rising(pairs: &[(&Name, &Path)]) -> bool
     ensures { IsTrue result ↔ IsRising (lent_pairs pairs.now) }
 {
-    for i in 1..pairs.len() {
-        if pairs[i - 1].0 >= pairs[i].0 {
-            return false;
-        }
-    }
-    true
+    pairs.is_sorted_by(|before, after| before.0 < after.0)
 }

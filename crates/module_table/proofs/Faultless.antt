@@ -7,7 +7,7 @@ use Rattle.std.specs.Cmp.Lexicographic.{bytes_decides}
 use Rattle.std.proofs.lemmas.Bool.{cases_Bool, cases_eq, true≢false}
 use Rattle.std.proofs.lemmas.Option.{slice_get_within}
 use Rattle.document_values.specs.Rule.{RuleValue}
-use Rattle.document_values.specs.Info.{InfoValue, ModuleValue}
+use Rattle.document_values.specs.Info.{ModuleValue}
 use Rattle.dep_order.specs.Needs.{NodeNeeds, IsOrderable}
 use Rattle.dep_order.specs.Cycles.{IsCycle, IsLeastCycle}
 use Rattle.dep_order.proofs.ForCallers.{AreWithin, orderable_same, cycle_same, orderable_or_cycle, least_is_short, no_cycle_without_least}
@@ -72,7 +72,15 @@ module _ {X : Type 0} (Alike : X → X → Type 0) (xs : List X) (none : (i j : 
 at_one_place : {X : Type 0} (f : X → List ℕ) (xs : List X) → ((i j : ℕ) (a b : X) → i < j → At xs i a → At xs j b → f a ≡ f b → ⊥) → (i j : ℕ) (a b : X) →
     At xs i a → At xs j b → f a ≡ f b → i ≡ j
 at_one_place f xs never i j a b at_i at_j same =
-    neither_less i j (λ lt. never i j a b lt at_i at_j same) (λ gt. never j i b a gt at_j at_i (sym same))
+    neither_less (λ lt. never i j a b lt at_i at_j same) (λ gt. never j i b a gt at_j at_i (sym same))
+
+-- and so if no text is the first to be there twice
+texts_differ : {X : Type 0} (f : X → List ℕ) (xs : List X) → ((k l : ℕ) (y : List ℕ) → IsFirstRepetition (λ v w. v ≡ w) (map f xs) k l y y → ⊥) →
+    (i j : ℕ) (a b : X) → At xs i a → At xs j b → f a ≡ f b → i ≡ j
+texts_differ f xs none = at_one_place f xs (λ i j a b lt at_i at_j.
+    never_twice (λ v w. v ≡ w) (map f xs)
+    (λ k l x y first. none k l y (subst (λ z. IsFirstRepetition (λ v w. v ≡ w) (map f xs) k l z y) first.alike first)) i j (f a) (f b) lt
+    (to_map f xs i a at_i) (to_map f xs j b at_j))
 
 -- if no object is the first that requires such a name, none does
 none_required : (P : List ℕ → Type 0) (objects : List RuleValue) → ((object : ℕ) (name : Name) → IsFirstRequired P objects object name → ⊥) →
@@ -148,21 +156,6 @@ module _ (t : TableValue) (kept : List Name) (none : (name : Name) (first second
 -- ---- a table without a fault
 
 module _ (t : TableValue) (kept : List Name) (none : HasNoFault t kept) where
-  objects_apart : (i j : ℕ) (a b : RuleValue) → i < j → At t.objects i a → At t.objects j b → a.object ≡ b.object → ⊥
-  objects_apart i j a b lt at_i at_j same =
-      let paths = map path_of t.objects in
-      never_twice (λ x y. x ≡ y) paths
-      (λ k l x y first. none (ObjectTwice y (Object k) (Object l))
-      (k, l, subst (λ z. IsFirstRepetition (λ v w. v ≡ w) paths k l z y) first.alike first, refl, refl))
-      i j a.object b.object lt (to_map path_of t.objects i a at_i) (to_map path_of t.objects j b at_j) same
-
-  infos_apart : (i j : ℕ) (a b : InfoValue) → i < j → At t.infos i a → At t.infos j b → a.target ≡ b.target → ⊥
-  infos_apart i j a b lt at_i at_j same =
-      let targets = map target_of t.infos in
-      never_twice (λ x y. x ≡ y) targets
-      (λ k l x y first. none (InfoTwice y) (k, l, subst (λ z. IsFirstRepetition (λ v w. v ≡ w) targets k l z y) first.alike first))
-      i j a.target b.target lt (to_map target_of t.infos i a at_i) (to_map target_of t.infos j b at_j) same
-
   files_apart : (i j : ℕ) (a b : Claim) → i < j → At (claims t) i a → At (claims t) j b → Collides a b → ⊥
   files_apart = never_twice Collides (claims t) (λ k l x y first. none (BmiTwice y.file x.maker y.maker) (k, l, x, y, first, refl, refl, refl))
 
@@ -278,8 +271,8 @@ module _ (t : TableValue) (kept : List Name) (none : HasNoFault t kept) where
 
     sound : IsSound t
     sound = record {
-      objects_differ = at_one_place path_of t.objects objects_apart;
-      infos_differ = at_one_place target_of t.infos infos_apart;
+      objects_differ = texts_differ path_of t.objects (λ k l y first. none (ObjectTwice y (Object k) (Object l)) (k, l, first, refl, refl));
+      infos_differ = texts_differ target_of t.infos (λ k l y first. none (InfoTwice y) (k, l, first));
       names_differ = at_one_place name_of (provisions t) (names_apart t kept (λ name first second. none (ProvidedTwice name first second)));
       files_differ = files_apart;
       known = known;

@@ -15,7 +15,7 @@ use Rattle.module_table.specs.inner.Views.{names_of, files_of, IsProvidedTwice, 
 use Rattle.module_table.specs.inner.Reported.{Reports}
 use Rattle.module_table.specs.declared.fault.Maker.TheVariants.{Object, Info}
 use Rattle.module_table.specs.declared.fault.TableFault.{TableFault}
-use Rattle.module_table.specs.declared.fault.TableFault.TheVariants.{ProvidedTwice, BmiTwice, ModuleUnknown}
+use Rattle.module_table.specs.declared.fault.TableFault.TheVariants.{ModuleUnknown}
 use Rattle.module_table.proofs.Places.{either, numbered, object_provision, info_provision, from_provisions, neither_less, from_find, map_map}
 use Rattle.module_table.proofs.Lists.{repetition_of, one_there, same_reads, one_value}
 use Rattle.ninja_text.proofs.ForCallers.{in_take, same_some, to_map, in_first, in_second, from_map, in_append}
@@ -28,10 +28,10 @@ use Rattle.module_table.proofs.Words.{name_of, maker_of, path_of, claimed, claim
 use Rattle.ninja_text.specs.Bytes.{Name}
 use Rattle.std.proofs.lemmas.List.FromFn.{length-enumerate_from}
 
-pub for_fault : (P Q : Box TableFault Global → Type 0) (failure : Failure (Box TableFault Global)) → ((fault : Box TableFault Global) → P fault → Q fault) →
+pub for_fault : {P Q : Box TableFault Global → Type 0} (failure : Failure (Box TableFault Global)) → ((fault : Box TableFault Global) → P fault → Q fault) →
     ForFault P failure → ForFault Q failure
-for_fault P Q Memory to h = h
-for_fault P Q (Fault fault) to h = to fault h
+for_fault Memory to h = h
+for_fault (Fault fault) to h = to fault h
 
 -- what is known of a fault is known of the failure that it makes
 pub for_boxed : (P : TableFault → Type 0) (fault : TableFault) (failure : Failure (Box TableFault Global)) → P fault →
@@ -40,9 +40,9 @@ for_boxed P fault Memory is same = tt
 for_boxed P fault (Fault boxed) is same = subst P (sym same) is
 
 -- a fault that is another one in other words
-pub reports_same : (code : ℕ) (t : TableValue) (kept : List Name) (fault other : TableFault) → fault ≡ other → Reports code t kept other →
+pub reports_same : (code : ℕ) (t : TableValue) (kept : List Name) {fault other : TableFault} → fault ≡ other → Reports code t kept other →
     Reports code t kept fault
-reports_same code t kept fault other e h = subst (Reports code t kept) (sym e) h
+reports_same code t kept e h = subst (Reports code t kept) (sym e) h
 
 -- ---- M3
 
@@ -51,7 +51,7 @@ module _ (t : TableValue) (kept : List Name) (i j : ℕ) (fault : TableFault) wh
   reported_twice repeated is =
       let found = repetition_of name_of (provisions t) i j repeated in
       let b : found.1 ≡ is.1 = one_there found.2.y_here is.3 in
-      reports_same 3 t kept fault (ProvidedTwice is.1.name is.0.maker is.1.maker) is.4
+      reports_same 3 t kept is.4
       (record {
         present = (i, j, found.0, found.1, found.2, ap name_of b, ap maker_of (one_there found.2.x_here is.2), ap maker_of b);
         coded = refl;
@@ -116,7 +116,7 @@ module _ (t : TableValue) (kept : List Name) (i j : ℕ) (fault : TableFault) (a
       absurd (omega (arith, far, within, length_own t.objects (provisions t), length-map t.objects path_of)))
       (λ out. let from = from_map module_claim (provisions t) out.0 found.1 out.2 in ap (λ (c : Claim). c.is_module) (sym from.2))
       (in_append (own_claims t.objects) (module_claims (provisions t)) j found.1 found.2.y_here) in
-      reports_same 4 t kept fault (BmiTwice is.1.file is.0.maker is.1.maker) is.4
+      reports_same 4 t kept is.4
       (record {
         present = (
           i,
@@ -143,13 +143,13 @@ module _ (t : TableValue) (kept : List Name) (i j : ℕ) (fault : TableFault) (a
 -- what is provided has a number, and what has a number is provided
 module _ (t : TableValue) where
   pub numbered_provided : (name file : Name) → IsProvided t name file → (k : ℕ) × (At (names_of (provisions t)) k name)
-  numbered_provided name file (Object o, h) = (_, to_map name_of (provisions t) _ _ (object_provision t o h.0 name file h.1))
-  numbered_provided name file (Info i, h) = (_, to_map name_of (provisions t) _ _ (info_provision t i h.0 h.1 h.2) ∙ ap Some h.3)
+  numbered_provided name file (Object o, h) = (_, to_map name_of (provisions t) _ _ (object_provision t o h.0 h.1))
+  numbered_provided name file (Info i, h) = (_, to_map name_of (provisions t) _ _ (info_provision t i h.0 h.2) ∙ ap Some h.3)
 
   pub provided_numbered : (k : ℕ) (name : Name) → At (names_of (provisions t)) k name → (file : Name) × IsProvided t name file
   provided_numbered k name at =
       let from = from_map name_of (provisions t) k name at in
-      (from.0.file, (from.0.maker, subst (λ n. IsProvidedBy t from.0.maker n from.0.file) from.2 (from_provisions t k from.0 from.1)))
+      (from.0.file, (from.0.maker, subst (λ n. IsProvidedBy t from.0.maker n from.0.file) from.2 (from_provisions t k from.1)))
 
   pub absent_unknown : (name : Name) → IsAbsent (names_of (provisions t)) name → IsUnknown t name
   absent_unknown name absent file h = let n = numbered_provided name file h in absent n.0 n.1
@@ -165,7 +165,7 @@ module _ (t : TableValue) where
   reported_unknown : (kept : List Name) (object : ℕ) (rule : RuleValue) (place : ℕ) (name : Name) (fault : TableFault) → At t.objects object rule →
       KnownBefore object → IsFirst (IsAbsent (names_of (provisions t))) rule.required place name → fault ≡ ModuleUnknown name object → Reports 5 t kept fault
   reported_unknown kept object rule place name fault at known first same =
-      reports_same 5 t kept fault (ModuleUnknown name object) same
+      reports_same 5 t kept same
       (record {
         present = record {
           rule = rule;
@@ -185,9 +185,9 @@ module _ (t : TableValue) where
       })
 
 -- each name has a number, by its row
-pub in_row : (keys : List Name) (row : List ℕ) (names : List Name) (index : ℕ) (name : Name) → map (slice_get keys) row ≡ map Some names → At names index name →
+pub in_row : (keys : List Name) (row : List ℕ) (names : List Name) (index : ℕ) {name : Name} → map (slice_get keys) row ≡ map Some names → At names index name →
     (number : ℕ) × (At row index number) × (At keys number name)
-in_row keys row names index name same at =
+in_row keys row names index {name} same at =
     let here = same_reads index same ∙ to_map Some names index name at in
     from_map (slice_get keys) row index (Some name) here
 
@@ -196,7 +196,7 @@ rows_known : {R : Type 0} (numbers : R → List ℕ) (t : TableValue) (rows : Li
 rows_known numbers t rows object same k rule index name lt at at_name absent =
     let here = same_reads k same ∙ to_map names_wanted (take object t.objects) k rule (in_take object t.objects k rule lt at) in
     let row = from_map (λ row. map (slice_get (names_of (provisions t))) (numbers row)) rows k (map Some rule.required) here in
-    let number = in_row (names_of (provisions t)) (numbers row.0) rule.required index name row.2 at_name in
+    let number = in_row (names_of (provisions t)) (numbers row.0) rule.required index row.2 at_name in
     absent number.0 number.2
 
 -- the fault of an object's row
@@ -245,33 +245,33 @@ module _ (ps : List Provision) (name : Name) where
       by (Some q) e = let f = found_named q e in absurd (absent f.0 (name_there f.0 q f.1))
 
   module _ (differ : AllDiffer (names_of ps)) where
-    pub one_index : (k l : ℕ) (p q : Provision) → IsNamed ps name k p → IsNamed ps name l q → k ≡ l
-    one_index k l p q a b =
-        neither_less k l (λ lt. differ.differ k l name lt (name_there k p a) (name_there l q b))
+    pub one_index : (k l : ℕ) {p q : Provision} → IsNamed ps name k p → IsNamed ps name l q → k ≡ l
+    one_index k l {p} {q} a b =
+        neither_less (λ lt. differ.differ k l name lt (name_there k p a) (name_there l q b))
         (λ gt. differ.differ l k name gt (name_there l q b) (name_there k p a))
 
-    pub one_module : (k l : ℕ) (p q : Provision) → IsNamed ps name k p → IsNamed ps name l q → p ≡ q
-    one_module k l p q a b = one_value (sym a.0 ∙ ap (slice_get ps) (one_index k l p q a b) ∙ b.0)
+    pub one_module : (k l : ℕ) {p q : Provision} → IsNamed ps name k p → IsNamed ps name l q → p ≡ q
+    one_module k l a b = one_value (sym a.0 ∙ ap (slice_get ps) (one_index k l a b) ∙ b.0)
 
     pub named_found : (k : ℕ) (p : Provision) → IsNamed ps name k p → found ps name ≡ Some p
     named_found k p named = by (found ps name) refl
       where
         by : (o : Option Provision) → found ps name ≡ o → o ≡ Some p
         by None e = absurd (none_named e k p named)
-        by (Some q) e = let f = found_named q e in ap Some (one_module f.0 k q p f.1 named)
+        by (Some q) e = let f = found_named q e in ap Some (one_module f.0 k f.1 named)
 
 -- ---- what the checks ask
 
 module _ (ps : List Provision) (differ : AllDiffer (names_of ps)) (k : ℕ) (p : Provision) where
   pub object_not_info : (r : InfoRequirement) (object : ℕ) → IsNamed ps r.name k p → p.maker ≡ Object object → IsNotByInfo ps r
   object_not_info r object named is h =
-      let same = one_module ps r.name differ k h.0 p h.1 named h.3 in
+      let same = one_module ps r.name differ k h.0 named h.3 in
       let maker : Object object ≡ Info h.2 = sym is ∙ ap maker_of same ∙ h.4 in
       cc
 
   pub info_not_object : (name : Name) (info : ℕ) → IsNamed ps name k p → p.maker ≡ Info info → IsNotByObject ps name
   info_not_object name info named is h =
-      let same = one_module ps name differ k h.0 p h.1 named h.3 in
+      let same = one_module ps name differ k h.0 named h.3 in
       let maker : Info info ≡ Object h.2 = sym is ∙ ap maker_of same ∙ h.4 in
       cc
 
@@ -288,7 +288,7 @@ module _ (ps : List Provision) (differ : AllDiffer (names_of ps)) (name : Name) 
     where
       other : (q : Provision) → found ps name ≡ Some q → (b : Bool) → test q ≡ b → MatchBool b Holds (Holds → ⊥)
       other q e true t = let f = found_named ps name q e in (f.0, q, f.1, t)
-      other q e false t = λ h. let f = found_named ps name q e in true≢false (sym h.3 ∙ ap test (one_module ps name differ h.0 f.0 h.1 q h.2 f.1) ∙ t)
+      other q e false t = λ h. let f = found_named ps name q e in true≢false (sym h.3 ∙ ap test (one_module ps name differ h.0 f.0 h.2 f.1) ∙ t)
 
       by : (o : Option Provision) → found ps name ≡ o → MatchBool (some_and test o) Holds (Holds → ⊥)
       by None e = λ h. none_named ps name e h.0 h.1 h.2
@@ -301,7 +301,7 @@ module _ (ps : List Provision) (differ : AllDiffer (names_of ps)) (name : Name) 
   all_decides = by (found ps name) refl
     where
       other : (q : Provision) → found ps name ≡ Some q → (b : Bool) → test q ≡ b → MatchBool b All Fails
-      other q e true t = λ k p named. let f = found_named ps name q e in ap test (one_module ps name differ k f.0 p q named f.1) ∙ t
+      other q e true t = λ k p named. let f = found_named ps name q e in ap test (one_module ps name differ k f.0 named f.1) ∙ t
       other q e false t = let f = found_named ps name q e in (f.0, q, f.1, t)
 
       by : (o : Option Provision) → found ps name ≡ o → MatchBool (none_or test o) All Fails
@@ -361,7 +361,7 @@ module _ (ps : List Provision) (differ : AllDiffer (names_of ps)) where
   public_of : (index : ℕ) (name : Name) → At (names_of ps) index name → is_public_at ps index ≡ true → IsPublic ps name
   public_of index name at public k q named =
       let p = from_map name_of ps index name at in
-      let same = one_module ps name differ k index q p.0 named (p.1, p.2) in
+      let same = one_module ps name differ k index named (p.1, p.2) in
       ap privacy_of same ∙ not-true p.0.is_private (sym (ap unless_private p.1) ∙ public)
 
   abbrev pub IsPublicAt : ℕ → Type 0
@@ -378,14 +378,14 @@ module _ (ps : List Provision) (differ : AllDiffer (names_of ps)) where
 
     pub row_public : AcceptsAll IsPublicAt row → AcceptsAll (IsPublic ps) names
     row_public all = record
-        { each = λ k name at_name. let n = in_row (names_of ps) row names k name same at_name in public_of n.0 name n.2 (all.each k n.0 n.1) }
+        { each = λ k name at_name. let n = in_row (names_of ps) row names k same at_name in public_of n.0 name n.2 (all.each k n.0 n.1) }
 
     pub row_private : (k : ℕ) → RefusesAt IsPublicAt IsPrivateAt row k → (name : Name) → At names k name → RefusesAt (IsPublic ps) (IsPrivate ps) names k
     row_private k found name at_name = record {
       x = name;
       here = at_name;
       refused = private_of found.x name (name_here k found.x name found.here at_name) found.refused;
-      accepted = λ l other lt at. let n = in_row (names_of ps) row names l other same at in public_of n.0 other n.2 (found.accepted l n.0 lt n.1);
+      accepted = λ l other lt at. let n = in_row (names_of ps) row names l same at in public_of n.0 other n.2 (found.accepted l n.0 lt n.1);
     }
 
   -- a private module is of the one info

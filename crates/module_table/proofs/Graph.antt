@@ -16,7 +16,7 @@ use Rattle.module_table.proofs.Lists.{zip_append, zip_flat_map, zip_numbered, zi
 use Rattle.ninja_text.proofs.ForCallers.{from_map, in_append}
 use Rattle.std.proofs.lemmas.List.Elements.{filter_map-append}
 use Rattle.dep_order.specs.Needs.{NeedsAreNodes}
-use Rattle.module_table.specs.inner.Numbered.{AreIndexes}
+use Rattle.module_table.specs.inner.Numbered.{AreRequiredIndexes}
 use Rattle.module_table.specs.inner.Graph.{IsModuleGraph, IsModuleRow, AreModuleRows, indexes_in, object_row, info_rows}
 use Rattle.module_table.proofs.IndexRows.{length_mapped, only_one, from_numbers, many_rows, rule_of, name_of_index}
 use Rattle.module_table.proofs.Words.{Pair, name_of, own_module, infos_module, names_wanted, own_modules, infos_modules, At, name_in_pair}
@@ -24,8 +24,8 @@ use Rattle.ninja_text.specs.Bytes.{Name}
 
 -- ---- each place is that of the module of its number
 
-pub one_entry : (infos : List InfoValue) (i j : ℕ) (a b : ModuleValue) → IsInfosModule infos i j a → IsInfosModule infos i j b → a ≡ b
-one_entry infos i j a b at_a at_b =
+pub one_entry : (infos : List InfoValue) (i j : ℕ) {a b : ModuleValue} → IsInfosModule infos i j a → IsInfosModule infos i j b → a ≡ b
+one_entry infos i j at_a at_b =
     one_there (ap (λ (v : InfoValue). slice_get v.modules j) (sym (one_there at_a.1 at_b.1)) ∙ at_a.2) at_b.2
 
 one_pair : (objects : List RuleValue) (infos : List InfoValue) (origin : Origin) (a b : Pair) → IsNamedAt objects infos origin a →
@@ -33,7 +33,7 @@ one_pair : (objects : List RuleValue) (infos : List InfoValue) (origin : Origin)
 one_pair objects infos (Object o, j) a b at_a at_b =
     one_there (ap (λ (r : RuleValue). slice_get r.provided j) (sym (one_there at_a.1 at_b.1)) ∙ at_a.2) at_b.2
 one_pair objects infos (Info i, j) a b at_a at_b =
-    let entry = one_entry infos i j at_a.0 at_b.0 at_a.1 at_b.1 in
+    let entry = one_entry infos i j at_a.1 at_b.1 in
     let name = sym at_a.2 ∙ ap (λ (m : ModuleValue). m.name) entry ∙ at_b.2 in
     let file = sym at_a.3 ∙ ap (λ (m : ModuleValue). m.file) entry ∙ at_b.3 in
     ap (λ n. (n, a.1)) name ∙ ap (λ f. (b.0, f)) file
@@ -91,6 +91,10 @@ provided_at : (t : TableValue) (origin : Origin) (pair : Pair) → IsNamedAt t.o
 provided_at t (Object object, position) pair h = (position, h)
 provided_at t (Info info, position) pair h = (position, h.0, h.1, h.2, h.3)
 
+-- there are as many places as modules
+pub many_origins : (t : TableValue) → length (provisions t) ≡ length (origins_of t)
+many_origins t = zip_length (IsPlaceOf t) (provisions t) (origins_of t) (module_places t)
+
 -- what is found at the number of a name
 module _ (t : TableValue) (names : List Name) (places : List (Origin)) (are_names : names ≡ names_of (provisions t)) (are_places : places ≡ origins_of t)
     (number : ℕ) (name : Name) (at : At names number name) where
@@ -102,7 +106,7 @@ module _ (t : TableValue) (names : List Name) (places : List (Origin)) (are_name
       omega (
         arith,
         slice_get_within (provisions t) number named.0 named.1,
-        (zip_length (IsPlaceOf t) (provisions t) (origins_of t) (module_places t)),
+        (many_origins t),
         ap length are_places,
       )
 
@@ -195,7 +199,7 @@ module _ (t : TableValue) where
 
 -- ---- the graph
 
-module _ (t : TableValue) (modules rows : List (List ℕ)) (made : AreModuleRows t modules) (indexes : AreIndexes t rows) where
+module _ (t : TableValue) (modules rows : List (List ℕ)) (made : AreModuleRows t modules) (indexes : AreRequiredIndexes t rows) where
   abbrev known : List (List ℕ)
   known = names_of (provisions t)
 
@@ -207,7 +211,7 @@ module _ (t : TableValue) (modules rows : List (List ℕ)) (made : AreModuleRows
       length-append modules rows
       ∙ ap (λ n. n + length rows)
       (sym (zip_length (IsModuleRow known t.infos) (origins_of t) modules made) ∙
-      sym (zip_length (IsPlaceOf t) (provisions t) (origins_of t) (module_places t)) ∙ many_names t)
+      sym (many_origins t) ∙ many_names t)
 
   in_module_row : (k : ℕ) (origin : Origin) (row : List ℕ) (n : ℕ) → At (origins_of t) k origin → IsModuleRow known t.infos origin row → Has row n →
       n < length known + length rows
@@ -221,7 +225,7 @@ module _ (t : TableValue) (modules rows : List (List ℕ)) (made : AreModuleRows
   in_object_row : (row : List ℕ) (n : ℕ) → Has rows row → Has row n → n < length known + length rows
   in_object_row row n here has =
       let rule = rule_of t rows indexes here.0 row here.1 in
-      let name = name_of_index known row rule.0.required rule.2 has.0 n has.1 in
+      let name = name_of_index known row rule.0.required rule.2 has.0 has.1 in
       omega (arith, (slice_get_within known n name.0 name.2))
 
   below : (row : List ℕ) (n : ℕ) → Has (modules ++ rows) row → Has row n → n < length known + length rows

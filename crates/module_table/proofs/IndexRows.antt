@@ -10,7 +10,7 @@ use Rattle.document_values.specs.Rule.{RuleValue}
 use Rattle.module_table.specs.TableValue.{TableValue, table_with}
 use Rattle.module_table.specs.Modules.{Provides, IsProvidedBy, DependsOn, Provision, provisions}
 use Rattle.module_table.specs.inner.Views.{names_of}
-use Rattle.module_table.specs.inner.Numbered.{IsNumbered, object_of, maker_at, AreIndexes}
+use Rattle.module_table.specs.inner.Numbered.{IsNumbered, object_of, maker_at, AreRequiredIndexes}
 use Rattle.module_table.specs.declared.fault.Maker.{Maker}
 use Rattle.module_table.specs.declared.fault.Maker.TheVariants.{Object, Info}
 use Rattle.module_table.proofs.Places.{object_provision, neither_less, Has, from_provisions}
@@ -34,26 +34,23 @@ use Rattle.std.proofs.lemmas.Map.Keys.{IsDistinct-from_apart, IsDistinct-IsPermu
 use Rattle.module_table.proofs.Words.{Pair, name_of, items_of, names_wanted, At}
 use Rattle.ninja_text.specs.Bytes.{Name}
 use Rattle.std.proofs.lemmas.List.Elements.{filter_map-append}
-use Rattle.std.proofs.lemmas.List.{length-map, take_all as taken}
+use Rattle.std.proofs.lemmas.List.{length-map, take_all}
 
 -- ---- objects need each other as their rows of numbers say
 
-filter_map_push : {X Y : Type 0} (h : X → Option Y) (xs : List X) (x : X) → filter_map h (xs ++ x ∷ []) ≡ filter_map h xs ++ cons_option (h x) []
-filter_map_push h xs x = filter_map-append h xs (x ∷ [])
-
 -- one more element, if something is made of it
-pub takes_some : {X Y : Type 0} (h : X → Option Y) (xs : List X) (i : ℕ) (x : X) (y : Y) (now new : List Y) → At xs i x → now ≡ filter_map h (take i xs) →
+pub takes_some : {X Y : Type 0} (h : X → Option Y) (xs : List X) (i : ℕ) {x : X} {y : Y} {now new : List Y} → At xs i x → now ≡ filter_map h (take i xs) →
     h x ≡ Some y → new ≡ now ++ y ∷ [] → new ≡ filter_map h (take (i + 1) xs)
-takes_some h xs i x y now new at before is more =
+takes_some h xs i {x} {y} at before is more =
     more ∙ ap (λ ys. ys ++ y ∷ []) before ∙ ap (λ o. filter_map h (take i xs) ++ cons_option o []) (sym is) ∙
-    sym (ap (filter_map h) (take_next xs i x at) ∙ filter_map_push h (take i xs) x)
+    sym (ap (filter_map h) (take_next xs i x at) ∙ filter_map-append h (take i xs) (x ∷ []))
 
 -- and if nothing is
-pub takes_none : {X Y : Type 0} (h : X → Option Y) (xs : List X) (i : ℕ) (x : X) (now : List Y) → At xs i x → now ≡ filter_map h (take i xs) → h x ≡ None →
+pub takes_none : {X Y : Type 0} (h : X → Option Y) (xs : List X) (i : ℕ) {x : X} {now : List Y} → At xs i x → now ≡ filter_map h (take i xs) → h x ≡ None →
     now ≡ filter_map h (take (i + 1) xs)
-takes_none h xs i x now at before is =
+takes_none h xs i {x} at before is =
     before ∙ sym (append-nil (filter_map h (take i xs))) ∙ ap (λ o. filter_map h (take i xs) ++ cons_option o []) (sym is) ∙
-    sym (ap (filter_map h) (take_next xs i x at) ∙ filter_map_push h (take i xs) x)
+    sym (ap (filter_map h) (take_next xs i x at) ∙ filter_map-append h (take i xs) (x ∷ []))
 
 row_there : {X : Type 0} (graph : List (List X)) (o k : ℕ) → k < length (get_or graph o []) → At graph o (get_or graph o [])
 row_there [] o k lt = absurd (omega (arith, lt))
@@ -75,7 +72,7 @@ made_by (Some q) p e = (q, refl, is_object q.maker p e)
 -- the position of an object's module
 module_at : (t : TableValue) (p position : ℕ) (name file : Name) → Provides t p position name file →
     (m : ℕ) × (At (provisions t) m (record { maker = Object p; name = name; file = file; is_private = false }))
-module_at t p position name file provides = (_, object_provision t p position name file provides)
+module_at t p position name file provides = (_, object_provision t p position provides)
 
 module _ (t : TableValue) (ps : List Provision) (rows : List (List ℕ)) (is : IsNumbered t ps rows) where
   abbrev graph : List (List ℕ)
@@ -104,7 +101,7 @@ module _ (t : TableValue) (ps : List Provision) (rows : List (List ℕ)) (is : I
       let at_j = same_reads item.1.0 rule.2 ∙ to_map (slice_get (names_of ps)) row.0 item.1.0 item.0 item.1.1 in
       let name = from_map Some rule.0.required item.1.0 (slice_get (names_of ps) item.0) at_j in
       let called : q.0.name ≡ name.0 = one_value (sym (to_map name_of ps item.0 q.0 q.1) ∙ sym name.2) in
-      let by = from_provisions t item.0 q.0 (same_reads item.0 (sym is.all_provided) ∙ q.1) in
+      let by = from_provisions t item.0 (same_reads item.0 (sym is.all_provided) ∙ q.1) in
       let made = subst (λ n. IsProvidedBy t (Object p) n q.0.file) called (subst (λ m. IsProvidedBy t m q.0.name q.0.file) q.2 by) in
       (name.0, q.0.file, made.0, (rule.0, rule.1, contained rule.0.required name.0 (item.1.0, name.1)), made.1)
 
@@ -112,12 +109,12 @@ module _ (t : TableValue) (ps : List Provision) (rows : List (List ℕ)) (is : I
   from_depends o p (name, file, position, needs, provides) =
       let rule = needs.0 in
       let row = row_at o rule needs.1 in
-      let number = in_row (names_of ps) row.0 rule.required needs.2.0 name row.2 (slice_get-get_or rule.required needs.2.0 name needs.2.1 ∙ ap Some needs.2.2)
+      let number = in_row (names_of ps) row.0 rule.required needs.2.0 row.2 (slice_get-get_or rule.required needs.2.0 name needs.2.1 ∙ ap Some needs.2.2)
       in
       let made = module_at t p position name file provides in
       let made_in = same_reads made.0 is.all_provided ∙ made.1 in
       let mine = from_map name_of ps number.0 name number.2 in
-      let index = one_index ps name is.differ number.0 made.0 mine.0 _ (mine.1, mine.2) (made_in, refl) in
+      let index = one_index ps name is.differ number.0 made.0 (mine.1, mine.2) (made_in, refl) in
       let found : maker_at ps number.0 ≡ Some p = ap (maker_at ps) index ∙ ap (option_and_then (λ (q : Provision). object_of q.maker)) made_in in
       subst (λ xs. Contains xs p)
       (sym (get_or_from_slice_get graph o (filter_map (maker_at ps) row.0) [] (to_map (filter_map (maker_at ps)) rows o row.0 row.1)))
@@ -158,7 +155,7 @@ module _ (names : List Name) where
   module _ (differ : AllDiffer names) where
     pub one_number : (name : Name) (k l : ℕ) → At names k name → At names l name → k ≡ l
     one_number name k l at_k at_l =
-        neither_less k l (λ lt. differ.differ k l name lt at_k at_l) (λ gt. differ.differ l k name gt at_l at_k)
+        neither_less (λ lt. differ.differ k l name lt at_k at_l) (λ gt. differ.differ l k name gt at_l at_k)
 
     pub number_known : (name : Name) (k : ℕ) → At names k name → index_in names name ≡ Some k
     number_known name k at =
@@ -194,18 +191,15 @@ of_vectors keys (v ∷ vectors) = ap (λ ys. map (slice_get keys) v.items ∷ ys
 
 -- the rows of the names that the objects require
 pub are_indexes : (t : TableValue) (keys : List Name) (vectors : List (Vec ℕ Global)) → keys ≡ names_of (provisions t) →
-    map (λ row. map (slice_get keys) row.items) vectors ≡ map names_wanted t.objects → AreIndexes t (rows vectors)
+    map (λ row. map (slice_get keys) row.items) vectors ≡ map names_wanted t.objects → AreRequiredIndexes t (rows vectors)
 are_indexes t keys vectors named is =
     subst (λ ks. map (λ row. map (slice_get ks) row) (rows vectors) ≡ map names_wanted t.objects) named (of_vectors keys vectors ∙ is)
 
-pub take_all : {X : Type 0} (xs : List X) (n : ℕ) → length xs ≤ n → take n xs ≡ xs
-take_all xs n h = taken n xs h
-
--- and what is made of each element
+-- what is made of each element of a list that a loop has gone through
 pub map_take_all : {X Y : Type 0} (f : X → Y) (xs : List X) (n : ℕ) → length xs ≤ n → take n (map f xs) ≡ map f xs
-map_take_all f xs n h = take_all (map f xs) n (omega (arith, length_mapped f xs))
+map_take_all f xs n h = take_all n (map f xs) (omega (arith, length_mapped f xs))
 
-pub numbered : (t : TableValue) (rows : List (List ℕ)) → AllDiffer (names_of (provisions t)) → AreIndexes t rows → IsNumbered t (provisions t) rows
+pub numbered : (t : TableValue) (rows : List (List ℕ)) → AllDiffer (names_of (provisions t)) → AreRequiredIndexes t rows → IsNumbered t (provisions t) rows
 numbered t rows differ is = record { all_provided = refl; differ = differ; numbers = is }
 
 pub same_table : (objects others : List RuleValue) (infos more : List InfoValue) → objects ≡ others → infos ≡ more →
@@ -214,7 +208,7 @@ same_table objects others infos more eo ei =
     ap (λ (os : List RuleValue). let t = table_with os infos in t) eo ∙ ap (λ (is : List InfoValue). let t = table_with others is in t) ei
 
 -- the rule that a row of indexes is of
-pub rule_of : (t : TableValue) (rows : List (List ℕ)) → AreIndexes t rows → (object : ℕ) (row : List ℕ) → At rows object row →
+pub rule_of : (t : TableValue) (rows : List (List ℕ)) → AreRequiredIndexes t rows → (object : ℕ) (row : List ℕ) → At rows object row →
     (rule : RuleValue) × (At t.objects object rule) × (map (slice_get (names_of (provisions t))) row ≡ map Some rule.required)
 rule_of t rows is object row at =
     let names = names_of (provisions t) in
@@ -223,25 +217,26 @@ rule_of t rows is object row at =
     (r.0, r.1, sym r.2)
 
 -- the name that an index in a row stands for
-pub name_of_index : (names : List Name) (row : List ℕ) (required : List Name) → map (slice_get names) row ≡ map Some required → (k index : ℕ) → At row k index →
-    (name : Name) × (At required k name) × (At names index name)
-name_of_index names row required same k index at =
+pub name_of_index : (names : List Name) (row : List ℕ) (required : List Name) → map (slice_get names) row ≡ map Some required →
+    (k : ℕ) {index : ℕ} → At row k index → (name : Name) × (At required k name) × (At names index name)
+name_of_index names row required same k {index} at =
     let here = same_reads k (sym same) ∙ to_map (slice_get names) row k index at in
     let n = from_map Some required k (slice_get names index) here in
     (n.0, n.1, sym n.2)
 
 -- there is a row for each object
-pub many_rows : (t : TableValue) (rows : List (List ℕ)) → AreIndexes t rows → length t.objects ≡ length rows
+pub many_rows : (t : TableValue) (rows : List (List ℕ)) → AreRequiredIndexes t rows → length t.objects ≡ length rows
 many_rows t rows is =
     sym (length_mapped names_wanted t.objects) ∙ ap length (sym is)
     ∙ length_mapped (λ row. map (slice_get (names_of (provisions t))) row) rows
 
 -- what a row has is the index of a module
-pub index_within : (t : TableValue) (vectors : List (Vec ℕ Global)) → AreIndexes t (rows vectors) → (object : ℕ) (row : Vec ℕ Global) → At vectors object row →
+pub index_within : (t : TableValue) (vectors : List (Vec ℕ Global)) → AreRequiredIndexes t (rows vectors) → (object : ℕ)
+    (row : Vec ℕ Global) → At vectors object row →
     (k index : ℕ) → At row.items k index → index < length (provisions t)
 index_within t vectors is object row at k index here =
     let rule = rule_of t (rows vectors) is object row.items (to_map items_of vectors object row at) in
-    let name = name_of_index (names_of (provisions t)) row.items rule.0.required rule.2 k index here in
+    let name = name_of_index (names_of (provisions t)) row.items rule.0.required rule.2 k here in
     omega (arith, (slice_get_within (names_of (provisions t)) index name.0 name.2), (length_mapped name_of (provisions t)))
 
 -- ---- different numbers
@@ -253,7 +248,7 @@ AreDifferent ns = (i j n : ℕ) → At ns i n → At ns j n → i ≡ j
 pub different : (ns : List ℕ) → AllPairs (λ one other. one ≢ other) ns → AreDifferent ns
 different ns once i j n at_i at_j =
     let same = get_or_from_slice_get ns i n 0 at_i ∙ sym (get_or_from_slice_get ns j n 0 at_j) in
-    neither_less i j (λ lt. once i j 0 lt (slice_get_within ns j n at_j) same) (λ gt. once j i 0 gt (slice_get_within ns i n at_i) (sym same))
+    neither_less (λ lt. once i j 0 lt (slice_get_within ns j n at_j) same) (λ gt. once j i 0 gt (slice_get_within ns i n at_i) (sym same))
 
 module _ (h : ℕ → Option ℕ) (one : (k l x : ℕ) → h k ≡ Some x → h l ≡ Some x → k ≡ l) where
   -- what the first number makes is nothing that a later one makes

@@ -11,4 +11,5 @@ pub mod Pairs
 pub mod Mentions
 pub mod OneReported
 pub mod PartLemmas
+mod PoolLemmas
 pub mod ForCallers

@@ -1,5 +1,5 @@
--- What loops push, lists that differ or have the same indexes, and what is the first to be rejected.
-use Rattle.std.proofs.Common.{◌≡◌, ℕ, ◌+◌, List, [], ◌∷◌, ◌++◌, map, take, Some, ap, sym, ◌∙◌, append_assoc, slice_get, zero, suc, length, refl, subst, arith, ◌<◌, Bool, true, false, ⊎_elim, MatchBool, not, Option, None, position, get_or, append-nil, bytes_eq, cond, IfSome, IfNone, is_some}
+-- What loops push, lists that differ or have the same indexes, and the first that is rejected.
+use Rattle.std.proofs.Common.{◌≡◌, ℕ, ◌+◌, List, [], ◌∷◌, ◌++◌, map, take, Some, ap, sym, ◌∙◌, append_assoc, slice_get, zero, suc, length, refl, subst, arith, ◌<◌, Bool, true, false, ⊎_elim, MatchBool, not, Option, None, position, get_or, append-nil, bytes_eq, cond, IfSome, IfNone, is_some, slice_set}
 use Rattle.std.proofs.lemmas.List.{map-append, length-take-le}
 use Rattle.ninja_text.proofs.ForCallers.{take_next, same_some, from_push, in_take, to_map, from_map, from_take, differ_push, not_among, found_if, new_if}
 use Rattle.std.specs.List.{flat_map, enumerate_from, AllZip, list_any}
@@ -14,8 +14,8 @@ use Rattle.std.proofs.lemmas.Slice.Zip.{AllZip-long}
 use Rattle.module_table.proofs.Words.{At}
 
 -- what a loop reads at an index
-pub read_at : {X : Type 0} (xs : List X) (i : ℕ) (x : X) → i < length xs → x ≡ get_or xs i x → At xs i x
-read_at xs i x lt is = slice_get_read xs (length xs) i x refl lt is
+pub read_at : {X : Type 0} (xs : List X) (i : ℕ) {x : X} → i < length xs → x ≡ get_or xs i x → At xs i x
+read_at xs i {x} lt is = slice_get_read xs (length xs) i x refl lt is
 
 pub one_value : {X : Type 0} {x y : X} → Some x ≡ Some y → x ≡ y
 one_value e = same_some _ _ e
@@ -31,16 +31,16 @@ same_reads k same = ap (λ zs. slice_get zs k) same
 -- ---- loops that push
 
 -- a loop that pushes what each element becomes
-pub pushes_next : {A B Y : Type 0} (g : A → B) (f : Y → B) (ys longer : List Y) (y : Y) (old : List B) (now new : List A) (a : A) → longer ≡ ys ++ y ∷ [] →
-    map g now ≡ old ++ map f ys → new ≡ now ++ a ∷ [] → g a ≡ f y → map g new ≡ old ++ map f longer
-pushes_next g f ys longer y old now new a next before pushed is =
+pub pushes_next : {A B Y : Type 0} (g : A → B) (f : Y → B) (ys : List Y) {longer : List Y} (y : Y) (old : List B) (now : List A) {new : List A} (a : A) →
+    longer ≡ ys ++ y ∷ [] → map g now ≡ old ++ map f ys → new ≡ now ++ a ∷ [] → g a ≡ f y → map g new ≡ old ++ map f longer
+pushes_next g f ys y old now a next before pushed is =
     ap (map g) pushed ∙ map-append g now (a ∷ []) ∙ ap (λ zs. zs ++ g a ∷ []) before ∙ append_assoc old (map f ys) (g a ∷ [])
     ∙ ap (λ zs. old ++ zs) (ap (λ z. map f ys ++ z ∷ []) is ∙ sym (ap (map f) next ∙ map-append f ys (y ∷ [])))
 
 -- a loop that makes something of each element of a list
-pub maps_next : {X Y : Type 0} (f : X → Y) (xs : List X) (i : ℕ) (x : X) (y : Y) (now new : List Y) → At xs i x → now ≡ map f (take i xs) →
+pub maps_next : {X Y : Type 0} (f : X → Y) (xs : List X) (i : ℕ) {x : X} {y : Y} {now new : List Y} → At xs i x → now ≡ map f (take i xs) →
     new ≡ now ++ y ∷ [] → y ≡ f x → new ≡ map f (take (i + 1) xs)
-maps_next f xs i x y now new at before pushed is =
+maps_next f xs i {x} {y} at before pushed is =
     pushed ∙ ap (λ ys. ys ++ y ∷ []) before ∙ ap (λ z. map f (take i xs) ++ z ∷ []) is ∙
     sym (ap (map f) (take_next xs i x at) ∙ map-append f (take i xs) (x ∷ []))
 
@@ -75,12 +75,14 @@ zip_flip R [] (y ∷ ys) h = absurd h
 zip_flip R (x ∷ xs) [] h = absurd h
 zip_flip R (x ∷ xs) (y ∷ ys) h = (h.0, zip_flip R xs ys h.1)
 
--- what has the index of an element
-pub zip_there : {A B : Type 0} (R : A → B → Type 0) (xs : List A) (ys : List B) (k : ℕ) (x : A) → AllZip R xs ys → At xs k x → (y : B) × (At ys k y) × R x y
+-- what has the index of an element, and what holds once something else has it
+pub zip_there : {A B : Type 0} (R : A → B → Type 0) (xs : List A) (ys : List B) (k : ℕ) (x : A) → AllZip R xs ys → At xs k x →
+    (y : B) × (At ys k y) × R x y × ((z : B) → R x z → AllZip R xs (slice_set ys k z))
 zip_there R [] ys k x h at = cc
-zip_there R (z ∷ xs) [] k x h at = absurd h
-zip_there R (z ∷ xs) (y ∷ ys) zero x h at = (y, refl, subst (λ w. R w y) (one_value at) h.0)
-zip_there R (z ∷ xs) (y ∷ ys) (suc k) x h at = zip_there R xs ys k x h.1 at
+zip_there R (a ∷ xs) [] k x h at = absurd h
+zip_there R (a ∷ xs) (b ∷ ys) zero x h at =
+    let same = one_value at in (b, refl, subst (λ v. R v b) same h.0, λ z here. (subst (λ v. R v z) (sym same) here, h.1))
+zip_there R (a ∷ xs) (b ∷ ys) (suc k) x h at = let rest = zip_there R xs ys k x h.1 at in (rest.0, rest.1, rest.2, λ z here. (h.0, rest.3 z here))
 
 pub zip_back : {A B : Type 0} (R : A → B → Type 0) (xs : List A) (ys : List B) (k : ℕ) (y : B) → AllZip R xs ys → At ys k y → (x : A) × (At xs k x) × R x y
 zip_back R xs [] k y h at = cc
@@ -93,8 +95,9 @@ zip_length R xs ys h = sym (AllZip-long R xs ys h)
 
 -- ---- what is asked of each requirement, and the first that is rejected
 
--- what a loop that checks a list knows after the next element: so far all are accepted, or this is the first that is rejected
-module _ {X : Type 0} (Accepted Refused : X → Type 0) (xs : List X) (k : ℕ) (x : X) (at : At xs k x) (before : AcceptsAll Accepted (take k xs)) where
+-- what a loop that checks a list knows after the next element: all are accepted so far, or this is
+-- the first that is rejected
+module _ {X : Type 0} (Accepted Refused : X → Type 0) (xs : List X) (k : ℕ) {x : X} (at : At xs k x) (before : AcceptsAll Accepted (take k xs)) where
   pub first_rejected : (b : Bool) → MatchBool b (Accepted x) (Refused x) → MatchBool b (AcceptsAll Accepted (take (k + 1) xs)) (RefusesAt Accepted Refused xs k)
   first_rejected true good = subst (AcceptsAll Accepted) (sym (take_next xs k x at)) (record { each = each })
     where
@@ -103,18 +106,18 @@ module _ {X : Type 0} (Accepted Refused : X → Type 0) (xs : List X) (k : ℕ) 
   first_rejected false bad = record { x = x; here = at; refused = bad; accepted = λ i y lt at_i. before.each i y (in_take k xs i y lt at_i) }
 
 -- the first that is rejected is the first of which P holds
-pub first_of_rejected : {X : Type 0} (Accepted Refused P : X → Type 0) (xs : List X) (k : ℕ) (x : X) → At xs k x → RefusesAt Accepted Refused xs k →
-    (Refused x → P x) → ((y : X) → Accepted y → P y → ⊥) → IsFirst P xs k x
-first_of_rejected Accepted Refused P xs k x at rejected holds fails = record {
+pub first_of_rejected : {X : Type 0} {Accepted Refused : X → Type 0} (P : X → Type 0) {xs : List X} {k : ℕ} {x : X} → At xs k x →
+    RefusesAt Accepted Refused xs k → (Refused x → P x) → ((y : X) → Accepted y → P y → ⊥) → IsFirst P xs k x
+first_of_rejected {X} {Accepted} {Refused} P at rejected holds fails = record {
   here = at;
   holds = holds (subst Refused (one_there rejected.here at) rejected.refused);
   before = λ i y lt at_i. fails y (rejected.accepted i y lt at_i);
 }
 
 -- the parts of one more element, without its number
-pub gathers_more : {X A : Type 0} (f : X → List A) (xs : List X) (i : ℕ) (x : X) (old now new : List A) → At xs i x → now ≡ old ++ flat_map f (take i xs) →
-    new ≡ now ++ f x → new ≡ old ++ flat_map f (take (i + 1) xs)
-gathers_more f xs i x old now new at before more =
+pub gathers_more : {X A : Type 0} (f : X → List A) (xs : List X) (i : ℕ) {x : X} (old : List A) {now new : List A} → At xs i x →
+    now ≡ old ++ flat_map f (take i xs) → new ≡ now ++ f x → new ≡ old ++ flat_map f (take (i + 1) xs)
+gathers_more f xs i {x} old at before more =
     more ∙ ap (λ ys. ys ++ f x) before ∙ append_assoc old (flat_map f (take i xs)) (f x)
     ∙ ap (λ ys. old ++ ys)
     (sym (ap (flat_map f) (take_next xs i x at) ∙ flat_map-append f (take i xs) (x ∷ []) ∙ ap (λ ys. flat_map f (take i xs) ++ ys) (append-nil (f x))))
@@ -147,20 +150,20 @@ parts_next f xs i x at =
     ap (λ ys. flat_map f (enumerate_from 0 (take i xs)) ++ ys) (append-nil (f (i, x)))
 
 -- a loop that gathers the parts of each element
-pub gathers_next : {X A : Type 0} (f : ℕ × X → List A) (xs : List X) (i : ℕ) (x : X) (old now new : List A) → At xs i x →
+pub gathers_next : {X A : Type 0} (f : ℕ × X → List A) (xs : List X) (i : ℕ) {x : X} (old : List A) {now new : List A} → At xs i x →
     now ≡ old ++ flat_map f (enumerate_from 0 (take i xs)) → new ≡ now ++ f (i, x) → new ≡ old ++ flat_map f (enumerate_from 0 (take (i + 1) xs))
-gathers_next f xs i x old now new at before more =
+gathers_next f xs i {x} old at before more =
     more ∙ ap (λ ys. ys ++ f (i, x)) before ∙ append_assoc old (flat_map f (enumerate_from 0 (take i xs))) (f (i, x)) ∙
     ap (λ ys. old ++ ys) (sym (parts_next f xs i x at))
 
 -- a text is put into a table of the texts before it
-module _ {X : Type 0} (f : X → List ℕ) (texts : List Name) (j : ℕ) (x : X) (keys new : List X) (at : At texts j (f x))
+module _ {X : Type 0} (f : X → List ℕ) (texts : List Name) (j : ℕ) (x : X) (keys : List X) {new : List X} (at : At texts j (f x))
     (same : map f keys ≡ take j texts) (all : AllDiffer (take j texts))
     (put : new ≡ cond (list_any (λ k. bytes_eq (f x) (f k)) keys) keys (keys ++ x ∷ [])) where
   -- it was there
-  pub repeats_if_found : (i : ℕ) → false ≡ not (list_any (λ k. bytes_eq (f x) (f k)) keys) → (y : X) → At new i y → bytes_eq (f x) (f y) ≡ true →
-      RepeatsFirst texts i j
-  repeats_if_found i old y stored alike =
+  pub repeats_if_found : (i : ℕ) → false ≡ not (list_any (λ k. bytes_eq (f x) (f k)) keys) →
+      (y : X) × (At new i y) × (bytes_eq (f x) (f y) ≡ true) → RepeatsFirst texts i j
+  repeats_if_found i old (y, stored, alike) =
       let kept : new ≡ keys = put ∙ ap (λ b. cond b keys (keys ++ x ∷ [])) (found_if _ old) in
       let here = same_reads i (sym same) ∙ to_map f keys i y (same_reads i (sym kept) ∙ stored) in
       let from = from_take j texts i (f y) here in
@@ -173,15 +176,13 @@ module _ {X : Type 0} (f : X → List ℕ) (texts : List Name) (j : ℕ) (x : X)
       }
 
   -- it was not
-  pub keys_if_new : true ≡ not (list_any (λ k. bytes_eq (f x) (f k)) keys) → map f new ≡ take (j + 1) texts
-  keys_if_new fresh =
-      ap (map f) (put ∙ ap (λ b. cond b keys (keys ++ x ∷ [])) (new_if _ fresh)) ∙ map-append f keys (x ∷ []) ∙ ap (λ ts. ts ++ f x ∷ []) same ∙
-      sym (take_next texts j (f x) at)
-
-  pub differ_if_new : true ≡ not (list_any (λ k. bytes_eq (f x) (f k)) keys) → AllDiffer (take (j + 1) texts)
-  differ_if_new fresh =
-      subst AllDiffer (sym (take_next texts j (f x) at))
-      (differ_push (take j texts) (f x) all (λ k at_k. not_among f keys x (new_if _ fresh) k (same_reads k same ∙ at_k)))
+  pub added_if_new : true ≡ not (list_any (λ k. bytes_eq (f x) (f k)) keys) → (map f new ≡ take (j + 1) texts) × AllDiffer (take (j + 1) texts)
+  added_if_new fresh = (
+    ap (map f) (put ∙ ap (λ b. cond b keys (keys ++ x ∷ [])) (new_if _ fresh)) ∙ map-append f keys (x ∷ []) ∙ ap (λ ts. ts ++ f x ∷ []) same ∙
+        sym (take_next texts j (f x) at),
+    subst AllDiffer (sym (take_next texts j (f x) at))
+        (differ_push (take j texts) (f x) all (λ k at_k. not_among f keys x (new_if _ fresh) k (same_reads k same ∙ at_k))),
+  )
 
 -- what never repeats differs
 pub differ_by : {X : Type 0} (f : X → Name) (xs : List X) → ((i j : ℕ) (a b : X) → i < j → At xs i a → At xs j b → f a ≡ f b → ⊥) → AllDiffer (map f xs)
@@ -245,7 +246,3 @@ finds keys name (Some k) e =
 pub misses : (keys : List Name) (name : Name) (r : Option ℕ) → is_some r ≡ list_any (λ k. bytes_eq name k) keys → IfNone r ((k : ℕ) → At keys k name → ⊥)
 misses keys name None e = λ k at. not_among (λ n. n) keys name (sym e) k (to_map (λ n. n) keys k name at)
 misses keys name (Some k) e = tt
-
-pub map_same : {X : Type 0} (xs : List X) → map (λ x. x) xs ≡ xs
-map_same [] = refl
-map_same (x ∷ xs) = ap (λ ys. x ∷ ys) (map_same xs)

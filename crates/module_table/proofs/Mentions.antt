@@ -6,8 +6,8 @@ use Rattle.module_table.specs.Added.{first_mentions, pair_of}
 use Rattle.ninja_text.proofs.ForCallers.{take_next, found_if, new_if, from_push, map_take, to_map, in_first, in_second, from_map, in_append, contained, from_flat_map}
 use Rattle.std.specs.Option.{option_map}
 use Rattle.std.proofs.lemmas.Bool.{cases_eq}
-use Rattle.std.proofs.lemmas.List.{get_or-set_same, get_or-set_other, length-set}
-use Rattle.std.proofs.lemmas.Option.{slice_get-get_or, get_or_from_slice_get}
+use Rattle.std.proofs.lemmas.List.{get_or-set_same, get_or-set_other, length-set, map-append}
+use Rattle.std.proofs.lemmas.Option.{slice_get-get_or, get_or_from_slice_get, slice_get_within}
 use Rattle.module_table.specs.Modules.{Provision, provisions}
 use Rattle.ninja_text.specs.Firsts.{AllDiffer}
 use Rattle.module_table.specs.inner.Views.{names_of}
@@ -23,6 +23,7 @@ use Rattle.module_table.specs.Sound.{IsSound}
 use Rattle.module_table.specs.declared.fault.Maker.TheVariants.{Info}
 use Rattle.module_table.proofs.Words.{Pair, name_of, bmi_of, required_by, At, name_in_pair}
 use Rattle.ninja_text.specs.Bytes.{Name}
+use Rattle.std.proofs.lemmas.List.Folds.{list_any_at, list_any_none}
 
 -- ---- names in order of first mention
 
@@ -31,9 +32,6 @@ other_than y o = not (bytes_eq y o)
 
 abbrev among : List ℕ → List (List ℕ) → Bool
 among x xs = list_any (λ k. bytes_eq x k) xs
-
-filter_push : (q : List ℕ → Bool) (xs : List (List ℕ)) (x : List ℕ) → filter q (xs ++ x ∷ []) ≡ filter q xs ++ cond (q x) (x ∷ []) []
-filter_push q xs x = filter-append q xs (x ∷ [])
 
 differ_back : (x y : List ℕ) → bytes_eq x y ≡ false → bytes_eq y x ≡ false
 differ_back x y e = by (bytes_eq y x) refl
@@ -73,7 +71,7 @@ mention_step x (y ∷ xs) = by (bytes_eq x y) refl (mention_step x xs)
         by_known : (b : Bool) → first_mentions (xs ++ x ∷ []) ≡ cond b (first_mentions xs) (first_mentions xs ++ x ∷ []) →
             filter (other_than y) (first_mentions (xs ++ x ∷ [])) ≡ filter (other_than y) (first_mentions xs)
         by_known true h = ap (filter (other_than y)) h
-        by_known false h = ap (filter (other_than y)) h ∙ filter_push (other_than y) (first_mentions xs) x ∙
+        by_known false h = ap (filter (other_than y)) h ∙ filter-append (other_than y) (first_mentions xs) (x ∷ []) ∙
             ap (λ ys. filter (other_than y) (first_mentions xs) ++ ys) hidden ∙ append-nil (filter (other_than y) (first_mentions xs))
     by false e step = by_known (among x (first_mentions xs)) step ∙
         ap (λ b. cond b (y ∷ filter (other_than y) (first_mentions xs)) (y ∷ filter (other_than y) (first_mentions xs) ++ x ∷ []))
@@ -87,15 +85,11 @@ mention_step x (y ∷ xs) = by (bytes_eq x y) refl (mention_step x xs)
             cond b (y ∷ filter (other_than y) (first_mentions xs)) (y ∷ filter (other_than y) (first_mentions xs) ++ x ∷ [])
         by_known true h = ap (λ ys. y ∷ filter (other_than y) ys) h
         by_known false h = ap (λ ys. y ∷ filter (other_than y) ys) h ∙
-            ap (λ ys. y ∷ ys) (filter_push (other_than y) (first_mentions xs) x ∙ ap (λ ys. filter (other_than y) (first_mentions xs) ++ ys) alone)
+            ap (λ ys. y ∷ ys) (filter-append (other_than y) (first_mentions xs) (x ∷ []) ∙ ap (λ ys. filter (other_than y) (first_mentions xs) ++ ys) alone)
 
 any_map : {K : Type 0} (f : K → List ℕ) (x : List ℕ) (keys : List K) → among x (map f keys) ≡ list_any (λ k. bytes_eq x (f k)) keys
 any_map f x [] = refl
 any_map f x (k ∷ keys) = ap (λ b. bytes_eq x (f k) || b) (any_map f x keys)
-
-map_push : {K : Type 0} (f : K → List ℕ) (keys : List K) (v : K) → map f (keys ++ v ∷ []) ≡ map f keys ++ f v ∷ []
-map_push f [] v = refl
-map_push f (k ∷ keys) v = ap (λ ys. f k ∷ ys) (map_push f keys v)
 
 -- one more name, after those of the names before it
 module _ {K : Type 0} (f : K → List ℕ) (xs : List (List ℕ)) (i : ℕ) (keys : List K) (v : K) (at : At xs i (f v))
@@ -118,18 +112,11 @@ module _ {K : Type 0} (f : K → List ℕ) (xs : List (List ℕ)) (i : ℕ) (key
 
 -- ---- what the marks of a loop say of what it has met
 
-or_true : (b : Bool) → b || true ≡ true
-or_true true = refl
-or_true false = refl
-
 any_true : {X : Type 0} (q : X → Bool) (xs : List X) (k : ℕ) (x : X) → At xs k x → q x ≡ true → list_any q xs ≡ true
-any_true q [] k x at e = cc
-any_true q (y ∷ xs) zero x at e = ap (λ b. b || list_any q xs) (ap q (one_value at) ∙ e)
-any_true q (y ∷ xs) (suc k) x at e = ap (λ b. q y || b) (any_true q xs k x at e) ∙ or_true (q y)
+any_true q xs k x at e = list_any_at q xs k x (slice_get_within xs k x at) (ap q (get_or_from_slice_get xs k x x at) ∙ e)
 
 any_false : {X : Type 0} (q : X → Bool) (xs : List X) → ((k : ℕ) (x : X) → At xs k x → q x ≡ false) → list_any q xs ≡ false
-any_false q [] none = refl
-any_false q (y ∷ xs) none = ap (λ b. b || list_any q xs) (none zero y refl) ∙ any_false q xs (λ k x at. none (suc k) x at)
+any_false q xs none = list_any_none q xs (λ k d lt. none k (get_or xs k d) (slice_get-get_or xs k d lt))
 
 module _ (mark : ℕ) (marks mentioned : List ℕ) (m : AreMarked mark marks mentioned) (v : ℕ) (lt : v < length marks) where
   abbrev now : List ℕ
@@ -179,7 +166,7 @@ module _ (mark : ℕ) (marks mentioned : List ℕ) (m : AreMarked mark marks men
         by j within marked true e =
             let same = (bytes_decides (f v) (f j)).0 e in
             let here = there j within ∙ ap Some (sym same) in
-            let one : v ≡ j = neither_less v j (λ less. differ.differ v j (f v) less (there v lt) here) (λ more. differ.differ j v (f v) more here (there v lt))
+            let one : v ≡ j = neither_less (λ less. differ.differ v j (f v) less (there v lt) here) (λ more. differ.differ j v (f v) more here (there v lt))
             in
             absurd (fresh (ap (λ n. get_or marks n 0) one ∙ marked))
 
@@ -189,7 +176,7 @@ module _ (mark : ℕ) (marks mentioned : List ℕ) (m : AreMarked mark marks men
 
       firsts_new : (get_or marks v 0 ≡ mark → ⊥) → map f (mentioned ++ v ∷ []) ≡ first_mentions (map f (take (i + 1) indexes))
       firsts_new fresh =
-          map_push f mentioned v
+          map-append f mentioned (v ∷ [])
           ∙ mention_new f (map f indexes) i mentioned v (to_map f indexes i v at) so_far (map f mentioned) so_far (sym (ap not (not_met fresh)))
           ∙ ap first_mentions (sym (map_take f (i + 1) indexes))
 
@@ -268,7 +255,7 @@ module _ (ps : List Provision) (mark : ℕ) (marks indexes : List ℕ) (i v : �
     firsts = λ names differ long.
         let as_long = long ∙ length-set marks v mark in
         firsts_new mark marks h.mentioned h.marked v lt names differ as_long indexes i at (h.firsts names differ as_long) fresh;
-    found = pushes_next Some (pair_at ps) h.mentioned (h.mentioned ++ v ∷ []) v [] pairs more pair refl h.found pushed same;
+    found = pushes_next Some (pair_at ps) h.mentioned v [] pairs pair refl h.found pushed same;
   }
 
   pub pairs_old : get_or marks v 0 ≡ mark → ArePairsSoFar ps mark marks (take (i + 1) indexes) pairs

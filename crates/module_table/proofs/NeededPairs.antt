@@ -16,7 +16,7 @@ use Rattle.module_table.proofs.Places.{object_provision, info_provision, Has, fr
 use Rattle.ninja_text.proofs.ForCallers.{contained, placed, to_map, in_first, in_second, from_map, element_at, from_filter_map, in_filter_map}
 use Rattle.module_table.proofs.Found.{in_row, numbered_provided}
 use Rattle.module_table.proofs.Lists.{zip_there, zip_length, one_there, same_reads, one_value}
-use Rattle.module_table.proofs.Graph.{IsPlaceOf, module_places, one_entry, all_from}
+use Rattle.module_table.proofs.Graph.{IsPlaceOf, module_places, one_entry, all_from, many_origins}
 use Rattle.module_table.proofs.IndexRows.{different, all_made, strictly, only_one, one_number, to_numbers, from_numbers, length_mapped}
 use Rattle.std.specs.Borrow.{Bor}
 use Rattle.std.specs.List.{All, AllPairs, filter_map}
@@ -67,7 +67,7 @@ module _ (t : TableValue) (sound : IsSound t) where
     many_modules : length g.modules ≡ count
     many_modules =
         sym (zip_length (IsModuleRow names t.infos) (origins_of t) g.modules g.of_modules)
-        ∙ sym (zip_length (IsPlaceOf t) (provisions t) (origins_of t) (module_places t)) ∙ sym (length_mapped name_of (provisions t))
+        ∙ sym (many_origins t) ∙ sym (length_mapped name_of (provisions t))
 
     -- a module of an object, by its number
     abbrev IsOwnNode : ℕ → List ℕ → Type 0
@@ -82,7 +82,7 @@ module _ (t : TableValue) (sound : IsSound t) where
         IsOwnNode k p.name ⊎ IsInfoNode k p.name
     node_by k p (Object o, j) row is at row_is = inl (o, j, p.file, is.1, at ∙ ap Some row_is)
     node_by k p (Info i, j) row is at row_is =
-        inr (i, j, row_is.0, row_is.1, ap (λ (m : ModuleValue). m.name) (one_entry t.infos i j row_is.0 is.1.0 row_is.1 is.1.1) ∙ is.1.2, at ∙ ap Some row_is.2)
+        inr (i, j, row_is.0, row_is.1, ap (λ (m : ModuleValue). m.name) (one_entry t.infos i j row_is.1 is.1.1) ∙ is.1.2, at ∙ ap Some row_is.2)
 
     node_of : (k : ℕ) (name : Name) → IsNumberOf k name → IsOwnNode k name ⊎ IsInfoNode k name
     node_of k name at =
@@ -119,7 +119,7 @@ module _ (t : TableValue) (sound : IsSound t) where
     to_object o name needs =
         let row = object_row o needs.0 needs.1 in
         let there = placed needs.0.required name needs.2 in
-        let number = in_row names row.0 needs.0.required there.0 name row.2 there.1 in
+        let number = in_row names row.0 needs.0.required there.0 row.2 there.1 in
         (number.0, number.2, to_need (count + o) number.0 row.0 row.1 (there.0, number.1))
 
     below : (k : ℕ) (name : Name) → IsNumberOf k name → k < count
@@ -192,7 +192,7 @@ module _ (t : TableValue) (sound : IsSound t) where
         absurd (omega (arith, same, (below k p.name (number_at k p at_k))))
     needed_if_reached object rule k p at at_k (inr chain) =
         let asks = from_chain chain.0 (count + object) k p.name (inl (object, rule, at, refl)) chain.1 (number_at k p at_k) in
-        (asks.0, asks.1, asked_by_object object asks.0 asks.2, asks.3, (p.maker, from_provisions t k p at_k))
+        (asks.0, asks.1, asked_by_object object asks.0 asks.2, asks.3, (p.maker, from_provisions t k at_k))
 
     -- ---- from names to chains of needs
 
@@ -200,12 +200,12 @@ module _ (t : TableValue) (sound : IsSound t) where
     own_is k o j name file at provides =
         ⊎_elim
         (λ own.
-        let same = one_provision _ _ _ _ (object_provision t own.0 own.1 name own.2 own.3) (object_provision t o j name file provides) refl in
+        let same = one_provision _ _ _ _ (object_provision t own.0 own.1 own.3) (object_provision t o j provides) refl in
         let maker : Object own.0 ≡ Object o = ap maker_of same.1 in
         let object : own.0 ≡ o = cc in
         own.4 ∙ ap (λ n. Some ((count + n) ∷ [])) object)
         (λ info.
-        let same = one_provision _ _ _ _ (info_provision t info.0 info.1 info.2 info.3) (object_provision t o j name file provides) info.4 in
+        let same = one_provision _ _ _ _ (info_provision t info.0 info.1 info.3) (object_provision t o j provides) info.4 in
         let maker : Info info.0 ≡ Object o = ap maker_of same.1 in
         absurd (cc))
         (node_of k name at)
@@ -214,17 +214,17 @@ module _ (t : TableValue) (sound : IsSound t) where
     info_is k i j entry at provides =
         ⊎_elim
         (λ own.
-        let same = one_provision _ _ _ _ (object_provision t own.0 own.1 entry.name own.2 own.3) (info_provision t i j entry provides) refl in
+        let same = one_provision _ _ _ _ (object_provision t own.0 own.1 own.3) (info_provision t i j provides) refl in
         let maker : Object own.0 ≡ Info i = ap maker_of same.1 in
         absurd (cc))
         (λ info.
-        let same = one_provision _ _ _ _ (info_provision t info.0 info.1 info.2 info.3) (info_provision t i j entry provides) info.4 in
+        let same = one_provision _ _ _ _ (info_provision t info.0 info.1 info.3) (info_provision t i j provides) info.4 in
         let maker : Info info.0 ≡ Info i = ap maker_of same.1 in
         let number : info.0 ≡ i = cc in
         let moved = subst (λ n. InfoProvides t n info.1 info.2) number info.3 in
-        let again = one_provision _ _ _ _ (info_provision t i info.1 info.2 moved) (info_provision t i j entry provides) info.4 in
+        let again = one_provision _ _ _ _ (info_provision t i info.1 moved) (info_provision t i j provides) info.4 in
         let position : info.1 ≡ j = omega (arith, again.0) in
-        let one = one_entry t.infos i j info.2 entry (subst (λ n. InfoProvides t i n info.2) position moved) provides in
+        let one = one_entry t.infos i j (subst (λ n. InfoProvides t i n info.2) position moved) provides in
         info.5 ∙ ap (λ (m : ModuleValue). Some (indexes_in names m.required)) one)
         (node_of k entry.name at)
 

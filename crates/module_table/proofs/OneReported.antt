@@ -20,14 +20,14 @@ use Rattle.module_table.proofs.Passing.{has_private}
 use Rattle.module_table.proofs.Faultless.{names_differ}
 use Rattle.module_table.proofs.Words.{Pair, maker_of, path_of, target_of, At}
 use Rattle.ninja_text.specs.Bytes.{Name}
-use Rattle.module_table.proofs.Lists.{one_value}
+use Rattle.module_table.proofs.Lists.{one_there}
 
 -- ---- A sound table that keeps its own names has no fault
 
 -- a requirement among those of all info files is one of a module of its info
-requires_at : (t : TableValue) (k : ℕ) (r : InfoRequirement) → At (info_requirements t) k r →
+requires_at : (t : TableValue) (k : ℕ) {r : InfoRequirement} → At (info_requirements t) k r →
     (j : ℕ) × (m : ModuleValue) × InfoRequires t r.info j m r.name r.file
-requires_at t k r e =
+requires_at t k {r} e =
     let part = from_flat_map requirements_of_info (enumerate_from 0 t.infos) k r e in
     let n = from_first t.infos part.0 part.2.0 part.2.1 in
     let info = part.2.0.1 in
@@ -60,10 +60,10 @@ sound_has_no_fault t kept sound own (ModuleUnknown name object) h =
     let known = sound.known object name (h.rule, h.first_object.here, contained h.rule.required name (h.index, h.first_name.here)) in
     h.first_name.holds known.0 known.1
 sound_has_no_fault t kept sound own (InfoUnknown target module_name name) h =
-    let r = requires_at t h.0 h.1 h.2.here in
+    let r = requires_at t h.0 h.2.here in
     h.2.holds h.1.file (sound.infos_known h.1.info r.0 r.1 h.1.name h.1.file r.2)
 sound_has_no_fault t kept sound own (InfoDisagrees target module_name name) h =
-    let r = requires_at t h.0 h.1 h.2.here in
+    let r = requires_at t h.0 h.2.here in
     let said = sound.infos_known h.1.info r.0 r.1 h.1.name h.1.file r.2 in
     let found = h.2.holds in
     found.2 (one_file t sound h.1.name found.0 h.1.file (Info found.1.0, found.1.1) (Info said.0, said.1))
@@ -71,7 +71,7 @@ sound_has_no_fault t kept sound own (ImportCycle objects) h = sound.acyclic obje
 sound_has_no_fault t kept sound own (ModulePrivate name info (Object object)) h =
     sound.objects_allowed object info name (h.0.rule, h.0.first_object.here, contained h.0.rule.required name (h.0.index, h.0.first_name.here)) h.1
 sound_has_no_fault t kept sound own (ModulePrivate name info (Info user)) h =
-    let r = requires_at t h.1.0 h.1.1 h.1.2.here in
+    let r = requires_at t h.1.0 h.1.2.here in
     let found = h.1.2.holds in
     found.2 (sound.infos_allowed h.1.1.info r.0 found.0 r.1 h.1.1.name h.1.1.file r.2 found.1)
 sound_has_no_fault t kept sound own (PrivateUnknown name) h =
@@ -82,55 +82,52 @@ sound_has_no_fault t kept sound own (PrivateUnknown name) h =
 
 -- ---- there is one first
 
-module _ {X : Type 0} (xs : List X) where
-  same_there : (i j : ℕ) (x y : X) → i ≡ j → At xs i x → At xs j y → x ≡ y
-  same_there i j x y e at_i at_j = one_value (sym at_i ∙ ap (slice_get xs) e ∙ at_j)
+same_there : {X : Type 0} (xs : List X) {i j : ℕ} {x y : X} → i ≡ j → At xs i x → At xs j y → x ≡ y
+same_there xs e at_i at_j = one_there (ap (slice_get xs) (sym e) ∙ at_i) at_j
 
-  module _ (P : X → Type 0) (i j : ℕ) (x y : X) (p : IsFirst P xs i x) (q : IsFirst P xs j y) where
+module _ {X : Type 0} {xs : List X} where
+  module _ {P : X → Type 0} {i j : ℕ} {x y : X} (p : IsFirst P xs i x) (q : IsFirst P xs j y) where
     one_place : i ≡ j
-    one_place =
-        neither_less i j (λ lt. q.before i x lt p.here p.holds) (λ gt. p.before j y gt q.here q.holds)
+    one_place = neither_less (λ lt. q.before i x lt p.here p.holds) (λ gt. p.before j y gt q.here q.holds)
 
     one_first : x ≡ y
-    one_first = same_there i j x y one_place p.here q.here
+    one_first = same_there xs one_place p.here q.here
 
-  module _ (Alike : X → X → Type 0) (i j k l : ℕ) (x y v w : X) (p : IsFirstRepetition Alike xs i j x y) (q : IsFirstRepetition Alike xs k l v w) where
+  module _ {Alike : X → X → Type 0} {i j k l : ℕ} {x y v w : X} (p : IsFirstRepetition Alike xs i j x y) (q : IsFirstRepetition Alike xs k l v w) where
     one_later : j ≡ l
     one_later =
-        neither_less j l (λ lt. q.y_first i j x y p.earlier lt p.x_here p.y_here p.alike) (λ gt. p.y_first k l v w q.earlier gt q.x_here q.y_here q.alike)
+        neither_less (λ lt. q.y_first i j x y p.earlier lt p.x_here p.y_here p.alike) (λ gt. p.y_first k l v w q.earlier gt q.x_here q.y_here q.alike)
 
     one_second : y ≡ w
-    one_second = same_there j l y w one_later p.y_here q.y_here
+    one_second = same_there xs one_later p.y_here q.y_here
 
     one_earlier : i ≡ k
     one_earlier =
-        neither_less i k (λ lt. q.x_first i x lt p.x_here (subst (Alike x) one_second p.alike))
+        neither_less (λ lt. q.x_first i x lt p.x_here (subst (Alike x) one_second p.alike))
         (λ gt. p.x_first k v gt q.x_here (subst (Alike v) (sym one_second) q.alike))
 
     one_partner : x ≡ v
-    one_partner = same_there i k x v one_earlier p.x_here q.x_here
+    one_partner = same_there xs one_earlier p.x_here q.x_here
 
-module _ (P : List ℕ → Type 0) (objects : List RuleValue) (o u : ℕ) (name other : Name) (p : IsFirstRequired P objects o name)
+module _ {P : List ℕ → Type 0} {objects : List RuleValue} {o u : ℕ} {name other : Name} (p : IsFirstRequired P objects o name)
     (q : IsFirstRequired P objects u other) where
   one_user : o ≡ u
-  one_user = one_place objects _ o u p.rule q.rule p.first_object q.first_object
+  one_user = one_place p.first_object q.first_object
 
   one_required : name ≡ other
   one_required =
-      one_first q.rule.required P p.index q.index name other
-      (subst (λ (r : RuleValue). IsFirst P r.required p.index name) (one_first objects _ o u p.rule q.rule p.first_object q.first_object) p.first_name)
-      q.first_name
+      one_first (subst (λ (r : RuleValue). IsFirst P r.required p.index name) (one_first p.first_object q.first_object) p.first_name) q.first_name
 
 -- one info keeps a module
 one_keeper : (t : TableValue) → AllDiffer (names_of (provisions t)) → (name : Name) (i j : ℕ) → HasPrivate t i name → HasPrivate t j name → i ≡ j
 one_keeper t differ name i j p q =
     let a = has_private t i name p in
     let b = has_private t j name q in
-    let makers = sym a.4 ∙ ap maker_of (one_module (provisions t) name differ a.0 b.0 a.1 b.1 a.2 b.2) ∙ b.4 in
+    let makers = sym a.4 ∙ ap maker_of (one_module (provisions t) name differ a.0 b.0 a.2 b.2) ∙ b.4 in
     cc
 
-by_same : (fault other : TableFault) → fault ≡ other → IsSameFault fault other
-by_same fault other e = subst (IsSameFault fault) e same
+by_same : {fault other : TableFault} → fault ≡ other → IsSameFault fault other
+by_same {fault} e = subst (IsSameFault fault) e same
 
 -- if a fault of that code is reported no name is provided twice
 differ_below : (t : TableValue) (kept : List Name) (fault : TableFault) → IsReported t kept fault → 3 < code_number fault → AllDiffer (names_of (provisions t))
@@ -143,46 +140,43 @@ one_of_code : (t : TableValue) (kept : List Name) (fault other : TableFault) →
 one_of_code t kept (ObjectTwice path first second) (ObjectTwice other third fourth) e a b =
     let p = a.present in
     let q = b.present in
-    let i = one_earlier _ _ p.0 p.1 q.0 q.1 path path other other p.2 q.2 in
-    let j = one_later _ _ p.0 p.1 q.0 q.1 path path other other p.2 q.2 in
-    let is = one_second _ _ p.0 p.1 q.0 q.1 path path other other p.2 q.2 in
-    by_same _ _ (cc)
-one_of_code t kept (InfoTwice target) (InfoTwice other) e a b =
-    let p = a.present in
-    let q = b.present in
-    by_same _ _ (ap InfoTwice (one_second _ _ p.0 p.1 q.0 q.1 target target other other p.2 q.2))
+    let i = one_earlier p.2 q.2 in
+    let j = one_later p.2 q.2 in
+    let is = one_second p.2 q.2 in
+    by_same (cc)
+one_of_code t kept (InfoTwice target) (InfoTwice other) e a b = by_same (ap InfoTwice (one_second a.present.2 b.present.2))
 one_of_code t kept (ProvidedTwice name first second) (ProvidedTwice other third fourth) e a b =
     let p = a.present in
     let q = b.present in
-    let x = one_partner _ _ p.0 p.1 q.0 q.1 p.2 p.3 q.2 q.3 p.4 q.4 in
-    let y = one_second _ _ p.0 p.1 q.0 q.1 p.2 p.3 q.2 q.3 p.4 q.4 in
-    by_same _ _ (cc)
+    let x = one_partner p.4 q.4 in
+    let y = one_second p.4 q.4 in
+    by_same (cc)
 one_of_code t kept (BmiTwice path first second) (BmiTwice other third fourth) e a b =
     let p = a.present in
     let q = b.present in
-    let x = one_partner _ _ p.0 p.1 q.0 q.1 p.2 p.3 q.2 q.3 p.4 q.4 in
-    let y = one_second _ _ p.0 p.1 q.0 q.1 p.2 p.3 q.2 q.3 p.4 q.4 in
-    by_same _ _ (cc)
+    let x = one_partner p.4 q.4 in
+    let y = one_second p.4 q.4 in
+    by_same (cc)
 one_of_code t kept (ModuleUnknown name object) (ModuleUnknown other user) e a b =
-    let n = one_required _ t.objects object user name other a.present b.present in
-    let o = one_user _ t.objects object user name other a.present b.present in
-    by_same _ _ (cc)
+    let n = one_required a.present b.present in
+    let o = one_user a.present b.present in
+    by_same (cc)
 one_of_code t kept (InfoUnknown target module_name name) (InfoUnknown other_target other_module other) e a b =
     let p = a.present in
     let q = b.present in
-    let r = one_first _ _ p.0 q.0 p.1 q.1 p.2 q.2 in
-    by_same _ _ (cc)
+    let r = one_first p.2 q.2 in
+    by_same (cc)
 one_of_code t kept (InfoDisagrees target module_name name) (InfoDisagrees other_target other_module other) e a b =
     let p = a.present in
     let q = b.present in
-    let r = one_first _ _ p.0 q.0 p.1 q.1 p.2 q.2 in
-    by_same _ _ (cc)
+    let r = one_first p.2 q.2 in
+    by_same (cc)
 one_of_code t kept (ImportCycle ring) (ImportCycle other) e a b = same_ring (one_cycle (DependsOn t) ring.items other.items a.present b.present)
 one_of_code t kept (ModulePrivate name info (Object object)) (ModulePrivate other keeper (Object user)) e a b =
-    let n = one_required _ t.objects object user name other a.present.0 b.present.0 in
-    let o = one_user _ t.objects object user name other a.present.0 b.present.0 in
+    let n = one_required a.present.0 b.present.0 in
+    let o = one_user a.present.0 b.present.0 in
     let k : info ≡ keeper = one_keeper t (differ_below t kept _ a (omega arith)) other info keeper (subst (HasPrivate t info) n a.present.1) b.present.1 in
-    by_same _ _ (cc)
+    by_same (cc)
 one_of_code t kept (ModulePrivate name info (Object object)) (ModulePrivate other keeper (Info user)) e a b =
     let p = a.present.0 in
     absurd (b.present.0 object name (p.rule, p.first_object.here, contained p.rule.required name (p.index, p.first_name.here)) p.first_name.holds)
@@ -192,12 +186,11 @@ one_of_code t kept (ModulePrivate name info (Info user)) (ModulePrivate other ke
 one_of_code t kept (ModulePrivate name info (Info user)) (ModulePrivate other keeper (Info third)) e a b =
     let p = a.present.1 in
     let q = b.present.1 in
-    let r = one_first _ _ p.0 q.0 p.1 q.1 p.2 q.2 in
+    let r = one_first p.2 q.2 in
     let n = sym p.3 ∙ ap (λ (z : InfoRequirement). z.name) r ∙ q.3 in
     let k : info ≡ keeper = one_keeper t (differ_below t kept _ a (omega arith)) other info keeper (subst (HasPrivate t info) n p.5) q.5 in
-    by_same _ _ (cc)
-one_of_code t kept (PrivateUnknown name) (PrivateUnknown other) e a b =
-    by_same _ _ (ap PrivateUnknown (one_first _ _ a.present.0 b.present.0 name other a.present.1 b.present.1))
+    by_same (cc)
+one_of_code t kept (PrivateUnknown name) (PrivateUnknown other) e a b = by_same (ap PrivateUnknown (one_first a.present.1 b.present.1))
 one_of_code t kept fault other e a b = absurd (omega (arith, e))
 
 pub one_told : OneTableFault

@@ -24,7 +24,7 @@ use Rattle.std.proofs.lemmas.List.Sorted.{ranks_by, sorted_far, Contains-permuta
 use Rattle.module_table.specs.TableValue.{TableValue}
 use Rattle.module_table.specs.inner.Indexed.{pair_at}
 use Rattle.module_table.specs.Sound.{IsSound}
-use Rattle.module_table.specs.inner.Ranks.{pair_in, AreListed, AreByName, AreNumbers, AreRanks, AreRanked}
+use Rattle.module_table.specs.inner.Ranks.{pair_in, AreByNumber, AreByName, AreNumbers, AreRanks, AreRanked}
 use Rattle.module_table.proofs.Words.{bmi_of, Pair, At, name_in_pair, pair_of_module, with_file}
 use Rattle.module_table.proofs.Lists.{same_reads, one_value}
 use Rattle.module_table.specs.declared.needed.Numbered.{Numbered}
@@ -159,7 +159,7 @@ all_required t sound o rule name at has =
 -- ---- all modules, by number
 
 pub listed_more : (provided : List Provision) (count : ℕ) (modules : List Numbered) (m : Numbered) → m.index ≡ count →
-    pair_at provided count ≡ Some (lent (pair_in m)) → AreListed provided count modules → AreListed provided (count + 1) (modules ++ m ∷ [])
+    pair_at provided count ≡ Some (lent (pair_in m)) → AreByNumber provided count modules → AreByNumber provided (count + 1) (modules ++ m ∷ [])
 listed_more provided count modules m number pair h = record {
   as_many = length_push modules m ∙ ap (λ n. n + 1) h.as_many;
   numbers = λ k n at. ⊎_elim
@@ -227,7 +227,7 @@ module _ (t : TableValue) (sound : IsSound t) where
   module_of : (k : ℕ) (x : Pair) → pair_at (provisions t) k ≡ Some x → (p : Provision) × (At (provisions t) k p) × ((p.name, p.file) ≡ x)
   module_of k x e = from_option_map pair_of_module (slice_get (provisions t) k) x e
 
-  module _ (made : List Numbered) (l : AreListed (provisions t) (length (provisions t)) made) where
+  module _ (made : List Numbered) (l : AreByNumber (provisions t) (length (provisions t)) made) where
     apart : AllPairs (λ a b. name a ≢ name b) made
     apart i j d lt in_j same =
         let p = module_of i _ (l.pairs i (get_or made i d) (slice_get-get_or made i d (omega (arith, lt, in_j)))) in
@@ -268,7 +268,7 @@ module _ (provided : List Provision) (modules : List Numbered) (h : AreByName pr
         let p = from_option_map pair_of_module (slice_get provided m.index) (lent (pair_in m)) (h.pairs r m at) in
         omega (arith, slice_get_within provided m.index p.0 p.1, h.as_many);
     once = λ r s m n at_r at_s same.
-        neither_less r s (λ lt. never_twice r s m n at_r at_s lt same) (λ gt. never_twice s r n m at_s at_r gt (sym same));
+        neither_less (λ lt. never_twice r s m n at_r at_s lt same) (λ gt. never_twice s r n m at_s at_r gt (sym same));
   }
 
   module _ (ranks : List ℕ) (is : AreRanks modules (length modules) ranks) (pairs : List Pair) (made : pairs ≡ map (λ (m : Numbered). lent (pair_in m)) modules)

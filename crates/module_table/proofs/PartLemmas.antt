@@ -10,8 +10,7 @@ use Rattle.module_table.specs.Faults.{Claim, claims, own_claims, Collides, HasPr
 use Rattle.module_table.specs.Sound.{IsSound}
 use Rattle.module_table.specs.Needed.{LeadsTo, Leads, IsNeeded}
 use Rattle.module_table.specs.Added.{first_mentions, file_of, pair_of, required_of, tasks_of}
-use Rattle.module_table.specs.Parts.{PartIsSound, PartHasTasks, PartIsNeeded}
-use Rattle.document_values.specs.Parts.{HasModule, KeepsRequired, IsEnough}
+use Rattle.module_table.specs.Parts.{HasModule, KeepsRequired, IsEnough}
 use Rattle.module_table.specs.declared.fault.Maker.{Maker}
 use Rattle.module_table.specs.declared.fault.Maker.TheVariants.{Object, Info}
 use Rattle.module_table.proofs.Places.{one_file, provision_by, from_numbered, from_mentions, module_from, sound_names}
@@ -163,14 +162,17 @@ module _ (objects : List RuleValue) (part infos : List InfoValue) (is : IsEnough
   infos_known : (i j : ℕ) (m : ModuleValue) (name file : Name) → InfoRequires t i j m name file → IsInfoProvided t name file
   infos_known i j m name file h = let c = is.closed i j m name file h.0 h.1 in (c.0, (c.1, c.2, c.3, c.4, c.5))
 
+  -- modules of one name are one, of one info file
+  one_named : {i k : ℕ} (j l : ℕ) {a b : ModuleValue} → HasModule infos i j a → HasModule infos k l b → a.name ≡ b.name → (i ≡ k) × (a ≡ b)
+  one_named {i} {k} j l {a} {b} has other same =
+      let index = is.infos_apart i j k l a b has other (inl same) in
+      (index.0, one_entry infos k l (subst (λ n. HasModule infos n l a) index.0 (subst (λ n. HasModule infos i n a) index.1 has)) other)
+
   infos_allowed : (i j info : ℕ) (m : ModuleValue) (name file : Name) → InfoRequires t i j m name file → HasPrivate t info name → info ≡ i
   infos_allowed i j info m name file h keeps =
       let c = is.closed i j m name file h.0 h.1 in
-      let index = is.infos_apart c.0 c.1 info keeps.0 c.2 keeps.1 c.3 keeps.2 (inl (c.4 ∙ sym keeps.3)) in
-      let one : c.2 ≡ keeps.1 =
-      one_entry infos info keeps.0 c.2 keeps.1 (subst (λ n. HasModule infos n keeps.0 c.2) index.0 (subst (λ n. HasModule infos c.0 n c.2) index.1 c.3))
-      keeps.2 in
-      sym index.0 ∙ c.6 (ap (λ (m : ModuleValue). m.is_private) one ∙ keeps.4)
+      let one = one_named _ _ c.3 keeps.2 (c.4 ∙ sym keeps.3) in
+      sym one.0 ∙ c.6 (ap (λ (m : ModuleValue). m.is_private) one.1 ∙ keeps.4)
 
   -- an object's module is not one of an info
   not_both : (o j i k : ℕ) (name file : Name) (m : ModuleValue) → Provides t o j name file → HasModule infos i k m → m.name ≡ name → ⊥
@@ -180,16 +182,13 @@ module _ (objects : List RuleValue) (part infos : List InfoValue) (is : IsEnough
   allowed_by o info name file (Object p) needs by keeps = not_both p by.0 info keeps.0 name file keeps.1 by.1 keeps.2 keeps.3
   allowed_by o info name file (Info i) needs by keeps =
       let w = is.is_part.modules i by.0 by.1 by.2 in
-      let index = is.infos_apart i w.0 info keeps.0 w.1 keeps.1 w.2 keeps.2 (inl (sym w.3.name ∙ by.3 ∙ sym keeps.3)) in
-      let one : w.1 ≡ keeps.1 =
-      one_entry infos info keeps.0 w.1 keeps.1 (subst (λ n. HasModule infos n keeps.0 w.1) index.0 (subst (λ n. HasModule infos i n w.1) index.1 w.2))
-      keeps.2 in
-      sound.objects_allowed o i name needs (by.0, by.1, by.2, by.3, w.3.is_private ∙ ap (λ (m : ModuleValue). m.is_private) one ∙ keeps.4)
+      let one = one_named _ _ w.2 keeps.2 (sym w.3.name ∙ by.3 ∙ sym keeps.3) in
+      sound.objects_allowed o i name needs (by.0, by.1, by.2, by.3, w.3.is_private ∙ ap (λ (m : ModuleValue). m.is_private) one.1 ∙ keeps.4)
 
   objects_allowed : (o info : ℕ) (name : Name) → Requires t o name → HasPrivate t info name → ⊥
   objects_allowed o info name needs keeps = let k = sound.known o name needs in allowed_by o info name k.0 k.1.0 needs k.1.1 keeps
 
-  whole : IsSound t
+  pub whole : IsSound t
   whole = record {
     objects_differ = sound.objects_differ;
     infos_differ = infos_differ;
@@ -218,7 +217,7 @@ module _ (objects : List RuleValue) (part infos : List InfoValue) (is : IsEnough
       filter_map_on (pair_of (provisions u)) (pair_of (provisions t)) (first_mentions rule.required)
       (λ k name here. same_pair o rule name at (contained rule.required name (from_mentions rule.required name (k, here))))
 
-  same_tasks : tasks_of u ≡ tasks_of t
+  pub same_tasks : tasks_of u ≡ tasks_of t
   same_tasks = map_on (λ (rule : RuleValue). (rule, required_of u rule)) (λ (rule : RuleValue). (rule, required_of t rule)) objects
       (λ o rule at. ap (λ pairs. (rule, pairs)) (same_required o rule at))
 
@@ -238,11 +237,8 @@ module _ (objects : List RuleValue) (part infos : List InfoValue) (is : IsEnough
     step_down first second file maker by (inl h) = inl h
     step_down first second file (Object p) by (inr h) = absurd (not_both p by.0 h.0 h.1 first file h.2 by.1 h.5.0 h.4)
     step_down first second file (Info i) by (inr h) =
-        let k = keeps i by.0 by.1 by.2 in
-        let index = is.infos_apart i k.0 h.0 h.1 by.1 h.2 k.1 h.5.0 (inl (by.3 ∙ sym h.4)) in
-        let one : by.1 ≡ h.2 =
-        one_entry infos h.0 h.1 by.1 h.2 (subst (λ n. HasModule infos n h.1 by.1) index.0 (subst (λ n. HasModule infos i n by.1) index.1 k.1)) h.5.0 in
-        inr (i, by.0, by.1, h.3, by.3, (by.2, subst (λ (m : ModuleValue). Contains m.required (second, h.3)) (sym one) h.5.1))
+        let one = one_named _ _ (keeps i by.0 by.1 by.2).1 h.5.0 (by.3 ∙ sym h.4) in
+        inr (i, by.0, by.1, h.3, by.3, (by.2, subst (λ (m : ModuleValue). Contains m.required (second, h.3)) (sym one.1) h.5.1))
 
     next_provided : (first second : Name) → LeadsTo u first second → (file : Name) × IsProvided u second file
     next_provided first second (inl h) = sound.known h.0 second h.4
@@ -257,7 +253,7 @@ module _ (objects : List RuleValue) (part infos : List InfoValue) (is : IsEnough
         let rest = down names second next.0 last next.1 h.1 in
         ((step, rest.0), rest.1)
 
-    same_needed : (object : ℕ) (name file : Name) → IsNeeded u object name file ↔ IsNeeded t object name file
+    pub same_needed : (object : ℕ) (name file : Name) → IsNeeded u object name file ↔ IsNeeded t object name file
     same_needed object name file = (
       λ h. (h.0, h.1, h.2, up h.1 h.0 name h.3, provided name file h.4),
       λ h.
@@ -265,12 +261,3 @@ module _ (objects : List RuleValue) (part infos : List InfoValue) (is : IsEnough
           let d = down h.1 h.0 k.0 name k.1 h.3 in
           (h.0, h.1, h.2, d.0, subst (λ f. IsProvided u name f) (one_file t whole name d.1.0 file (provided name d.1.0 d.1.1) h.4) d.1.1),
     )
-
-pub part_is_sound : PartIsSound
-part_is_sound objects part infos is sound = whole objects part infos is sound
-
-pub part_has_tasks : PartHasTasks
-part_has_tasks objects part infos is sound = same_tasks objects part infos is sound
-
-pub part_is_needed : PartIsNeeded
-part_is_needed objects part infos is keeps sound = same_needed objects part infos is sound keeps

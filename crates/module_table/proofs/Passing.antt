@@ -20,7 +20,7 @@ use Rattle.ninja_text.specs.Failure.{ForFault}
 use Rattle.ninja_text.specs.declared.failure.Failure.{Failure}
 use Rattle.dep_order.specs.Needs.{IsOrderable}
 use Rattle.dep_order.proofs.ForCallers.{no_cycle}
-use Rattle.module_table.specs.inner.Numbered.{AreIndexes}
+use Rattle.module_table.specs.inner.Numbered.{AreRequiredIndexes}
 use Rattle.module_table.specs.inner.Passed.{Lacks, Passed}
 use Rattle.module_table.proofs.Words.{name_of, maker_of, path_of, target_of, claimed, privacy_of, names_wanted, At}
 use Rattle.ninja_text.specs.Bytes.{Name}
@@ -32,11 +32,11 @@ module _ (t : TableValue) where
   -- the position of the module that an info provides
   by_info : (name file : Name) → IsInfoProvided t name file →
       (k : ℕ) × (p : Provision) × IsNamed (provisions t) name k p × (p.file ≡ file) × ((i : ℕ) × (p.maker ≡ Info i))
-  by_info name file (i, h) = (_, _, (info_provision t i h.0 h.1 h.2, h.3), h.4, (i, refl))
+  by_info name file (i, h) = (_, _, (info_provision t i h.0 h.2, h.3), h.4, (i, refl))
 
   pub from_info : (name : Name) (k i : ℕ) (p : Provision) → IsNamed (provisions t) name k p → p.maker ≡ Info i → IsInfoProvided t name p.file
   from_info name k i p named is =
-      (i, subst (λ n. IsProvidedBy t (Info i) n p.file) named.1 (subst (λ m. IsProvidedBy t m p.name p.file) is (from_provisions t k p named.0)))
+      (i, subst (λ n. IsProvidedBy t (Info i) n p.file) named.1 (subst (λ m. IsProvidedBy t m p.name p.file) is (from_provisions t k named.0)))
 
   pub unknown_by : (r : InfoRequirement) → IsNotByInfo (provisions t) r → IsInfoUnknown t r
   unknown_by r none file h = let b = by_info r.name file h in none (b.0, b.1, b.4.0, b.2, b.4.1)
@@ -47,45 +47,45 @@ module _ (t : TableValue) where
   module _ (differ : AllDiffer (names_of (provisions t))) where
     differs_by : (r : InfoRequirement) → IsByInfo (provisions t) r → Differs (provisions t) r → Disagrees t r
     differs_by r by (k, p, named, other) =
-        let same = one_module (provisions t) r.name differ by.0 k by.1 p by.3 named in
+        let same = one_module (provisions t) r.name differ by.0 k by.3 named in
         (p.file, from_info r.name k by.2 p named (ap maker_of (sym same) ∙ by.4), other)
 
   agrees_not : (r : InfoRequirement) → Agrees (provisions t) r → Disagrees t r → ⊥
   agrees_not r agrees (file, provided, other) = let b = by_info r.name file provided in other (sym b.3 ∙ agrees b.0 b.1 b.2)
 
   pub unprovided_by : (name : Name) → IsNotByObject (provisions t) name → IsUnprovided t name
-  unprovided_by name none object position file h = none (_, _, object, (object_provision t object position name file h, refl), refl)
+  unprovided_by name none object position file h = none (_, _, object, (object_provision t object position h, refl), refl)
 
   pub provided_by : (name : Name) → IsByObject (provisions t) name → (object : ℕ) × (position : ℕ) × (file : Name) × Provides t object position name file
   provided_by name (k, p, object, named, is) =
-      let by = subst (λ n. IsProvidedBy t (Object object) n p.file) named.1 (subst (λ m. IsProvidedBy t m p.name p.file) is (from_provisions t k p named.0)) in
+      let by = subst (λ n. IsProvidedBy t (Object object) n p.file) named.1 (subst (λ m. IsProvidedBy t m p.name p.file) is (from_provisions t k named.0)) in
       (object, by.0, p.file, by.1)
 
 abbrev IsOf : InfoRequirement → (List ℕ → List ℕ → List ℕ → TableFault) → TableFault → Type 0
 IsOf r make fault = fault ≡ make r.target r.module_name r.name
 
 module _ (t : TableValue) (kept : List Name) where
-  pub reports_info_unknown : (index : ℕ) (r : InfoRequirement) (fault : TableFault) →
+  pub reports_info_unknown : {index : ℕ} {r : InfoRequirement} {fault : TableFault} →
       RefusesAt (IsByInfo (provisions t)) (IsNotByInfo (provisions t)) (info_requirements t) index → At (info_requirements t) index r →
       IsOf r InfoUnknown fault → Reports 6 t kept fault
-  reports_info_unknown index r fault rejected at is =
-      let first = first_of_rejected _ _ (IsInfoUnknown t) _ index r at rejected (unknown_by t r) (λ y by unknown. let h = known_by t y by in unknown h.0 h.1) in
-      reports_same 6 t kept fault _ is (record { present = (index, r, first, refl, refl, refl); coded = refl })
+  reports_info_unknown {index} {r} rejected at is =
+      let first = first_of_rejected (IsInfoUnknown t) at rejected (unknown_by t r) (λ y by unknown. let h = known_by t y by in unknown h.0 h.1) in
+      reports_same 6 t kept is (record { present = (index, r, first, refl, refl, refl); coded = refl })
 
-  pub reports_info_disagrees : (index : ℕ) (r : InfoRequirement) (fault : TableFault) → AllDiffer (names_of (provisions t)) →
+  pub reports_info_disagrees : {index : ℕ} {r : InfoRequirement} {fault : TableFault} → AllDiffer (names_of (provisions t)) →
       AcceptsAll (IsByInfo (provisions t)) (info_requirements t) → RefusesAt (Agrees (provisions t)) (Differs (provisions t)) (info_requirements t) index →
       At (info_requirements t) index r → IsOf r InfoDisagrees fault → Reports 7 t kept fault
-  reports_info_disagrees index r fault differ known rejected at is =
-      let first = first_of_rejected _ _ (Disagrees t) _ index r at rejected (differs_by t differ r (known.each index r at)) (agrees_not t) in
-      reports_same 7 t kept fault _ is (record { present = (index, r, first, refl, refl, refl); coded = refl })
+  reports_info_disagrees {index} {r} differ known rejected at is =
+      let first = first_of_rejected (Disagrees t) at rejected (differs_by t differ r (known.each index r at)) (agrees_not t) in
+      reports_same 7 t kept is (record { present = (index, r, first, refl, refl, refl); coded = refl })
 
-  pub reports_private_unknown : (index : ℕ) (name : Name) (fault : TableFault) →
+  pub reports_private_unknown : {index : ℕ} {name : Name} {fault : TableFault} →
       RefusesAt (IsByObject (provisions t)) (IsNotByObject (provisions t)) kept index → At kept index name → fault ≡ PrivateUnknown name →
       Reports 10 t kept fault
-  reports_private_unknown index name fault rejected at is =
-      let first = first_of_rejected _ _ (IsUnprovided t) kept index name at rejected (unprovided_by t name)
+  reports_private_unknown {index} {name} rejected at is =
+      let first = first_of_rejected (IsUnprovided t) at rejected (unprovided_by t name)
       (λ y by foreign. let h = provided_by t y by in foreign h.0 h.1 h.2 h.3) in
-      reports_same 10 t kept fault _ is (record { present = (index, first); coded = refl })
+      reports_same 10 t kept is (record { present = (index, first); coded = refl })
 
 -- ---- modules that info files keep to themselves
 
@@ -103,7 +103,7 @@ module _ (t : TableValue) where
 
   -- what an info keeps is private
   pub has_private : (i : ℕ) (name : Name) → HasPrivate t i name → IsPrivateTo (provisions t) name i
-  has_private i name h = (_, _, (info_provision t i h.0 h.1 h.2, h.3), h.4, refl)
+  has_private i name h = (_, _, (info_provision t i h.0 h.2, h.3), h.4, refl)
 
   private_to : (i : ℕ) (name : Name) → IsPrivateTo (provisions t) name i → HasPrivate t i name
   private_to i name (k, p, named, private, maker) =
@@ -130,15 +130,15 @@ module _ (t : TableValue) where
 pub info_of_private : (ps : List Provision) → AllDiffer (names_of ps) → ArePrivateByInfos ps → (name : Name) → IsPrivate ps name → (k : ℕ) (q : Provision) →
     IsNamed ps name k q → (i : ℕ) × (q.maker ≡ Info i) × (q.is_private ≡ true)
 info_of_private ps differ sealed name (l, p, there, private) k q named =
-    let same = one_module ps name differ l k p q there named in
+    let same = one_module ps name differ l k there named in
     let by = sealed l p there.0 private in
     (by.0, ap maker_of (sym same) ∙ by.1, ap privacy_of (sym same) ∙ private)
 
 module _ (t : TableValue) (kept : List Name) where
-  pub reports_private_object : (object : ℕ) (rule : RuleValue) (index : ℕ) (name : Name) (info : ℕ) (fault : TableFault) → At t.objects object rule →
+  pub reports_private_object : {object : ℕ} {rule : RuleValue} {index : ℕ} {name : Name} {info : ℕ} {fault : TableFault} → At t.objects object rule →
       AcceptsAll (RequiresPublic (provisions t)) (take object t.objects) → RefusesAt (IsPublic (provisions t)) (IsPrivate (provisions t)) rule.required index →
       At rule.required index name → IsPrivateTo (provisions t) name info → fault ≡ ModulePrivate name info (Object object) → Reports 9 t kept fault
-  reports_private_object object rule index name info fault at before rejected at_name by same =
+  reports_private_object {object} {rule} {index} {name} {info} at before rejected at_name by same =
       let keeps = private_to t info name by in
       let first : IsFirstRequired (IsPrivateName t) t.objects object name = record {
         rule = rule;
@@ -148,21 +148,21 @@ module _ (t : TableValue) (kept : List Name) where
           holds = (index, name, at_name, (info, keeps));
           before = λ k r lt at_k h. let row = before.each k r (in_take object t.objects k r lt at_k) in public_not_private t h.1 (row.each h.0 h.1 h.2) h.3;
         };
-        first_name = first_of_rejected _ _ (IsPrivateName t) _ index name at_name rejected (λ private. (info, keeps)) (public_not_private t);
+        first_name = first_of_rejected (IsPrivateName t) at_name rejected (λ private. (info, keeps)) (public_not_private t);
       } in
-      reports_same 9 t kept fault _ same (record { present = (first, keeps); coded = refl })
+      reports_same 9 t kept same (record { present = (first, keeps); coded = refl })
 
-  pub reports_private_info : (index : ℕ) (r : InfoRequirement) (info : ℕ) (fault : TableFault) → AllDiffer (names_of (provisions t)) →
+  pub reports_private_info : {index : ℕ} {r : InfoRequirement} {info : ℕ} {fault : TableFault} → AllDiffer (names_of (provisions t)) →
       RefusesAt (IsAllowed (provisions t)) (IsNotAllowed (provisions t)) (info_requirements t) index → At (info_requirements t) index r →
       IsPrivateTo (provisions t) r.name info → fault ≡ ModulePrivate r.name info (Info r.info) → AcceptsAll (RequiresPublic (provisions t)) t.objects →
       Reports 9 t kept fault
-  reports_private_info index r info fault differ rejected at by same all =
+  reports_private_info {index} {r} {info} differ rejected at by same all =
       let keeps = private_to t info r.name by in
       let elsewhere : IsNotAllowed (provisions t) r →
       IsPrivateElsewhere t r = λ bad.
-      (info, keeps, λ e. bad.4 (ap maker_of (one_module (provisions t) r.name differ bad.0 by.0 bad.1 by.1 bad.2 by.2) ∙ by.4 ∙ ap Info e)) in
-      let first = first_of_rejected _ _ (IsPrivateElsewhere t) _ index r at rejected elsewhere (allowed_not_private t) in
-      reports_same 9 t kept fault _ same
+      (info, keeps, λ e. bad.4 (ap maker_of (one_module (provisions t) r.name differ bad.0 by.0 bad.2 by.2) ∙ by.4 ∙ ap Info e)) in
+      let first = first_of_rejected (IsPrivateElsewhere t) at rejected elsewhere (allowed_not_private t) in
+      reports_same 9 t kept same
       (record {
         present = (
           public_rows t all,
@@ -193,7 +193,7 @@ module _ (t : TableValue) (kept : List Name) where
 
   pub fails : (n : ℕ) (failure : Failure (Box TableFault Global)) → Passed n t kept →
       ForFault (λ fault. (kept : List Name) → Reports n t kept fault.value) failure → ForFault (λ fault. IsReported t kept fault.value) failure
-  fails n failure passed h = for_fault _ _ failure (λ fault is. reported n fault.value (is kept) passed) h
+  fails n failure passed h = for_fault failure (λ fault is. reported n fault.value (is kept) passed) h
 
   -- ---- what each check excludes
 
@@ -246,11 +246,11 @@ module _ (t : TableValue) (kept : List Name) where
   kept_lack own fault e h = absurd (omega (arith, e))
 
   -- what has an index is provided
-  rows_known : (rows : List (List ℕ)) → AreIndexes t rows → (object : ℕ) (name : Name) → Requires t object name → (file : Name) × IsProvided t name file
+  rows_known : (rows : List (List ℕ)) → AreRequiredIndexes t rows → (object : ℕ) (name : Name) → Requires t object name → (file : Name) × IsProvided t name file
   rows_known rows is object name (rule, at, has) =
       let names = names_of (provisions t) in
       let row = from_map (map (slice_get names)) rows object (map Some rule.required) (same_reads object is ∙ to_map names_wanted t.objects object rule at) in
-      let number = in_row names row.0 rule.required has.0 name row.2 (slice_get-get_or rule.required has.0 name has.1 ∙ ap Some has.2) in
+      let number = in_row names row.0 rule.required has.0 row.2 (slice_get-get_or rule.required has.0 name has.1 ∙ ap Some has.2) in
       provided_numbered t number.0 name number.2
 
   -- ---- M1 to M4, and M5 to M10, in turn
@@ -267,7 +267,7 @@ module _ (t : TableValue) (kept : List Name) where
   pub after_files : AllDiffer (map path_of t.objects ++ files_of (provisions t)) → Passed 4 t kept → Passed 5 t kept
   after_files files passed = next_passed 4 passed (files_lack files)
 
-  pub after_known : (rows : List (List ℕ)) → AreIndexes t rows → Passed 5 t kept → Passed 6 t kept
+  pub after_known : (rows : List (List ℕ)) → AreRequiredIndexes t rows → Passed 5 t kept → Passed 6 t kept
   after_known rows is passed = next_passed 5 passed (requirements_lack (rows_known rows is))
 
   after_infos_known : AcceptsAll (IsByInfo (provisions t)) (info_requirements t) → Passed 6 t kept → Passed 7 t kept
@@ -287,7 +287,7 @@ module _ (t : TableValue) (kept : List Name) where
   after_kept own passed = next_passed 10 passed (kept_lack own)
 
   -- what has passed by some of the checks M5 to M9
-  module _ (rows : List (List ℕ)) (indexes : AreIndexes t rows) (by_infos : AcceptsAll (IsByInfo (provisions t)) (info_requirements t))
+  module _ (rows : List (List ℕ)) (indexes : AreRequiredIndexes t rows) (by_infos : AcceptsAll (IsByInfo (provisions t)) (info_requirements t))
       (before : Passed 5 t kept) where
     pub seven_passed : Passed 7 t kept
     seven_passed = after_infos_known by_infos (after_known rows indexes before)

@@ -8,7 +8,7 @@ use Rattle.ninja_text.proofs.ForCallers.{contained, in_append, from_map, to_map,
 use Rattle.document_values.specs.Info.{ModuleValue, InfoValue}
 use Rattle.module_table.specs.TableValue.{TableValue}
 use Rattle.module_table.specs.Modules.{IsProvidedBy, Provision, provisions, object_provisions, info_provisions, Provides, Requires, InfoProvides, IsProvided, DependsOn, InfoRequires, IsInfoProvided, InfoRequirement, info_requirements, requirements_of_info, module_requirements}
-use Rattle.module_table.specs.Added.{first_mentions, file_of, required_of, RequiredFiles, AddedNeeds, AddedOrderable, FilesOnce, FilesApart, OneFile}
+use Rattle.module_table.specs.Added.{first_mentions, file_of, required_of, RequiredFiles, AddedNeeds}
 use Rattle.module_table.specs.declared.fault.Maker.TheVariants.{Object, Info}
 use Rattle.document_values.specs.Rule.{RuleValue}
 use Rattle.dep_order.specs.Needs.{IsOrderable}
@@ -67,8 +67,8 @@ module _ (t : TableValue) where
       ]
 
   -- a module among all modules is one that somebody provides
-  pub from_provisions : (k : ℕ) (p : Provision) → At (provisions t) k p → IsProvidedBy t p.maker p.name p.file
-  from_provisions k p e =
+  pub from_provisions : (k : ℕ) {p : Provision} → At (provisions t) k p → IsProvidedBy t p.maker p.name p.file
+  from_provisions k {p} e =
       elim (module_from k p e) [
         | inl h ↦ subst (λ (q : Provision). IsProvidedBy t q.maker q.name q.file) h.4 (h.1, h.3)
         | inr h ↦ subst (λ (q : Provision). IsProvidedBy t q.maker q.name q.file) h.4 (h.1, h.2, h.3, refl, refl)
@@ -112,7 +112,7 @@ required_files t rule k name file e =
     let provision = from_option_map bmi_of (find (λ p. bytes_eq item.0 p.name) (provisions t)) pair.0 pair.1 in
     let find_at = from_find (λ (p : Provision). bytes_eq item.0 p.name) (provisions t) provision.0 provision.1 in
     let called : item.0 ≡ provision.0.name = (bytes_decides item.0 provision.0.name).0 find_at.1 in
-    let by = from_provisions t find_at.0.0 provision.0 find_at.0.1 in (
+    let by = from_provisions t find_at.0.0 find_at.0.1 in (
       contained rule.required name (subst (Has rule.required) is_name (from_mentions _ _ item.1)),
       (
         provision.0.maker,
@@ -141,8 +141,8 @@ zero_plus : (n : ℕ) → 0 + n ≡ n
 zero_plus n = omega arith
 
 -- numbers of which neither is less are one
-pub neither_less : (a b : ℕ) → (a < b → ⊥) → (b < a → ⊥) → a ≡ b
-neither_less a b not_less not_more =
+pub neither_less : {a b : ℕ} → (a < b → ⊥) → (b < a → ⊥) → a ≡ b
+neither_less {a} {b} not_less not_more =
     ⊎_elim (λ lt. absurd (not_less lt)) (λ rest. ⊎_elim (λ e. e) (λ gt. absurd (not_more gt)) rest) (three_ways a b)
 
 pub either : (x y : Bool) → y ≡ true → IsTrue (x || y)
@@ -156,17 +156,17 @@ module _ (t : TableValue) where
   info_row_of : (i : ℕ) (info : InfoValue) → At t.infos i info → At (enumerate_from 0 t.infos) i (i, info)
   info_row_of i info e = numbered 0 t.infos i info e ∙ ap (λ n. Some (n, info)) (zero_plus i)
 
-  pub object_provision : (o j : ℕ) (name : Name) (file : Name) → Provides t o j name file →
+  pub object_provision : (o j : ℕ) {name file : Name} → Provides t o j name file →
       At (provisions t) (offset object_provisions (enumerate_from 0 t.objects) o + j)
       (record { maker = Object o; name = name; file = file; is_private = false })
-  object_provision o j name file h =
+  object_provision o j {name} {file} h =
       in_first (own_modules t) (infos_modules t) (offset object_provisions (enumerate_from 0 t.objects) o + j) _
       (in_flat_map object_provisions (enumerate_from 0 t.objects) o j _ ((o, h.0), row_of o h.0 h.1, to_map (own_module o) h.0.provided j (name, file) h.2))
 
-  pub info_provision : (i j : ℕ) (m : ModuleValue) → InfoProvides t i j m →
+  pub info_provision : (i j : ℕ) {m : ModuleValue} → InfoProvides t i j m →
       At (provisions t) (length (own_modules t) + (offset info_provisions (enumerate_from 0 t.infos) i + j))
       (record { maker = Info i; name = m.name; file = m.file; is_private = m.is_private })
-  info_provision i j m h =
+  info_provision i j {m} h =
       in_second (own_modules t) (infos_modules t) (offset info_provisions (enumerate_from 0 t.infos) i + j) _
       (in_flat_map info_provisions (enumerate_from 0 t.infos) i j _ ((i, h.0), info_row_of i h.0 h.1, to_map (infos_module i) h.0.modules j m h.2))
 
@@ -175,14 +175,14 @@ module _ (t : TableValue) where
   unfolding object_place
   object_claim o j name file h =
       in_second (own_claims t.objects) (map module_claim (provisions t)) (offset object_provisions (enumerate_from 0 t.objects) o + j) _
-      (to_map module_claim (provisions t) (offset object_provisions (enumerate_from 0 t.objects) o + j) _ (object_provision o j name file h))
+      (to_map module_claim (provisions t) (offset object_provisions (enumerate_from 0 t.objects) o + j) _ (object_provision o j h))
 
   info_claim : (i j : ℕ) (m : ModuleValue) → InfoProvides t i j m →
       At (claims t) (info_place t i j) (record { maker = Info i; file = m.file; is_module = true })
   unfolding info_place
   info_claim i j m h = in_second (own_claims t.objects) (map module_claim (provisions t))
       (length (own_modules t) + (offset info_provisions (enumerate_from 0 t.infos) i + j)) _
-      (to_map module_claim (provisions t) (length (own_modules t) + (offset info_provisions (enumerate_from 0 t.infos) i + j)) _ (info_provision i j m h))
+      (to_map module_claim (provisions t) (length (own_modules t) + (offset info_provisions (enumerate_from 0 t.infos) i + j)) _ (info_provision i j h))
 
   own_claim : (o : ℕ) (rule : RuleValue) → At t.objects o rule → At (claims t) o (record { maker = Object o; file = rule.object; is_module = false })
   own_claim o rule e = in_first (own_claims t.objects) (map module_claim (provisions t)) o _
@@ -191,16 +191,16 @@ module _ (t : TableValue) where
   -- who provides a name is among all modules
   pub provision_by : (name file : Name) (maker : Maker) → IsProvidedBy t maker name file →
       (k : ℕ) × (p : Provision) × (At (provisions t) k p) × (p.name ≡ name) × (p.file ≡ file)
-  provision_by name file (Object o) by = (_, _, object_provision o by.0 name file by.1, refl, refl)
-  provision_by name file (Info i) by = (_, _, info_provision i by.0 by.1 by.2, by.3, by.4)
+  provision_by name file (Object o) by = (_, _, object_provision o by.0 by.1, refl, refl)
+  provision_by name file (Info i) by = (_, _, info_provision i by.0 by.2, by.3, by.4)
 
   module _ (sound : IsSound t) where
     -- the names of the modules differ
     pub sound_names : AllDiffer (names_of (provisions t))
     sound_names = differ_by name_of (provisions t) (λ i j a b lt at_i at_j same. let one = sound.names_differ i j a b at_i at_j same in omega (arith, lt, one))
 
-    one_name_file : (name file other : Name) → IsProvided t name file → IsProvided t name other → file ≡ other
-    one_name_file name file other a b =
+    pub one_file : (name file other : Name) → IsProvided t name file → IsProvided t name other → file ≡ other
+    one_file name file other a b =
         let p = provision_by name file a.0 a.1 in
         let q = provision_by name other b.0 b.1 in
         let index : p.0 ≡ q.0 = sound.names_differ p.0 q.0 p.1 q.1 p.2 q.2 (p.3 ∙ sym q.3) in
@@ -218,7 +218,7 @@ module _ (t : TableValue) where
           ]
         ]
 
-    files_once : (o p j k : ℕ) (name other : Name) (file : Name) → Provides t o j name file → Provides t p k other file → (o ≡ p) × (j ≡ k)
+    pub files_once : (o p j k : ℕ) (name other : Name) (file : Name) → Provides t o j name file → Provides t p k other file → (o ≡ p) × (j ≡ k)
     unfolding object_place
     files_once o p j k name other file a b =
         let index : object_place t o j ≡ object_place t p k = one_place _ _ _ _ (object_claim o j name file a) (object_claim p k other file b) refl refl in
@@ -243,28 +243,16 @@ module _ (t : TableValue) where
     depends : (o p : ℕ) → AddedNeeds t o p → DependsOn t o p
     depends o p h = depends_on o p h.0 h.1.0 h.1.1 h.1.2.0 h.1.2.1 h.2.0 h.2.1 h.2.2
 
-    orderable : IsOrderable (length t.objects) (AddedNeeds t)
+    pub orderable : IsOrderable (length t.objects) (AddedNeeds t)
     orderable = orderable_same (length t.objects) (DependsOn t) (AddedNeeds t) depends sound.orderable
 
-    apart : (o p j : ℕ) (rule : RuleValue) (name : Name) → At t.objects o rule → Provides t p j name rule.object → ⊥
+    pub apart : (o p j : ℕ) (rule : RuleValue) (name : Name) → At t.objects o rule → Provides t p j name rule.object → ⊥
     apart o p j rule name at provides =
         let here = own_claim o rule at in
         let there = object_claim p j name rule.object provides in
         let kind : true ≡ false =
         ap (λ (c : Claim). c.is_module) (one_value (sym there ∙ ap (slice_get (claims t)) (one_place _ _ _ _ there here refl refl) ∙ here)) in
         cc
-
-pub added_orderable : AddedOrderable
-added_orderable t sound = orderable t sound
-
-pub added_once : FilesOnce
-added_once t sound = files_once t sound
-
-pub added_apart : FilesApart
-added_apart t sound = apart t sound
-
-pub one_file : OneFile
-one_file t sound = one_name_file t sound
 
 -- ---- what info files' modules require, among the requirements of all info files
 
@@ -313,23 +301,23 @@ module _ (t : TableValue) where
       (λ entry. map_map with_found (λ (r : Pair). requirement_of info.0 info.1.target entry r.0 r.1) entry.required))
 
   -- and with the module of its name
-  found_there : (all : List InfoRequired) → AreLookedUp t all → (k : ℕ) (r : InfoRequired) → At all k r → looked_up r ≡ with_found (requirement_seen r)
-  found_there all looked k r at =
+  found_there : {all : List InfoRequired} → AreLookedUp t all → (k : ℕ) {r : InfoRequired} → At all k r → looked_up r ≡ with_found (requirement_seen r)
+  found_there {all} looked k {r} at =
       let y = from_map with_found (info_requirements t) k (looked_up r) (same_reads k (sym looked.same) ∙ to_map looked_up all k r at) in
       sym y.2 ∙ ap (λ (x : LookedUp). with_found x.0) y.2
 
   -- what is looked up is the requirement at the same index
-  pub required_there : (all : List InfoRequired) → AreLookedUp t all → (k : ℕ) (r : InfoRequired) → At all k r → At (info_requirements t) k (requirement_seen r)
-  required_there all looked k r at =
+  pub required_there : {all : List InfoRequired} → AreLookedUp t all → (k : ℕ) {r : InfoRequired} → At all k r → At (info_requirements t) k (requirement_seen r)
+  required_there {all} looked k {r} at =
       let y = from_map with_found (info_requirements t) k (looked_up r) (same_reads k (sym looked.same) ∙ to_map looked_up all k r at) in
       y.1 ∙ ap (λ (x : LookedUp). Some x.0) y.2
 
   -- a check by a test of what was looked up is one of the requirements of info files
-  pub requirement_checked : (test : LookedUp → Bool) (Yes No : InfoRequirement → Type 0) →
-      ((q : InfoRequirement) → MatchBool (test (with_found q)) (Yes q) (No q)) → (all : List InfoRequired) → AreLookedUp t all → (k : ℕ) (r : InfoRequired) →
-      At all k r → AcceptsAll Yes (take k (info_requirements t)) → (b : Bool) → test (looked_up r) ≡ b →
+  pub requirement_checked : (test : LookedUp → Bool) {Yes : InfoRequirement → Type 0} (No : InfoRequirement → Type 0) →
+      ((q : InfoRequirement) → MatchBool (test (with_found q)) (Yes q) (No q)) → {all : List InfoRequired} → AreLookedUp t all → (k : ℕ) {r : InfoRequired} →
+      At all k r → AcceptsAll Yes (take k (info_requirements t)) → {b : Bool} → test (looked_up r) ≡ b →
       MatchBool b (AcceptsAll Yes (take (k + 1) (info_requirements t))) (RefusesAt Yes No (info_requirements t) k)
-  requirement_checked test Yes No decides all looked k r at before b tested =
+  requirement_checked test {Yes} No decides looked k {r} at before {b} tested =
       let q = requirement_seen r in
-      first_rejected Yes No (info_requirements t) k q (required_there all looked k r at) before b
-      (subst (λ b. MatchBool b (Yes q) (No q)) (ap test (sym (found_there all looked k r at)) ∙ tested) (decides q))
+      first_rejected Yes No (info_requirements t) k (required_there looked k at) before b
+      (subst (λ b. MatchBool b (Yes q) (No q)) (ap test (sym (found_there looked k at)) ∙ tested) (decides q))

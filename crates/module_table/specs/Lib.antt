@@ -9,4 +9,8 @@ pub mod Added
 pub mod Outcomes
 pub mod Building
 pub mod Parts
+pub mod EnoughParts
+pub mod Indexes
+pub mod Pool
+pub mod Scratch
 pub mod inner

@@ -10,3 +10,4 @@ pub mod Indexed
 pub mod Graph
 pub mod Ranks
 pub mod LookUps
+pub mod Pools

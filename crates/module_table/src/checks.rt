@@ -12,7 +12,7 @@ ghost use Rattle.module_table.specs.Entries.{table_entries};
 ghost use Rattle.module_table.specs.Faults.{IsReported};
 ghost use Rattle.module_table.specs.Outcomes.{HasNoFault};
 ghost use Rattle.module_table.specs.inner.Passed.{Passed};
-ghost use Rattle.module_table.specs.inner.Numbered.{AreIndexes};
+ghost use Rattle.module_table.specs.inner.Numbered.{AreRequiredIndexes};
 ghost use Rattle.module_table.specs.inner.Graph.{AreModuleRows};
 ghost use Rattle.module_table.specs.inner.LookUps.{AreLookUps};
 ghost use Rattle.module_table.specs.inner.Views.{paths_of};
@@ -58,7 +58,7 @@ impl Index {
         indexes: Vec<Vec<usize>>,
     ) -> Result<Index, AllocError>
         requires needs { AreModuleRows modules (rows needs.items) }
-        requires indexes { AreIndexes modules (rows indexes.items) }
+        requires indexes { AreRequiredIndexes modules (rows indexes.items) }
         ensures { IfOk result (λ index. AreLookUps modules.entry index.names.keys
             index.origins.items index.graph (map (λ row. row.items) index.required.items)) }
     {
@@ -103,14 +103,14 @@ pub(crate) fn check_all(
     check_infos(alloc, infos, key)?;
     let modules = check_names(alloc, objects, infos, key)?;
     check_files(alloc, &modules, paths)?;
-    let Requirements { needs, indexes } = check_requirements(alloc, &modules, kept)?;
+    let RequiredRows { needs, indexes } = check_requirements(alloc, &modules, kept)?;
     let index = Index::new(alloc, modules, needs, indexes)?;
     Ok(index)
 }
 
 /// What modules and objects need, by index.
 #[derive(Drop)]
-struct Requirements {
+struct RequiredRows {
     /// What each module needs.
     needs: Vec<Vec<usize>>,
     /// The modules that each object requires.
@@ -122,10 +122,10 @@ fn check_requirements(
     alloc: Global,
     modules: &Modules,
     kept: &[Name],
-) -> Result<Requirements, Failure<Box<TableFault>>>
+) -> Result<RequiredRows, Failure<Box<TableFault>>>
     requires { Passed 5 modules.now kept.now }
     ensures needs { IfOk result (λ all. AreModuleRows modules.now (rows all.needs.items)) }
-    ensures indexes { IfOk result (λ all. AreIndexes modules.now (rows all.indexes.items)) }
+    ensures indexes { IfOk result (λ all. AreRequiredIndexes modules.now (rows all.indexes.items)) }
     ensures passed { OnOk result (Passed 11 modules.now kept.now) }
     ensures fault { IfErr result (ForFault (λ fault. IsReported modules.now kept.now fault.value)) }
 {
@@ -138,5 +138,5 @@ fn check_requirements(
     check_objects_allowed(alloc, modules, &indexes)?;
     check_infos_allowed(alloc, modules, &required)?;
     check_kept(alloc, modules, kept)?;
-    Ok(Requirements { needs, indexes })
+    Ok(RequiredRows { needs, indexes })
 }

@@ -1,7 +1,7 @@
 //! Laws of tables: functions that do nothing, and whose contracts callers' proofs may cite.
 
 ghost use Rattle.module_table.specs.Added.{AddedOrderable, FilesOnce, FilesApart, RequiredFiles, AllRequired, OneFile};
-ghost use Rattle.module_table.specs.Parts.{PartIsSound, PartHasTasks, PartIsNeeded};
+ghost use Rattle.module_table.specs.EnoughParts.{PartIsSound, PartHasTasks, PartIsNeeded};
 ghost use Rattle.module_table.specs.Outcomes.{SoundHasNoFault, FaultlessIsSound, OneTableFault};
 
 /// A table is sound and its objects provide the private names if and only if none of the faults M1

@@ -1,4 +1,5 @@
-//! The modules of one target and of the targets that it links, by name.
+//! The modules of one target and of the targets that it links, by name, and the few linked modules
+//! that a target of a project needs.
 //!
 //! [`Table::build`] makes a table of a target's rules and of the info files of the targets that it
 //! links. It succeeds if and only if none of the faults M1 to M10 is present (`specs/Faults.antt`,
@@ -22,8 +23,10 @@
 //! rules and info files (`specs/Modules.antt`). Definitions that only private clauses use are in
 //! `specs/inner/`.
 //!
-//! The law [`laws::sound_part_is_enough`] says what holds of a table that has only a part of the
-//! linked modules (`specs/Parts.antt`). The crate `info_pool` picks such parts.
+//! A [`Pool`] has the info files of a project's targets. [`Pool::part`] returns the part of the
+//! linked modules that a target's table needs (`specs/Pool.antt`, `specs/Parts.antt`), so that the
+//! work for a target does not grow with all that it links. The law [`laws::sound_part_is_enough`]
+//! says what holds of a table that has only such a part (`specs/EnoughParts.antt`).
 //!
 //! [`TableFault::name`] returns the code and the name of a fault (`specs/FaultNames.antt`).
 //!
@@ -45,9 +48,16 @@
 //! - `needed.rt` lists the modules that each object requires, with their files. [`Needs`] calls
 //!   `Reaching` of `dep_order` in the graph, and sorts what it finds by the ranks of the names,
 //!   which are computed once.
+//! - `pool.rt`: a pool lists the modules of its info files by name and by file (`pool/rows.rt`),
+//!   hashed under one key, which covers them (`specs/Pool.antt`, `pool_entries`). A name or a file
+//!   with several modules gets a number. For each info file the pool lists the
+//!   others that it requires modules of, and the numbers of what it shares (`pool/related.rt`). For
+//!   the links of a target, one stamp for each number tells which linked module has it, and so
+//!   whether a part of the linked modules is enough (`pool/links.rt`). Then the pool picks the part
+//!   (`pool/picking.rt`) and copies it (`pool/copies.rt`).
 //!
 //! Other crates cite only one file of the proofs: `proofs/ForCallers.antt` shows that at most one
-//! list has exactly the pairs of a relation.
+//! list has exactly the pairs of a relation, and that a known info file of a pool is at its index.
 //!
 //! The crate uses `document_values` for rules, info files and names, `ninja_text` for paths,
 //! `dep_order` for cycles and for what a module leads to, `indexmap` and `table_keys` for look-ups,
@@ -60,6 +70,7 @@
 //! [`Table::needed`] pass on what other functions return. [`Resolved::objects`],
 //! [`Resolved::into_parts`] and [`Table::provided`] return fields or an entry of a field, and their
 //! clauses name it, as that of [`Resolved::required`] does (`required_by_the_first_object`).
+//! [`Scratch::new`] returns an empty value.
 #![tactic(auto)]
 
 mod checks;
@@ -68,10 +79,12 @@ mod keys;
 pub mod laws;
 mod modules;
 mod needed;
+mod pool;
 mod requirements;
 mod table;
 
 pub use fault::{Maker, RefusedTable, TableFault};
 pub use keys::add_objects;
 pub use needed::Needs;
+pub use pool::{Pool, Requirements, Scratch};
 pub use table::{Resolved, Table};

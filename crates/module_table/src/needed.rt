@@ -8,7 +8,7 @@ ghost use Rattle.module_table.specs.Needed.{ArePairs, IsNeeded, lent};
 ghost use Rattle.module_table.specs.Sound.{IsSound};
 ghost use Rattle.module_table.specs.Added.{required_of};
 ghost use Rattle.dep_order.specs.Rows.{rows};
-ghost use Rattle.module_table.specs.inner.Numbered.{AreIndexes};
+ghost use Rattle.module_table.specs.inner.Numbered.{AreRequiredIndexes};
 ghost use Rattle.module_table.specs.inner.Origins.{origins_of};
 ghost use Rattle.module_table.specs.inner.Indexed.{IsNamedAt};
 ghost use Rattle.module_table.specs.inner.Graph.{IsModuleGraph};
@@ -187,7 +187,7 @@ pub(crate) fn all_pairs(
     modules: &Modules,
     required: &[Vec<usize>],
 ) -> Result<Vec<Vec<(Name, Path)>>, AllocError>
-    requires { AreIndexes modules.now (rows required.now) }
+    requires { AreRequiredIndexes modules.now (rows required.now) }
     ensures { IfOk result (λ all. map (λ row. row.items) all.items
         ≡ map (required_of modules.now) modules.now.objects) }
 {

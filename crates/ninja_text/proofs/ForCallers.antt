@@ -21,6 +21,10 @@ pub use Rattle.ninja_text.proofs.Spans.{Parts, assignment_parts}
 pub use Rattle.ninja_text.proofs.Spans.{slice_first}
 -- A text that is an assignment has a token.
 pub use Rattle.ninja_text.proofs.AssignmentLemmas.{assignment_has_token, assignment_not_empty}
+-- A token that is a keyword is that word, and a build line begins with the keyword at its first byte.
+pub use Rattle.ninja_text.proofs.LineForms.{keyword_is, after_keyword, keyword_first, no_indent_at_token}
+-- The words and the parts that a walk over the tokens of a build line finds are there.
+pub use Rattle.ninja_text.proofs.Symbols.{raw_words, front_at, front_meant, part_symbols, part_raw, is_part, part_meant, sign_at, part_at}
 -- A unit is sound if it is an escape that a path may need, or a byte by itself that neither ends a
 -- line nor is a fault.
 pub use Rattle.ninja_text.proofs.SpelledUnits.{is_sound}

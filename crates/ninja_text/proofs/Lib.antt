@@ -16,6 +16,8 @@ pub mod Units
 pub mod Spans
 pub mod ListLemmas
 pub mod AssignmentLemmas
+pub mod Symbols
+pub mod LineForms
 pub mod SpelledUnits
 pub mod EscapedPaths
 pub mod SpelledTokens

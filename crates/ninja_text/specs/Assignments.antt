@@ -5,7 +5,7 @@ use Rattle.ninja_text.specs.Bytes.{Text, Name, dot, hyphen, equals_sign, undersc
 use Rattle.ninja_text.specs.Units.{unit_len, is_byte, units, is_digit, is_letter}
 use Rattle.ninja_text.specs.declared.unit.LineUnit.{LineUnit}
 use Rattle.ninja_text.specs.declared.unit.LineUnit.TheVariants.{Continuation, Escape, Byte}
-use Rattle.ninja_text.specs.Tokens.{is_blank}
+use Rattle.ninja_text.specs.Tokens.{is_blank, value_of}
 
 -- whether a name may contain this byte: letters, digits, `_`, `.`, `-`
 abbrev pub is_identifier_byte : ℕ → Bool
@@ -74,6 +74,12 @@ with_bytes text a =
 -- the assignment, if the text is one
 abbrev pub assignment_of : Text → Option SeenAssignment
 assignment_of text = option_map (with_bytes text) (assignment_indexes text)
+
+-- The line assigns this value, without escapes, to this name, which begins at this offset.
+abbrev pub Assigns : Text → Name → ℕ → Text → Type 0
+Assigns text name start value =
+    (a : SeenAssignment) × (assignment_of text ≡ Some a) × (a.name_start ≡ start) × (a.name ≡ name)
+    × (value_of a.raw_value ≡ value)
 
 -- The name has at least one byte and lies at its offset in the text. The value comes after the name
 -- and extends to the end of the text.

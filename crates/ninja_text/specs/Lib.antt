@@ -11,10 +11,12 @@ pub mod Units
 pub mod Lines
 pub mod Lexical
 pub mod Tokens
+pub mod Symbols
 pub mod TokenLists
 pub mod TokenViews
 pub mod Assignments
 pub mod AssignmentViews
+pub mod LineForms
 pub mod Meanings
 pub mod Scanning
 pub mod Cutting

@@ -3,6 +3,7 @@ use Rattle.std.specs.Prelude.{◌≡◌, List, map, None, Some, Result, Ok, Err}
 use Rattle.ninja_text.specs.Lines.{LogicalLine}
 use Rattle.ninja_text.specs.Lexical.{lexical_fault}
 use Rattle.ninja_text.specs.Tokens.{SeenToken, tokens_at, with_raw, seen_tokens}
+use Rattle.ninja_text.specs.Symbols.{Symbol, symbol_of}
 use Rattle.ninja_text.specs.declared.token.Token.{Token}
 use Rattle.ninja_text.specs.declared.token.Words.{Words}
 use Rattle.ninja_text.specs.declared.fault.LexFault.{LexFault}
@@ -14,6 +15,10 @@ seen_token token =
 -- the tokens that the iterator still has to return
 abbrev pub tokens_left : Words → List SeenToken
 tokens_left words = map (with_raw words.text.now) (tokens_at words.text.now words.index)
+
+-- the symbols of these tokens
+abbrev pub symbols_left : Words → List Symbol
+symbols_left words = map symbol_of (tokens_left words)
 
 -- What `words` returns: all tokens of the line, or the first lexical error if there is one.
 abbrev pub IsWords : LogicalLine → Result Words LexFault → Type 0

@@ -11,8 +11,8 @@ use crate::lexing::{blank_end, check_units};
 use crate::line::Line;
 use crate::unit::{LineUnit, unit_at};
 
-/// Returns the assignment in a line, or `None` if the line is not an assignment. The line must not be
-/// a comment.
+/// Returns the assignment in a line, or `None` if the line is not an assignment. The line must not
+/// be a comment.
 ///
 /// The name begins at the first byte that is not blank. It is followed by `=` and the value, which
 /// extends to the end of the line. Spaces and continuations may come between them.

@@ -49,8 +49,8 @@ impl<'a> Assignment<'a> {
         meaning(alloc, self.raw_value)
     }
 
-    /// Appends the value to a vector, with escapes resolved: an escape stands for its second byte, a
-    /// continuation for nothing, and any other byte for itself. Spaces at the end are kept.
+    /// Appends the value to a vector, with escapes resolved: an escape stands for its second byte,
+    /// a continuation for nothing, and any other byte for itself. Spaces at the end are kept.
     ///
     /// # Errors
     ///

@@ -14,10 +14,10 @@ use std::marker::Model;
 /// Divides bytes that arrive in pieces of any size into logical lines (Ninja 1.11 manual, "Lexical
 /// syntax").
 ///
-/// Feed it a piece. If a line is complete, take the line with [`next_line`](LineCutter::next_line) and
-/// feed the rest of the piece. A line ends at its first LF that is not escaped by `$`; a comment ends
-/// at its first LF. The cutter keeps the bytes of an unfinished line, at most [`LINE_LIMIT`], and the
-/// state of the search for its end, so that no byte is searched twice.
+/// Feed it a piece. If a line is complete, take the line with [`next_line`](LineCutter::next_line)
+/// and feed the rest of the piece. A line ends at its first LF that is not escaped by `$`; a
+/// comment ends at its first LF. The cutter keeps the bytes of an unfinished line, at most
+/// [`LINE_LIMIT`], and the state of the search for its end, so that no byte is searched twice.
 #[derive(Drop)]
 pub struct LineCutter {
     buffer: Vec<u8>,
@@ -68,16 +68,16 @@ impl LineCutter {
         }
     }
 
-    /// Takes bytes from the front of the piece, up to and including the end of the next line, or the
-    /// whole piece if no line ends in it. Returns the number of bytes taken, which is 0 while a line
-    /// waits.
+    /// Takes bytes from the front of the piece, up to and including the end of the next line, or
+    /// the whole piece if no line ends in it. Returns the number of bytes taken, which is 0 while a
+    /// line waits.
     ///
     /// # Errors
     ///
-    /// Returns `LineTooLong` as soon as the first [`LINE_LIMIT`] bytes of a line contain no end. Every
-    /// later `feed`, `next_line` and `finish` returns the same error. Returns [`Failure::Memory`] if an
-    /// allocation fails, never while a line waits. Nothing was taken then, and the same piece can be
-    /// fed again.
+    /// Returns `LineTooLong` as soon as the first [`LINE_LIMIT`] bytes of a line contain no end.
+    /// Every later `feed`, `next_line` and `finish` returns the same error. Returns
+    /// [`Failure::Memory`] if an allocation fails, never while a line waits. Nothing was taken
+    /// then, and the same piece can be fed again.
     pub fn feed(&mut self, piece: &[u8]) -> Result<usize, Failure<CutFault>>
         ensures exact { Feeds self.old piece.now result self.new }
         ensures within { IfOk result (λ n. n ≤ length piece.now) }
@@ -107,8 +107,8 @@ impl LineCutter {
         Ok(taken)
     }
 
-    /// Returns the line that waits, borrowed from the cutter, or `None` if no line waits. Each line is
-    /// returned once.
+    /// Returns the line that waits, borrowed from the cutter, or `None` if no line waits. Each line
+    /// is returned once.
     ///
     /// # Errors
     ///
@@ -147,8 +147,8 @@ impl LineCutter {
     ///
     /// # Errors
     ///
-    /// Returns `Truncated` if bytes without a line's end are left, or `LineTooLong` if an earlier call
-    /// did.
+    /// Returns `Truncated` if bytes without a line's end are left, or `LineTooLong` if an earlier
+    /// call did.
     pub fn finish(&self) -> Result<(), CutFault>
         requires { self.now.waits ≡ false }
         ensures { Finishes self.now result }

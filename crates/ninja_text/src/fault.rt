@@ -12,8 +12,8 @@ pub enum PathFault {
     Empty,
     /// The path is absolute and its canonical form begins with `..`.
     AboveRoot,
-    /// The string contains `|`, NUL, CR or LF, which cannot be escaped in a Ninja file. `place` is the
-    /// offset of the first one in the string that was read.
+    /// The string contains `|`, NUL, CR or LF, which cannot be escaped in a Ninja file. `place` is
+    /// the offset of the first one in the string that was read.
     Unwritable { place: usize },
     /// The canonical path has more than 4,096 bytes.
     TooLong,

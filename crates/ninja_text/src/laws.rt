@@ -1,5 +1,5 @@
-//! Laws about lines, tokens, escapes and paths. A law is the contract of a function that does nothing;
-//! callers call it to use the law in a proof.
+//! Laws about lines, tokens, escapes and paths. A law is the contract of a function that does
+//! nothing; callers call it to use the law in a proof.
 ghost use Rattle.std.specs.Prelude.{◌≡◌, ◌↔◌, ℕ, List, [], Ok, Err, All};
 ghost use Rattle.std.specs.Option.{ForSome};
 ghost use Rattle.ninja_text.specs.Bytes.{Bytes, Text, PathText, Component};
@@ -23,17 +23,17 @@ pub fn one_division()
         → (lines ≡ others) × (rest ≡ left) }
 {}
 
-/// The tokens that [`words`](crate::words) returns divide the text, with only spaces and continuations
-/// between them, and no other list of tokens does.
+/// The tokens that [`words`](crate::words) returns divide the text, with only spaces and
+/// continuations between them, and no other list of tokens does.
 pub fn one_list_of_tokens()
     ensures some { (text : Text) → AreTokens text (tokens text) }
     ensures one { (text : Text) (ts : List TokenAt) → AreTokens text ts → ts ≡ tokens text }
 {}
 
-/// The value that is read from a word, or from an assignment, is the one that its bytes stand for, so
-/// a reader and a writer agree on it. This holds for each line that a cutter can return, unless the
-/// line is a comment or has a lexical error. The bytes of an assignment's value stand for one value
-/// only; [`one_meaning`] says the same about words.
+/// The value that is read from a word, or from an assignment, is the one that its bytes stand for,
+/// so a reader and a writer agree on it. This holds for each line that a cutter can return, unless
+/// the line is a comment or has a lexical error. The bytes of an assignment's value stand for one
+/// value only; [`one_meaning`] says the same about words.
 pub fn read_as_spelled()
     ensures words { (line : Text) → IsFaultless line
         → All IsReadAsSpelled (seen_tokens (text_of_line line)) }
@@ -54,8 +54,8 @@ pub fn one_canonical_list()
 {}
 
 /// The path of a string has the components that are left of the string's components, whatever the
-/// order of the steps. It is absolute if and only if the string is. A string of whose components none
-/// are left has no path. Each path has canonical shape.
+/// order of the steps. It is absolute if and only if the string is. A string of whose components
+/// none are left has no path. Each path has canonical shape.
 pub fn path_meaning()
     ensures path { (text path : PathText) → path_of text ≡ Ok path
         → (is_rooted path ≡ is_rooted text) × ReducesTo (components text) (parts path) }

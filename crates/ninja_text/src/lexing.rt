@@ -15,8 +15,8 @@ use crate::line::Line;
 use crate::token::{TokenKind, Words};
 use crate::unit::{LineUnit, unit_at};
 
-/// Returns an iterator over the tokens of a line (Ninja 1.11 manual, "Lexical syntax"). The line must
-/// not be a comment.
+/// Returns an iterator over the tokens of a line (Ninja 1.11 manual, "Lexical syntax"). The line
+/// must not be a comment.
 ///
 /// # Errors
 ///

@@ -29,8 +29,8 @@ impl<'a> Line<'a> {
         self.number
     }
 
-    /// Returns whether its first byte other than space is `#`. A comment may contain any bytes and has
-    /// neither tokens nor lexical errors.
+    /// Returns whether its first byte other than space is `#`. A comment may contain any bytes and
+    /// has neither tokens nor lexical errors.
     pub fn is_comment(&self) -> bool
         ensures { result ≡ (seen_line self.now).comment }
     {

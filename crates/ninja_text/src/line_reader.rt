@@ -17,8 +17,8 @@ use std::marker::Model;
 
 /// The state of a reader between two lines.
 ///
-/// `passes` relates the state before a line, the line, and the state after it. `refuses` relates the
-/// state, a line that is rejected, and its fault.
+/// `passes` relates the state before a line, the line, and the state after it. `refuses` relates
+/// the state, a line that is rejected, and its fault.
 pub trait LineState {
     /// Why a line is rejected.
     type Fault;
@@ -34,8 +34,8 @@ pub trait LineState {
     ///
     /// # Errors
     ///
-    /// Returns the fault of the line, or [`Failure::Memory`] if an allocation fails. The state is of
-    /// no use then.
+    /// Returns the fault of the line, or [`Failure::Memory`] if an allocation fails. The state is
+    /// of no use then.
     fn read_line(&mut self, alloc: Global, line: Line<'_>) -> Result<(), Failure<Self::Fault>>
         ensures { ReadsLine passes refuses self.old (seen_line line.entry) result self.new };
 
@@ -46,8 +46,8 @@ pub trait LineState {
 
 /// Reads a text that arrives in pieces into a state, line by line.
 ///
-/// A piece may end anywhere, also within a continuation or between CR and LF. The result is the same
-/// for all divisions of a text into pieces.
+/// A piece may end anywhere, also within a continuation or between CR and LF. The result is the
+/// same for all divisions of a text into pieces.
 #[derive(Drop)]
 pub struct LineReader<S, F> {
     alloc: Global,
@@ -82,10 +82,10 @@ impl<F: Copy, S: LineState<Fault = F> + Drop> LineReader<S, F> {
     ///
     /// # Errors
     ///
-    /// Returns the fault of the first line that the state rejects, as soon as the line is complete, or
-    /// `LineTooLong` as soon as [`LINE_LIMIT`](crate::LINE_LIMIT) bytes contain no end of a line.
-    /// Returns [`Failure::Memory`] if an allocation fails. After an error every later call returns the
-    /// same error.
+    /// Returns the fault of the first line that the state rejects, as soon as the line is complete,
+    /// or `LineTooLong` as soon as [`LINE_LIMIT`](crate::LINE_LIMIT) bytes contain no end of a
+    /// line. Returns [`Failure::Memory`] if an allocation fails. After an error every later call
+    /// returns the same error.
     pub fn feed(&mut self, piece: &[u8]) -> Result<(), Failure<F>>
         ensures failed { StaysRefused self.old result self.new }
         // Whatever bytes it was fed before this piece, and whatever lines they were.

@@ -34,8 +34,8 @@ pub const PATH_LIMIT: usize = 4096;
 /// A canonical path.
 ///
 /// To make a path canonical, remove empty components and `.`, and remove each name that is followed
-/// by `..` together with that `..`, until nothing is left to remove. An absolute path keeps its first
-/// slash, and a relative path keeps the `..` at its beginning. No file system is accessed.
+/// by `..` together with that `..`, until nothing is left to remove. An absolute path keeps its
+/// first slash, and a relative path keeps the `..` at its beginning. No file system is accessed.
 ///
 /// The view of a path is its string: 1 to 4,096 bytes, without `|`, NUL, CR or LF. Copies of a path
 /// share the string, and so do paths that were read [`Path::within`] one.
@@ -66,8 +66,8 @@ impl Path {
     ///
     /// # Errors
     ///
-    /// Returns a [`PathFault`] if the string has no canonical path; if several apply, the first in the
-    /// order of [`PathFault`]. Returns [`Failure::Memory`] if an allocation fails.
+    /// Returns a [`PathFault`] if the string has no canonical path; if several apply, the first in
+    /// the order of [`PathFault`]. Returns [`Failure::Memory`] if an allocation fails.
     pub fn of(alloc: Global, text: &[u8]) -> Result<Path, Failure<PathFault>>
         ensures meaning { Gives (λ path. path) result (path_of text.now) }
         ensures text { IsUtf8 text.now → IfOk result IsUtf8 }
@@ -75,9 +75,9 @@ impl Path {
         canonical(alloc, None, text)
     }
 
-    /// Returns the canonical path of a part of a string, from one offset to another, as [`Path::of`]
-    /// does. If that part is canonical, the path shares the string and nothing is allocated, unless
-    /// the string's reference count is full.
+    /// Returns the canonical path of a part of a string, from one offset to another, as
+    /// [`Path::of`] does. If that part is canonical, the path shares the string and nothing is
+    /// allocated, unless the string's reference count is full.
     ///
     /// # Errors
     ///
@@ -164,18 +164,18 @@ impl Clone for Path {
     }
 }
 
-/// Returns the canonical path of a string that is relative to a work directory, as seen from a build
-/// directory. The build directory has to be absolute.
+/// Returns the canonical path of a string that is relative to a work directory, as seen from a
+/// build directory. The build directory has to be absolute.
 ///
-/// A relative string is read after the work directory and a slash, unless there is no work directory
-/// or it is empty. An absolute string is read as it is. If the result is absolute and lies below the
-/// build directory, it is made relative to the build directory.
+/// A relative string is read after the work directory and a slash, unless there is no work
+/// directory or it is empty. An absolute string is read as it is. If the result is absolute and
+/// lies below the build directory, it is made relative to the build directory.
 ///
 /// # Errors
 ///
-/// Returns N1 if the string is empty, and otherwise the first [`PathFault`] that applies. The offset
-/// in N3 counts from the beginning of the string that is read, work directory included; N4 counts the
-/// bytes of the final result. Returns [`Failure::Memory`] if an allocation fails.
+/// Returns N1 if the string is empty, and otherwise the first [`PathFault`] that applies. The
+/// offset in N3 counts from the beginning of the string that is read, work directory included; N4
+/// counts the bytes of the final result. Returns [`Failure::Memory`] if an allocation fails.
 #[tactic(auto, unfolding(crate::specs::Paths::placed))]
 pub fn place(
     alloc: Global,
@@ -222,8 +222,8 @@ pub(crate) fn canonical(
     finished(alloc, build, rooted, unwritable, list)
 }
 
-/// Returns the path of a string that is absolute or not, has its first unwritable byte at this offset,
-/// and has this canonical list.
+/// Returns the path of a string that is absolute or not, has its first unwritable byte at this
+/// offset, and has this canonical list.
 pub(crate) fn finished(
     alloc: Global,
     build: Option<&Path>,

@@ -28,8 +28,8 @@ pub(crate) fn reduce(alloc: Global, text: &[u8]) -> Result<Vec<u8>, AllocError>
     Ok(list)
 }
 
-/// Returns whether a path that is absolute or not leads above the root. Its canonical list has a `..`
-/// only if it begins with one.
+/// Returns whether a path that is absolute or not leads above the root. Its canonical list has a
+/// `..` only if it begins with one.
 pub(crate) fn is_above_root(rooted: bool, list: &[u8]) -> bool
     ensures { result ≡ (rooted && leads_up list.now) }
 {

@@ -80,8 +80,8 @@ impl<'a> Token<'a> {
         meaning(alloc, self.raw)
     }
 
-    /// Appends its value to a vector, with escapes resolved: an escape stands for its second byte, and
-    /// a continuation for nothing.
+    /// Appends its value to a vector, with escapes resolved: an escape stands for its second byte,
+    /// and a continuation for nothing.
     ///
     /// # Errors
     ///
@@ -101,6 +101,49 @@ pub struct Words<'a> {
     pub(crate) text: &'a [u8],
     pub(crate) index: usize,
     ghost in_text: { index ≤ length text.now },
+}
+
+impl<'a> Words<'a> {
+    ghost use Rattle.std.specs.Option.{option_map};
+    ghost use Rattle.ninja_text.specs.TokenViews.{seen_token, symbols_left};
+    ghost use Rattle.ninja_text.specs.Symbols.{WordTaken, SignTaken};
+
+    /// Takes and returns the next token if it is a word. Otherwise takes nothing.
+    pub fn next_word(&mut self) -> Option<Token<'a>>
+        ensures { WordTaken (symbols_left self.old) (option_map seen_token result)
+            (symbols_left self.new) }
+    {
+        let mut ahead = *self;
+        let token = ahead.next()?;
+        match token.kind() {
+            TokenKind::Word => {
+                *self = ahead;
+                Some(token)
+            }
+            TokenKind::Bar | TokenKind::Colon | TokenKind::DoubleBar | TokenKind::BarAt => None,
+        }
+    }
+
+    /// Takes the next token if it is this sign. Returns whether it is.
+    pub fn take_sign(&mut self, sign: TokenKind) -> bool
+        ensures { SignTaken sign (symbols_left self.old) result (symbols_left self.new) }
+    {
+        let mut ahead = *self;
+        let Some(token) = ahead.next() else {
+            return false;
+        };
+        let is_there = match sign {
+            TokenKind::Bar => matches!(token.kind(), TokenKind::Bar),
+            TokenKind::DoubleBar => matches!(token.kind(), TokenKind::DoubleBar),
+            TokenKind::BarAt => matches!(token.kind(), TokenKind::BarAt),
+            TokenKind::Colon => matches!(token.kind(), TokenKind::Colon),
+            TokenKind::Word => false,
+        };
+        if is_there {
+            *self = ahead;
+        }
+        is_there
+    }
 }
 
 impl<'a> Iterator for Words<'a> {

@@ -45,7 +45,8 @@ impl<'t> Model for WorkDirectory<'t> {
 }
 
 impl<'t> WorkDirectory<'t> {
-    /// Reduces the string of a directory. An empty string is no directory: paths are read as they are.
+    /// Reduces the string of a directory. An empty string is no directory: paths are read as they
+    /// are.
     ///
     /// # Errors
     ///
@@ -176,8 +177,8 @@ impl<'t> NameEnding<'t> {
 }
 
 impl<'t> WorkDirectory<'t> {
-    /// Returns the path that [`place`](crate::place) returns for this work directory and for the name
-    /// with the ending after it.
+    /// Returns the path that [`place`](crate::place) returns for this work directory and for the
+    /// name with the ending after it.
     ///
     /// # Errors
     ///
@@ -259,9 +260,9 @@ impl<'t> WorkDirectory<'t> {
         }
     }
 
-    /// Returns the offset of the first byte that cannot be escaped, in the directory or in what is read
-    /// in it: there it is `later` bytes after as many bytes as `before` says. Runs out of memory if no
-    /// string is so long.
+    /// Returns the offset of the first byte that cannot be escaped, in the directory or in what is
+    /// read in it: there it is `later` bytes after as many bytes as `before` says. Runs out of
+    /// memory if no string is so long.
     fn unwritable_in(
         &self,
         before: usize,

@@ -21,33 +21,31 @@ use Rattle.scan_docs.specs.Document.{document_limit, IsTree, IsAccepted, IsRefus
 
 -- ---- what a call returns, and the rejection
 
-none_of : (holds : Bool) (f : DocFault) (r : Option (Failure DocFault)) (s : Option DocFault) → cond holds r (Some (Fault f)) ≡ None → (r ≡ None → s ≡ None) →
-    cond holds s (Some f) ≡ None
-none_of true f r s e k = k e
-none_of false f r s e k = absurd (cc)
+wrapped : (holds : Bool) (f : DocFault) (r : Option (Failure DocFault)) (s : Option DocFault) → r ≡ option_map Fault s →
+    cond holds r (Some (Fault f)) ≡ option_map Fault (cond holds s (Some f))
+wrapped true f r s e = e
+wrapped false f r s e = refl
 
-some_of : (holds : Bool) (f g : DocFault) (r : Option (Failure DocFault)) (s : Option DocFault) → cond holds r (Some (Fault f)) ≡ Some (Fault g) →
-    (r ≡ Some (Fault g) → s ≡ Some g) → cond holds s (Some f) ≡ Some g
-some_of true f g r s e k = k e
-some_of false f g r s e k = cc
+-- the failure is the rejection
+failure_is : (cs : List Check) → first_failure cs ≡ option_map Fault (first_refusal cs)
+failure_is [] = refl
+failure_is (c ∷ cs) = wrapped c.holds c.refusal (first_failure cs) (first_refusal cs) (failure_is cs)
+
+none_within : (s : Option DocFault) → option_map Fault s ≡ None → s ≡ None
+none_within None e = refl
+none_within (Some f) e = absurd (cc)
+
+some_within : (s : Option DocFault) (g : DocFault) → option_map Fault s ≡ Some (Fault g) → s ≡ Some g
+some_within None g e = absurd (cc)
+some_within (Some f) g e = cc
 
 pub none_refused : (cs : List Check) → first_failure cs ≡ None → first_refusal cs ≡ None
-none_refused [] e = refl
-none_refused (c ∷ cs) e = none_of c.holds c.refusal (first_failure cs) (first_refusal cs) e (none_refused cs)
+none_refused cs e = none_within (first_refusal cs) (sym (failure_is cs) ∙ e)
 
 pub some_refused : (cs : List Check) (g : DocFault) → first_failure cs ≡ Some (Fault g) → first_refusal cs ≡ Some g
-some_refused [] g e = absurd (cc)
-some_refused (c ∷ cs) g e = some_of c.holds c.refusal g (first_failure cs) (first_refusal cs) e (some_refused cs g)
+some_refused cs g e = some_within (first_refusal cs) g (sym (failure_is cs) ∙ e)
 
 -- ---- checks before others
-
-none_step : {F : Type 0} (holds : Bool) (f : F) (r s t : Option F) → cond holds r (Some f) ≡ None → (r ≡ None → s ≡ t) → cond holds s (Some f) ≡ t
-none_step true f r s t e k = k e
-none_step false f r s t e k = absurd (cc)
-
-some_step : {F : Type 0} (holds : Bool) (f g : F) (r s : Option F) → cond holds r (Some f) ≡ Some g → (r ≡ Some g → s ≡ Some g) → cond holds s (Some f) ≡ Some g
-some_step true f g r s e k = k e
-some_step false f g r s e k = e
 
 either : {F : Type 0} (holds : Bool) (f : F) (r s : Option F) → cond holds (option_or r s) (Some f) ≡ option_or (cond holds r (Some f)) s
 either true f r s = refl
@@ -61,19 +59,9 @@ failure_of_both (c ∷ cs) b = ap (λ r. cond c.holds r (Some (Fault c.refusal))
 
 pub ruleset both = (failure_of_both)
 
--- if the first checks hold, the others decide
-pub failure_after : (a b : List Check) → first_failure a ≡ None → first_failure (a ++ b) ≡ first_failure b
-failure_after [] b e = refl
-failure_after (c ∷ cs) b e = none_step c.holds (Fault c.refusal) (first_failure cs) (first_failure (cs ++ b)) (first_failure b) e (failure_after cs b)
-
-pub refusal_after : (a b : List Check) → first_refusal a ≡ None → first_refusal (a ++ b) ≡ first_refusal b
-refusal_after [] b e = refl
-refusal_after (c ∷ cs) b e = none_step c.holds c.refusal (first_refusal cs) (first_refusal (cs ++ b)) (first_refusal b) e (refusal_after cs b)
-
--- if the first checks reject, all together reject with the same fault
-pub failure_before : (a b : List Check) (f : Failure DocFault) → first_failure a ≡ Some f → first_failure (a ++ b) ≡ Some f
-failure_before [] b f e = absurd (cc)
-failure_before (c ∷ cs) b f e = some_step c.holds (Fault c.refusal) f (first_failure cs) (first_failure (cs ++ b)) e (failure_before cs b f)
+-- if the first checks reject, all together reject with the same fault, and if they hold the others decide
+pub failure_first : (a b : List Check) (r : Option (Failure DocFault)) → first_failure a ≡ r → first_failure (a ++ b) ≡ option_or r (first_failure b)
+failure_first a b r e = failure_of_both a b ∙ ap (λ o. option_or o (first_failure b)) e
 
 -- what a reader returns where a call within it has failed
 pub stopped : {T : Type 0} (checks : List Check) (means : T → Type 0) (r : Result T (Failure DocFault)) (e : Failure DocFault) → IsErrAnd r (λ y. y ≡ e) →
@@ -91,9 +79,10 @@ AllZip-push R (a ∷ xs) [] x y h r = absurd h
 AllZip-push R (a ∷ xs) (b ∷ ys) x y h r = (h.0, AllZip-push R xs ys x y h.1 r)
 
 -- i entries have passed their checks and were read
-pub record SoFar {T : Type 0} (checks : ℕ → Data → List Check) (means : Data → T → Type 0) (ds : List Data) (i : ℕ) (found : List T) : Type 0 where
-  pub reported : first_failure (each_from checks i (drop i ds)) ≡ first_failure (each_from checks 0 ds)
-  pub read : AllZip means (take i ds) found
+pub record SoFar {V T : Type 0} (g : V → Data) (checks : ℕ → Data → List Check) (means : Data → T → Type 0) (vs : List V) (i : ℕ) (found : List T)
+    : Type 0 where
+  pub reported : first_failure (each_from checks i (drop i (map g vs))) ≡ first_failure (each_from checks 0 (map g vs))
+  pub read : AllZip means (take i (map g vs)) found
 
 module _ {V D : Type 0} (g : V → D) (vs : List V) where
   at : (i : ℕ) (v : V) → i < length vs → v ≡ get_or vs i v → get_or (map g vs) i (g v) ≡ g v
@@ -107,27 +96,32 @@ module _ {V D : Type 0} (g : V → D) (vs : List V) where
   last i v lt is = let within : i < length (map g vs) = rw length-map lt in
       take_more (map g vs) i (g v) within ∙ ap (λ d. take i (map g vs) ++ d ∷ []) (at i v lt is)
 
-module _ {V T : Type 0} (g : V → Data) (checks : ℕ → Data → List Check) (means : Data → T → Type 0) (vs : List V) where
-  pub one_more : (i : ℕ) (v : V) (x : T) (found : List T) → i < length vs → v ≡ get_or vs i v → first_failure (checks i (g v)) ≡ None → means (g v) x
-      → SoFar checks means (map g vs) i found → SoFar checks means (map g vs) (i + 1) (found ++ x ∷ [])
-  one_more i v x found lt is passes m so_far = record {
-    reported = sym (ap (λ ds. first_failure (each_from checks i ds)) (front g vs i v lt is) ∙
-        failure_after (checks i (g v)) (each_from checks (i + 1) (drop (i + 1) (map g vs))) passes) ∙ so_far.reported;
+module _ {V T : Type 0} {g : V → Data} {checks : ℕ → Data → List Check} {means : Data → T → Type 0} {vs : List V} {i : ℕ} {found : List T} where
+  -- what the next entry's checks report is reported of all, unless they hold
+  next_reported : {v : V} (r : Option (Failure DocFault)) → i < length vs → v ≡ get_or vs i v → first_failure (checks i (g v)) ≡ r
+      → SoFar g checks means vs i found
+      → option_or r (first_failure (each_from checks (i + 1) (drop (i + 1) (map g vs)))) ≡ first_failure (each_from checks 0 (map g vs))
+  next_reported {v} r lt is reports so_far =
+      sym (ap (λ ds. first_failure (each_from checks i ds)) (front g vs i v lt is)
+      ∙ failure_first (checks i (g v)) (each_from checks (i + 1) (drop (i + 1) (map g vs))) r reports)
+      ∙ so_far.reported
+
+  pub one_more : {v : V} (x : T) → i < length vs → v ≡ get_or vs i v → first_failure (checks i (g v)) ≡ None → means (g v) x
+      → SoFar g checks means vs i found → SoFar g checks means vs (i + 1) (found ++ x ∷ [])
+  one_more {v} x lt is passes m so_far = record {
+    reported = next_reported None lt is passes so_far;
     read = let P : List Data → Type 0 = λ ds. AllZip means ds (found ++ x ∷ []) in
         subst P (sym (last g vs i v lt is)) (AllZip-push means (take i (map g vs)) found (g v) x so_far.read m);
   }
 
-  pub refused_at : (i : ℕ) (v : V) (f : Failure DocFault) (found : List T) → i < length vs → v ≡ get_or vs i v → first_failure (checks i (g v)) ≡ Some f
-      → SoFar checks means (map g vs) i found → first_failure (each_from checks 0 (map g vs)) ≡ Some f
-  refused_at i v f found lt is stops so_far =
-      sym so_far.reported ∙ ap (λ ds. first_failure (each_from checks i ds)) (front g vs i v lt is) ∙
-      failure_before (checks i (g v)) (each_from checks (i + 1) (drop (i + 1) (map g vs))) f stops
+  pub refused_at : {v : V} {f : Failure DocFault} → i < length vs → v ≡ get_or vs i v → first_failure (checks i (g v)) ≡ Some f
+      → SoFar g checks means vs i found → first_failure (each_from checks 0 (map g vs)) ≡ Some f
+  refused_at {v} {f} lt is stops so_far = sym (next_reported (Some f) lt is stops so_far)
 
-  pub all_read : (i : ℕ) (found : List T) → length vs ≤ i → SoFar checks means (map g vs) i found →
+  pub all_read : length vs ≤ i → SoFar g checks means vs i found →
       (first_failure (each_from checks 0 (map g vs)) ≡ None) × AllZip means (map g vs) found
-  all_read i found le so_far = let all : length (map g vs) ≤ i = rw length-map le in (
-    sym so_far.reported ∙
-        at_drop_all (λ ds. first_failure (each_from checks i ds)) (map g vs) i all,
+  all_read le so_far = let all : length (map g vs) ≤ i = rw length-map le in (
+    sym so_far.reported ∙ at_drop_all (λ ds. first_failure (each_from checks i ds)) (map g vs) i all,
     subst (λ ds. AllZip means ds found) (take_all i (map g vs) all) so_far.read,
   )
 
@@ -196,14 +190,10 @@ module _ (found : List (List ℕ)) (vs : List Value) (i : ℕ) (v : Value) where
 module _ {T V : Type 0} (see : T → V) (checks : Data → List Check) (means : Data → V → Type 0) (bytes : List ℕ) (tree : Data)
     (read : (length bytes ≤ document_limit) × IsTree bytes tree) where
   -- what follows from an accepted value holds of the result
-  pub holds : (P : V → Type 0) → ((v : V) → IsAccepted checks means bytes v → P v) → (result : Result T (Failure DocFault)) →
-      Answers (checks tree) (λ x. means tree (see x)) result → IfOk result (λ x. P (see x))
-  holds P k (Ok x) h = k (see x) (record { small = read.0; tree = tree; reads = read.1; passes = none_refused (checks tree) h.0; meaning = h.1 })
-  holds P k (Err e) h = tt
-
-  pub accepted : (result : Result T (Failure DocFault)) → Answers (checks tree) (λ x. means tree (see x)) result →
-      IfOk result (λ x. IsAccepted checks means bytes (see x))
-  accepted result h = holds (IsAccepted checks means bytes) (λ v a. a) result h
+  pub holds : (result : Result T (Failure DocFault)) → Answers (checks tree) (λ x. means tree (see x)) result →
+      (P : V → Type 0) → ((v : V) → IsAccepted checks means bytes v → P v) → IfOk result (λ x. P (see x))
+  holds (Ok x) h P k = k (see x) (record { small = read.0; tree = tree; reads = read.1; passes = none_refused (checks tree) h.0; meaning = h.1 })
+  holds (Err e) h P k = tt
 
   pub refused : (result : Result T (Failure DocFault)) → Answers (checks tree) (λ x. means tree (see x)) result →
       IfErr result (ForFault (IsRefused checks bytes))

@@ -1,12 +1,12 @@
 -- What a document means: the value of a function of its bytes, one result at most, and paths that are text.
-use Rattle.std.proofs.Common.{◌≡◌, ℕ, List, [], Bool, false, Option, Some, None, Result, Ok, refl, sym, ap, ap₂, unwrap_or, ◌∙◌, arith, ◌∷◌, zero, suc, is_some}
+use Rattle.std.proofs.Common.{◌≡◌, ℕ, List, [], Bool, false, Option, Some, None, Result, Ok, refl, sym, ap, ap₂, unwrap_or, ◌∙◌, arith, ◌∷◌}
 use Rattle.serde_json.specs.Data.{Data, null}
 use Rattle.ninja_text.specs.Paths.{path_of, placed}
 use Rattle.ninja_text.proofs.ForCallers.{zip_is_map}
 use Rattle.ninja_text.specs.declared.fault.PathFault.{PathFault}
 use Rattle.scan_docs.specs.declared.member.Member.TheVariants as m
 use Rattle.scan_docs.specs.declared.map_form.MapForm.{MapForm}
-use Rattle.scan_docs.specs.Shape.{text, text_of, texts, entries_of, is_object, entries, whole_number, fits}
+use Rattle.scan_docs.specs.Shape.{text, text_of, texts, entries_of}
 use Rattle.scan_docs.specs.Document.{IsTree, IsAccepted, IsRefused, large, no_tree, false_check, HasOneAnswer}
 use Rattle.scan_docs.specs.Scan.{SettingValue, object_of, module_file_of, IsProvidedModule, IsRequired, IsRule, AreRules, IsText, IsRuleText}
 use Rattle.document_values.specs.Rule.{RuleValue}
@@ -16,23 +16,17 @@ use Rattle.scan_docs.specs.Target.{TargetDocumentValue, IsTarget, build_dir}
 use Rattle.scan_docs.specs.Project.{ProjectValue, IsProject}
 use Rattle.scan_docs.specs.Values.{tree_of, accepted_path, provided_in, rule_in, rules_in, requirement_in, module_in, info_in, target_setting, target_in, project_in, rules_of, info_of, spec_of, project_of}
 use Rattle.scan_docs.specs.declared.fault.DocFault.{DocFault}
-use Rattle.scan_docs.specs.Check.{Check, first_refusal, ◌otherwise◌, shape_check}
+use Rattle.scan_docs.specs.Check.{Check, first_refusal, version_checks}
 use Rattle.scan_docs.specs.ScanChecks.{scan_checks}
 use Rattle.scan_docs.specs.InfoChecks.{info_checks}
-use Rattle.scan_docs.specs.TargetChecks.{target_checks}
+use Rattle.scan_docs.specs.TargetChecks.{name_checks, directory_checks, list_checks, kept_checks, dyndep_checks, file_checks, target_checks}
 use Rattle.scan_docs.specs.ProjectChecks.{project_checks}
 use Rattle.std.specs.List.{AllZip, All, AllByRecursion}
 use Rattle.std.proofs.lemmas.List.Elements.{All-from_recursion}
 use Rattle.document_values.specs.Name.{IsName}
 use Rattle.scan_docs.specs.InfoText.{IsModuleText, IsInfoText}
-use Rattle.std.proofs.lemmas.Bool.Decides.{nat_tests}
 use Rattle.std.specs.Option.{option_or}
-use Rattle.scan_docs.specs.declared.fault.DocFault.TheVariants.{BadVersion, TooLarge}
-use Rattle.scan_docs.specs.declared.fault.Place.TheVariants as place
-use Rattle.scan_docs.specs.ScanChecks as scan
-use Rattle.scan_docs.specs.InfoChecks as info
-use Rattle.scan_docs.specs.TargetChecks as target
-use Rattle.scan_docs.specs.inner.Reading.{first_failure, is_one_of, version_checks}
+use Rattle.scan_docs.specs.inner.Reading.{first_failure}
 use Rattle.scan_docs.proofs.Each.{failure_of_both}
 
 pub tree_is : (bytes : List ℕ) (d : Data) → IsTree bytes d → d ≡ tree_of bytes
@@ -155,7 +149,7 @@ module _ {V : Type 0} (checks : Data → List Check) (means : Data → V → Typ
 module _ (s : SettingValue) (bytes : List ℕ) where
   pub scan_value : (rules : List RuleValue) → IsAccepted (scan_checks s) (AreRules s) bytes rules → rules ≡ rules_of s bytes
   unfolding rules_of
-  scan_value rules h = value_is (scan_checks s) (AreRules s) (rules_in s) (rules_are s) bytes rules h
+  scan_value = value_is (scan_checks s) (AreRules s) (rules_in s) (rules_are s) bytes
 
   pub scan_one_answer : HasOneAnswer (scan_checks s) (AreRules s) bytes
   scan_one_answer = one_answer (scan_checks s) (AreRules s) (rules_in s) (rules_are s) bytes
@@ -163,21 +157,21 @@ module _ (s : SettingValue) (bytes : List ℕ) where
 module _ (bytes : List ℕ) where
   pub info_value : (info : InfoValue) → IsAccepted info_checks IsInfo bytes info → info ≡ info_of bytes
   unfolding info_of
-  info_value info h = value_is info_checks IsInfo info_in info_is bytes info h
+  info_value = value_is info_checks IsInfo info_in info_is bytes
 
   pub info_one_answer : HasOneAnswer info_checks IsInfo bytes
   info_one_answer = one_answer info_checks IsInfo info_in info_is bytes
 
   pub target_value : (spec : TargetDocumentValue) → IsAccepted target_checks IsTarget bytes spec → spec ≡ spec_of bytes
   unfolding spec_of
-  target_value spec h = value_is target_checks IsTarget target_in target_is bytes spec h
+  target_value = value_is target_checks IsTarget target_in target_is bytes
 
   pub target_one_answer : HasOneAnswer target_checks IsTarget bytes
   target_one_answer = one_answer target_checks IsTarget target_in target_is bytes
 
   pub project_value : (project : ProjectValue) → IsAccepted project_checks IsProject bytes project → project ≡ project_of bytes
   unfolding project_of
-  project_value project h = value_is project_checks IsProject project_in project_is bytes project h
+  project_value = value_is project_checks IsProject project_in project_is bytes
 
   pub project_one_answer : HasOneAnswer project_checks IsProject bytes
   project_one_answer = one_answer project_checks IsProject project_in project_is bytes
@@ -217,63 +211,17 @@ module_text with_visibility d entry h = record {
 pub info_text : (d : Data) (info : InfoValue) → IsInfo d info → IsInfoText info
 info_text d info h = second (IsModule (has_visibility d)) IsModuleText (module_text (has_visibility d)) (entries_of m.Modules d) info.modules h.modules
 
--- ---- the versions of each kind of document, as a list and as a condition
+-- ---- all checks of a target document
 
-scan_versions : (version : Option ℕ) → is_one_of (0 ∷ 1 ∷ []) version ≡ scan.is_scan_version version
-scan_versions None = refl
-scan_versions (Some zero) = refl
-scan_versions (Some (suc zero)) = refl
-scan_versions (Some (suc (suc n))) = grind (arith, nat_tests)
-
-info_versions : (version : Option ℕ) → is_one_of (1 ∷ 2 ∷ []) version ≡ info.is_info_version version
-info_versions None = refl
-info_versions (Some zero) = refl
-info_versions (Some (suc zero)) = refl
-info_versions (Some (suc (suc zero))) = refl
-info_versions (Some (suc (suc (suc n)))) = grind (arith, nat_tests)
-
-target_versions : (version : Option ℕ) → is_one_of (1 ∷ []) version ≡ target.is_target_version version
-target_versions None = refl
-target_versions (Some zero) = refl
-target_versions (Some (suc zero)) = refl
-target_versions (Some (suc (suc n))) = grind (arith, nat_tests)
-
--- what is checked of a scan document's head after its version
-abbrev pub rules_checks : Data → List Check
-rules_checks d = shape_check place.Document m.Rules (is_some (entries m.Rules d)) ∷ (scan.is_short (entries_of m.Rules d) otherwise TooLarge place.Document) ∷
-    []
-
-pub scan_head : (d : Data) → first_failure (scan.head_checks d) ≡ option_or (first_failure (version_checks (0 ∷ 1 ∷ []) d)) (first_failure (rules_checks d))
-unfolding scan.head_checks version_checks
-scan_head d =
-    ap (λ holds. first_failure (shape_check place.Document m.Document (is_object d) ∷ (holds otherwise BadVersion) ∷ rules_checks d))
-    (sym (scan_versions (whole_number m.Version d)))
-    ∙ failure_of_both (version_checks (0 ∷ 1 ∷ []) d) (rules_checks d)
-
-pub info_head : (d : Data) → first_failure (info.head_checks d) ≡ first_failure (version_checks (1 ∷ 2 ∷ []) d)
-unfolding info.head_checks version_checks
-info_head d = ap (λ holds. first_failure (shape_check place.Document m.Document (is_object d) ∷ (holds otherwise BadVersion) ∷ []))
-    (sym (info_versions (whole_number m.Version d)))
-
-pub target_head : (d : Data) → first_failure (target.head_checks d) ≡ first_failure (version_checks (1 ∷ []) d)
-unfolding target.head_checks version_checks
-target_head d = ap (λ holds. first_failure (shape_check place.Document m.Document (is_object d) ∷ (holds otherwise BadVersion) ∷ []))
-    (sym (target_versions (whole_number m.Version d)))
-
--- all checks of a target document
 pub target_parts : (d : Data) →
     first_failure (target_checks d) ≡
     option_or (first_failure (version_checks (1 ∷ []) d))
-    (option_or (first_failure (target.name_checks d))
-    (option_or (first_failure (target.directory_checks d))
-    (option_or (first_failure (shape_check place.Document m.Scans (fits texts m.Scans d) ∷ shape_check place.Document m.Linked (fits texts m.Linked d) ∷ []))
-    (option_or (first_failure (target.kept_checks d)) (option_or (first_failure (target.dyndep_checks d)) (first_failure (target.file_checks d)))))))
-unfolding target_checks target.list_checks
-target_parts d = rw (failure_of_both, target_head, failure_of_both, failure_of_both, failure_of_both, failure_of_both, failure_of_both) refl
+    (option_or (first_failure (name_checks d))
+    (option_or (first_failure (directory_checks d))
+    (option_or (first_failure (list_checks d))
+    (option_or (first_failure (kept_checks d)) (option_or (first_failure (dyndep_checks d)) (first_failure (file_checks d)))))))
+unfolding target_checks
+target_parts d = rw (failure_of_both, failure_of_both, failure_of_both, failure_of_both, failure_of_both, failure_of_both) refl
 
--- what `using` names: the laws of one result, and how the checks of a document begin
+-- what `using` names: the laws of one result
 pub ruleset one_answer_of_each = (scan_one_answer, info_one_answer, target_one_answer, project_one_answer)
-
-pub ruleset scan_parts = (failure_of_both, scan_head)
-
-pub ruleset project_parts = (failure_of_both, target_head)

@@ -17,12 +17,13 @@ use Rattle.serde_json.proofs.Numbers.{number_of-decimal}
 use Rattle.scan_docs.specs.declared.fault.Place.{Place}
 use Rattle.scan_docs.specs.declared.fault.Place.TheVariants as place
 use Rattle.scan_docs.specs.Document.{large}
-use Rattle.scan_docs.specs.Check.{first_refusal, each_from}
+use Rattle.scan_docs.specs.Check.{version_checks, each_from}
+use Rattle.scan_docs.specs.inner.Reading.{first_failure}
 use Rattle.scan_docs.specs.Member.{key}
 use Rattle.scan_docs.specs.TargetChecks.{name_checks}
-use Rattle.scan_docs.specs.InfoChecks.{head_checks, modules_check, entry_shape_checks, requires_check, visibility_check, named_file_checks, requirement_checks, all_requirement_checks, module_checks, all_module_checks, info_checks}
+use Rattle.scan_docs.specs.InfoChecks.{modules_check, entry_shape_checks, requires_check, visibility_check, named_file_checks, requirement_checks, all_requirement_checks, module_checks, all_module_checks, info_checks}
 use Rattle.scan_docs.specs.Sound.{IsSoundPair, IsSoundModule, IsSoundInfo}
-use Rattle.scan_docs.proofs.Each.{refusal_after, elements_items_of}
+use Rattle.scan_docs.proofs.Each.{failure_first, none_refused, elements_items_of}
 use Rattle.std.proofs.lemmas.Bool.{and_parts, cases_eq, cases_lt}
 use Rattle.std.proofs.lemmas.List.{get_or-append-add}
 use Rattle.std.proofs.lemmas.Str.{IsUtf8-append, IsUtf8-nil, IsUtf8-take, IsUtf8-drop, IsUtf8-encode, encode_ascii, IsCharBoundary-before_ascii, IsCharBoundary-after_ascii}
@@ -230,7 +231,7 @@ info_read info =
 
 -- ---- all checks hold, and the meaning is the info
 
-requirement_passes : (p : List ℕ × List ℕ) (at : Place) → IsSoundPair p.0 p.1 → first_refusal (requirement_checks at (requirement_tree p)) ≡ None
+requirement_passes : (p : List ℕ × List ℕ) (at : Place) → IsSoundPair p.0 p.1 → first_failure (requirement_checks at (requirement_tree p)) ≡ None
 unfolding requirement_checks entry_shape_checks named_file_checks requirement_tree key
 requirement_passes p at h = rw (h.named.accepted, h.canonical) refl
 
@@ -239,11 +240,11 @@ unfolding requirement_tree key
 requirement_means p h = record { name = refl; file = h.canonical; is_text = h.is_text }
 
 requirements_pass : (ps : List (List ℕ × List ℕ)) (j k : ℕ) → AllByRecursion (λ p. IsSoundPair p.0 p.1) ps →
-    first_refusal (each_from (λ k d. requirement_checks (place.ModuleRequires j k) d) k (map requirement_tree ps)) ≡ None
+    first_failure (each_from (λ k d. requirement_checks (place.ModuleRequires j k) d) k (map requirement_tree ps)) ≡ None
 requirements_pass [] j k h = refl
 requirements_pass (p ∷ ps) j k h =
-    refusal_after (requirement_checks (place.ModuleRequires j k) (requirement_tree p))
-    (each_from (λ k d. requirement_checks (place.ModuleRequires j k) d) (k + 1) (map requirement_tree ps))
+    failure_first (requirement_checks (place.ModuleRequires j k) (requirement_tree p))
+    (each_from (λ k d. requirement_checks (place.ModuleRequires j k) d) (k + 1) (map requirement_tree ps)) None
     (requirement_passes p (place.ModuleRequires j k) h.0) ∙ requirements_pass ps j (k + 1) h.1
 
 requirements_mean : (ps : List (List ℕ × List ℕ)) → AllByRecursion (λ p. IsSoundPair p.0 p.1) ps → AllZip IsRequirement (map requirement_tree ps) ps
@@ -254,7 +255,7 @@ visibility_reads : (b : Bool) → visibility_meaning (visibility_text b) ≡ Som
 visibility_reads true = refl
 visibility_reads false = refl
 
-module_passes : (v : ModuleValue) (j : ℕ) → IsSoundModule v → first_refusal (module_checks true j (module_tree v)) ≡ None
+module_passes : (v : ModuleValue) (j : ℕ) → IsSoundModule v → first_failure (module_checks true j (module_tree v)) ≡ None
 unfolding module_checks entry_shape_checks requires_check visibility_check named_file_checks all_requirement_checks module_tree requirements_tree key
 module_passes v j h =
     rw (visibility_reads v.is_private, h.named.named.accepted, h.named.canonical, elements_items_of (map requirement_tree v.required))
@@ -271,18 +272,18 @@ module_means v h = record {
   visibility = visibility_reads v.is_private;
 }
 
-modules_pass : (vs : List ModuleValue) (j : ℕ) → AllByRecursion IsSoundModule vs → first_refusal (each_from (module_checks true) j (map module_tree vs)) ≡ None
+modules_pass : (vs : List ModuleValue) (j : ℕ) → AllByRecursion IsSoundModule vs → first_failure (each_from (module_checks true) j (map module_tree vs)) ≡ None
 modules_pass [] j h = refl
 modules_pass (v ∷ vs) j h =
-    refusal_after (module_checks true j (module_tree v)) (each_from (module_checks true) (j + 1) (map module_tree vs)) (module_passes v j h.0) ∙
+    failure_first (module_checks true j (module_tree v)) (each_from (module_checks true) (j + 1) (map module_tree vs)) None (module_passes v j h.0) ∙
     modules_pass vs (j + 1) h.1
 
 modules_mean : (vs : List ModuleValue) → AllByRecursion IsSoundModule vs → AllZip (IsModule true) (map module_tree vs) vs
 modules_mean [] h = tt
 modules_mean (v ∷ vs) h = (module_means v h.0, modules_mean vs h.1)
 
-info_passes : (info : InfoValue) → IsSoundInfo info → first_refusal (info_checks (info_tree info)) ≡ None
-unfolding info_checks head_checks name_checks modules_check all_module_checks info_tree key
+info_passes : (info : InfoValue) → IsSoundInfo info → first_failure (info_checks (info_tree info)) ≡ None
+unfolding info_checks version_checks name_checks modules_check all_module_checks info_tree key
 info_passes info h = rw (h.target.accepted, elements_items_of (map module_tree info.modules))
     (modules_pass info.modules 0 (recursion_from_All IsSoundModule info.modules h.modules))
 
@@ -296,7 +297,13 @@ info_means info h = record {
 -- what is read as this tree is read as the info
 pub info_again : (info : InfoValue) (bytes : List ℕ) → IsSoundInfo info → IsUtf8 bytes → read bytes ≡ Some (info_tree info) → ReadsBack info bytes
 info_again info bytes h utf8 is = record {
-  same = λ small. record { small = small; tree = info_tree info; reads = (utf8, is); passes = info_passes info h; meaning = info_means info h };
+  same = λ small. record {
+    small = small;
+    tree = info_tree info;
+    reads = (utf8, is);
+    passes = none_refused (info_checks (info_tree info)) (info_passes info h);
+    meaning = info_means info h;
+  };
   too_large = λ long. large long refl;
 }
 

@@ -6,7 +6,7 @@ use Rattle.std.proofs.lemmas.Bool.{cases_lt}
 use lib.Utf8.{scalar, scalars, encodes}
 use Rattle.std.proofs.lemmas.Bool.Decides.{nat_tests}
 use Rattle.std.specs.List.{list_all, list_any, slice_split, count_by}
-use Rattle.std.proofs.lemmas.Bool.{cases_Bool, or_parts}
+use Rattle.std.proofs.lemmas.Bool.{cases_Bool, and_parts, or_parts}
 use Rattle.std.proofs.lemmas.List.Splits.{slice_split-cons_yes}
 use Rattle.ninja_text.specs.Escapes.{is_unwritable}
 use Rattle.ninja_text.specs.Paths.{placed, canonical_of, is_rooted}
@@ -44,13 +44,9 @@ all_encoded : (cs : List ℕ) → map dashed (encodes cs) ≡ encodes (map dashe
 all_encoded [] = refl
 all_encoded (c ∷ cs) = map-append dashed (encode_utf8 c) (encodes cs) ∙ ap₂ (λ a b. a ++ b) (each c (cases_lt c 128)) (all_encoded cs)
 
-both_true : (x y : Bool) → x && y ≡ true → (x ≡ true) × (y ≡ true)
-both_true true y h = (refl, h)
-both_true false y h = absurd (cc)
-
 all_scalar : (cs : List ℕ) → scalars cs ≡ true → scalars (map dashed cs) ≡ true
 all_scalar [] h = refl
-all_scalar (c ∷ cs) h = let both = both_true (scalar c) (scalars cs) h in ap₂ (λ a b. a && b) (scalar_stays c both.0) (all_scalar cs both.1)
+all_scalar (c ∷ cs) h = let both = and_parts (scalar c) (scalars cs) h in ap₂ (λ a b. a && b) (scalar_stays c both.0) (all_scalar cs both.1)
 
 pub dashed_text : (bs : List ℕ) → IsUtf8 bs → IsUtf8 (map dashed bs)
 dashed_text bs h = (map dashed h.0, (all_scalar h.0 h.1.0, sym (all_encoded h.0) ∙ ap (map dashed) h.1.1))
@@ -72,7 +68,7 @@ plain_byte b h = grind (arith, nat_tests)
 plain_bytes : (bs : List ℕ) → list_all is_name_byte bs ≡ true → list_any (λ b. b == 47 || is_unwritable b) (map dashed bs) ≡ false
 plain_bytes [] h = refl
 plain_bytes (b ∷ bs) h =
-    let both = both_true (is_name_byte b) (list_all is_name_byte bs) h in
+    let both = and_parts (is_name_byte b) (list_all is_name_byte bs) h in
     ap₂ (λ x y. x || y) (plain_byte b both.0) (plain_bytes bs both.1)
 
 -- what separates nothing is no dot, also with `-` for `:`
@@ -84,9 +80,9 @@ name_tests : (name : List ℕ) → is_name name ≡ true
     → (list_all is_not_empty (slice_split is_separator name) ≡ true) × (list_all is_name_byte name ≡ true)
 unfolding is_name
 name_tests name h =
-    let both = both_true (nat_le 1 (length name) && nat_le (length name) 1024 && nat_le (count_by (λ b. b == 58) name) 1 && list_all is_not_empty
+    let both = and_parts (nat_le 1 (length name) && nat_le (length name) 1024 && nat_le (count_by (λ b. b == 58) name) 1 && list_all is_not_empty
     (slice_split is_separator name)) (list_all is_name_byte name) h in
-    let parts = both_true (nat_le 1 (length name) && nat_le (length name) 1024 && nat_le (count_by (λ b. b == 58) name) 1)
+    let parts = and_parts (nat_le 1 (length name) && nat_le (length name) 1024 && nat_le (count_by (λ b. b == 58) name) 1)
     (list_all is_not_empty (slice_split is_separator name)) both.0 in
     (parts.1, both.1)
 

@@ -1,36 +1,20 @@
 -- The checks of an info document, in order.
-use Rattle.std.specs.Prelude.{ℕ, List, [], ◌∷◌, ◌++◌, Bool, false, ◌||◌, ◌==◌, Option, Some, None, is_some}
+use Rattle.std.specs.Prelude.{ℕ, List, [], ◌∷◌, ◌++◌, Bool, is_some}
 use Rattle.ninja_text.specs.Bytes.{Text}
 use Rattle.ninja_text.specs.Paths.{path_of}
 use Rattle.serde_json.specs.Data.{Data}
-use Rattle.scan_docs.specs.declared.fault.DocFault.TheVariants.{BadVersion, BadName}
+use Rattle.scan_docs.specs.declared.fault.DocFault.TheVariants.{BadName}
 use Rattle.scan_docs.specs.declared.fault.Place.{Place}
 use Rattle.scan_docs.specs.declared.fault.Place.TheVariants as place
 use Rattle.scan_docs.specs.declared.member.Member.TheVariants as m
-use Rattle.scan_docs.specs.Check.{Check, ◌otherwise◌, shape_check, path_checks, each_from}
-use Rattle.scan_docs.specs.Shape.{is_object, text, text_of, entries, entries_of, whole_number}
+use Rattle.scan_docs.specs.Check.{Check, ◌otherwise◌, shape_check, path_checks, version_checks, each_from}
+use Rattle.scan_docs.specs.Shape.{is_object, text, text_of, entries, entries_of}
 use Rattle.document_values.specs.Name.{is_name}
 use Rattle.scan_docs.specs.TargetChecks.{name_checks}
 use Rattle.scan_docs.specs.Info.{has_visibility, privacy}
 
--- the version is 1 or 2
-abbrev pub is_info_version : Option ℕ → Bool
-is_info_version None = false
-is_info_version (Some version) = (version == 1) || (version == 2)
-
--- the document's version
-abbrev pub version_check : Data → Check
-version_check d = is_info_version (whole_number m.Version d) otherwise BadVersion
-
--- the document is an object with a valid version
-unfoldable pub head_checks : Data → List Check
-head_checks d =
-    shape_check place.Document m.Document (is_object d)
-    ∷ version_check d
-    ∷ []
-
 -- `modules` is an array
-unfoldable pub modules_check : Data → List Check
+abbrev pub modules_check : Data → List Check
 modules_check d = shape_check place.Document m.Modules (is_some (entries m.Modules d)) ∷ []
 
 -- a module or a requirement is an object with the strings `bmi` and `name`
@@ -42,7 +26,7 @@ entry_shape_checks place d =
     ∷ []
 
 -- a module's `requires` is an array
-unfoldable pub requires_check : Place → Data → List Check
+abbrev pub requires_check : Place → Data → List Check
 requires_check place d = shape_check place m.Requires (is_some (entries m.Requires d)) ∷ []
 
 -- in version 2, `visibility` is `public` or `private`
@@ -83,7 +67,7 @@ all_module_checks with_visibility ds = each_from (module_checks with_visibility)
 -- all checks of an info document's tree
 unfoldable pub info_checks : Data → List Check
 info_checks d =
-    head_checks d
+    version_checks (1 ∷ 2 ∷ []) d
     ++ (name_checks d
     ++ (modules_check d
     ++ all_module_checks (has_visibility d) (entries_of m.Modules d)))

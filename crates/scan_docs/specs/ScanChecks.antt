@@ -1,13 +1,13 @@
 -- The checks of a scan document, in order.
-use Rattle.std.specs.Prelude.{ℕ, List, [], ◌∷◌, ◌++◌, length, Bool, false, not, ◌&&◌, ◌||◌, nat_le, Option, Some, None, is_some, is_none}
+use Rattle.std.specs.Prelude.{ℕ, List, [], ◌∷◌, ◌++◌, length, Bool, not, ◌&&◌, ◌||◌, nat_le, Option, is_some, is_none}
 use Rattle.ninja_text.specs.Bytes.{PathText}
 use Rattle.serde_json.specs.Data.{Data}
-use Rattle.scan_docs.specs.declared.fault.DocFault.TheVariants.{BadVersion, NoPrimaryOutput, HeaderUnit, BadName, TooLarge}
+use Rattle.scan_docs.specs.declared.fault.DocFault.TheVariants.{NoPrimaryOutput, HeaderUnit, BadName, TooLarge}
 use Rattle.scan_docs.specs.declared.fault.Place.{Place}
 use Rattle.scan_docs.specs.declared.fault.Place.TheVariants as place
 use Rattle.scan_docs.specs.declared.member.Member.TheVariants as m
-use Rattle.scan_docs.specs.Check.{Check, ◌otherwise◌, shape_check, path_checks, each_from}
-use Rattle.scan_docs.specs.Shape.{is_object, given, text, text_of, flag, entries, entries_of, whole_number, fits}
+use Rattle.scan_docs.specs.Check.{Check, ◌otherwise◌, shape_check, path_checks, version_checks, each_from}
+use Rattle.scan_docs.specs.Shape.{is_object, given, text, text_of, flag, entries, entries_of, fits}
 use Rattle.document_values.specs.Name.{is_name}
 use Rattle.scan_docs.specs.Scan.{SettingValue, object_of, module_file_of, is_unique_on_source, names_header, is_method}
 
@@ -19,23 +19,14 @@ count_limit = 65536
 abbrev pub is_short : List Data → Bool
 is_short ds = nat_le (length ds) count_limit
 
--- the version is 1, or 0, which some scanners write
-abbrev pub is_scan_version : Option ℕ → Bool
-is_scan_version None = false
-is_scan_version (Some version) = nat_le version 1
-
--- the document's version
-abbrev pub version_check : Data → Check
-version_check d = is_scan_version (whole_number m.Version d) otherwise BadVersion
-
--- the document is an object with a valid version, and `rules` is an array that is not too long
-unfoldable pub head_checks : Data → List Check
+-- The document is an object with the version 1, or 0, which some scanners write. `rules` is an
+-- array that is not too long.
+abbrev pub head_checks : Data → List Check
 head_checks d =
-    shape_check place.Document m.Document (is_object d)
-    ∷ version_check d
-    ∷ shape_check place.Document m.Rules (is_some (entries m.Rules d))
+    version_checks (0 ∷ 1 ∷ []) d
+    ++ (shape_check place.Document m.Rules (is_some (entries m.Rules d))
     ∷ (is_short (entries_of m.Rules d) otherwise TooLarge place.Document)
-    ∷ []
+    ∷ [])
 
 -- a rule is an object, and its members have the right shapes
 abbrev pub rule_shape_checks : Place → Data → List Check

@@ -1,31 +1,15 @@
 -- The checks of a target document, in order.
-use Rattle.std.specs.Prelude.{ℕ, List, [], ◌∷◌, ◌++◌, length, Bool, false, ◌||◌, ◌==◌, nat_lt, Option, Some, None, is_some, is_none}
+use Rattle.std.specs.Prelude.{List, [], ◌∷◌, ◌++◌, length, ◌||◌, nat_lt, None, is_some, is_none}
 use Rattle.std.specs.List.{list_all}
 use Rattle.ninja_text.specs.Paths.{placed}
 use Rattle.serde_json.specs.Data.{Data}
-use Rattle.scan_docs.specs.declared.fault.DocFault.TheVariants.{BadVersion, BadName}
+use Rattle.scan_docs.specs.declared.fault.DocFault.TheVariants.{BadName}
 use Rattle.scan_docs.specs.declared.fault.Place.TheVariants as place
 use Rattle.scan_docs.specs.declared.member.Member.TheVariants as m
-use Rattle.scan_docs.specs.Check.{Check, ◌otherwise◌, shape_check, path_checks}
-use Rattle.scan_docs.specs.Shape.{is_object, given, text, text_of, texts, texts_of, whole_number, fits}
+use Rattle.scan_docs.specs.Check.{Check, ◌otherwise◌, shape_check, path_checks, version_checks}
+use Rattle.scan_docs.specs.Shape.{given, text, text_of, texts, texts_of, fits}
 use Rattle.document_values.specs.Name.{is_name, is_target_name}
 use Rattle.scan_docs.specs.Target.{build_dir, map_form}
-
--- the version is 1
-abbrev pub is_target_version : Option ℕ → Bool
-is_target_version None = false
-is_target_version (Some version) = version == 1
-
--- the document's version
-abbrev pub version_check : Data → Check
-version_check d = is_target_version (whole_number m.Version d) otherwise BadVersion
-
--- the document is an object with a valid version; project documents have the same check
-unfoldable pub head_checks : Data → List Check
-head_checks d =
-    shape_check place.Document m.Document (is_object d)
-    ∷ version_check d
-    ∷ []
 
 -- the target's name is valid; info documents have the same check
 unfoldable pub name_checks : Data → List Check
@@ -43,7 +27,7 @@ directory_checks d =
     ∷ []
 
 -- `scans` and `linked` are absent or arrays of strings
-unfoldable pub list_checks : Data → List Check
+abbrev pub list_checks : Data → List Check
 list_checks d =
     shape_check place.Document m.Scans (fits texts m.Scans d)
     ∷ shape_check place.Document m.Linked (fits texts m.Linked d)
@@ -82,7 +66,7 @@ file_checks d =
 -- all checks of a target document's tree
 unfoldable pub target_checks : Data → List Check
 target_checks d =
-    head_checks d
+    version_checks (1 ∷ []) d
     ++ (name_checks d
     ++ (directory_checks d
     ++ (list_checks d

@@ -3,9 +3,10 @@
 ghost use Rattle.std.specs.Prelude.{◌≡◌, ◌≢◌, ◌≤◌, Some, IfOk, IfErr, length};
 ghost use Rattle.ninja_text.specs.declared.failure.Failure.TheVariants.{Memory};
 ghost use Rattle.serde_json.specs.View.{view};
+ghost use Rattle.scan_docs.specs.Check.{version_checks};
 ghost use Rattle.scan_docs.specs.Document.{IsTree, document_limit};
 ghost use Rattle.scan_docs.specs.Shape.{whole_number};
-ghost use Rattle.scan_docs.specs.inner.Reading.{Answers, IsNoTree, version_checks};
+ghost use Rattle.scan_docs.specs.inner.Reading.{Answers, IsNoTree};
 ghost use Rattle.scan_docs.specs.declared.member.Member.TheVariants as m;
 
 use crate::fault::{DocFault, Place};
@@ -36,7 +37,7 @@ pub(crate) fn read_tree(alloc: Global, bytes: &[u8]) -> Result<Value, Failure<Do
 }
 
 /// Returns the version of a document, which has to be an object with one of these versions.
-#[tactic(auto, unfolding(crate::specs::inner::Reading::version_checks))]
+#[tactic(auto, unfolding(crate::specs::Check::version_checks))]
 pub(crate) fn read_version(tree: &Value, versions: &[u64]) -> Result<u64, Failure<DocFault>>
     ensures { Answers (version_checks versions.now (view tree.now))
         (λ version. whole_number m.Version (view tree.now) ≡ Some version) result }

@@ -43,6 +43,7 @@ pub fn info_read(alloc: Global, bytes: &[u8]) -> Result<Info, Failure<DocFault>>
     read_info(alloc, &tree)
 }
 
+#[tactic(auto, unfolding(crate::specs::InfoChecks::info_checks), using(crate::proofs::Each::both))]
 fn read_info(alloc: Global, tree: &Value) -> Result<Info, Failure<DocFault>>
     ensures { Answers (info_checks (view tree.now)) (λ info. IsInfo (view tree.now) info) result }
 {
@@ -68,6 +69,7 @@ fn names_of_modules(alloc: Global, modules: &[Value]) -> Result<Vec<u8>, AllocEr
     Ok(names)
 }
 
+#[tactic(auto, unfolding(crate::specs::InfoChecks::module_checks), using(crate::proofs::Each::both))]
 fn read_module(
     alloc: Global,
     names: &mut SharedNames,

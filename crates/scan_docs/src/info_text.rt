@@ -74,8 +74,8 @@ impl LentInfo<'_> {
     }
 }
 
-/// Returns the info as a document of version 2: compact JSON with keys in byte order, without a line
-/// end.
+/// Returns the info as a document of version 2: compact JSON with keys in byte order, and without a
+/// line end.
 ///
 /// The document is read as the same info, unless it has more than 16,777,216 bytes: then reading it
 /// fails with S8. Each path has to be UTF-8, as the paths of a document are.

@@ -22,7 +22,7 @@ use document_values::TargetName;
 /// All bytes, read as a document of one kind, have at most one result: one value or one fault, and
 /// never both.
 #[tactic(auto, using(crate::proofs::Exact::one_answer_of_each))]
-pub fn one_answer()
+pub fn bytes_have_one_result()
     ensures scan { (setting : SettingValue) (bytes : Bytes)
         → HasOneAnswer (scan_checks setting) (AreRules setting) bytes }
     ensures info { (bytes : Bytes) → HasOneAnswer info_checks IsInfo bytes }
@@ -31,7 +31,7 @@ pub fn one_answer()
 {}
 
 /// The value of an accepted document is the value of a function of its bytes.
-pub fn value_of_bytes()
+pub fn bytes_determine_the_value()
     ensures scan { (setting : SettingValue) (bytes : Bytes) (rules : List RuleValue)
         → IsAccepted (scan_checks setting) (AreRules setting) bytes rules
         → rules ≡ rules_of setting bytes }
@@ -49,12 +49,12 @@ pub fn value_of_bytes()
 /// The text of an info whose names and paths are accepted is read as the same info. If the text is
 /// longer than a document may be, and only then, reading it fails.
 #[tactic(auto, using(crate::proofs::InfoTexts::text_again))]
-pub fn info_again()
+pub fn info_reads_back()
     ensures { (info : InfoValue) → IsSoundInfo info → ReadsBack info (info_text info) }
 {}
 
 /// The name of a target is accepted, and it is UTF-8.
-pub fn target_names(name: &TargetName)
+pub fn target_names_are_valid(name: &TargetName)
     ensures accepted { is_target_name name.now ≡ true }
     ensures utf8 { IsUtf8 name.now }
 {

@@ -3,21 +3,22 @@
 //!
 //! - [`scan`] reads the rules of a scan document, [`info_read`] what a target tells the targets
 //!   that link it, [`spec_read`] what a target is made of, and [`project_read`] which target
-//!   documents a project has. Each returns what the document means if all checks hold, and otherwise
-//!   the fault of the first check that fails. The checks are lists, `specs/ScanChecks.antt` and so
-//!   on; the meanings are in `specs/Scan.antt` and so on. `specs/Document.antt` puts them together,
-//!   and `specs/Values.antt` gives the meaning as a function of the bytes. The types of rules,
-//!   of what an info file has, and of names are those of the crate `document_values`.
-//! - [`scan_with`] does what [`scan`] does for a [`ReducedSetting`], which reduces the directory and
-//!   the ending of module files once for all scan documents of a target. `placing` reduces the work
-//!   directory of a rule once for all paths of the rule.
+//!   documents a project has. Each returns what the document means if all checks hold, and
+//!   otherwise the fault of the first check that fails. The checks are lists,
+//!   `specs/ScanChecks.antt` and so on; the meanings are in `specs/Scan.antt` and so on.
+//!   `specs/Document.antt` puts them together, and `specs/Values.antt` gives the meaning as a
+//!   function of the bytes. The types of rules, of what an info file has, and of names are those of
+//!   the crate `document_values`.
+//! - [`scan_with`] does what [`scan`] does for a [`ReducedSetting`], which reduces the directory
+//!   and the ending of module files once for all scan documents of a target. `placing` reduces the
+//!   work directory of a rule once for all paths of the rule.
 //! - `document` makes a tree of a document's bytes by `serde_json` and reads its version, and
 //!   `shape` returns members of the tree that have a type. The names of a scan document or an info
 //!   document share one string (`SharedNames`), which is collected from the tree first.
 //!   The tree is dropped once the value is made.
-//! - [`info_write`] returns the one text of an info (`specs/InfoText.antt`), and [`lent_info_write`]
-//!   does so for an info whose parts are borrowed. The text is read as the same info, which
-//!   `proofs/InfoTexts.antt` proves over what `serde_json` says a text is read as.
+//! - [`info_write`] returns the one text of an info (`specs/InfoText.antt`), and
+//!   [`lent_info_write`] does so for an info whose parts are borrowed. The text is read as the same
+//!   info, which `proofs/InfoTexts.antt` proves over what `serde_json` says a text is read as.
 //! - [`laws`] proves that all bytes have one result at most, that the value of an accepted document
 //!   is the value of the function, and that the text of every sound info (`specs/Sound.antt`) is
 //!   read as that info.

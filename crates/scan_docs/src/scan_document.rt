@@ -27,9 +27,9 @@ pub const COUNT_LIMIT: usize = 65536;
 
 /// Returns the rules of a scan document (P1689R5), in its order.
 ///
-/// `version` has to be 1 or 0, which some scanners write. The path of a rule's object file, and of a
-/// BMI that the document names, is relative to the rule's work directory. If the document does not
-/// name the BMI of a module, its path is made of the setting and the module's name. All other
+/// `version` has to be 1 or 0, which some scanners write. The path of a rule's object file, and of
+/// a BMI that the document names, is relative to the rule's work directory. If the document does
+/// not name the BMI of a module, its path is made of the setting and the module's name. All other
 /// members are ignored, among them `revision`, `outputs` and every `source-path`.
 ///
 /// # Errors
@@ -70,7 +70,7 @@ pub fn scan_with(
     read_rules(alloc, setting, &tree)
 }
 
-#[tactic(auto, unfolding(crate::specs::ScanChecks::scan_checks), using(crate::proofs::Exact::scan_parts))]
+#[tactic(auto, unfolding(crate::specs::ScanChecks::scan_checks), using(crate::proofs::Each::both))]
 fn read_rules(
     alloc: Global,
     setting: &ReducedSetting,

@@ -1,6 +1,6 @@
 //! Members of an object, by the shape that they should have.
 
-ghost use Rattle.std.specs.Prelude.{◌≡◌, Some, map, option_map, option_copied, is_some, unwrap_or, false, string_bytes};
+ghost use Rattle.std.specs.Prelude.{◌≡◌, Some, map, option_map, option_copied, is_some, string_bytes};
 ghost use Rattle.serde_json.specs.View.{view};
 ghost use Rattle.scan_docs.specs.Check.{shape_check};
 ghost use Rattle.scan_docs.specs.inner.Reading.{Tests};
@@ -100,15 +100,6 @@ pub(crate) fn flag(
         None => Ok(None),
         Some(value) => value.as_bool().map(Some).ok_or(bad_shape(place, member)),
     }
-}
-
-/// Returns whether the member is true. Every other value counts as absent.
-pub(crate) fn is_true(object: &Value, member: Member) -> bool
-    ensures { result ≡ unwrap_or (flag member (view object.now)) false }
-{
-    given(object, member)
-        .and_then(Value::as_bool)
-        .unwrap_or(false)
 }
 
 /// Returns the member's entries, or none if the member is absent or null.

@@ -126,6 +126,7 @@ pub fn spec_read(alloc: Global, bytes: &[u8]) -> Result<TargetSpec, Failure<DocF
     read_spec(alloc, &tree)
 }
 
+#[tactic(auto, unfolding(crate::specs::TargetChecks::target_checks), using(crate::proofs::Each::both))]
 fn read_spec(alloc: Global, tree: &Value) -> Result<TargetSpec, Failure<DocFault>>
     ensures { Answers (target_checks (view tree.now))
         (λ spec. IsTarget (view tree.now) spec) result }
@@ -265,7 +266,9 @@ fn read_other_files(alloc: Global, tree: &Value) -> Result<OtherFiles, Failure<D
         Some(edges) => Some(String::from_str(alloc, edges)?),
         None => None,
     };
-    let restat = shape::is_true(tree, Member::Restat);
+    let restat = shape::given(tree, Member::Restat)
+        .and_then(Value::as_bool)
+        .unwrap_or(false);
     Ok(OtherFiles {
         info,
         map,
@@ -308,7 +311,7 @@ pub fn project_read(alloc: Global, bytes: &[u8]) -> Result<ProjectSpec, Failure<
     read_project(alloc, &tree)
 }
 
-#[tactic(auto, using(crate::proofs::Exact::project_parts))]
+#[tactic(auto, using(crate::proofs::Each::both))]
 fn read_project(alloc: Global, tree: &Value) -> Result<ProjectSpec, Failure<DocFault>>
     ensures { Answers (project_checks (view tree.now))
         (λ project. IsProject (view tree.now) project) result }

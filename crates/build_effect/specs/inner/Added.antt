@@ -1,11 +1,21 @@
--- Added outputs that an edge already produces or that were added before.
-use Rattle.std.specs.Prelude.{◌≡◌, ℕ, List, get_or}
+-- What statements add: their paths, and added outputs that already have a producer.
+use Rattle.std.specs.Prelude.{◌≡◌, ℕ, Bool, List, [], drop, get_or, slice_range}
 use Rattle.dyndep_file.specs.StatementValue.{StatementValue}
 use Rattle.build_effect.specs.Faults.{added_outputs}
 use Rattle.ninja_text.specs.Firsts.{IsFirstAt}
 use Rattle.build_effect.specs.inner.Makers.{Made, IsMadeTwice, numbered}
 use Rattle.build_effect.specs.declared.fault.EffectFault.{EffectFault}
 use Rattle.build_effect.specs.declared.fault.EffectFault.TheVariants.{AddedTwice}
+
+-- the statement of these paths: its output, its implicit outputs up to an index, and its implicit
+-- inputs
+abbrev pub addition_of : List (List ℕ) → ℕ → Bool → StatementValue
+addition_of paths outputs restat = record {
+  output = get_or paths 0 [];
+  implicit_outputs = slice_range paths 1 outputs;
+  implicit_inputs = drop outputs paths;
+  restat = restat;
+}
 
 -- the added outputs, statement after statement, each with the edge of its statement
 abbrev pub added_files : List ℕ → List StatementValue → Made

@@ -1,13 +1,10 @@
 -- What the steps of reading a line of an edge list return, given the symbols before and after.
 use Rattle.std.specs.Prelude.{◌≡◌, ℕ, Bool, true, false, List, [], ◌∷◌, Option, Some, None, Result, Ok, Err}
-use Rattle.ninja_text.specs.Tokens.{SeenToken}
 use Rattle.ninja_text.specs.declared.failure.Failure.{Failure}
 use Rattle.ninja_text.specs.declared.failure.Failure.TheVariants.{Memory, Fault}
-use Rattle.ninja_text.specs.declared.token.TokenKind.{TokenKind}
-use Rattle.dyndep_file.specs.Classes.{Symbol, WordSymbol}
 use Rattle.build_effect.specs.ListingLines as lines
 use Rattle.build_effect.specs.ListingLines.{EdgeTexts, ListingClass}
-use Rattle.build_effect.specs.inner.ListingWalk.{row_of, class_of_row, past_sign, front_words, past_words, part_words, past_part, step, row_cause, text_cause}
+use Rattle.build_effect.specs.inner.ListingWalk.{row_of, class_of_row, step, row_cause, text_cause}
 use Rattle.ninja_text.specs.declared.fault.PathFault.{PathFault}
 use Rattle.build_effect.specs.ListingGrammar.{bound}
 use Rattle.build_effect.specs.ListingSteps.{ListingValue}
@@ -29,24 +26,6 @@ row_value (Restat flag) = lines.RestatRow flag
 -- the row of a line, or its lexical error, or `Form`
 abbrev pub line_row : LogicalLine → Result lines.Row LineCause
 line_row line = row_of line.text line.comment
-
--- the values of the words in the part that begins with this sign
-abbrev pub words_of_part : TokenKind → List Symbol → List (List ℕ)
-words_of_part sign symbols = part_words (past_sign sign symbols)
-
--- the symbols after this part
-abbrev pub symbols_past_part : TokenKind → List Symbol → List Symbol
-symbols_past_part sign symbols = past_part (past_sign sign symbols) symbols
-
--- the sign is at the front and was taken, or it is not there and nothing was taken
-abbrev pub SignPassed : TokenKind → List Symbol → Bool → List Symbol → Type 0
-SignPassed sign old true new = past_sign sign old ≡ Some new
-SignPassed sign old false new = (past_sign sign old ≡ None) × (new ≡ old)
-
--- a word is at the front and was taken, or there is no word and nothing was taken
-abbrev pub WordPassed : List Symbol → Option SeenToken → List Symbol → Type 0
-WordPassed old (Some token) new = old ≡ WordSymbol token.raw ∷ new
-WordPassed old None new = (front_words old ≡ []) × (past_words old ≡ old) × (new ≡ old)
 
 -- What a row does: it has a class and leads to the new edges, or it is rejected for its form or for
 -- one of its paths, or an allocation failed.

@@ -1,7 +1,7 @@
 -- How the row, the class and the cause of a line are found from its tokens, from left to right, and
 -- what the line does to the edges so far. They are defined in `ListingLines.antt`,
 -- `ListingFaults.antt` and `ListingGrammar.antt`.
-use Rattle.std.specs.Prelude.{◌≡◌, ℕ, Bool, true, false, ◌&&◌, not, nat_lt, if◌then◌else◌, List, [], ◌∷◌, ◌++◌, length, codes, Option, Some, None, Result, Ok, Err}
+use Rattle.std.specs.Prelude.{◌≡◌, ℕ, Bool, true, false, ◌&&◌, not, nat_lt, if◌then◌else◌, List, [], ◌∷◌, ◌++◌, length, codes, Option, Some, None, Result, Ok, Err, bytes_eq}
 use Rattle.std.specs.Option.{option_and_then}
 use Rattle.ninja_text.specs.Lexical.{lexical_fault}
 use Rattle.ninja_text.specs.Tokens.{tokens, value_of}
@@ -11,8 +11,7 @@ use Rattle.ninja_text.specs.declared.fault.PathFault.{PathFault}
 use Rattle.ninja_text.specs.declared.fault.LexFault.{LexFault}
 use Rattle.ninja_text.specs.declared.token.TokenKind.{TokenKind}
 use Rattle.ninja_text.specs.declared.token.TokenKind.TheVariants.{Bar, DoubleBar, Colon}
-use Rattle.dyndep_file.specs.Classes.{Symbol, WordSymbol, SignSymbol, symbols, begins_at_start, begins_with_space}
-use Rattle.dyndep_file.specs.Faults.{same_bytes, after_build}
+use Rattle.ninja_text.specs.Symbols.{Symbol, WordSymbol, symbols, begins_at_start, begins_with_space, after_build, front_words, past_words, past_sign, part_words, past_part}
 use Rattle.build_effect.specs.ListingLines.{EdgeTexts, is_rule_name, Row, CommentRow, BlankRow, BuildRow, DyndepRow, RestatRow, ListingClass, Comment, Blank, Build, Dyndep, Restat}
 use Rattle.build_effect.specs.EdgeValue.{EdgeValue}
 use Rattle.build_effect.specs.ListingGrammar.{bound}
@@ -23,41 +22,6 @@ use Rattle.build_effect.specs.declared.listing.state.Binding.{Binding}
 use Rattle.build_effect.specs.declared.listing.state.Binding.TheVariants.{Closed, Open}
 
 -- ---- the tokens of a build line
-
--- the values of the words at the front
-abbrev pub front_words : List Symbol → List (List ℕ)
-front_words [] = []
-front_words (WordSymbol word ∷ more) = value_of word ∷ front_words more
-front_words (SignSymbol sign ∷ more) = []
-
--- the symbols after the words at the front
-abbrev pub past_words : List Symbol → List Symbol
-past_words [] = []
-past_words (WordSymbol word ∷ more) = past_words more
-past_words (SignSymbol sign ∷ more) = SignSymbol sign ∷ more
-
--- whether both are the same sign: `|`, `||` or `:`
-abbrev pub is_sign : TokenKind → TokenKind → Bool
-is_sign Bar Bar = true
-is_sign DoubleBar DoubleBar = true
-is_sign Colon Colon = true
-is_sign sign kind = false
-
--- the symbols after this sign at the front; None if the sign is not there
-abbrev pub past_sign : TokenKind → List Symbol → Option (List Symbol)
-past_sign sign [] = None
-past_sign sign (WordSymbol word ∷ more) = None
-past_sign sign (SignSymbol kind ∷ more) = if is_sign sign kind then Some more else None
-
--- the values of the words after a sign; no words if the sign is not there
-abbrev pub part_words : Option (List Symbol) → List (List ℕ)
-part_words (Some more) = front_words more
-part_words None = []
-
--- the symbols after such a part
-abbrev pub past_part : Option (List Symbol) → List Symbol → List Symbol
-past_part (Some more) symbols = past_words more
-past_part None symbols = symbols
 
 -- the build line with these outputs and these symbols after its colon: a rule and inputs of three
 -- kinds; None if they are not a build line
@@ -91,8 +55,8 @@ edge_texts symbols =
 abbrev pub binding_row : Option SeenAssignment → Result Row LineCause
 binding_row None = Err Form
 binding_row (Some a) =
-    if same_bytes a.name (codes "dyndep") then Ok (DyndepRow (value_of a.raw_value))
-    else if same_bytes a.name (codes "restat") then
+    if bytes_eq a.name (codes "dyndep") then Ok (DyndepRow (value_of a.raw_value))
+    else if bytes_eq a.name (codes "restat") then
     Ok (RestatRow (nat_lt 0 (length (value_of a.raw_value))))
     else Err Form
 

@@ -1,8 +1,8 @@
--- The strings of a build line, which are stored one after another in one text.
+-- The strings of a build line or a statement, one after another in one text.
 use Rattle.std.specs.Prelude.{◌≢◌, ◌≤◌, ℕ, List, [], length, map, slice_range, All}
 use Rattle.ninja_text.specs.Bytes.{Name}
 use Rattle.build_effect.specs.ListingLines.{EdgeTexts}
-use Rattle.build_effect.specs.declared.listing.strings.Span.{Span}
+use Rattle.build_effect.specs.declared.strings.Span.{Span}
 use Rattle.build_effect.specs.declared.listing.rows.ListEnds.{ListEnds}
 
 -- the bytes of a span

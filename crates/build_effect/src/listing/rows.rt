@@ -1,20 +1,18 @@
 //! One line of an edge listing: its kind, and the strings in it.
-ghost use Rattle.std.specs.Prelude.{◌≡◌, ◌==◌, ◌&&◌, ◌++◌, length, IfOk, OnOk, codes};
+ghost use Rattle.std.specs.Prelude.{◌≡◌, ◌++◌, length, IfOk, OnOk};
 ghost use Rattle.std.specs.Option.{option_map};
 ghost use Rattle.ninja_text.specs.Failure.{Gives};
 ghost use Rattle.ninja_text.specs.LineViews.{seen_line};
-ghost use Rattle.ninja_text.specs.Tokens.{value_of};
-ghost use Rattle.ninja_text.specs.TokenViews.{seen_token};
+ghost use Rattle.ninja_text.specs.TokenViews.{symbols_left};
 ghost use Rattle.ninja_text.specs.AssignmentViews.{seen_assignment};
-ghost use Rattle.dyndep_file.specs.Faults.{same_bytes};
-ghost use Rattle.dyndep_file.specs.BuildTokens.{symbol_of, symbols_left, is_this_word};
+ghost use Rattle.ninja_text.specs.Symbols.{front_words, past_words, words_of_part, symbols_past_part};
 ghost use Rattle.build_effect.specs.ListingLines.{is_rule_name};
-ghost use Rattle.build_effect.specs.inner.ListingWalk.{binding_row, edge_texts, front_words, past_words};
-ghost use Rattle.build_effect.specs.inner.ListingRows.{row_value, line_row, words_of_part, symbols_past_part, SignPassed, WordPassed};
+ghost use Rattle.build_effect.specs.inner.ListingWalk.{binding_row, edge_texts};
+ghost use Rattle.build_effect.specs.inner.ListingRows.{row_value, line_row};
 
 use crate::fault::LineCause;
-use crate::listing::strings::Strings;
-use ninja_text::{Assignment, Failure, Line, Token, TokenKind, Words, assignment, words};
+use crate::strings::Strings;
+use ninja_text::{Assignment, Failure, Line, LineForm, TokenKind, Words, line_form};
 use std::alloc::{AllocError, Global};
 use std::marker::Model;
 
@@ -62,28 +60,16 @@ pub(crate) enum Row {
 pub(crate) fn row_of(alloc: Global, line: Line<'_>) -> Result<Row, Failure<LineCause>>
     ensures { Gives row_value result (line_row (seen_line line.entry)) }
 {
-    if line.is_comment() {
-        return Ok(Row::Comment);
-    }
-    let mut tokens = match words(line) {
-        Ok(tokens) => tokens,
-        Err(fault) => return Err(Failure::Fault(LineCause::Lexical(fault))),
-    };
-    let Some(first) = tokens.next() else {
-        return Ok(Row::Blank);
-    };
-    if line.text().starts_with(b" ") {
-        return match assignment(line) {
-            Ok(found) => binding_row(alloc, found),
-            Err(fault) => Err(Failure::Fault(LineCause::Lexical(fault))),
-        };
-    }
-    if !begins_build_line(first) {
-        return Err(Failure::Fault(LineCause::Form));
-    }
-    match edge_texts(alloc, line.text().len(), tokens)? {
-        Some(texts) => Ok(Row::Build(texts)),
-        None => Err(Failure::Fault(LineCause::Form)),
+    match line_form(line) {
+        Err(fault) => Err(Failure::Fault(LineCause::Lexical(fault))),
+        Ok(LineForm::Comment) => Ok(Row::Comment),
+        Ok(LineForm::Blank) => Ok(Row::Blank),
+        Ok(LineForm::Build(tokens)) => match edge_texts(alloc, line.text().len(), tokens)? {
+            Some(texts) => Ok(Row::Build(texts)),
+            None => Err(Failure::Fault(LineCause::Form)),
+        },
+        Ok(LineForm::Indented(found)) => binding_row(alloc, found),
+        Ok(LineForm::Unindented(_)) => Err(Failure::Fault(LineCause::Form)),
     }
 }
 
@@ -94,21 +80,18 @@ fn binding_row(alloc: Global, assignment: Option<Assignment<'_>>) -> Result<Row,
     let Some(found) = assignment else {
         return Err(Failure::Fault(LineCause::Form));
     };
-    let is_dyndep = is_same(found.name(), b"dyndep");
-    if !is_dyndep && !is_same(found.name(), b"restat") {
-        return Err(Failure::Fault(LineCause::Form));
+    if found.name() == b"dyndep".as_slice() {
+        return Ok(Row::Dyndep(found.value(alloc)?));
     }
-    let mut value = Vec::with_capacity(alloc, found.raw_value().len())?;
-    found.value_into(&mut value)?;
-    if is_dyndep {
-        Ok(Row::Dyndep(value))
-    } else {
-        Ok(Row::Restat(!value.is_empty()))
+    if found.name() == b"restat".as_slice() {
+        let value = found.value(alloc)?;
+        return Ok(Row::Restat(!value.is_empty()));
     }
+    Err(Failure::Fault(LineCause::Form))
 }
 
-/// Returns what a build line says, by its tokens after `build`, or `None` if it is not a build line.
-/// Its strings have at most `bytes` bytes.
+/// Returns what a build line says, by its tokens after `build`, or `None` if it is not a build
+/// line. Its strings have at most `bytes` bytes.
 fn edge_texts(
     alloc: Global,
     bytes: usize,
@@ -120,10 +103,10 @@ fn edge_texts(
     let mut strings = Strings::with_capacity(alloc, bytes)?;
     let outputs = front_words(&mut tokens, &mut strings)?;
     let implicit_outputs = part(&mut tokens, TokenKind::Bar, &mut strings)?;
-    if !pass_sign(&mut tokens, TokenKind::Colon) {
+    if !tokens.take_sign(TokenKind::Colon) {
         return Ok(None);
     }
-    let Some(rule) = next_word(&mut tokens) else {
+    let Some(rule) = tokens.next_word() else {
         return Ok(None);
     };
     let inputs = front_words(&mut tokens, &mut strings)?;
@@ -151,8 +134,8 @@ fn front_words(tokens: &mut Words<'_>, strings: &mut Strings) -> Result<usize, A
     ensures rest { OnOk result (symbols_left tokens.new ≡ past_words (symbols_left tokens.old)) }
     ensures count { IfOk result (λ count. count ≡ length strings.new) }
 {
-    while let Some(token) = next_word(tokens) {
-        strings.push(token)?;
+    while let Some(token) = tokens.next_word() {
+        strings.push_value(token)?;
     }
     Ok(strings.len())
 }
@@ -166,46 +149,10 @@ fn part(tokens: &mut Words<'_>, sign: TokenKind, strings: &mut Strings) -> Resul
         (symbols_left tokens.new ≡ symbols_past_part sign (symbols_left tokens.old)) }
     ensures count { IfOk result (λ count. count ≡ length strings.new) }
 {
-    if pass_sign(tokens, sign) {
+    if tokens.take_sign(sign) {
         front_words(tokens, strings)
     } else {
         Ok(strings.len())
-    }
-}
-
-/// Takes the next token if it is this sign. Returns whether it is.
-fn pass_sign(tokens: &mut Words<'_>, sign: TokenKind) -> bool
-    ensures { SignPassed sign (symbols_left tokens.old) result (symbols_left tokens.new) }
-{
-    let mut ahead = *tokens;
-    let Some(token) = ahead.next() else {
-        return false;
-    };
-    let is_there = match sign {
-        TokenKind::Bar => matches!(token.kind(), TokenKind::Bar),
-        TokenKind::DoubleBar => matches!(token.kind(), TokenKind::DoubleBar),
-        TokenKind::Colon => matches!(token.kind(), TokenKind::Colon),
-        TokenKind::BarAt | TokenKind::Word => false,
-    };
-    if is_there {
-        *tokens = ahead;
-    }
-    is_there
-}
-
-/// Takes and returns the next token if it is a word.
-fn next_word<'a>(tokens: &mut Words<'a>) -> Option<Token<'a>>
-    ensures { WordPassed (symbols_left tokens.old) (option_map seen_token result)
-        (symbols_left tokens.new) }
-{
-    let mut ahead = *tokens;
-    let token = ahead.next()?;
-    match token.kind() {
-        TokenKind::Word => {
-            *tokens = ahead;
-            Some(token)
-        }
-        TokenKind::Bar | TokenKind::Colon | TokenKind::DoubleBar | TokenKind::BarAt => None,
     }
 }
 
@@ -218,18 +165,4 @@ fn is_rule_name(name: &[u8]) -> bool
         [_, ..] => name.iter().all(|b| b.is_ascii_alphanumeric()
             || matches!(*b, b'_' | b'.' | b'-')),
     }
-}
-
-/// Returns whether a line with this first token is a build line.
-fn begins_build_line(first: Token<'_>) -> bool
-    ensures { result ≡ ((seen_token first.entry).start == 0)
-        && is_this_word (codes "build") (symbol_of (seen_token first.entry)) }
-{
-    first.start() == 0 && first.kind() == TokenKind::Word && is_same(first.raw(), b"build")
-}
-
-fn is_same(bytes: &[u8], other: &[u8]) -> bool
-    ensures { result ≡ same_bytes bytes.now other.now }
-{
-    bytes == other
 }

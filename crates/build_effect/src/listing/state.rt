@@ -10,10 +10,10 @@ ghost use Rattle.build_effect.specs.inner.ListingRows.{TakesRow, ReadsText, row_
 use crate::fault::LineCause;
 use crate::graph::Edge;
 use crate::listing::rows::{EdgeTexts, Row, row_of};
-use crate::listing::strings::path_of;
 use ninja_text::{Failure, Line, Path, PathFault};
 use std::alloc::Global;
 use std::marker::Model;
+use std::rc::RcSlice;
 
 /// Which bindings may still come for the last edge.
 #[derive(Clone, Copy)]
@@ -111,8 +111,8 @@ fn dyndep_row(
     }
 }
 
-/// Returns the path of a string. Most edges of a target name one dyndep file, so the path shares that
-/// of the edge before the last one if it is the same.
+/// Returns the path of a string. Most edges of a target name one dyndep file, so the path shares
+/// that of the edge before the last one if it is the same.
 fn dyndep_path(alloc: Global, edges: &[Edge], text: Vec<u8>) -> Result<Path, Failure<PathFault>>
     ensures { Gives (λ path. path) result (path_of text.items) }
 {
@@ -124,7 +124,10 @@ fn dyndep_path(alloc: Global, edges: &[Edge], text: Vec<u8>) -> Result<Path, Fai
             }
         }
     }
-    path_of(alloc, text)
+    // The path takes the string over if that is canonical.
+    let shared = RcSlice::from_vec(text)?;
+    let end = shared.len();
+    Path::within(alloc, &shared, 0, end)
 }
 
 fn set_last_dyndep(edges: &mut Vec<Edge>, path: Path)

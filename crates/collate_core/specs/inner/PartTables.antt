@@ -1,7 +1,7 @@
 -- A table with only a part of the linked modules: definitions for private contracts.
 use Rattle.std.specs.Prelude.{◌≡◌, Option, IfSome}
 use Rattle.module_table.specs.TableValue.{TableValue}
-use Rattle.document_values.specs.Parts.{IsEnough, KeepsRequired}
+use Rattle.module_table.specs.Parts.{IsEnough, KeepsRequired}
 use Rattle.module_maps.specs.Maps.{Written}
 use Rattle.collate_core.specs.Values.{TargetValue}
 use Rattle.collate_core.specs.Documents.{table_of, AreAccepted}

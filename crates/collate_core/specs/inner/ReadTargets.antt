@@ -6,11 +6,11 @@ use Rattle.std.specs.declared.alloc.Global.{Global}
 use Rattle.ninja_text.specs.Bytes.{Text}
 use Rattle.table_keys.specs.Entries.{TableEntries}
 use Rattle.table_keys.specs.Keys.{IsKeyOf}
-use Rattle.table_keys.specs.declared.TableKey.{TableKey}
 use Rattle.document_values.specs.Rule.{RuleValue}
 use Rattle.document_values.specs.Info.{InfoValue}
 use Rattle.scan_docs.specs.Scan.{SettingValue, IsRuleText}
 use Rattle.module_table.specs.Entries.{object_entries, info_entries}
+use Rattle.module_table.specs.Pool.{PoolValue}
 use Rattle.collate_core.specs.Values.{ProjectTargetValue}
 use Rattle.collate_core.specs.Documents.{all_rules, AreScansAccepted}
 
@@ -44,10 +44,10 @@ abbrev pub AreInfosHeld : TableEntries → List (Option InfoValue) → Type 0
 AreInfosHeld all known = (k : ℕ) (info : InfoValue) → slice_get known k ≡ Some (Some info) →
     AreHeld all (info_entries info)
 
--- The key is made of a list that has the strings of the known info files and of these objects.
-pub record CoversLinked (key : TableKey) (known : List (Option InfoValue))
-    (objects : List RuleValue) : Type 0 where
+-- The key of the pool is made of a list that has the strings of the pool's known info files and of
+-- these objects.
+pub record CoversLinked (pool : PoolValue) (objects : List RuleValue) : Type 0 where
   pub all : TableEntries
-  pub made_of : IsKeyOf key all
-  pub infos : AreInfosHeld all known
+  pub made_of : IsKeyOf pool.key all
+  pub infos : AreInfosHeld all pool.infos
   pub own : AreHeld all (flat_map object_entries objects)

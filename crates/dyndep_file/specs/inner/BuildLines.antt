@@ -1,12 +1,13 @@
 -- The tokens of a build line after its keyword, and what reading each part of them returns.
-use Rattle.std.specs.Prelude.{◌≡◌, ℕ, false, List, ◌∷◌, ◌++◌, map, codes, Option, Some, Result, Ok, Err}
+use Rattle.std.specs.Prelude.{◌≡◌, ℕ, false, List, [], ◌∷◌, ◌++◌, map, codes, Option, None, Some, Result, Ok, Err}
 use Rattle.ninja_text.specs.Tokens.{value_of}
 use Rattle.ninja_text.specs.declared.failure.Failure.{Failure}
 use Rattle.ninja_text.specs.declared.failure.Failure.TheVariants.{Memory, Fault}
-use Rattle.ninja_text.specs.declared.token.TokenKind.TheVariants.{Bar, Colon}
+use Rattle.ninja_text.specs.declared.token.TokenKind.TheVariants.{Bar, DoubleBar, BarAt, Colon}
+use Rattle.ninja_text.specs.Symbols.{Symbol, WordSymbol, SignSymbol, IsPart}
 use Rattle.dyndep_file.specs.StatementValue.{StatementValue, statement_with}
-use Rattle.dyndep_file.specs.Classes.{Symbol, WordSymbol, SignSymbol, IsPart}
 use Rattle.dyndep_file.specs.declared.fault.LineFault.{LineFault}
+use Rattle.dyndep_file.specs.declared.fault.LineFault.TheVariants.{OrderOnly, Validation, BadLine}
 
 -- The tokens after the keyword are `output | outputs : dyndep | inputs`. The words are given by
 -- their raw bytes.
@@ -25,6 +26,14 @@ IsNamed symbols s =
     (output : List ℕ) × (outputs inputs : List (List ℕ)) × Names symbols output outputs inputs
     × (s ≡ statement_with (value_of output) (map value_of outputs) (map value_of inputs) false)
 
+-- the error of a token that may not come next, given that of a word; None at the end of the line
+abbrev pub misplaced : LineFault → List Symbol → Option LineFault
+misplaced word [] = None
+misplaced word (WordSymbol bytes ∷ more) = Some word
+misplaced word (SignSymbol DoubleBar ∷ more) = Some OrderOnly
+misplaced word (SignSymbol BarAt ∷ more) = Some Validation
+misplaced word (SignSymbol other ∷ more) = Some BadLine
+
 -- The failure is this error, or an allocation failed.
 abbrev pub IsFailureOf : Option LineFault → Failure LineFault → Type 0
 IsFailureOf fault (Fault found) = fault ≡ Some found
@@ -41,13 +50,6 @@ pub record TakesOutput (old : List Symbol) (output : List ℕ) (new : List Symbo
   pub word : List ℕ
   pub are : old ≡ WordSymbol word ∷ new
   pub is : output ≡ value_of word
-
--- The first symbols are words with these values, and the symbols `new` follow.
-pub record TakesWords (old : List Symbol) (values : List (List ℕ)) (new : List Symbol)
-    : Type 0 where
-  pub words : List (List ℕ)
-  pub are : old ≡ map WordSymbol words ++ new
-  pub is : values ≡ map value_of words
 
 -- The first symbols are the part of the implicit outputs, with these values, and a `:`. The symbols
 -- `new` follow.

@@ -1,13 +1,14 @@
 -- What reading one line returns, for each row of the table of lines.
-use Rattle.std.specs.Prelude.{◌≡◌, ℕ, nat_lt, IsTrue, if◌then◌else◌, List, length, map, codes, Option, None, Some, Result, Ok, Err}
+use Rattle.std.specs.Prelude.{◌≡◌, ℕ, nat_lt, IsTrue, if◌then◌else◌, List, length, map, codes, Option, None, Some, Result, Ok, Err, bytes_eq}
 use Rattle.ninja_text.specs.Lines.{LogicalLine}
 use Rattle.ninja_text.specs.Tokens.{value_of}
 use Rattle.ninja_text.specs.Assignments.{SeenAssignment}
 use Rattle.ninja_text.specs.declared.failure.Failure.{Failure}
 use Rattle.ninja_text.specs.declared.failure.Failure.TheVariants.{Memory, Fault}
-use Rattle.dyndep_file.specs.Classes.{DyndepClass, Version, Build, Binding, Symbol, IsDyndepLine, is_version_one}
+use Rattle.ninja_text.specs.Symbols.{Symbol}
+use Rattle.dyndep_file.specs.Classes.{DyndepClass, Version, Build, Binding, IsDyndepLine, is_version_one}
 use Rattle.dyndep_file.specs.Steps.{ProgressValue, step}
-use Rattle.dyndep_file.specs.Faults.{same_bytes, text_line_fault}
+use Rattle.dyndep_file.specs.Faults.{text_line_fault}
 use Rattle.dyndep_file.specs.inner.BuildLines.{Names}
 use Rattle.dyndep_file.specs.declared.fault.LineFault.{LineFault}
 use Rattle.dyndep_file.specs.declared.fault.ReadFault.{ReadFault}
@@ -31,7 +32,7 @@ IsBuildOf symbols c =
 -- the assignment, if it is to this name
 abbrev pub with_name : List ℕ → Option SeenAssignment → Option SeenAssignment
 with_name name None = None
-with_name name (Some a) = if same_bytes a.name name then Some a else None
+with_name name (Some a) = if bytes_eq a.name name then Some a else None
 
 -- The assignment sets `restat`, and the flag of the class is on if the value is not empty.
 abbrev pub IsBindingOf : Option SeenAssignment → DyndepClass → Type 0

@@ -117,7 +117,7 @@ which_in text =
     let coded = code text in
     (coded.0, coded.1, spot coded.0 coded.1 (from_space coded.2))
 
--- where an error is and which error it is, from its document, index, line and the text after them
+-- the place and the kind of an error, from its document, index, line and the text after them
 abbrev pub after_lines : ℕ → ℕ × ℕ × Text → Where × Which
 after_lines index at = ((at.0, index, at.1), which_in at.2)
 

@@ -8,8 +8,8 @@ use Rattle.module_table.specs.declared.fault.Maker.{Maker}
 use Rattle.module_table.specs.declared.fault.Maker.TheVariants.{Object, Info}
 
 -- each object's row has the indexes of the modules that the object requires
-abbrev pub AreIndexes : TableValue → List (List ℕ) → Type 0
-AreIndexes t rows =
+abbrev pub AreRequiredIndexes : TableValue → List (List ℕ) → Type 0
+AreRequiredIndexes t rows =
     map (λ row. map (slice_get (names_of (provisions t))) row) rows
     ≡ map (λ rule. map (λ name. Some name) rule.required) t.objects
 

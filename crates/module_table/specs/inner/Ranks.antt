@@ -15,7 +15,7 @@ abbrev pub pairs_of : List Numbered → List (Bor (List ℕ) × Bor (List ℕ))
 pairs_of modules = map pair_in modules
 
 -- the first `count` modules, in order of their numbers
-pub record AreListed (provided : List Provision) (count : ℕ) (modules : List Numbered)
+pub record AreByNumber (provided : List Provision) (count : ℕ) (modules : List Numbered)
     : Type 0 where
   pub as_many : length modules ≡ count
   pub numbers : (k : ℕ) (m : Numbered) → slice_get modules k ≡ Some m → m.index ≡ k

@@ -7,7 +7,7 @@ ghost use Rattle.dep_order.specs.Rows.{rows};
 ghost use Rattle.module_table.specs.Modules.{provisions, info_requirements};
 ghost use Rattle.module_table.specs.inner.Finds.{IsPrivate, IsAllowed, IsByObject, IsPrivateTo, RequiresPublic, AcceptsAll};
 ghost use Rattle.module_table.specs.inner.Found.{AreLookedUp};
-ghost use Rattle.module_table.specs.inner.Numbered.{AreIndexes};
+ghost use Rattle.module_table.specs.inner.Numbered.{AreRequiredIndexes};
 ghost use Rattle.ninja_text.specs.Firsts.{AllDiffer};
 ghost use Rattle.module_table.specs.inner.Reported.{Reports};
 ghost use Rattle.module_table.specs.inner.Views.{names_of};
@@ -27,7 +27,7 @@ pub(crate) fn check_objects_allowed(
     modules: &Modules,
     required: &[Vec<usize>],
 ) -> Result<(), Failure<Box<TableFault>>>
-    requires { AreIndexes modules.now (rows required.now) }
+    requires { AreRequiredIndexes modules.now (rows required.now) }
     ensures ok { OnOk result
         (AcceptsAll (RequiresPublic (provisions modules.now)) modules.now.objects) }
     ensures fault { IfErr result (ForFault

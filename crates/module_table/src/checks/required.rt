@@ -9,7 +9,7 @@ ghost use Rattle.dep_order.specs.Rows.{rows};
 ghost use Rattle.module_table.specs.Modules.{provisions, info_requirements, DependsOn};
 ghost use Rattle.module_table.specs.inner.Finds.{IsByInfo, Agrees, AcceptsAll};
 ghost use Rattle.module_table.specs.inner.Found.{AreLookedUp};
-ghost use Rattle.module_table.specs.inner.Numbered.{AreIndexes, maker_at};
+ghost use Rattle.module_table.specs.inner.Numbered.{AreRequiredIndexes, maker_at};
 ghost use Rattle.module_table.specs.inner.Views.{provision_of};
 ghost use Rattle.module_table.specs.inner.Reported.{Reports};
 ghost use Rattle.module_table.specs.declared.fault.TableFault.TheVariants.{ModuleUnknown};
@@ -28,7 +28,7 @@ pub(crate) fn check_objects_known(
     alloc: Global,
     modules: &Modules,
 ) -> Result<Vec<Vec<usize>>, Failure<Box<TableFault>>>
-    ensures ok { IfOk result (λ required. AreIndexes modules.now (rows required.items)) }
+    ensures ok { IfOk result (λ required. AreRequiredIndexes modules.now (rows required.items)) }
     ensures fault { IfErr result (ForFault
         (λ fault. (kept : List Name) → Reports 5 modules.now kept fault.value)) }
 {
@@ -137,7 +137,7 @@ pub(crate) fn check_rings(
     modules: &Modules,
     required: &[Vec<usize>],
 ) -> Result<(), Failure<Box<TableFault>>>
-    requires { AreIndexes modules.now (rows required.now) }
+    requires { AreRequiredIndexes modules.now (rows required.now) }
     ensures ok { OnOk result (IsOrderable (length modules.now.objects) (DependsOn modules.now)) }
     ensures fault { IfErr result (ForFault
         (λ fault. (kept : List Name) → Reports 8 modules.now kept fault.value)) }

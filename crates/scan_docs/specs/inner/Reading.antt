@@ -1,18 +1,15 @@
 -- What the readers of a document's parts return.
-use Rattle.std.specs.Prelude.{◌≡◌, ◌≢◌, ◌≤◌, ◌<◌, ◌⊎◌, ℕ, ◌==◌, List, length, [], ◌∷◌, Bool, true, false, if◌then◌else◌, Option, Some, None, Result, Ok, MatchResult}
-use Rattle.std.specs.List.{list_any}
+use Rattle.std.specs.Prelude.{◌≡◌, ◌≢◌, ◌≤◌, ◌<◌, ◌⊎◌, ℕ, List, length, [], ◌∷◌, true, false, if◌then◌else◌, Option, Some, None, Result, Ok, MatchResult}
 use Rattle.ninja_text.specs.declared.failure.Failure.{Failure}
 use Rattle.ninja_text.specs.declared.failure.Failure.TheVariants.{Memory, Fault}
 use Rattle.ninja_text.specs.declared.fault.PathFault.{PathFault}
 use Rattle.serde_json.specs.Data.{Data}
 use Rattle.scan_docs.specs.declared.fault.DocFault.{DocFault}
-use Rattle.scan_docs.specs.declared.fault.DocFault.TheVariants.{NotJson, BadVersion, TooLarge}
+use Rattle.scan_docs.specs.declared.fault.DocFault.TheVariants.{NotJson, TooLarge}
 use Rattle.scan_docs.specs.declared.fault.Place.{Place}
 use Rattle.scan_docs.specs.declared.fault.Place.TheVariants as place
-use Rattle.scan_docs.specs.declared.member.Member.TheVariants as m
 use Rattle.scan_docs.specs.Document.{document_limit, IsTree}
-use Rattle.scan_docs.specs.Check.{Check, ◌otherwise◌, shape_check, path_checks}
-use Rattle.scan_docs.specs.Shape.{is_object, whole_number}
+use Rattle.scan_docs.specs.Check.{Check, path_checks}
 use Rattle.scan_docs.specs.Scan.{IsText}
 
 -- the error of the first check that fails, as a call returns it
@@ -44,15 +41,3 @@ abbrev pub IsNoTree : List ℕ → Failure DocFault → Type 0
 IsNoTree bytes e =
     ((document_limit < length bytes) × (e ≡ Fault (TooLarge place.Document)))
     ⊎ ((length bytes ≤ document_limit) × ((d : Data) → IsTree bytes d → ⊥) × (e ≡ Fault NotJson))
-
--- the version is one of these
-abbrev pub is_one_of : List ℕ → Option ℕ → Bool
-is_one_of versions None = false
-is_one_of versions (Some version) = list_any (λ v. v == version) versions
-
--- the document is an object, and its version is one of these
-unfoldable pub version_checks : List ℕ → Data → List Check
-version_checks versions d =
-    shape_check place.Document m.Document (is_object d)
-    ∷ (is_one_of versions (whole_number m.Version d) otherwise BadVersion)
-    ∷ []

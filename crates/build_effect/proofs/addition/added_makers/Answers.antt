@@ -18,7 +18,7 @@ loop-index-preserved c =
     let additions = c.args.additions.now in
     let i = c.loop-index.index in
     let a = c.index-additions-index.result in
-    let outputs = c.deref.ensures.value ∙ ap (λ (a : StatementValue). a.implicit_outputs) c.addition.view_is in
+    let outputs = c.implicit_outputs.ensures in
     c.in_ok-push.ensures ∙ ap₂ (λ made more. made ++ map (λ file. (file, get_or c.args.edge_of.now i 0)) more) c.loop-index.invariant outputs
     ∙ sym (numbered_next (λ a. a.implicit_outputs) (λ k. get_or c.args.edge_of.now k 0) additions i a
     (slice_get_read additions _ i a refl c.loop-index-test.true c.index-additions-index.is))

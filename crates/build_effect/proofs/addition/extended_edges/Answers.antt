@@ -1,5 +1,4 @@
 use Rattle.std.proofs.Common.{Option, rules, ◌≡◌, ◌∙◌, ◌+◌, ◌++◌, ◌||◌, Bool, ℕ, List, take, ap, refl, sym, subst}
-use Rattle.build_effect.proofs.Lists.{from_some}
 use Rattle.std.specs.List.{each_same}
 use Rattle.std.proofs.lemmas.Option.{slice_get_read, slice_get_within}
 use Rattle.dyndep_file.specs.StatementValue.{StatementValue}
@@ -62,11 +61,11 @@ loop-edge_index-preserved c =
           let added_inputs = w.in_ok-extend_from_slice-2.ensures.items in
           let outputs = added_outputs.1 ∙
           ap (λ ys. c.after.inside.implicit_outputs.items ++ ys)
-          (each_same _ _ added_outputs.2 ∙ w.deref.ensures.value ∙ ap (λ (x : StatementValue). x.implicit_outputs) w.addition.view_is) ∙
+          (each_same _ _ added_outputs.2 ∙ w.implicit_outputs.ensures) ∙
           ap (λ (x : EdgeValue). x.implicit_outputs ++ addition.implicit_outputs) v in
           let inputs = added_inputs.1 ∙
           ap (λ ys. c.after.inside.implicit_inputs.items ++ ys)
-          (each_same _ _ added_inputs.2 ∙ w.deref-in-Some.ensures.value ∙ ap (λ (x : StatementValue). x.implicit_inputs) w.addition.view_is) ∙
+          (each_same _ _ added_inputs.2 ∙ w.implicit_inputs.ensures) ∙
           ap (λ (x : EdgeValue). x.implicit_inputs ++ addition.implicit_inputs) v in
           let restat = ap (λ (x : EdgeValue). x.restat || w.addition.inside.restat) v ∙ ap (λ (x : StatementValue). e.restat || x.restat) w.addition.view_is in
           w.after-is ∙ ap (λ x.

@@ -1,15 +1,12 @@
-use Rattle.std.proofs.Common.{◌≡◌, ◌∙◌, ◌<◌, ◌++◌, ℕ, List, All, Option, Some, length, ap, sym, subst, arith}
+use Rattle.std.proofs.Common.{◌≡◌, ◌∙◌, ◌<◌, ◌++◌, All, Some, length, ap, sym, subst, arith}
 use Rattle.std.proofs.lemmas.Option.{slice_get_within}
 use Rattle.std.proofs.lemmas.Result.{err_from_is_err_and}
-use Rattle.dyndep_file.specs.StatementValue.{StatementValue}
-use Rattle.build_effect.specs.EdgeValue.{EdgeValue}
 use Rattle.build_effect.specs.Graphs.{MadeOnce, IsGraph}
-use Rattle.build_effect.specs.Effect.{AreCanonical, OnlyEffect}
+use Rattle.build_effect.specs.Effect.{OnlyEffect}
 use Rattle.build_effect.specs.inner.BadPaths.{IsBadStatement}
 use Rattle.build_effect.specs.inner.Makers.{AreMade}
 use Rattle.build_effect.specs.inner.Added.{IsFirstAddedTwice, added_files}
 use Rattle.build_effect.specs.inner.StatementEdges.{statement_on, IsFirstUnbound, AreInverse, IsFirstRepeated, HaveStatements, IsFirstUnmentioned}
-use Rattle.build_effect.specs.inner.Checked.{AreMatched}
 use Rattle.build_effect.specs.inner.Extended.{AreExtended}
 use Rattle.build_effect.proofs.StatementChecks.{reported, reported_of, passed, canonical_are, reports_bad_path, reports_unbound, reports_repeated, reports_unmentioned, reports_made, all_matched, edges_within, have_outputs}
 use Rattle.build_effect.proofs.effect.apply.Goals as goal

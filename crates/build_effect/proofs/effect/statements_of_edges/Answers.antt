@@ -1,8 +1,7 @@
-use Rattle.std.proofs.Common.{true, false, ◌≡◌, ◌∙◌, ℕ, ◌<◌, length, get_or, Some, None, refl, ap, sym, arith, slice_get}
+use Rattle.std.proofs.Common.{true, false, ◌∙◌, ◌<◌, length, get_or, None, refl, ap, sym, arith}
 use Rattle.std.proofs.lemmas.Option.{slice_get_read, slice_get-get_or}
 use Rattle.std.proofs.lemmas.List.{get_or_read}
 use Rattle.dyndep_file.specs.StatementValue.{StatementValue}
-use Rattle.build_effect.specs.inner.StatementEdges.{statement_on}
 use Rattle.build_effect.specs.declared.fault.EffectFault.TheVariants.{StatementTwice}
 use Rattle.build_effect.proofs.StatementChecks.{more_inverse, still_differ, repeated_on, is_there}
 use Rattle.build_effect.proofs.effect.statements_of_edges.Goals as goal
@@ -26,7 +25,7 @@ returns-then-is_some-clause-fault c =
       repeated_on c.args.count edge_of i some.0 edge statement_of at c.loop-statement_index.invariant.inverse c.loop-statement_index.invariant.differ
           (sym read ∙ some.1),
       slice_get_read c.args.additions.now _ i a refl within c.index-additions-statement_index.is,
-      ap StatementTwice (c.in_ok-output.ensures ∙ ap (λ (x : StatementValue). x.output) c.addition.view_is),
+      ap StatementTwice (c.in_ok-output.ensures ∙ c.output.ensures),
     )
 
 pub loop-statement_index-preserved : goal.loop-statement_index-preserved

@@ -1,4 +1,4 @@
-use Rattle.std.proofs.Common.{rules, tests, ◌≡◌, ◌∙◌, List, Vec, ℕ, Option, IfOk, length, map, ap, refl, sym, subst, append_assoc}
+use Rattle.std.proofs.Common.{rules, tests, ◌≡◌, ◌∙◌, Vec, ℕ, IfOk, length, map, ap, refl, sym, subst, append_assoc}
 use Rattle.std.specs.List.{filter_map}
 use Rattle.std.specs.declared.alloc.Global.{Global}
 use Rattle.std.proofs.lemmas.List.{take_all}
@@ -7,7 +7,6 @@ use Rattle.std.proofs.lemmas.Result.{IfOk-weaker}
 use Rattle.std.proofs.lemmas.Iterator.{items_from_collect, YieldsList-from_slice}
 use Rattle.std.proofs.lemmas.Iterator.Consumers.{YieldsList-at, YieldsList-from_chain, YieldsList-from_filter_map}
 use Rattle.dep_order.specs.Needs.{NodeNeeds, NeedsAreNodes}
-use Rattle.dep_order.specs.Rows.{rows}
 use Rattle.dep_order.specs.Sortings.{IsSortingOf}
 use Rattle.build_effect.specs.EdgeValue.{EdgeValue}
 use Rattle.build_effect.specs.Graphs.{EdgeNeeds}

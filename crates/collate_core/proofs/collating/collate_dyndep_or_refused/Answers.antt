@@ -46,7 +46,7 @@ returns-in-Ok-clause-dyndep c =
     let info : InfoValue = info_of_table target.name target.kept t in
     let named : IsTargetName target.name =
     subst IsTargetName (ap (λ (t : TargetValue). t.name) c.target.view_is)
-    (record { accepted = c.target_names.ensures.accepted; utf8 = c.target_names.ensures.utf8 }) in
+    (record { accepted = c.target_names_are_valid.ensures.accepted; utf8 = c.target_names_are_valid.ensures.utf8 }) in
     let sound = info_is_sound t table.text c.added_files_can_be_ordered.ensures.required target.name target.kept named
     (subst (All HasPaths) are (has_paths statements text.spelled)) in
     let collated : CollatedValue = record { dyndep = c.in-Ok.dyndep.items; info = info_text info; objects = map (λ rule. rule.object) t.objects; maps = [] } in
@@ -57,7 +57,7 @@ returns-in-Ok-clause-dyndep c =
       text = subst (λ (ss : List StatementValue). text_or_fault ss ≡ Ok collated.dyndep) are text.text;
       objects = refl;
       info = refl;
-      reads = c.info_again.ensures info sound;
+      reads = c.info_reads_back.ensures info sound;
       maps = refl;
     }) in
     record {

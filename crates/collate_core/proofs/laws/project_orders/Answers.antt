@@ -6,7 +6,7 @@ use Rattle.collate_core.proofs.laws.project_orders.Goals as goal
 pub returns-clause-numbered : goal.returns-clause-numbered
 returns-clause-numbered c = λ style targets outs project.
     let laws = c.added_files_can_be_ordered.ensures in
-    order.ordered laws.required laws.all_required laws.one_file laws.once c.value_of_bytes.ensures.info style targets outs project
+    order.ordered laws.required laws.all_required laws.one_file laws.once c.bytes_determine_the_value.ensures.info style targets outs project
 
 pub returns-clause-orders : goal.returns-clause-orders
 returns-clause-orders c = λ style targets outs project.
@@ -18,7 +18,7 @@ returns-clause-orderable c = λ style targets outs project g names order_of h ra
     let laws = c.added_files_can_be_ordered.ensures in
     let orders = lemmas.orders laws.orderable laws.once laws.apart laws.required c.any_order.ensures.any_order c.any_order.ensures.end_alike style targets outs
     project in
-    let ordered = order.ordered laws.required laws.all_required laws.one_file laws.once c.value_of_bytes.ensures.info style targets outs project in
+    let ordered = order.ordered laws.required laws.all_required laws.one_file laws.once c.bytes_determine_the_value.ensures.info style targets outs project in
     lemmas.end_orderable c.files_order.ensures laws.required style targets outs project orders ordered
     (λ n t at. lemmas.added_once t (sound_of style targets outs project n t at) laws.orderable laws.once laws.apart laws.required) g names count meets order_of
     h ranks new outputs level all indices applies

@@ -1,9 +1,9 @@
 use Rattle.std.proofs.Common.{◌≡◌, ◌∙◌, List, Option, Vec, Global, None, Some, subst, sym, IfSome, option_copied, option_map}
 use Rattle.document_values.specs.Rule.{RuleValue}
 use Rattle.document_values.specs.Info.{InfoValue}
-use Rattle.info_pool.specs.Pool.{AreLinked}
-use Rattle.info_pool.specs.declared.requirements.Requirements.TheVariants.{Kept}
-use Rattle.document_values.specs.Parts.{IsEnough, KeepsRequired}
+use Rattle.module_table.specs.Pool.{AreLinked}
+use Rattle.module_table.specs.declared.pool.requirements.Requirements.TheVariants.{Kept}
+use Rattle.module_table.specs.Parts.{IsEnough, KeepsRequired}
 use Rattle.module_table.specs.Sound.{IsSound, PrivateAreProvided}
 use Rattle.collate_core.specs.Values.{TargetValue}
 use Rattle.collate_core.specs.inner.PartTables.{IsEnoughFor}
@@ -26,12 +26,12 @@ part_collated-requires-clause-enough g c =
     let read : AreRulesOf target.setting target.scans objects =
     subst (λ (r : Option (Vec RuleValue Global)). IfSome r (λ rules. AreRulesOf target.setting target.scans rules.items)) c.in-Some.is c.requires.rules in
     let found = subst (λ found.
-    IfSome found (λ part. (infos : List InfoValue) × AreLinked c.args.pool.now c.args.linked.now infos × IsEnough c.deref.result.now part.items infos ×
+    IfSome found (λ part. (infos : List InfoValue) × AreLinked c.args.pool.now.infos c.args.linked.now infos × IsEnough c.deref.result.now part.items infos ×
     (c.match-style.requirements ≡ Kept → KeepsRequired part.items infos))) c.in-Some-2.is c.in_ok-part.ensures in
     let kept : (s : _) → c.args.style ≡ Some s →
     c.match-style.requirements ≡ Kept = λ s e. elim c.match-style.branch
     [ in-Some-style w ↦ w.requirements-is | in-None w ↦ let none : None ≡ Some s = sym w.in-None.is ∙ e in absurd cc ] in
-    let enough_here = enough_for_target (option_map g.M.MapStyle.written (option_copied c.args.style)) target c.requires.infos.0 c.args.pool.now
+    let enough_here = enough_for_target (option_map g.M.MapStyle.written (option_copied c.args.style)) target c.requires.infos.0 c.args.pool.now.infos
     c.args.linked.now objects c.in-Some-2.part.items found.0
     c.requires.infos.1 c.requires.infos.2 c.requires.infos.3 read.accepted read.same read.text found.1
     (subst (λ (os : List RuleValue). IsEnough os c.in-Some-2.part.items found.0) c.deref.ensures.value found.2)
@@ -42,12 +42,11 @@ part_collated-requires-clause-enough g c =
 pub build_or_refused-built-requires : goal.build_or_refused-built-requires
 build_or_refused-built-requires g c = λ key is.
     let found = subst (λ found.
-    IfSome found (λ part. (infos : List InfoValue) × AreLinked c.args.pool.now c.args.linked.now infos × IsEnough c.deref.result.now part.items infos ×
+    IfSome found (λ part. (infos : List InfoValue) × AreLinked c.args.pool.now.infos c.args.linked.now infos × IsEnough c.deref.result.now part.items infos ×
     (c.match-style.requirements ≡ Kept → KeepsRequired part.items infos))) c.in-Some-2.is c.in_ok-part.ensures in
-    let covers = subst (λ (r : Option (Vec RuleValue Global)). IfSome r (λ rules. CoversLinked c.args.key c.args.pool.now rules.items)) c.in-Some.is
-    c.requires.key in
-    subst (λ (k : TableKey). Covers k (table_entries (table_with c.in-Some.objects.items c.in-Some-2.part.items))) (same_some _ _ is)
-    (covers_part c.args.key c.args.pool.now c.args.linked.now c.in-Some.objects.items c.in-Some-2.part.items found.0 covers found.1 found.2.is_part)
+    let covers = subst (λ (r : Option (Vec RuleValue Global)). IfSome r (λ rules. CoversLinked c.args.pool.now rules.items)) c.in-Some.is c.requires.key in
+    subst (λ (k : TableKey). Covers k (table_entries (table_with c.in-Some.objects.items c.in-Some-2.part.items))) (sym c.key.ensures ∙ same_some _ _ is)
+    (covers_part c.args.pool.now c.args.linked.now c.in-Some.objects.items c.in-Some-2.part.items found.0 covers found.1 found.2.is_part)
 
 pub part_collated-requires-clause-sound : goal.part_collated-requires-clause-sound
 part_collated-requires-clause-sound g c = without_fault IsSound _ _ _ c.in-Some-3.is c.in_ok-table.ensures c.build_or_refused-built.ensures.builds.sound

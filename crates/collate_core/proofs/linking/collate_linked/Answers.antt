@@ -1,8 +1,14 @@
-use Rattle.std.proofs.Common.{◌≡◌, ◌∙◌, ◌⊎◌, List, ℕ, map, ap, subst, inl, inr, Option, Some, IfSome, IsTrue, MatchOption}
+use Rattle.std.proofs.Common.{◌≡◌, ◌∙◌, ◌⊎◌, List, ℕ, map, ap, subst, inl, inr, Option, Some, None, IfSome, IsTrue, MatchOption, Result, Ok, IfOk}
 use Rattle.std.proofs.lemmas.Result.{err_from_is_err_and}
 use Rattle.ninja_text.specs.Failure.{ForFault}
 use Rattle.ninja_text.specs.declared.failure.Failure.{Failure}
 use Rattle.ninja_text.specs.declared.failure.Failure.TheVariants.{Memory, Fault}
+use Rattle.scan_docs.specs.Document.{IsAccepted}
+use Rattle.scan_docs.specs.Info.{IsInfo}
+use Rattle.scan_docs.specs.InfoChecks.{info_checks}
+use Rattle.scan_docs.specs.InfoText.{IsInfoText}
+use Rattle.scan_docs.specs.Values.{info_of}
+use Rattle.document_values.specs.Info.{InfoValue}
 use Rattle.collate_core.specs.Projects.{linked_infos}
 use Rattle.collate_core.specs.inner.ReadInfos.{IsReadAs}
 use Rattle.collate_core.proofs.Lists.{of_none}
@@ -16,6 +22,24 @@ refused_linked : {F : Type 0} (Later : F → Type 0) (Earlier : Type 0) (P : F �
     ForFault (λ fault. Later fault ⊎ (Earlier × P fault)) failure
 refused_linked Later Earlier P earlier Memory h = tt
 refused_linked Later Earlier P earlier (Fault fault) h = inr (earlier, h)
+
+-- the info in the result of reading a text, if there is one, is what the text is read as
+read_as : {E : Type 0} (text : List ℕ) (result : Result InfoValue E) (found : Option InfoValue) → IfSome found (λ info. result ≡ Ok info) →
+    IfOk result (IsAccepted info_checks IsInfo text) → IfOk result (λ info. info ≡ info_of text) → IfOk result IsInfoText →
+    IfSome found (IsReadAs text)
+read_as text result None same accepted value is = tt
+read_as text result (Some found) same accepted value is =
+    let here : found ≡ info_of text = subst (λ r. IfOk r (λ info. info ≡ info_of text)) same value in
+    record {
+      accepted = subst (IsAccepted info_checks IsInfo text) here (subst (λ r. IfOk r (IsAccepted info_checks IsInfo text)) same accepted);
+      value = here;
+      text = subst (λ r. IfOk r IsInfoText) same is;
+    }
+
+-- and something else holds
+with_both : {A T : Type 0} (P : T → Type 0) (found : Option T) → A → IfSome found P → IfSome found (λ value. A × P value)
+with_both P None a h = tt
+with_both P (Some value) a h = (a, h)
 
 pub collate_by_part-requires-clause-infos : goal.collate_by_part-requires-clause-infos
 collate_by_part-requires-clause-infos g c =
@@ -51,6 +75,13 @@ returns-in_err-out-clause-read g c =
     let p = err_from_is_err_and c.from_residual-in_err-out.result c.from_residual-in_err-out.ensures.1 in
     rw (p.1, p.2, ← c.target.view_is, ← infos) c.in_err-out.ensures.read
 
+pub returns-then-not-is_read-clause-collated : goal.returns-then-not-is_read-clause-collated
+returns-then-not-is_read-clause-collated g c =
+    let wrote = of_some _ _ _ _ c.in-Some.is c.in_ok-infos.ensures in
+    let infos : map (λ info. info.now) c.deref.result.now ≡ linked_infos c.args.outs.now c.target.inside.linked.now =
+    ap (map (λ info. info.now)) c.deref.ensures.value ∙ wrote.1 in
+    rw (← c.target.view_is, ← infos) (wrote.0, c.in_ok-out.ensures.collated)
+
 pub returns-clause-collated : goal.returns-clause-collated
 returns-clause-collated g c =
     let wrote = of_some _ _ _ _ c.in-Some.is c.in_ok-infos.ensures in
@@ -60,7 +91,10 @@ returns-clause-collated g c =
 
 pub returns-clause-known : goal.returns-clause-known
 returns-clause-known g c =
-    subst (λ (text : List ℕ). IfSome c.in_ok-info.info (λ info. IsTrue c.args.is_read × IsReadAs text info)) c.info.ensures c.in_ok-info.ensures
+    let read = c.info_read.ensures in
+    subst (λ (text : List ℕ). IfSome c.in_ok-info.info (λ info. IsTrue c.args.is_read × IsReadAs text info)) c.info.ensures
+    (with_both (IsReadAs c.info.result.now) c.in_ok-info.info c.if-not-is_read.false
+    (read_as c.info.result.now c.info_read.result c.in_ok-info.info c.in_ok-info.ensures read.accepted read.value read.text))
 
 pub returns-in_default-clause-refused : goal.returns-in_default-clause-refused
 returns-in_default-clause-refused g c =

@@ -17,9 +17,8 @@ use Rattle.collate_core.proofs.Parts.{turned, turns_weaker}
 use Rattle.std.specs.Vec.Iter.{into_iter_items}
 use Rattle.table_keys.specs.Keys.{IsKeyOf}
 use Rattle.document_values.specs.Rule.{RuleValue}
-use Rattle.collate_core.specs.Documents.{table_of}
 use Rattle.collate_core.specs.inner.ReadTargets.{AreRulesOfEach, project_entries}
-use Rattle.collate_core.proofs.ReadTargetLemmas.{own_rules, own_covered, own_held, taken_next, held_added, known_held, known_read}
+use Rattle.collate_core.proofs.ReadTargetLemmas.{own_rules, own_covered, own_info, may_be_added, taken_next, held_added, known_read}
 use Rattle.collate_core.proofs.projects.project_or_refused.Goals as goal
 use Rattle.collate_core.proofs.projects.project_or_refused.Goals.{then-is_some, else-is_some}
 
@@ -27,20 +26,22 @@ pub loop-index-init : goal.loop-index-init
 loop-index-init g c =
     record {
       collated = rw c.new-outs.ensures.items (record { count = refl; earlier = λ n p at. absurd (cc); each = λ n p out at also. absurd (cc) });
-      known = rw (c.new-outs.ensures.items, c.new-pool.ensures) (record { count = refl; each = λ n out info at also. absurd (cc) });
+      known = rw (c.new-outs.ensures.items, c.new-pool.ensures.infos) (record { count = refl; each = λ n out info at also. absurd (cc) });
       rules = refl;
-      held = rw c.new-pool.ensures (λ k info at. absurd (cc));
+      made = rw c.new-pool.ensures.key (subst (λ (rs : List (Vec RuleValue Global)). IsKeyOf c.in_ok-read.read.key (project_entries (take (length rs) c.args.targets.now)))
+          (sym c.into_iter-rules.ensures.rest) c.in_ok-read.ensures.key);
+      held = rw c.new-pool.ensures.infos (λ k info at. absurd (cc));
     }
 
-pub returns-in-Err-clause-refused : goal.returns-in-Err-clause-refused
-returns-in-Err-clause-refused g c =
+pub returns-in-Err-clause-outcome : goal.returns-in-Err-clause-outcome
+returns-in-Err-clause-outcome g c =
     let style : Option Written = option_map g.M.MapStyle.written (option_copied c.args.style) in
     let targets : List ProjectTargetValue = c.args.targets.now in
     let outs : List CollatedValue = c.loop-index.outs.items in
     let n : ℕ = c.loop-index.index-counter in
     let p : ProjectTargetValue = c.index-targets-index.result in
     let here : slice_get targets n ≡ Some p = slice_get_read targets _ n _ refl c.loop-index-test.true c.index-targets-index.is in
-    turned (λ refused (found : ℕ × RefusedTarget). found ≡ (n, refused))
+    let refused = turned (λ refused (found : ℕ × RefusedTarget). found ≡ (n, refused))
     (λ (refused : RefusedTarget). IsLinkedRefusal style outs (length outs) p refused.refusal)
     (λ (found : ℕ × RefusedTarget). IsProjectRefusal style targets found.0 found.1.refusal)
     (λ refused found same h.
@@ -49,7 +50,8 @@ returns-in-Err-clause-refused g c =
     c.in-Err.failure c.map.result
     (turns_weaker _ (λ refused (found : ℕ × RefusedTarget). found ≡ (n, refused)) (λ refused found post. search rules) c.in-Err.failure c.map.result
     c.map.ensures) (subst (λ os. ForFault (λ (refused : RefusedTarget). IsLinkedRefusal style os (length os) p refused.refusal) c.in-Err.failure)
-    c.as_slice.ensures.value c.in-Err.ensures.refused)
+    c.as_slice.ensures.value c.in-Err.ensures.refused) in
+    record { collated = tt; orders = tt; numbered = tt; maps = tt; orderable = tt; refused = refused }
 
 pub returns-in-Err-clause-read : goal.returns-in-Err-clause-read
 returns-in-Err-clause-read g c =
@@ -88,10 +90,28 @@ collate_linked-requires-clause-key g c =
     let here : slice_get targets n ≡ Some p = slice_get_read targets _ n _ refl c.loop-index-test.true c.index-targets-index.is in
     let all = into_iter_items c.into_iter-rules.result in
     let each = subst (AreRulesOfEach targets) (sym c.into_iter-rules.ensures.rest) c.in_ok-read.ensures.rules in
-    let made = subst (λ (rs : List (Vec RuleValue Global)). IsKeyOf c.in_ok-read.read.key (project_entries (take (length rs) targets)))
-    (sym c.into_iter-rules.ensures.rest) c.in_ok-read.ensures.key in
-    own_covered targets all each n p here _ _ c.loop-index.invariant.rules c.in_ok-read.read.key c.loop-index.pool made c.loop-index.invariant.held
+    own_covered targets all each n p here _ _ c.loop-index.invariant.rules c.loop-index.pool c.loop-index.invariant.made c.loop-index.invariant.held
     c.next-own.result c.next-own.ensures.items
+
+-- its own info file may be added to the pool
+pub push-requires : goal.push-requires
+push-requires g c =
+    let style : Option Written = option_map g.M.MapStyle.written (option_copied c.args.style) in
+    let targets : List ProjectTargetValue = c.args.targets.now in
+    let n : ℕ = c.loop-index.index-counter in
+    let p : ProjectTargetValue = c.index-targets-index.result in
+    let here : slice_get targets n ≡ Some p = slice_get_read targets _ n _ refl c.loop-index-test.true c.index-targets-index.is in
+    let outs : List CollatedValue = c.loop-index.outs.items in
+    let linked : CollatesLinked style outs p c.in-Ok.out =
+    subst (λ (os : List CollatedValue). CollatesLinked style os p c.in-Ok.out) c.as_slice.ensures.value c.in-Ok.ensures.collated in
+    let all = into_iter_items c.into_iter-rules.result in
+    let each = subst (AreRulesOfEach targets) (sym c.into_iter-rules.ensures.rest) c.in_ok-read.ensures.rules in
+    let read : IsTrue c.if-is_some.is_read →
+    is_some c.next-own.result ≡ true = λ is. elim c.if-is_some.branch
+    [ then-is_some w ↦ sym c.is_some.ensures ∙ w.if-is_some.true | else-is_some w ↦ absurd (cc (is, w.is_read-is)) ] in
+    may_be_added c.loop-index.pool.key (project_entries (take (length all) targets)) c.loop-index.invariant.made c.in-Ok.info
+    (own_info targets all each n p here _ _ c.loop-index.invariant.rules c.next-own.result c.next-own.ensures.items c.if-is_some.is_read read
+    c.bytes_determine_the_value.ensures.info style outs c.in-Ok.out linked.1 c.in-Ok.info c.in-Ok.ensures.known)
 
 pub loop-index-preserved : goal.loop-index-preserved
 loop-index-preserved g c =
@@ -110,40 +130,35 @@ loop-index-preserved g c =
     let read : IsTrue c.if-is_some.is_read →
     is_some c.next-own.result ≡ true = λ is. elim c.if-is_some.branch
     [ then-is_some w ↦ sym c.is_some.ensures ∙ w.if-is_some.true | else-is_some w ↦ absurd (cc (is, w.is_read-is)) ] in
-    let own_info = known_held (project_entries (take (length all) targets)) c.if-is_some.is_read p.name p.kept (table_of (target_of outs p)) c.in-Ok.out.info
-    c.in-Ok.info c.value_of_bytes.ensures.info linked.1.info_reads
-    (λ is. own_held targets all each n p here _ _ c.loop-index.invariant.rules c.next-own.result c.next-own.ensures.items (read is)) c.in-Ok.ensures.known
-    in
+    let info_held = own_info targets all each n p here _ _ c.loop-index.invariant.rules c.next-own.result c.next-own.ensures.items c.if-is_some.is_read read
+    c.bytes_determine_the_value.ensures.info style outs c.in-Ok.out linked.1 c.in-Ok.info c.in-Ok.ensures.known in
+    let added = c.in_ok-pool-in-Ok.ensures.added in
     record {
       collated = rw (take_next targets n p here, c.in_ok-push-in-Ok.ensures.items)
           (project_push style (take n targets) outs c.loop-index.invariant.collated p c.in-Ok.out linked.0 linked.1);
       rules = taken_next all _ _ n c.next-own.result c.loop-index.invariant.rules c.next-own.ensures.items none;
-      held = held_added _ c.loop-index.pool c.in-Ok.info c.in_ok-pool-in-Ok.pool c.loop-index.invariant.held own_info c.in_ok-pool-in-Ok.ensures;
-      known = subst (λ (os : List CollatedValue). AreKnown os c.in_ok-pool-in-Ok.pool) (sym c.in_ok-push-in-Ok.ensures.items)
-          (known_added outs c.loop-index.pool c.loop-index.invariant.known c.in-Ok.out c.in-Ok.info (known_read _ _ c.in-Ok.info c.in-Ok.ensures.known)
-          c.in_ok-pool-in-Ok.pool c.in_ok-pool-in-Ok.ensures);
+      made = rw c.in_ok-pool-in-Ok.ensures.key c.loop-index.invariant.made;
+      held = held_added _ c.loop-index.pool.infos c.in-Ok.info c.in_ok-pool-in-Ok.pool.infos c.loop-index.invariant.held info_held added;
+      known = subst (λ (os : List CollatedValue). AreKnown os c.in_ok-pool-in-Ok.pool.infos) (sym c.in_ok-push-in-Ok.ensures.items)
+          (known_added outs c.loop-index.pool.infos c.loop-index.invariant.known c.in-Ok.out c.in-Ok.info
+          (known_read _ _ c.in-Ok.info c.in-Ok.ensures.known) c.in_ok-pool-in-Ok.pool.infos added);
     }
 
-pub returns-clause-collated : goal.returns-clause-collated
-returns-clause-collated g c =
-    subst (λ (ts : List ProjectTargetValue). CollatesProject (option_map g.M.MapStyle.written (option_copied c.args.style)) ts c.loop-index.outs.items)
-    (take_all c.loop-index.index-counter c.args.targets.now c.loop-index-test.false) c.loop-index.invariant.collated
-
-pub returns-clause-orders : goal.returns-clause-orders
-returns-clause-orders g c = c.project_orders.ensures.orders _ _ _ (returns-clause-collated g c)
-
-pub returns-clause-numbered : goal.returns-clause-numbered
-returns-clause-numbered g c = c.project_orders.ensures.numbered _ _ _ (returns-clause-collated g c)
-
-pub returns-clause-orderable : goal.returns-clause-orderable
-returns-clause-orderable g c = c.project_orders.ensures.orderable _ _ _ (returns-clause-collated g c)
-
-pub returns-clause-maps : goal.returns-clause-maps
-returns-clause-maps g c =
-    maps_of_style (option_copied c.args.style) g.M.MapStyle.written g.M.MapStyle.kept g.M.MapStyle.entries
-    (λ s. record {
-      reads_back = λ m text is e. g.met.M.MapStyle.reads_back s m text is e;
-      faults_of_maps = λ m line is. g.met.M.MapStyle.faults_of_maps s m line is;
-      keeps_pairs = λ m is. g.met.M.MapStyle.keeps_pairs s m is;
-    })
-    c.project_maps.ensures.maps c.args.targets.now c.loop-index.outs.items (returns-clause-collated g c)
+pub returns-clause-outcome : goal.returns-clause-outcome
+returns-clause-outcome g c =
+    let collated = subst (λ (ts : List ProjectTargetValue). CollatesProject (option_map g.M.MapStyle.written (option_copied c.args.style)) ts
+    c.loop-index.outs.items) (take_all c.loop-index.index-counter c.args.targets.now c.loop-index-test.false) c.loop-index.invariant.collated in
+    record {
+      collated = collated;
+      orders = c.project_orders.ensures.orders _ _ _ collated;
+      numbered = c.project_orders.ensures.numbered _ _ _ collated;
+      maps = maps_of_style (option_copied c.args.style) g.M.MapStyle.written g.M.MapStyle.kept g.M.MapStyle.entries
+          (λ s. record {
+            reads_back = λ m text is e. g.met.M.MapStyle.reads_back s m text is e;
+            faults_of_maps = λ m line is. g.met.M.MapStyle.faults_of_maps s m line is;
+            keeps_pairs = λ m is. g.met.M.MapStyle.keeps_pairs s m is;
+          })
+          c.project_maps.ensures.maps c.args.targets.now c.loop-index.outs.items collated;
+      orderable = c.project_orders.ensures.orderable _ _ _ collated;
+      refused = tt;
+    }

@@ -40,5 +40,5 @@ loop-target-preserved c =
       rules = subst (AreRulesOfEach targets) (sym c.in_ok-push.ensures.items)
           (rules_of_one_more targets c.loop-target.all.items n p rules c.loop-target.invariant.count here is c.loop-target.invariant.rules);
       key = subst (λ (m : ℕ). HasAdded c.add_objects.new.digest (project_entries (take m targets))) (sym count)
-          (subst (HasAdded c.add_objects.new.digest) added (c.add_objects.ensures _ (c.add.ensures _ c.loop-target.invariant.key)));
+          (subst (HasAdded c.add_objects.new.digest) added (c.add_objects.ensures (before ++ c.as_bytes.result.now ∷ []) (c.add.ensures before c.loop-target.invariant.key)));
     }

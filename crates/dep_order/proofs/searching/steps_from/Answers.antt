@@ -1,4 +1,4 @@
-use Rattle.std.proofs.Common.{rules, ◌≡◌, ◌<◌, ◌∙◌, ap, arith, replicate, sym, length, slice_index, ◌+◌, None}
+use Rattle.std.proofs.Common.{rules, ◌≡◌, ◌<◌, ◌∙◌, ap, arith, replicate, sym, length, slice_index, None}
 use Rattle.std.specs.List.{All}
 use Rattle.std.proofs.lemmas.List.{take_all}
 use Rattle.dep_order.specs.Rows.{lists}
@@ -6,6 +6,7 @@ use Rattle.dep_order.proofs.Releases.{length_lists}
 use Rattle.dep_order.proofs.Answered.{row_nodes}
 use Rattle.dep_order.proofs.Searches.{search_begun, next_level, all_levels, nonempty, emptied, frontier_in_range, advanced_more}
 use Rattle.dep_order.proofs.searching.steps_from.Goals as goal
+use Rattle.dep_order.proofs.searching.steps_from.Goals.{After-deref-node-items}
 
 pub levels-init : goal.levels-init
 levels-init c =
@@ -14,14 +15,16 @@ levels-init c =
     (search_begun (lists c.args.slices.now) c.args.start c.in_ok-steps.steps.items (omega (arith, length_lists c.args.slices.now))
     (none ∙ ap (λ n. replicate n None) (sym (length_lists c.args.slices.now))))
 
+-- the nodes of the frontier are nodes
+in_range : (c : After-deref-node-items) → All (λ node. node < length c.args.slices.now) c.deref-node-items.result.now
+in_range c = rw c.deref-node-items.ensures.value (frontier_in_range (length c.args.slices.now) (length_lists c.args.slices.now) c.levels.invariant)
+
 pub mark_row-requires : goal.mark_row-requires
 mark_row-requires c =
-    let in_range : All (λ node. node < length c.args.slices.now) c.levels.frontier.items =
-    frontier_in_range (length c.args.slices.now) (length_lists c.args.slices.now) c.levels.invariant in
-    let lent : All (λ node. node < length c.args.slices.now) c.deref-node-items.result.now = rw c.deref-node-items.ensures.value in_range in
+    let in' = in_range (goal.at.mark_row-requires c).After-deref-node-items c.loop-node.node-index 0 c.loop-node-test.true in
     rw c.row_of.ensures (row_nodes (lists c.args.slices.now) (slice_index c.deref-node-items.result.now c.loop-node.node-index) (length c.loop-node.steps.items)
     (omega (arith, length_lists c.args.slices.now))
-    (omega (arith, lent c.loop-node.node-index 0 c.loop-node-test.true, length_lists c.args.slices.now)) c.requires.nodes)
+    (omega (arith, in', length_lists c.args.slices.now)) c.requires.nodes)
 
 pub loop-node-preserved : goal.loop-node-preserved
 loop-node-preserved c =
@@ -39,8 +42,4 @@ returns c =
     rw (← (length_lists c.args.slices.now)) (all_levels (emptied c.levels.frontier c.levels-test.ensures) c.levels.invariant)
 
 pub row_of-requires : goal.row_of-requires
-row_of-requires c =
-    let in_range : All (λ node. node < length c.args.slices.now) c.levels.frontier.items =
-    frontier_in_range (length c.args.slices.now) (length_lists c.args.slices.now) c.levels.invariant in
-    let lent : All (λ node. node < length c.args.slices.now) c.deref-node-items.result.now = rw c.deref-node-items.ensures.value in_range in
-    omega (arith, lent c.loop-node.node-index 0 c.loop-node-test.true)
+row_of-requires c = in_range (goal.at.row_of-requires c).After-deref-node-items c.loop-node.node-index 0 c.loop-node-test.true

@@ -1,16 +1,13 @@
-use Rattle.std.proofs.Common.{sym, arith}
+use Rattle.std.proofs.Common.{arith}
 use Rattle.std.proofs.lemmas.Grind.{common_steps}
-use Rattle.document_values.proofs.Names.{name_is, too_long}
+use Rattle.document_values.proofs.Names.{name_is}
 use Rattle.document_values.proofs.name.is_name.Goals as goal
 
-pub returns-then-text-gt-NAME_LIMIT : goal.returns-then-text-gt-NAME_LIMIT
-returns-then-text-gt-NAME_LIMIT c = sym (too_long c.args.text.now c.if-text-gt-NAME_LIMIT.true)
-
 pub returns-then-is_empty : goal.returns-then-is_empty
-returns-then-is_empty c = grind (arith, common_steps, name_is c.args.text.now c.if-text-gt-NAME_LIMIT.false)
+returns-then-is_empty c = grind (arith, common_steps, name_is c.args.text.now (omega arith))
 
 pub returns : goal.returns
-returns c = grind (arith, common_steps, name_is c.args.text.now c.if-text-gt-NAME_LIMIT.false)
+returns c = grind (arith, common_steps, name_is c.args.text.now (omega arith))
 
 pub returns-else-is_name_byte : goal.returns-else-is_name_byte
-returns-else-is_name_byte c = grind (arith, common_steps, name_is c.args.text.now c.if-text-gt-NAME_LIMIT.false)
+returns-else-is_name_byte c = grind (arith, common_steps, name_is c.args.text.now (omega arith))

@@ -1,20 +1,21 @@
-use Rattle.std.proofs.Common.{inl, [], refl, ap}
-use Rattle.ninja_text.specs.declared.token.TokenKind.TheVariants.{Bar, Colon}
-use Rattle.dyndep_file.specs.BuildTokens.{symbols_left}
-use Rattle.dyndep_file.specs.inner.Paths.{texts}
-use Rattle.dyndep_file.proofs.Parts.{next_is, takes_bar}
+use Rattle.std.proofs.Common.{◌∙◌, Some, sym, ap}
+use Rattle.ninja_text.specs.TokenViews.{symbols_left}
+use Rattle.dyndep_file.proofs.Parts.{outputs_taken, no_colon, or_bad}
 use Rattle.dyndep_file.proofs.build_line.implicit_outputs.Goals as goal
 
-pub returns-in-Bar : goal.returns-in-Bar
-returns-in-Bar c =
-    takes_bar (symbols_left c.args.words.now) (symbols_left c.next.new.self) (symbols_left c.words_to_colon.new.words) c.words_to_colon.result
-    (next_is c.args.words.now c.next.new.self c.in-Some.token Bar c.in-Some.ensures.steps c.in-Bar.ensures) c.words_to_colon.ensures
+pub returns-then-take_sign : goal.returns-then-take_sign
+returns-then-take_sign c =
+    outputs_taken (symbols_left c.args.words.now) (symbols_left c.part.new.words) (symbols_left c.take_sign.new.self) c.in_ok-outputs.ensures.words
+    c.in_ok-outputs.ensures.rest c.if-take_sign.ensures
 
-pub returns-in-Colon : goal.returns-in-Colon
-returns-in-Colon c = record {
-  part = [];
-  words = [];
-  is_part = inl (refl, refl);
-  are = next_is c.args.words.now c.next.new.self c.in-Some.token Colon c.in-Some.ensures.steps c.in-Colon.ensures;
-  is = ap texts c.new.ensures.items;
-}
+pub returns-in-Some : goal.returns-in-Some
+returns-in-Some c =
+    no_colon (symbols_left c.args.words.now) (symbols_left c.take_sign.new.self) (symbols_left c.part.new.words) c.in_ok-outputs.ensures.rest
+    c.if-take_sign.ensures.1 c.if-take_sign.ensures.0
+    ∙ ap (λ o. Some (or_bad o)) (sym c.misplaced.ensures ∙ c.in-Some.is)
+
+pub returns : goal.returns
+returns c =
+    no_colon (symbols_left c.args.words.now) (symbols_left c.take_sign.new.self) (symbols_left c.part.new.words) c.in_ok-outputs.ensures.rest
+    c.if-take_sign.ensures.1 c.if-take_sign.ensures.0
+    ∙ ap (λ o. Some (or_bad o)) (sym c.misplaced.ensures ∙ c.in-None.is)

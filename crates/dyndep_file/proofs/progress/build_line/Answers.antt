@@ -1,5 +1,5 @@
 use Rattle.std.proofs.Common.{◌⊎◌, ◌≡◌, ◌++◌, ◌∷◌, [], ◌∙◌, ap, subst}
-use Rattle.dyndep_file.specs.BuildTokens.{symbols_left}
+use Rattle.ninja_text.specs.TokenViews.{symbols_left}
 use Rattle.dyndep_file.specs.Steps.{ProgressValue}
 use Rattle.dyndep_file.specs.declared.progress.Stage.TheVariants.{NoneOpen, Open}
 use Rattle.dyndep_file.proofs.LineLemmas.{opens}

@@ -1,4 +1,4 @@
-use Rattle.std.proofs.Common.{◌≡◌, ◌<◌, ℕ, List, [], ◌∷◌, ◌++◌, length, arith, ap, Bor, ◌∙◌, append_assoc}
+use Rattle.std.proofs.Common.{◌≡◌, ◌<◌, ℕ, List, ◌++◌, length, arith, Bor, append_assoc}
 use Rattle.module_maps.specs.ClangMaps.{output_text}
 use Rattle.module_maps.proofs.Pushes.{one-more, written-all}
 use Rattle.module_maps.proofs.clang.push_outputs.Goals as goal

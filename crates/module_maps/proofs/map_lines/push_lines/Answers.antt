@@ -1,4 +1,4 @@
-use Rattle.std.proofs.Common.{◌≡◌, ◌<◌, ℕ, List, [], ◌∷◌, ◌++◌, length, arith, ap, Bor, ◌∙◌, append_assoc}
+use Rattle.std.proofs.Common.{◌≡◌, ◌<◌, ℕ, ◌∷◌, ◌++◌, length, arith, Bor, append_assoc}
 use Rattle.ninja_text.specs.Bytes.{Text}
 use Rattle.module_maps.specs.MapLines.{ended_line}
 use Rattle.module_maps.proofs.Pushes.{one-more, written-all}

@@ -1,7 +1,6 @@
-use Rattle.std.proofs.Common.{◌≡◌, ◌+◌, List, Some, None, ap, sym, ◌∙◌, arith}
-use Rattle.module_maps.specs.MapLines.{LineForm, read_lines, lines_of}
+use Rattle.std.proofs.Common.{◌≡◌, ◌+◌, Some, None, ap, sym, ◌∙◌, arith}
+use Rattle.module_maps.specs.MapLines.{read_lines, lines_of}
 use Rattle.module_maps.specs.map_laws.LineLemmas.{line-read, line-bad}
-use Rattle.module_maps.specs.declared.module_map.MapEntry.{MapEntry}
 use Rattle.module_maps.proofs.map_lines.read_lines.Goals as goal
 
 pub returns-in-None : goal.returns-in-None

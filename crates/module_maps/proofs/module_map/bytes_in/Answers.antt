@@ -1,8 +1,7 @@
-use Rattle.std.proofs.Common.{◌≡◌, ℕ, ◌<◌, List, length, get_or, Ok, refl, sym, subst, arith, below_more, Bor}
+use Rattle.std.proofs.Common.{ℕ, ◌<◌, List, length, get_or, refl, sym, subst, arith, below_more, Bor}
 use Rattle.std.specs.Prelude.{IsUtf8}
 use Rattle.std.proofs.lemmas.List.Elements.{All-map}
 use Rattle.std.proofs.lemmas.Option.{slice_get_read, get_or_from_slice_get}
-use Rattle.ninja_text.specs.Paths.{path_of}
 use Rattle.module_maps.specs.Maps.{IsModulePair}
 use Rattle.module_maps.proofs.module_map.bytes_in.Goals as goal
 

@@ -1,4 +1,4 @@
-use Rattle.std.proofs.Common.{ℕ, ◌<◌, List, get_or, Bor}
+use Rattle.std.proofs.Common.{ℕ, ◌<◌, get_or, Bor}
 use Rattle.ninja_text.specs.Bytes.{Text}
 use Rattle.module_maps.specs.Maps.{IsModulePair}
 use Rattle.module_maps.proofs.module_map.bytes_in.Given as goal

@@ -1,88 +1,57 @@
-use Rattle.std.specs.Ordering.{is_ge}
-use Rattle.std.proofs.Common.{Ordering, Less, Equal, Greater, ◌≡◌, ℕ, ◌+◌, ◌-◌, ◌<◌, ◌≤◌, ◌⊎◌, List, length, Some, arith, subst, sym, get_or, true, false, refl, slice_get, inl, inr, Bor}
+use Rattle.std.proofs.Common.{◌≡◌, ℕ, ◌+◌, ◌<◌, List, [], ◌∷◌, length, get_or, map, Bool, true, false, Bor, IsTrue, arith, rules, tests, refl, ap, sym, ◌∙◌, zero, suc, inl, inr, add-one}
+use Rattle.std.specs.Prelude.{◌↔◌}
+use Rattle.std.specs.List.{IsAllAdjacentAnswer}
+use Rattle.std.specs.Ordering.{nat_cmp, is_lt}
+use Rattle.std.specs.Cmp.Lexicographic.{slice_cmp}
 use Rattle.std.proofs.lemmas.Bool.{cases_lt}
 use Rattle.std.proofs.lemmas.Cmp.{nat_list_cmp_total}
-use Rattle.std.proofs.lemmas.List.{length-map}
-use Rattle.ninja_text.proofs.ForCallers.{to_map}
-use Rattle.std.proofs.lemmas.Option.{slice_get_read, get_or_from_slice_get}
+use Rattle.std.proofs.lemmas.List.{get_or-map, length-map}
+use Rattle.std.proofs.lemmas.List.Sorted.{answers_always}
 use Rattle.ninja_text.specs.Bytes.{Precedes, Text}
-use Rattle.module_maps.specs.Maps.{lent_pairs}
+use Rattle.module_maps.specs.Maps.{IsRising, lent_pairs}
+use Rattle.module_maps.proofs.LinesOnly.{precedes}
 use Rattle.module_maps.proofs.module_map.is_rising.Goals as goal
 
-less_from : (o : Ordering) → is_ge o ≡ false → o ≡ Less
-less_from Less h = refl
-less_from Equal h = absurd (cc)
-less_from Greater h = absurd (cc)
+abbrev Lent : Type 0
+Lent = Bor Text × Bor Text
 
-not_less : (o : Ordering) → is_ge o ≡ true → o ≡ Less → ⊥
-not_less Less h e = cc
-not_less Equal h e = cc
-not_less Greater h e = cc
+abbrev seen : Lent → Text × Text
+seen pair = (pair.0.now, pair.1.now)
 
--- a number up to another is below it, or is it
-up_to : (a n : ℕ) → a < n + 1 → (a < n) ⊎ (a ≡ n)
-up_to a n h = elim (cases_lt a n) [ inl less ↦ inl less | inr past ↦ inr (omega (arith, h, past)) ]
+abbrev is_before : Lent → Lent → Bool
+is_before a b = is_lt (slice_cmp nat_cmp a.0.now b.0.now)
 
-abbrev Pairs : Type 0
-Pairs = List (Text × Text)
-
--- the names before the index rise
-abbrev RiseBelow : Pairs → ℕ → Type 0
-RiseBelow xs n = (a b : ℕ) (d : Text × Text) → a < b → b < n → Precedes (get_or xs a d).0 (get_or xs b d).0
-
--- each name before the index comes before the one at the index
-to_last : (xs : Pairs) (i : ℕ) (d : Text × Text) → 1 ≤ i → Precedes (get_or xs (i - 1) d).0 (get_or xs i d).0 → RiseBelow xs i → (a : ℕ) → a < i →
-    Precedes (get_or xs a d).0 (get_or xs i d).0
-to_last xs i d some next rise a less =
-    elim (up_to a (i - 1) (omega (arith, some, less))) [
-      | inl before ↦ nat_list_cmp_total.trans (get_or xs a d).0 (get_or xs (i - 1) d).0 (get_or xs i d).0 (rise a (i - 1) d before (omega (arith, some))) next
-      | inr same ↦ rw (← same) at next
+-- names of which each comes before the next one rise
+climbs : (name : ℕ → Text) (end : ℕ) → ((k : ℕ) → k + 1 < end → Precedes (name k) (name (k + 1))) → (i j : ℕ) → i < j → j < end → Precedes (name i) (name j)
+climbs name end next i zero less within = absurd (omega arith)
+climbs name end next i (suc j) less within =
+    let step : Precedes (name j) (name (suc j)) = rw add-one at (next j (omega arith)) in
+    elim (cases_lt i j) [
+      | inl before ↦ nat_list_cmp_total.trans (name i) (name j) (name (suc j)) (climbs name end next i j before (omega arith)) step
+      | inr past ↦ let same : i ≡ j = omega arith in rw same step
     ]
 
-rise_more : (xs : Pairs) (i : ℕ) (x y : Text × Text) → 1 ≤ i → slice_get xs (i - 1) ≡ Some x → slice_get xs i ≡ Some y → Precedes x.0 y.0 → RiseBelow xs i →
-    RiseBelow xs (i + 1)
-rise_more xs i x y some at here next rise a b d less within =
-    let first = get_or_from_slice_get xs (i - 1) x d at in
-    let last = get_or_from_slice_get xs i y d here in
-    let both : Precedes (get_or xs (i - 1) d).0 (get_or xs i d).0 = rw (first, last) next in
-    elim (up_to b i within) [
-      | inl before ↦ rise a b d less before
-      | inr same ↦ rw (← same) at (to_last xs i d some both rise a (omega (arith, less, same)))
-    ]
+rising_is : (xs : List Lent) (r : Bool) → IsAllAdjacentAnswer (λ a b answer. answer ≡ is_before a b) xs r → IsTrue r ↔ IsRising (lent_pairs xs)
+rising_is [] true h = ((λ _ i j d less within. absurd (omega (arith, less, within))), (λ _. refl))
+rising_is [] false h = absurd (omega (arith, h.1))
+rising_is (x ∷ xs) true h = (
+  (λ _ i j d less within.
+      climbs (λ k. (get_or (map seen (x ∷ xs)) k d).0) (length (x ∷ xs))
+      (λ k lt.
+      rw (get_or-map seen (x ∷ xs) k x d (omega (arith, lt)), get_or-map seen (x ∷ xs) (k + 1) x d lt)
+      (precedes (get_or (x ∷ xs) k x).0.now (get_or (x ∷ xs) (k + 1) x).0.now (sym (h k x lt))))
+      i j less (omega (arith, within, length-map (x ∷ xs) seen))),
+  (λ _. refl),
+)
+rising_is (x ∷ xs) false h = (
+  (λ yes. absurd (let no = yes in cc)),
+  (λ all.
+      let next : Precedes (get_or (map seen (x ∷ xs)) h.0 (seen x)).0 (get_or (map seen (x ∷ xs)) (h.0 + 1) (seen x)).0 =
+      all h.0 (h.0 + 1) (seen x) (omega arith) (omega (arith, h.1, length-map (x ∷ xs) seen)) in
+      let before = rw (get_or-map seen (x ∷ xs) h.0 x (seen x) (omega (arith, h.1)), get_or-map seen (x ∷ xs) (h.0 + 1) x (seen x) h.1) at next in
+      absurd (let no = h.2 x ∙ ap is_lt before in cc)),
+)
 
--- a pair of the list, as it is seen
-seen : (xs : List (Bor Text × Bor Text)) (i : ℕ) (x : Bor Text × Bor Text) → i < length xs → x ≡ get_or xs i x →
-    slice_get (lent_pairs xs) i ≡ Some (x.0.now, x.1.now)
-seen xs i x within is = to_map (λ pair. (pair.0.now, pair.1.now)) xs i x (slice_get_read _ _ _ _ refl within is)
-
-pub returns-then-ge : goal.returns-then-ge
-returns-then-ge c =
-    let pairs = lent_pairs c.args.pairs.now in
-    let i = c.loop-i.i in
-    let x = c.index-pairs-i.result in
-    let y = c.index-pairs-i-in-loop-i.result in
-    let within : i < length c.args.pairs.now = omega arith in
-    let before : i - 1 < length c.args.pairs.now = omega arith in
-    let d : Text × Text = (x.0.now, x.1.now) in
-    let first : get_or pairs (i - 1) d ≡ d = get_or_from_slice_get pairs (i - 1) d d (seen _ (i - 1) x before c.index-pairs-i.is) in
-    let last : get_or pairs i d ≡ (y.0.now, y.1.now) = get_or_from_slice_get pairs i (y.0.now, y.1.now) d (seen _ i y within c.index-pairs-i-in-loop-i.is) in (
-      λ h. absurd (let e = h in cc),
-      λ all.
-          let p : Precedes (get_or pairs (i - 1) d).0 (get_or pairs i d).0 =
-          all (i - 1) i d (omega arith) (omega (arith, within, length-map {B = Text × Text} c.args.pairs.now (λ pair. (pair.0.now, pair.1.now)))) in
-          let q : Precedes x.0.now y.0.now = rw first at (rw last at p) in
-          absurd (not_less _ (sym c.if-ge.ensures) (rw (← c.index-pairs-i.is, ← c.index-pairs-i-in-loop-i.is) q)),
-    )
-
-pub loop-i-preserved : goal.loop-i-preserved
-loop-i-preserved c =
-    let pairs = lent_pairs c.args.pairs.now in
-    let i = c.loop-i.i in
-    let x = c.index-pairs-i.result in
-    let y = c.index-pairs-i-in-loop-i.result in
-    let within : i < length c.args.pairs.now = omega arith in
-    let some : 1 ≤ i = omega arith in
-    let before : i - 1 < length c.args.pairs.now = omega arith in
-    let next : Precedes x.0.now y.0.now = rw (c.index-pairs-i.is, c.index-pairs-i-in-loop-i.is) (less_from _ (sym c.if-ge.ensures)) in
-    rise_more pairs i (x.0.now, x.1.now) (y.0.now, y.1.now) some (seen _ (i - 1) x before c.index-pairs-i.is) (seen _ i y within c.index-pairs-i-in-loop-i.is)
-    next c.loop-i.invariant
+pub returns : goal.returns
+returns c =
+    rising_is c.args.pairs.now c.is_sorted_by.result (c.is_sorted_by.ensures.cases is_before (answers_always _ _ _ (λ f a r g called. search (rules, tests))))

@@ -18,14 +18,14 @@ returns-in_err-check_objects-clause-fault c =
     let t = table_with c.args.objects.now c.args.infos.now in
     let kept = c.args.kept.now in
     let p = err_from_is_err_and c.from_residual.result c.from_residual.ensures.1 in
-    rw (p.1, p.2) (for_fault _ _ _ (λ fault is. reported t kept 1 fault.value (is t kept refl) (none_passed t kept)) c.in_err-check_objects.ensures.fault)
+    rw (p.1, p.2) (for_fault _ (λ fault is. reported t kept 1 fault.value (is t kept refl) (none_passed t kept)) c.in_err-check_objects.ensures.fault)
 
 pub returns-in_err-check_infos-clause-fault : goal.returns-in_err-check_infos-clause-fault
 returns-in_err-check_infos-clause-fault c =
     let t = table_with c.args.objects.now c.args.infos.now in
     let kept = c.args.kept.now in
     let p = err_from_is_err_and c.from_residual-in_err-check_infos.result c.from_residual-in_err-check_infos.ensures.1 in
-    rw (p.1, p.2) (for_fault _ _ _ (λ fault is. reported t kept 2 fault.value (is t kept refl) (after_objects t kept c.in_ok-check_objects.ensures.differ))
+    rw (p.1, p.2) (for_fault _ (λ fault is. reported t kept 2 fault.value (is t kept refl) (after_objects t kept c.in_ok-check_objects.ensures.differ))
     c.in_err-check_infos.ensures.fault)
 
 pub returns-in_err-modules-clause-fault : goal.returns-in_err-modules-clause-fault
@@ -53,7 +53,7 @@ returns-in_err-check_files-clause-fault c =
     let kept = c.args.kept.now in
     let same = c.in_ok-modules.ensures.modules in
     let p = err_from_is_err_and c.from_residual-in_err-check_files.result c.from_residual-in_err-check_files.ensures.1 in
-    rw (p.1, p.2) (for_fault _ _ _
+    rw (p.1, p.2) (for_fault _
     (λ fault is. subst (λ v. IsReported v kept fault.value) same
     (reported u kept 4 fault.value (is kept)
     (three_passed (table_with c.args.objects.now c.args.infos.now) u kept same c.in_ok-check_objects.ensures.differ c.in_ok-check_infos.ensures.ok
@@ -70,7 +70,7 @@ check_requirements-requires c =
 pub returns-in_err-needs-clause-fault : goal.returns-in_err-needs-clause-fault
 returns-in_err-needs-clause-fault c =
     let p = err_from_is_err_and c.from_residual-in_err-needs.result c.from_residual-in_err-needs.ensures.1 in
-    rw (p.1, p.2) (for_fault _ _ _ (λ fault is. subst (λ t. IsReported t c.args.kept.now fault.value) c.in_ok-modules.ensures.modules is)
+    rw (p.1, p.2) (for_fault _ (λ fault is. subst (λ t. IsReported t c.args.kept.now fault.value) c.in_ok-modules.ensures.modules is)
     c.in_err-needs.ensures.fault)
 
 pub returns-clause-no_fault : goal.returns-clause-no_fault

@@ -53,7 +53,7 @@ returns-in_err-check_infos_allowed-clause-fault c =
 pub returns-in_err-check_kept-clause-fault : goal.returns-in_err-check_kept-clause-fault
 returns-in_err-check_kept-clause-fault c =
     let p = err_from_is_err_and c.from_residual-in_err-check_kept.result c.from_residual-in_err-check_kept.ensures.1 in
-    rw (p.1, p.2) (for_fault _ _ _
+    rw (p.1, p.2) (for_fault _
     (λ fault is. reported c.args.modules.now c.args.kept.now 10 fault.value is
     (after_allowed c.args.modules.now c.args.kept.now c.in_ok-check_objects_allowed.ensures.ok c.in_ok-check_infos_allowed.ensures.ok
     (nine_passed c.args.modules.now c.args.kept.now (rows c.in_ok-indexes.indexes.items) c.in_ok-indexes.ensures.ok c.in_ok-check_infos_known.ensures.ok

@@ -1,4 +1,4 @@
-use Rattle.std.proofs.Common.{◌≡◌, ◌<◌, ◌+◌, ◌∙◌, ◌++◌, ◌∷◌, [], ap, arith, get_or, length, map, set, subst, sym, take, Some, ℕ}
+use Rattle.std.proofs.Common.{◌≡◌, ◌<◌, ◌+◌, ◌∙◌, ◌++◌, ◌∷◌, [], ap, arith, get_or, length, map, set, subst, sym, take, Some, ℕ, take_all}
 use Rattle.std.specs.List.{filter_map}
 use Rattle.std.specs.Option.{option_map}
 use Rattle.std.proofs.lemmas.List.{get_or-replicate, length-replicate, length-set, map-append}
@@ -9,7 +9,7 @@ use Rattle.module_table.specs.Added.{first_mentions, pair_of, required_of}
 use Rattle.module_table.specs.inner.Indexed.{pair_at}
 use Rattle.module_table.specs.inner.Views.{names_of, provision_of}
 use Rattle.module_table.specs.inner.Mentioned.{name_in, ArePairsSoFar}
-use Rattle.module_table.proofs.IndexRows.{length_mapped, many_rows, take_all, rule_of, index_within}
+use Rattle.module_table.proofs.IndexRows.{length_mapped, many_rows, rule_of, index_within}
 use Rattle.module_table.proofs.Mentions.{row_names, pairs_found, no_pairs, pairs_new, pairs_old}
 use Rattle.module_table.proofs.needed.all_pairs.Goals as goal
 use Rattle.module_table.proofs.needed.all_pairs.Goals.{then-index-object+in_ok-copy_pair+in_ok-push, else-index-object}
@@ -27,7 +27,7 @@ loop-index-init c = record {
       let row = c.index-required-object.result in
       let indexes = c.deref-index-items.result.now in
       index_within c.args.modules.now c.args.required.now c.requires c.loop-object.object row
-      (read_at c.args.required.now c.loop-object.object row c.loop-object-test.true c.index-required-object.is) k (get_or indexes k 0)
+      (read_at c.args.required.now c.loop-object.object c.loop-object-test.true c.index-required-object.is) k (get_or indexes k 0)
       (same_reads k (sym c.deref-index-items.ensures.value) ∙ slice_get-get_or indexes k 0 lt);
   so_far = no_pairs (provisions c.args.modules.now) (c.loop-object.object + 1) c.loop-object.marks.items c.deref-index-items.result.now _
       (λ k d lt. let h = c.loop-object.invariant.at_most k d lt in omega (arith, h)) c.in_ok-pairs.ensures.items;
@@ -101,12 +101,12 @@ loop-object-preserved c =
     let i = c.loop-object.object in
     let row = c.index-required-object.result in
     let rule = rule_of t (rows c.args.required.now) c.requires i row.items
-    (to_map items_of c.args.required.now i row (read_at c.args.required.now i row c.loop-object-test.true c.index-required-object.is)) in
+    (to_map items_of c.args.required.now i row (read_at c.args.required.now i c.loop-object-test.true c.index-required-object.is)) in
     let so_far = c.loop-index.invariant.so_far in
     let pairs = c.loop-index.pairs.items in
     let firsts = so_far.firsts names differ (length_mapped name_of ps ∙ sym c.loop-index.invariant.as_many) ∙
     ap (λ xs. first_mentions (map (name_in names) xs))
-    (take_all c.deref-index-items.result.now c.loop-index.index-index c.loop-index-test.false ∙ c.deref-index-items.ensures.value) ∙
+    (take_all c.loop-index.index-index c.deref-index-items.result.now c.loop-index-test.false ∙ c.deref-index-items.ensures.value) ∙
     ap first_mentions (row_names names row.items rule.0.required rule.2) in
     let same = sym (pairs_found ps differ so_far.mentioned pairs so_far.found) ∙ ap (filter_map (pair_of ps)) firsts in
     record {
@@ -125,7 +125,7 @@ returns c =
     let vectors = c.args.required.now in
     c.loop-object.invariant.found ∙
     ap (map (required_of t))
-    (take_all t.objects c.loop-object.object
+    (take_all c.loop-object.object t.objects
     (omega (arith, c.loop-object-test.false, many_rows t (rows vectors) c.requires, length_mapped items_of vectors)))
 
 pub loop-object-init : goal.loop-object-init

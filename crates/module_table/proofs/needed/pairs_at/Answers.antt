@@ -1,4 +1,4 @@
-use Rattle.std.proofs.Common.{◌+◌, [], sym, get_or, take, slice_get, Some, ℕ, List}
+use Rattle.std.proofs.Common.{[], sym, get_or, take, slice_get, Some, ℕ, List}
 use Rattle.std.specs.Borrow.{Bor}
 use Rattle.std.proofs.lemmas.Option.{slice_get-get_or}
 use Rattle.module_table.specs.inner.Ranks.{pair_in, pairs_of}
@@ -13,7 +13,7 @@ loop-index-preserved c =
     let i = c.loop-index.index-index in
     let index = get_or xs i 0 in
     let m = c.index-modules-index.result in
-    pushes_next (λ (p : Bor (List ℕ) × Bor (List ℕ)). Some p) (slice_get (pairs_of modules)) (take i xs) (take (i + 1) xs) index
-    [] c.loop-index.found.items c.push.new.self.items (pair_in m)
+    pushes_next (λ (p : Bor (List ℕ) × Bor (List ℕ)). Some p) (slice_get (pairs_of modules)) (take i xs) index
+    [] c.loop-index.found.items (pair_in m)
     (take_next xs i index (slice_get-get_or xs i 0 c.loop-index-test.true)) c.loop-index.invariant c.in_ok-push.ensures.items
-    (sym (to_map pair_in modules index m (read_at modules index m (c.requires i 0 c.loop-index-test.true) c.index-modules-index.is)))
+    (sym (to_map pair_in modules index m (read_at modules index (c.requires i 0 c.loop-index-test.true) c.index-modules-index.is)))

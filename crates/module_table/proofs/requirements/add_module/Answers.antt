@@ -1,14 +1,14 @@
-use Rattle.std.proofs.Common.{◌≡◌, ◌∙◌, ◌++◌, ◌+◌, ap, map, subst, sym, take}
+use Rattle.std.proofs.Common.{◌≡◌, ◌∙◌, ◌++◌, ◌+◌, ap, map, subst, sym, take, take_all}
 use Rattle.std.specs.Option.{option_map}
 use Rattle.document_values.specs.Info.{ModuleValue}
 use Rattle.module_table.specs.Modules.{InfoRequirement, provisions}
 use Rattle.module_table.specs.inner.Views.{names_of}
 use Rattle.module_table.specs.inner.Graph.{index_in, indexes_in}
 use Rattle.module_table.specs.inner.Found.{looked_up, lookup_of, lookups_of}
-use Rattle.module_table.proofs.IndexRows.{take_all, takes_some, takes_none}
+use Rattle.module_table.proofs.IndexRows.{takes_some, takes_none}
 use Rattle.module_table.proofs.Lists.{pushes_next, same_reads, read_at}
 use Rattle.module_table.proofs.requirements.add_module.Goals as goal
-use Rattle.module_table.proofs.requirements.add_module.Goals.{in-Some+in_ok-push-in-Some, in-None}
+use Rattle.module_table.proofs.requirements.add_module.Goals.{in-Some+in_ok-push-in-Some, in-None, After-loop-pair}
 use Rattle.ninja_text.proofs.ForCallers.{take_next}
 use Rattle.module_table.proofs.Words.{Pair}
 
@@ -20,10 +20,10 @@ loop-pair-preserved c =
     let pair = c.pair-item.result in
     let h = λ (pair : Pair). index_in (names_of ps) pair.0 in
     let list = c.deref-pair-items.ensures.value ∙ ap (λ (m : ModuleValue). m.required) c.entry.view_is in
-    let at = same_reads i (sym list) ∙ read_at c.deref-pair-items.result.now i pair c.loop-pair-test.true c.pair-item.is in
+    let at = same_reads i (sym list) ∙ read_at c.deref-pair-items.result.now i c.loop-pair-test.true c.pair-item.is in
     record {
       required =
-          pushes_next looked_up (lookup_of ps c.args.info c.args.target.now entry.name) (take i entry.required) (take (i + 1) entry.required) pair _ _ _ _
+          pushes_next looked_up (lookup_of ps c.args.info c.args.target.now entry.name) (take i entry.required) pair _ _ _
           (take_next entry.required i pair at) c.loop-pair.invariant.required c.in_ok-push.ensures.items
           (ap (λ m. (
             let r : InfoRequirement =
@@ -36,26 +36,26 @@ loop-pair-preserved c =
           elim c.match-module.branch [
             | in-Some+in_ok-push-in-Some w ↦
                 ap (λ v. v.items) w.row-is
-                ∙ takes_some h entry.required i pair _ c.loop-pair.row.items _ at c.loop-pair.invariant.row
+                ∙ takes_some h entry.required i at c.loop-pair.invariant.row
                 (sym c.find-module.ensures.index ∙ ap (option_map _) w.in-Some.is) w.in_ok-push-in-Some.ensures.items
             | in-None w ↦ ap (λ v. v.items) w.row-is ∙
-                takes_none h entry.required i pair c.loop-pair.row.items at c.loop-pair.invariant.row
+                takes_none h entry.required i at c.loop-pair.invariant.row
                 (sym c.find-module.ensures.index ∙ ap (option_map _) w.in-None.is)
           ];
     }
 
+-- the loop has gone through all pairs
+whole : (c : After-loop-pair) → take c.loop-pair.pair-index c.args.entry.now.required ≡ c.args.entry.now.required
+whole c = subst (λ pairs. take c.loop-pair.pair-index pairs ≡ pairs)
+    (c.deref-pair-items.ensures.value ∙ ap (λ (m : ModuleValue). m.required) c.entry.view_is)
+    (take_all c.loop-pair.pair-index c.deref-pair-items.result.now c.loop-pair-test.false)
+
 pub returns-clause-required : goal.returns-clause-required
 returns-clause-required c =
-    let list = c.deref-pair-items.ensures.value ∙ ap (λ (m : ModuleValue). m.required) c.entry.view_is in
-    let whole = subst (λ pairs. take c.loop-pair.pair-index pairs ≡ pairs) list
-    (take_all c.deref-pair-items.result.now c.loop-pair.pair-index c.loop-pair-test.false) in
     c.loop-pair.invariant.required ∙
     ap (λ pairs. map looked_up c.args.all.now.items ++ lookups_of (provisions c.args.modules.now) c.args.info c.args.target.now
-    (record c.args.entry.now { required = pairs })) whole
+    (record c.args.entry.now { required = pairs })) (whole (goal.at.returns-clause-required c).After-loop-pair)
 
 pub returns-clause-row : goal.returns-clause-row
 returns-clause-row c =
-    let list = c.deref-pair-items.ensures.value ∙ ap (λ (m : ModuleValue). m.required) c.entry.view_is in
-    let whole = subst (λ pairs. take c.loop-pair.pair-index pairs ≡ pairs) list
-    (take_all c.deref-pair-items.result.now c.loop-pair.pair-index c.loop-pair-test.false) in
-    c.loop-pair.invariant.row ∙ ap (indexes_in (names_of (provisions c.args.modules.now))) whole
+    c.loop-pair.invariant.row ∙ ap (indexes_in (names_of (provisions c.args.modules.now))) (whole (goal.at.returns-clause-row c).After-loop-pair)

@@ -1,4 +1,4 @@
-use Rattle.std.proofs.Common.{◌==◌, map}
+use Rattle.std.proofs.Common.{◌==◌}
 use Rattle.serde_json.specs.View.{view}
 use Rattle.scan_docs.specs.Info.{IsModule}
 use Rattle.scan_docs.specs.InfoChecks.{module_checks}
@@ -6,4 +6,4 @@ use Rattle.scan_docs.proofs.Each.{SoFar}
 use Rattle.scan_docs.proofs.info.read_info.Given as goal
 
 abbrev pub invariant-loop-index : goal.invariant-loop-index
-invariant-loop-index l = SoFar (module_checks (l.version == 2)) (IsModule (l.version == 2)) (map view l.values) l.index l.modules.items
+invariant-loop-index l = SoFar view (module_checks (l.version == 2)) (IsModule (l.version == 2)) l.values l.index l.modules.items

@@ -1,4 +1,3 @@
-use Rattle.std.proofs.Common.{map}
 use Rattle.serde_json.specs.View.{view}
 use Rattle.scan_docs.specs.Info.{IsRequirement}
 use Rattle.scan_docs.specs.InfoChecks.{requirement_checks}
@@ -8,4 +7,4 @@ use Rattle.scan_docs.proofs.info.read_module.Given as goal
 
 abbrev pub invariant-loop-entry : goal.invariant-loop-entry
 invariant-loop-entry l =
-    SoFar (λ entry d. requirement_checks (place.ModuleRequires l.index entry) d) IsRequirement (map view l.requirements) l.entry l.required.items
+    SoFar view (λ entry d. requirement_checks (place.ModuleRequires l.index entry) d) IsRequirement l.requirements l.entry l.required.items

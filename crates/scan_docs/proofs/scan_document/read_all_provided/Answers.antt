@@ -1,8 +1,6 @@
-use Rattle.serde_json.specs.View.{view}
 use Rattle.std.proofs.Common.{map}
-use Rattle.scan_docs.specs.Scan.{IsProvidedModule}
-use Rattle.scan_docs.specs.ScanChecks.{provided_checks, all_provided_checks}
-use Rattle.scan_docs.specs.declared.fault.Place.TheVariants as place
+use Rattle.serde_json.specs.View.{view}
+use Rattle.scan_docs.specs.ScanChecks.{all_provided_checks}
 use Rattle.scan_docs.proofs.Each.{one_more, refused_at, stopped}
 use Rattle.scan_docs.proofs.scan_document.read_all_provided.Goals as goal
 
@@ -11,13 +9,9 @@ unfolding all_provided_checks
 returns-in_err-pair c =
     stopped (all_provided_checks c.args.setting.now c.args.work.now c.args.rule (map view c.args.entries.now)) _ c.from_residual-in_err-pair.result _
     c.from_residual-in_err-pair.ensures.1
-    (λ ne. refused_at view (λ entry d. provided_checks c.args.setting.now c.args.work.now (place.Provides c.args.rule entry) d)
-    (IsProvidedModule c.args.setting.now c.args.work.now) c.args.entries.now c.loop-entry.entry c.index-entries-entry.result _ c.loop-entry.found.items
-    c.loop-entry-test.true c.index-entries-entry.is (c.in_err-pair.ensures ne) c.loop-entry.invariant)
+    (λ ne. refused_at c.loop-entry-test.true c.index-entries-entry.is (c.in_err-pair.ensures ne) c.loop-entry.invariant)
 
 pub loop-entry-preserved : goal.loop-entry-preserved
 loop-entry-preserved c =
     rw c.in_ok-push.ensures.items
-    (one_more view (λ entry d. provided_checks c.args.setting.now c.args.work.now (place.Provides c.args.rule entry) d)
-    (IsProvidedModule c.args.setting.now c.args.work.now) c.args.entries.now c.loop-entry.entry c.index-entries-entry.result c.in_ok-pair.pair
-    c.loop-entry.found.items c.loop-entry-test.true c.index-entries-entry.is c.in_ok-pair.ensures.0 c.in_ok-pair.ensures.1 c.loop-entry.invariant)
+    (one_more c.in_ok-pair.pair c.loop-entry-test.true c.index-entries-entry.is c.in_ok-pair.ensures.0 c.in_ok-pair.ensures.1 c.loop-entry.invariant)

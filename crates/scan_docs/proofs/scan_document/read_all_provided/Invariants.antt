@@ -1,4 +1,3 @@
-use Rattle.std.proofs.Common.{map}
 use Rattle.serde_json.specs.View.{view}
 use Rattle.scan_docs.specs.Scan.{IsProvidedModule}
 use Rattle.scan_docs.specs.ScanChecks.{provided_checks}
@@ -8,5 +7,5 @@ use Rattle.scan_docs.proofs.scan_document.read_all_provided.Given as goal
 
 abbrev pub invariant-loop-entry : goal.invariant-loop-entry
 invariant-loop-entry l =
-    SoFar (λ entry d. provided_checks l.setting l.work (place.Provides l.rule entry) d) (IsProvidedModule l.setting l.work) (map view l.entries) l.entry
+    SoFar view (λ entry d. provided_checks l.setting l.work (place.Provides l.rule entry) d) (IsProvidedModule l.setting l.work) l.entries l.entry
     l.found.items

@@ -1,8 +1,6 @@
 use Rattle.std.proofs.Common.{map}
 use Rattle.serde_json.specs.View.{view}
-use Rattle.scan_docs.specs.Scan.{IsRequired}
-use Rattle.scan_docs.specs.ScanChecks.{required_checks, all_required_checks}
-use Rattle.scan_docs.specs.declared.fault.Place.TheVariants as place
+use Rattle.scan_docs.specs.ScanChecks.{all_required_checks}
 use Rattle.scan_docs.proofs.Each.{one_more, refused_at, stopped}
 use Rattle.scan_docs.proofs.scan_document.read_all_required.Goals as goal
 
@@ -10,13 +8,9 @@ pub returns-in_err-name : goal.returns-in_err-name
 unfolding all_required_checks
 returns-in_err-name c =
     stopped (all_required_checks c.args.rule (map view c.args.entries.now)) _ c.from_residual-in_err-name.result _ c.from_residual-in_err-name.ensures.1
-    (λ ne. refused_at view (λ entry d. required_checks (place.Requires c.args.rule entry) d) IsRequired c.args.entries.now c.loop-entry.entry
-    c.index-entries-entry.result _ c.loop-entry.found.items c.loop-entry-test.true c.index-entries-entry.is (c.in_err-name.ensures ne)
-    c.loop-entry.invariant)
+    (λ ne. refused_at c.loop-entry-test.true c.index-entries-entry.is (c.in_err-name.ensures ne) c.loop-entry.invariant)
 
 pub loop-entry-preserved : goal.loop-entry-preserved
 loop-entry-preserved c =
     rw c.in_ok-push.ensures.items
-    (one_more view (λ entry d. required_checks (place.Requires c.args.rule entry) d) IsRequired c.args.entries.now c.loop-entry.entry
-    c.index-entries-entry.result c.in_ok-name.name c.loop-entry.found.items c.loop-entry-test.true c.index-entries-entry.is c.in_ok-name.ensures.0
-    c.in_ok-name.ensures.1 c.loop-entry.invariant)
+    (one_more c.in_ok-name.name c.loop-entry-test.true c.index-entries-entry.is c.in_ok-name.ensures.0 c.in_ok-name.ensures.1 c.loop-entry.invariant)

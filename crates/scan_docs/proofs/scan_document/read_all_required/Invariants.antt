@@ -1,4 +1,3 @@
-use Rattle.std.proofs.Common.{map}
 use Rattle.serde_json.specs.View.{view}
 use Rattle.scan_docs.specs.Scan.{IsRequired}
 use Rattle.scan_docs.specs.ScanChecks.{required_checks}
@@ -7,4 +6,4 @@ use Rattle.scan_docs.proofs.Each.{SoFar}
 use Rattle.scan_docs.proofs.scan_document.read_all_required.Given as goal
 
 abbrev pub invariant-loop-entry : goal.invariant-loop-entry
-invariant-loop-entry l = SoFar (λ entry d. required_checks (place.Requires l.rule entry) d) IsRequired (map view l.entries) l.entry l.found.items
+invariant-loop-entry l = SoFar view (λ entry d. required_checks (place.Requires l.rule entry) d) IsRequired l.entries l.entry l.found.items

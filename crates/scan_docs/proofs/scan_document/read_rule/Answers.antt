@@ -13,7 +13,7 @@ use Rattle.scan_docs.specs.declared.member.Member.TheVariants as m
 use Rattle.scan_docs.specs.Check.{shape_check, path_checks}
 use Rattle.scan_docs.specs.Shape.{is_object, text, entries, entries_of, fits}
 use Rattle.scan_docs.specs.Scan.{SettingValue, object_of}
-use Rattle.scan_docs.specs.ScanChecks.{rule_shape_checks, object_checks, count_checks, count_limit, all_provided_checks, all_required_checks, rule_checks}
+use Rattle.scan_docs.specs.ScanChecks.{object_checks, count_checks, count_limit, all_provided_checks, all_required_checks, rule_checks}
 use Rattle.scan_docs.specs.inner.Reading.{first_failure}
 use Rattle.scan_docs.proofs.Each.{failure_of_both, stopped}
 use Rattle.scan_docs.proofs.scan_document.read_rule.Goals as goal

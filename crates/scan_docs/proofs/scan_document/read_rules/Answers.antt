@@ -3,10 +3,8 @@ use Rattle.std.proofs.lemmas.Bool.Decides.{nat_tests}
 use Rattle.std.proofs.lemmas.List.{length-map}
 use Rattle.serde_json.specs.Data.{Data}
 use Rattle.serde_json.specs.View.{view}
-use Rattle.scan_docs.specs.Scan.{IsRule}
-use Rattle.scan_docs.specs.ScanChecks.{count_limit, is_short, rule_checks, all_rule_checks, scan_checks}
+use Rattle.scan_docs.specs.ScanChecks.{count_limit, is_short, head_checks, all_rule_checks, scan_checks}
 use Rattle.scan_docs.proofs.Each.{failure_of_both, one_more, refused_at, all_read, stopped}
-use Rattle.scan_docs.proofs.Exact.{scan_head}
 use Rattle.scan_docs.proofs.scan_document.read_rules.Goals as goal
 
 -- a list that is short enough, and one that is not
@@ -17,31 +15,27 @@ long : (ds : List Data) → count_limit < length ds → is_short ds ≡ false
 long ds h = grind (arith, nat_tests)
 
 pub returns-then-rules-gt-COUNT_LIMIT : goal.returns-then-rules-gt-COUNT_LIMIT
-unfolding scan_checks
+unfolding scan_checks head_checks
 returns-then-rules-gt-COUNT_LIMIT c = λ ne.
     let test = long (map view c.in_ok-rules.rules.now) (rw length-map c.if-rules-gt-COUNT_LIMIT.true) in
-    rw (failure_of_both, scan_head, c.in_ok-read_version.ensures.0, c.in_ok-rules.ensures.0, c.in_ok-rules.ensures.1, test) refl
+    rw (failure_of_both, failure_of_both, c.in_ok-read_version.ensures.0, c.in_ok-rules.ensures.0, c.in_ok-rules.ensures.1, test) refl
 
 pub returns-in_err-rule : goal.returns-in_err-rule
-unfolding scan_checks all_rule_checks
+unfolding scan_checks head_checks all_rule_checks
 returns-in_err-rule c =
     let test = short (map view c.in_ok-rules.rules.now) (rw length-map c.if-rules-gt-COUNT_LIMIT.false) in
     stopped (scan_checks c.args.setting.now (view c.args.tree.now)) _ c.from_residual-in_err-rule.result _ c.from_residual-in_err-rule.ensures.1
-    (λ ne. rw (failure_of_both, scan_head, c.in_ok-read_version.ensures.0, c.in_ok-rules.ensures.0, c.in_ok-rules.ensures.1, test)
-    (refused_at view (rule_checks c.args.setting.now) (IsRule c.args.setting.now) c.in_ok-rules.rules.now c.loop-index.index c.index-rules-index.result _
-    c.loop-index.found.items c.loop-index-test.true c.index-rules-index.is (c.in_err-rule.ensures ne) c.loop-index.invariant))
+    (λ ne. rw (failure_of_both, failure_of_both, c.in_ok-read_version.ensures.0, c.in_ok-rules.ensures.0, c.in_ok-rules.ensures.1, test)
+    (refused_at c.loop-index-test.true c.index-rules-index.is (c.in_err-rule.ensures ne) c.loop-index.invariant))
 
 pub loop-index-preserved : goal.loop-index-preserved
 loop-index-preserved c =
     rw c.in_ok-push.ensures.items
-    (one_more view (rule_checks c.args.setting.now) (IsRule c.args.setting.now) c.in_ok-rules.rules.now c.loop-index.index c.index-rules-index.result
-    c.in_ok-rule.rule c.loop-index.found.items c.loop-index-test.true c.index-rules-index.is c.in_ok-rule.ensures.0 c.in_ok-rule.ensures.1
-    c.loop-index.invariant)
+    (one_more c.in_ok-rule.rule c.loop-index-test.true c.index-rules-index.is c.in_ok-rule.ensures.0 c.in_ok-rule.ensures.1 c.loop-index.invariant)
 
 pub returns : goal.returns
-unfolding scan_checks all_rule_checks
+unfolding scan_checks head_checks all_rule_checks
 returns c =
     let test = short (map view c.in_ok-rules.rules.now) (rw length-map c.if-rules-gt-COUNT_LIMIT.false) in
-    rw (failure_of_both, scan_head, c.in_ok-read_version.ensures.0, c.in_ok-rules.ensures.0, c.in_ok-rules.ensures.1, test)
-    (all_read view (rule_checks c.args.setting.now) (IsRule c.args.setting.now) c.in_ok-rules.rules.now c.loop-index.index c.loop-index.found.items
-    c.loop-index-test.false c.loop-index.invariant)
+    rw (failure_of_both, failure_of_both, c.in_ok-read_version.ensures.0, c.in_ok-rules.ensures.0, c.in_ok-rules.ensures.1, test)
+    (all_read c.loop-index-test.false c.loop-index.invariant)

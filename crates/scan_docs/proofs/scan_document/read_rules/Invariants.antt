@@ -1,4 +1,3 @@
-use Rattle.std.proofs.Common.{map}
 use Rattle.serde_json.specs.View.{view}
 use Rattle.scan_docs.specs.Scan.{IsRule}
 use Rattle.scan_docs.specs.ScanChecks.{rule_checks}
@@ -6,4 +5,4 @@ use Rattle.scan_docs.proofs.Each.{SoFar}
 use Rattle.scan_docs.proofs.scan_document.read_rules.Given as goal
 
 abbrev pub invariant-loop-index : goal.invariant-loop-index
-invariant-loop-index l = SoFar (rule_checks l.setting) (IsRule l.setting) (map view l.rules) l.index l.found.items
+invariant-loop-index l = SoFar view (rule_checks l.setting) (IsRule l.setting) l.rules l.index l.found.items

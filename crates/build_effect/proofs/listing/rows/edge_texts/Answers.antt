@@ -1,15 +1,14 @@
 use Rattle.std.proofs.Common.{length, ◌≡◌, ◌∙◌, ◌∷◌, ◌&&◌, [], refl, sym, ap, true, false, Some, None}
 use Rattle.std.specs.Prelude.{not, if◌then◌else◌}
 use Rattle.ninja_text.specs.Paths.{is_empty}
-use Rattle.ninja_text.specs.TokenViews.{seen_token}
+use Rattle.ninja_text.specs.TokenViews.{seen_token, symbols_left}
 use Rattle.ninja_text.specs.declared.token.TokenKind.TheVariants.{Bar, DoubleBar}
-use Rattle.dyndep_file.specs.BuildTokens.{symbols_left}
+use Rattle.ninja_text.specs.Symbols.{front_words, past_sign, part_words, words_of_part}
 use Rattle.build_effect.specs.ListingLines.{is_rule_name}
-use Rattle.build_effect.specs.inner.ListingWalk.{right_texts, front_words, past_sign, part_words}
-use Rattle.build_effect.specs.inner.ListingRows.{words_of_part}
+use Rattle.build_effect.specs.inner.ListingWalk.{right_texts}
 use Rattle.build_effect.specs.inner.Strings.{edge_texts_of}
 use Rattle.build_effect.proofs.ListingLineLemmas.{left_texts, no_rule, walked, no_outputs, some_outputs, left_over, without_output, without_name, without_end, is_whole}
-use Rattle.build_effect.proofs.Strings.{counted, parts_are}
+use Rattle.build_effect.proofs.StringTexts.{counted, parts_are}
 use Rattle.build_effect.proofs.listing.rows.edge_texts.Goals as goal
 use Rattle.build_effect.proofs.listing.rows.edge_texts.Goals.{then-outputs-eq0-via-then-outputs-eq0, then-outputs-eq0-via-else-outputs-eq0+then-not-is_rule_name, then-outputs-eq0-via-else-outputs-eq0+else-not-is_rule_name+then-is_some}
 
@@ -18,8 +17,8 @@ returns-in_default c =
     let symbols = symbols_left c.args.words in
     let bar = symbols_left c.front_words.new.tokens in
     sym (left_texts symbols bar (symbols_left c.part.new.tokens) _ _ refl c.in_ok-outputs.ensures.rest refl c.in_ok-implicit_outputs.ensures.rest
-    ∙ ap (right_texts (front_words symbols) (part_words (past_sign Bar bar))) c.if-not-pass_sign.ensures ∙
-    no_rule _ _ (symbols_left c.pass_sign.new.tokens) c.in_default.ensures.0)
+    ∙ ap (right_texts (front_words symbols) (part_words (past_sign Bar bar))) c.if-not-take_sign.ensures ∙
+    no_rule _ _ (symbols_left c.take_sign.new.self) c.in_default.ensures.0)
 
 pub returns-then-outputs-eq0 : goal.returns-then-outputs-eq0
 returns-then-outputs-eq0 c =
@@ -36,9 +35,9 @@ returns-then-outputs-eq0 c =
       | then-outputs-eq0-via-else-outputs-eq0+else-not-is_rule_name+then-is_some w ↦ without_end (is_empty outputs) (is_rule_name rule) (is_empty last)
           (left_over c.part-3.new.tokens w.next.new.self w.next.result true w.next.ensures.steps (sym w.is_some.ensures ∙ w.if-is_some.true))
     ] in
-    sym (walked (symbols_left c.args.words) (symbols_left c.front_words.new.tokens) (symbols_left c.part.new.tokens) (symbols_left c.pass_sign.new.tokens)
-    (symbols_left c.next_word.new.tokens) (symbols_left c.front_words-2.new.tokens) (symbols_left c.part-2.new.tokens) last rule
-    c.in_ok-outputs.ensures.rest c.in_ok-implicit_outputs.ensures.rest c.if-not-pass_sign.ensures c.in-Some.ensures c.in_ok-inputs.ensures.rest
+    sym (walked (symbols_left c.args.words) (symbols_left c.front_words.new.tokens) (symbols_left c.part.new.tokens) (symbols_left c.take_sign.new.self)
+    (symbols_left c.next_word.new.self) (symbols_left c.front_words-2.new.tokens) (symbols_left c.part-2.new.tokens) last rule
+    c.in_ok-outputs.ensures.rest c.in_ok-implicit_outputs.ensures.rest c.if-not-take_sign.ensures c.in-Some.ensures c.in_ok-inputs.ensures.rest
     c.in_ok-implicit_inputs.ensures.rest
     c.in_ok-part.ensures.rest false whole)
 
@@ -46,7 +45,7 @@ pub invariant_of-result : goal.invariant_of-result
 invariant_of-result c =
     let symbols = symbols_left c.args.words in
     let bar = symbols_left c.front_words.new.tokens in
-    let right = symbols_left c.next_word.new.tokens in
+    let right = symbols_left c.next_word.new.self in
     let needed = symbols_left c.front_words-2.new.tokens in
     let order = symbols_left c.part-2.new.tokens in
     let parts = parts_are (front_words symbols) (words_of_part Bar bar) (front_words right) (words_of_part Bar needed) (words_of_part DoubleBar order)
@@ -61,7 +60,7 @@ pub returns : goal.returns
 returns c =
     let symbols = symbols_left c.args.words in
     let bar = symbols_left c.front_words.new.tokens in
-    let right = symbols_left c.next_word.new.tokens in
+    let right = symbols_left c.next_word.new.self in
     let needed = symbols_left c.front_words-2.new.tokens in
     let order = symbols_left c.part-2.new.tokens in
     let last = symbols_left c.part-3.new.tokens in
@@ -85,7 +84,7 @@ returns c =
       implicit_inputs = words_of_part Bar needed;
       order_only = words_of_part DoubleBar order;
     })) (c.in_ok-from_slice.ensures.items ∙ c.raw-2.ensures)
-    ∙ sym (walked symbols bar (symbols_left c.part.new.tokens) (symbols_left c.pass_sign.new.tokens) right needed order last rule
-    c.in_ok-outputs.ensures.rest c.in_ok-implicit_outputs.ensures.rest c.if-not-pass_sign.ensures c.in-Some.ensures c.in_ok-inputs.ensures.rest
+    ∙ sym (walked symbols bar (symbols_left c.part.new.tokens) (symbols_left c.take_sign.new.self) right needed order last rule
+    c.in_ok-outputs.ensures.rest c.in_ok-implicit_outputs.ensures.rest c.if-not-take_sign.ensures c.in-Some.ensures c.in_ok-inputs.ensures.rest
     c.in_ok-implicit_inputs.ensures.rest
     c.in_ok-part.ensures.rest true whole)

@@ -1,6 +1,6 @@
 use Rattle.std.proofs.Common.{◌≡◌, ◌++◌, length}
-use Rattle.dyndep_file.specs.BuildTokens.{symbols_left}
-use Rattle.build_effect.specs.inner.ListingWalk.{front_words, past_words}
+use Rattle.ninja_text.specs.TokenViews.{symbols_left}
+use Rattle.ninja_text.specs.Symbols.{front_words, past_words}
 use Rattle.build_effect.proofs.listing.rows.front_words.Given as goal
 
 -- the strings so far and the words to come are all of them, and the same tokens follow them

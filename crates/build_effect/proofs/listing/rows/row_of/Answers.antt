@@ -1,57 +1,37 @@
-use Rattle.std.proofs.Common.{◌≡◌, ◌∙◌, sym, ap, subst, false, true, Option}
+use Rattle.std.proofs.Common.{◌≡◌, ◌∙◌, sym, ap, refl, subst, Option}
 use Rattle.ninja_text.specs.Failure.{Gives}
 use Rattle.ninja_text.specs.Assignments.{SeenAssignment}
 use Rattle.ninja_text.specs.LineViews.{seen_line}
-use Rattle.ninja_text.specs.TokenViews.{seen_token, tokens_left}
-use Rattle.dyndep_file.specs.Classes.{begins_with_space}
-use Rattle.dyndep_file.proofs.ForCallers.{starts_with_space}
+use Rattle.ninja_text.specs.Paths.{is_empty}
+use Rattle.ninja_text.specs.TokenViews.{symbols_left}
 use Rattle.build_effect.specs.inner.ListingWalk.{binding_row, build_row}
 use Rattle.build_effect.specs.inner.ListingRows.{row_value}
-use Rattle.build_effect.proofs.ListingLineLemmas.{blank_row, indented, unindented}
+use Rattle.build_effect.proofs.ListingLineLemmas.{faulty_row, build_line_row, indented_row, other_row}
 use Rattle.build_effect.proofs.listing.rows.row_of.Goals as goal
 
-pub returns-in-Ok-assignment : goal.returns-in-Ok-assignment
-returns-in-Ok-assignment c =
-    let line = seen_line c.args.line in
-    let space : begins_with_space line.text ≡ true = ap begins_with_space (sym c.text.ensures) ∙ sym (starts_with_space c.text.result.now) ∙
-    sym c.starts_with.ensures.value ∙ c.if-starts_with.true in
-    subst (Gives row_value c.binding_row.result)
-    (sym (indented line.text line.comment (sym c.is_comment.ensures ∙ c.if-is_comment.false) c.in-Ok.ensures.tokens.0 (seen_token c.in-Some.first)
-    (tokens_left c.next.new.self)
-    (sym c.in-Some.ensures.steps ∙ c.in-Ok.ensures.tokens.1) space))
-    (subst (λ (o : Option SeenAssignment). Gives row_value c.binding_row.result (binding_row o)) c.in-Ok-assignment.ensures.found.1 c.binding_row.ensures)
+pub returns-in-Err : goal.returns-in-Err
+returns-in-Err c = let line = seen_line c.args.line in faulty_row line.text line.comment c.in-Err.fault c.in-Err.ensures.0 c.in-Err.ensures.1
 
-pub returns-then-not-begins_build_line : goal.returns-then-not-begins_build_line
-returns-then-not-begins_build_line c =
-    let line = seen_line c.args.line in
-    let space : begins_with_space line.text ≡ false = ap begins_with_space (sym c.text.ensures) ∙ sym (starts_with_space c.text.result.now) ∙
-    sym c.starts_with.ensures.value ∙ c.if-starts_with.false in
-    unindented line.text line.comment (sym c.is_comment.ensures ∙ c.if-is_comment.false) c.in-Ok.ensures.tokens.0 (seen_token c.in-Some.first)
-    (tokens_left c.next.new.self)
-    (sym c.in-Some.ensures.steps ∙ c.in-Ok.ensures.tokens.1) false space (sym c.if-not-begins_build_line.true ∙ c.begins_build_line.ensures)
+pub returns-in-Ok-Blank : goal.returns-in-Ok-Blank
+returns-in-Ok-Blank c = let form = rw c.in-Ok-Blank.field-0-is at c.in-Ok-Blank.ensures in rw (form.0, form.1, ap is_empty form.2) refl
 
-pub returns-in-Some-2 : goal.returns-in-Some-2
-returns-in-Some-2 c =
-    let line = seen_line c.args.line in
-    let space : begins_with_space line.text ≡ false = ap begins_with_space (sym c.text.ensures) ∙ sym (starts_with_space c.text.result.now) ∙
-    sym c.starts_with.ensures.value ∙ c.if-starts_with.false in
-    unindented line.text line.comment (sym c.is_comment.ensures ∙ c.if-is_comment.false) c.in-Ok.ensures.tokens.0 (seen_token c.in-Some.first)
-    (tokens_left c.next.new.self)
-    (sym c.in-Some.ensures.steps ∙ c.in-Ok.ensures.tokens.1) true space (sym c.if-not-begins_build_line.false ∙ c.begins_build_line.ensures)
-    ∙ ap build_row (sym c.in_ok-texts.ensures ∙ c.in-Some-2.is)
+pub returns-in-Some : goal.returns-in-Some
+returns-in-Some c =
+    let form = rw c.in-Ok-Build.field-0-is at c.in-Ok-Build.ensures in
+    build_line_row (seen_line c.args.line) form.0 (symbols_left c.in-Ok-Build.tokens) form.1
+    ∙ ap build_row (sym c.in_ok-texts-in-Ok-Build.ensures ∙ c.in-Some.is)
 
 pub returns-in-None : goal.returns-in-None
 returns-in-None c =
-    let line = seen_line c.args.line in
-    let space : begins_with_space line.text ≡ false = ap begins_with_space (sym c.text.ensures) ∙ sym (starts_with_space c.text.result.now) ∙
-    sym c.starts_with.ensures.value ∙ c.if-starts_with.false in
-    unindented line.text line.comment (sym c.is_comment.ensures ∙ c.if-is_comment.false) c.in-Ok.ensures.tokens.0 (seen_token c.in-Some.first)
-    (tokens_left c.next.new.self)
-    (sym c.in-Some.ensures.steps ∙ c.in-Ok.ensures.tokens.1) true space (sym c.if-not-begins_build_line.false ∙ c.begins_build_line.ensures)
-    ∙ ap build_row (sym c.in_ok-texts.ensures ∙ c.in-None.is)
+    let form = rw c.in-Ok-Build.field-0-is at c.in-Ok-Build.ensures in
+    build_line_row (seen_line c.args.line) form.0 (symbols_left c.in-Ok-Build.tokens) form.1
+    ∙ ap build_row (sym c.in_ok-texts-in-Ok-Build.ensures ∙ c.in-None.is)
 
-pub returns-in_default : goal.returns-in_default
-returns-in_default c =
-    let line = seen_line c.args.line in
-    blank_row line.text line.comment (sym c.is_comment.ensures ∙ c.if-is_comment.false) c.in-Ok.ensures.tokens.0
-    (sym c.in_default.ensures.steps.0 ∙ c.in-Ok.ensures.tokens.1)
+pub returns-in-Ok-Indented : goal.returns-in-Ok-Indented
+returns-in-Ok-Indented c =
+    let form = rw c.in-Ok-Indented.field-0-is at c.in-Ok-Indented.ensures in
+    subst (Gives row_value c.binding_row.result) (sym (indented_row (seen_line c.args.line) form.0 form.1))
+    (subst (λ (o : Option SeenAssignment). Gives row_value c.binding_row.result (binding_row o)) form.2 c.binding_row.ensures)
+
+pub returns-in-Ok-Unindented : goal.returns-in-Ok-Unindented
+returns-in-Ok-Unindented c = let form = rw c.in-Ok-Unindented.field-0-is at c.in-Ok-Unindented.ensures in other_row (seen_line c.args.line) form.0 form.1 form.2

@@ -1,10 +1,10 @@
-use Rattle.std.proofs.Common.{rules, ◌≡◌, ℕ, List, true, ap, sym, subst, ◌∙◌}
+use Rattle.std.proofs.Common.{rules, ap, sym, subst, ◌∙◌}
 use Rattle.std.specs.Prelude.{bytes_eq}
 use Rattle.ninja_text.specs.Failure.{Gives}
-use Rattle.module_maps.specs.MapLines.{lines_of}
-use Rattle.module_maps.specs.ClangMaps.{module_flag, clang_read, clang_entries, read_provided}
+use Rattle.module_maps.specs.ClangMaps.{clang_read, clang_entries}
 use Rattle.module_maps.specs.map_laws.ClangLemmas.{is-provided}
-use Rattle.module_maps.proofs.ClangTexts.{clang-read}
+use Rattle.module_maps.proofs.ClangTexts.{clang-only}
+use Rattle.module_maps.proofs.LinesOnly.{of-result}
 use Rattle.module_maps.proofs.clang.ClangMapStyle.read.Goals as goal
 
 pub returns-then-eq-clause-entries : goal.returns-then-eq-clause-entries
@@ -16,14 +16,14 @@ returns-then-eq-clause-entries c =
     subst (Gives (λ found. found.items) c.read_provided.result) same c.read_provided.ensures
 
 pub returns-then-eq-clause-written : goal.returns-then-eq-clause-written
-returns-then-eq-clause-written c = clang-read c.args.text.now c.read_provided.result (returns-then-eq-clause-entries c)
+returns-then-eq-clause-written c = of-result _ _ (clang-only c.args.text.now) c.read_provided.result (returns-then-eq-clause-entries c)
 
 pub returns-else-eq-clause-written : goal.returns-else-eq-clause-written
 returns-else-eq-clause-written c =
     let gives : Gives (λ found. found.items) c.read_lines.result (clang_entries c.args.text.now) = search rules in
-    clang-read c.args.text.now c.read_lines.result gives
+    of-result _ _ (clang-only c.args.text.now) c.read_lines.result gives
 
 pub returns-in-None-clause-written : goal.returns-in-None-clause-written
 returns-in-None-clause-written c =
     let gives : Gives (λ found. found.items) c.read_lines-in-None.result (clang_entries c.args.text.now) = search rules in
-    clang-read c.args.text.now c.read_lines-in-None.result gives
+    of-result _ _ (clang-only c.args.text.now) c.read_lines-in-None.result gives

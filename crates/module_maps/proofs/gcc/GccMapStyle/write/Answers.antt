@@ -1,9 +1,9 @@
-use Rattle.std.proofs.Common.{◌≡◌, ℕ, List, ◌++◌, None, Ok, option_copied, ap, ap₂, sym, ◌∙◌}
+use Rattle.std.proofs.Common.{◌≡◌, List, ◌++◌, Ok, option_copied, ap, ap₂, sym, ◌∙◌}
 use Rattle.ninja_text.specs.Bytes.{Text}
 use Rattle.std.specs.List.{flat_map}
 use Rattle.std.proofs.lemmas.Grind.{flat_map-append}
 use Rattle.module_maps.specs.Maps.{pairs_of}
-use Rattle.module_maps.specs.MapLines.{ended_line, first_unfit}
+use Rattle.module_maps.specs.MapLines.{ended_line}
 use Rattle.module_maps.specs.GccMaps.{gcc_line, gcc_text}
 use Rattle.module_maps.proofs.gcc.GccMapStyle.write.Goals as goal
 

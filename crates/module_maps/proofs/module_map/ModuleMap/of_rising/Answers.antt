@@ -1,6 +1,3 @@
-use Rattle.std.proofs.Common.{subst}
-use Rattle.std.specs.Prelude.{All}
-use Rattle.module_maps.specs.Maps.{IsModulePair, lent_pairs}
 use Rattle.module_maps.proofs.module_map.ModuleMap.of_rising.Goals as goal
 
 pub invariant_of-result : goal.invariant_of-result

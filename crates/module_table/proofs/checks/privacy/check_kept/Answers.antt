@@ -20,7 +20,7 @@ kept_checked : (t : TableValue) → AllDiffer (names_of (provisions t)) → (kep
     MatchBool b (AcceptsAll (IsByObject (provisions t)) (take (i + 1) kept)) (RefusesAt (IsByObject (provisions t)) (IsNotByObject (provisions t)) kept i)
 kept_checked t differ kept i name at before b tested =
     let ps = provisions t in
-    first_rejected (IsByObject ps) (IsNotByObject ps) kept i name at before b
+    first_rejected (IsByObject ps) (IsNotByObject ps) kept i at before b
     (subst (λ b. MatchBool b (IsByObject ps name) (IsNotByObject ps name)) tested (by_object ps differ name))
 
 pub returns-then-not-is_own-clause-fault : goal.returns-then-not-is_own-clause-fault
@@ -28,7 +28,7 @@ returns-then-not-is_own-clause-fault c =
     let t = c.args.modules.now in
     let i = c.loop-name.name-index in
     let name = c.name-item.result in
-    let at = read_at c.args.kept.now i name c.loop-name-test.true c.name-item.is in
+    let at = read_at c.args.kept.now i c.loop-name-test.true c.name-item.is in
     let tested : is_by_object (provisions t) name ≡ c.match-find.is_own = ap (some_and (λ p. is_object p.maker)) (sym c.find.ensures.module) ∙
     elim c.match-find.branch [
       | in-Some+in-Object w ↦ rw (w.in-Some.is, w.in-Object.is) (sym w.is_own-is)
@@ -37,7 +37,7 @@ returns-then-not-is_own-clause-fault c =
       | in-None w ↦ rw w.in-None.is (sym w.is_own-is)
     ] in
     for_boxed (Reports 10 t c.args.kept.now) _ _
-    (reports_private_unknown t c.args.kept.now i name _
+    (reports_private_unknown t c.args.kept.now
     (kept_checked t c.requires c.args.kept.now i name at c.loop-name.invariant _ (tested ∙ c.if-not-is_own.true)) at
     (ap PrivateUnknown c.in_ok-name.ensures)) c.failure_of.ensures
 
@@ -53,5 +53,5 @@ loop-name-preserved c =
           rw (w.in-Some.is, w.in-Info.is) (sym w.is_own-is)
       | in-None w ↦ rw w.in-None.is (sym w.is_own-is)
     ] in
-    kept_checked t c.requires c.args.kept.now i name (read_at c.args.kept.now i name c.loop-name-test.true c.name-item.is) c.loop-name.invariant _
+    kept_checked t c.requires c.args.kept.now i name (read_at c.args.kept.now i c.loop-name-test.true c.name-item.is) c.loop-name.invariant _
     (tested ∙ c.if-not-is_own.false)

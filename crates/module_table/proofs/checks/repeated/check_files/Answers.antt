@@ -1,4 +1,4 @@
-use Rattle.std.proofs.Common.{◌≡◌, ◌+◌, ◌-◌, ◌≤◌, ap, map, arith, length, subst, sym, take, true, ◌∙◌, ◌++◌, List, ℕ, Some}
+use Rattle.std.proofs.Common.{◌≡◌, ◌+◌, ◌-◌, ◌≤◌, ap, map, arith, length, subst, sym, take, true, ◌∙◌, ◌++◌, List, ℕ, Some, take_all, map-id}
 use Rattle.document_values.specs.Rule.{RuleValue}
 use Rattle.module_table.specs.Faults.{Claim, claims_of}
 use Rattle.module_table.specs.Modules.{provisions}
@@ -7,11 +7,11 @@ use Rattle.module_table.specs.inner.Reported.{Reports}
 use Rattle.module_table.specs.inner.Views.{provision_of, files_of, IsMadeTwice}
 use Rattle.module_table.specs.declared.modules.Module.{Module}
 use Rattle.module_table.specs.declared.fault.TableFault.TheVariants.{BmiTwice}
-use Rattle.module_table.proofs.IndexRows.{length_mapped, take_all}
-use Rattle.module_table.proofs.Lists.{repeats_if_found, keys_if_new, differ_if_new, take_behind, map_same, read_at}
+use Rattle.module_table.proofs.IndexRows.{length_mapped}
+use Rattle.module_table.proofs.Lists.{repeats_if_found, added_if_new, take_behind, read_at}
 use Rattle.module_table.proofs.Found.{reported_made, for_boxed, own_claim_at, module_claim_at}
 use Rattle.module_table.proofs.checks.repeated.check_files.Goals as goal
-use Rattle.module_table.proofs.checks.repeated.check_files.Goals.{then-first-objects, else-first-objects}
+use Rattle.module_table.proofs.checks.repeated.check_files.Goals.{then-first-objects, else-first-objects, Then-not-is_new}
 use Rattle.ninja_text.proofs.ForCallers.{to_map, in_second, element_at}
 use Rattle.module_table.proofs.Words.{bmi_of, At}
 use Rattle.ninja_text.specs.Bytes.{Name}
@@ -37,25 +37,29 @@ all_files paths provided i over =
     let files = files_of (map provision_of provided) in
     take_behind paths files i ∙
     ap (λ ys. paths ++ ys)
-    (take_all files i (omega (arith, over, (length_mapped bmi_of (map provision_of provided) ∙ length_mapped provision_of provided))))
+    (take_all i files (omega (arith, over, (length_mapped bmi_of (map provision_of provided) ∙ length_mapped provision_of provided))))
 
-pub module_at-requires : goal.module_at-requires
-module_at-requires c =
+-- a file that is not new is there twice
+repeats : (c : Then-not-is_new) → RepeatsFirst (c.args.files.now.keys ++ files_of (map provision_of c.provided-provided.result.now)) c.in_ok-first.first
+    (length c.args.files.now.keys + c.loop-module.module-index)
+repeats c =
     let paths = c.args.files.now.keys in
     let provided = c.provided-provided.result.now in
     let i = c.loop-module.module-index in
-    let p = c.module-item.result in
     let h = c.in_ok-first.ensures in
-    let stored = h.stored in
-    let r = repeats_if_found (λ n. n) (paths ++ files_of (map provision_of provided)) (length paths + i) _ c.loop-module.files.keys c.insert_full.new.self.keys
-    (file_at paths provided i p (read_at provided i p c.loop-module-test.true c.module-item.is) ∙ ap Some (sym c.in_ok-file.ensures))
-    (map_same c.loop-module.files.keys ∙ c.loop-module.invariant.same) c.loop-module.invariant.differ h.keys c.in_ok-first.first
-    (sym c.if-not-is_new.true ∙ h.added) stored.0 stored.1 stored.2 in
+    repeats_if_found (λ n. n) (paths ++ files_of (map provision_of provided)) (length paths + i) _ c.loop-module.files.keys
+    (file_at paths provided i c.module-item.result (read_at provided i c.loop-module-test.true c.module-item.is) ∙ ap Some (sym c.in_ok-file.ensures))
+    (map-id c.loop-module.files.keys ∙ c.loop-module.invariant.same) c.loop-module.invariant.differ h.keys c.in_ok-first.first
+    (sym c.if-not-is_new.true ∙ h.added) h.stored
+
+pub module_at-requires : goal.module_at-requires
+module_at-requires c =
+    let r = repeats (goal.at.module_at-requires c).Then-not-is_new in
     omega (
       arith,
       r.earlier,
       c.loop-module-test.true,
-      (as_many paths c.args.modules.now.objects c.requires.paths),
+      (as_many c.args.files.now.keys c.args.modules.now.objects c.requires.paths),
       (ap length c.objects-objects.ensures),
       c.objects-objects.type_inv.0,
     )
@@ -69,14 +73,9 @@ returns-then-not-is_new-clause-fault c =
     let i = c.loop-module.module-index in
     let p = c.module-item.result in
     let first = c.in_ok-first.first in
-    let there = read_at provided i p c.loop-module-test.true c.module-item.is in
-    let h = c.in_ok-first.ensures in
-    let stored = h.stored in
-    let r = repeats_if_found (λ n. n) (paths ++ files_of (map provision_of provided)) (length paths + i) _ c.loop-module.files.keys c.insert_full.new.self.keys
-    (file_at paths provided i p there ∙ ap Some (sym c.in_ok-file.ensures))
-    (map_same c.loop-module.files.keys ∙ c.loop-module.invariant.same) c.loop-module.invariant.differ h.keys first (sym c.if-not-is_new.true ∙ h.added) stored.0
-    stored.1 stored.2 in
-    let of_objects = subst (λ xs. RepeatsFirst (xs ++ files_of (map provision_of provided)) first (length paths + i)) c.requires.paths r in
+    let there = read_at provided i c.loop-module-test.true c.module-item.is in
+    let of_objects = subst (λ xs. RepeatsFirst (xs ++ files_of (map provision_of provided)) first (length paths + i)) c.requires.paths
+    (repeats (goal.at.returns-then-not-is_new-clause-fault c).Then-not-is_new) in
     let of_modules = subst (λ ps. RepeatsFirst (map object_of t.objects ++ files_of ps) first (length paths + i)) c.provided-provided.ensures.provisions
     of_objects in
     let repeats = subst (λ n. RepeatsFirst (map object_of t.objects ++ files_of (provisions t)) first (n + i)) (as_many paths t.objects c.requires.paths)
@@ -119,16 +118,12 @@ loop-module-preserved c =
     let i = c.loop-module.module-index in
     let p = c.module-item.result in
     let texts = paths ++ files_of (map provision_of provided) in
-    let at = file_at paths provided i p (read_at provided i p c.loop-module-test.true c.module-item.is) ∙ ap Some (sym c.in_ok-file.ensures) in
-    let before = map_same c.loop-module.files.keys ∙ c.loop-module.invariant.same in
+    let at = file_at paths provided i p (read_at provided i c.loop-module-test.true c.module-item.is) ∙ ap Some (sym c.in_ok-file.ensures) in
     let h = c.in_ok-first.ensures in
-    let fresh = sym c.if-not-is_new.false ∙ h.added in
+    let now = added_if_new (λ n. n) texts (length paths + i) _ c.loop-module.files.keys at (map-id c.loop-module.files.keys ∙ c.loop-module.invariant.same)
+    c.loop-module.invariant.differ h.keys (sym c.if-not-is_new.false ∙ h.added) in
     let next : (length paths + i) + 1 ≡ length paths + (i + 1) = omega arith in
     record {
-      same = sym (map_same c.insert_full.new.self.keys) ∙
-          keys_if_new (λ n. n) texts (length paths + i) _ c.loop-module.files.keys c.insert_full.new.self.keys at before c.loop-module.invariant.differ h.keys
-          fresh ∙ ap (λ n. take n texts) next;
-      differ = subst (λ n. AllDiffer (take n texts)) next
-          (differ_if_new (λ n. n) texts (length paths + i) _ c.loop-module.files.keys c.insert_full.new.self.keys at before c.loop-module.invariant.differ
-          h.keys fresh);
+      same = sym (map-id c.insert_full.new.self.keys) ∙ now.0 ∙ ap (λ n. take n texts) next;
+      differ = subst (λ n. AllDiffer (take n texts)) next now.1;
     }

@@ -2,7 +2,7 @@ use Rattle.std.proofs.Common.{◌≡◌, ap, map, refl, subst, sym, ◌∙◌, L
 use Rattle.document_values.specs.Info.{InfoValue}
 use Rattle.ninja_text.specs.Firsts.{AllDiffer, IsFirstRepetition}
 use Rattle.module_table.specs.declared.fault.TableFault.TheVariants.{InfoTwice}
-use Rattle.module_table.proofs.Lists.{repeats_if_found, keys_if_new, differ_if_new, text_repetition, read_at}
+use Rattle.module_table.proofs.Lists.{repeats_if_found, added_if_new, text_repetition, read_at}
 use Rattle.module_table.proofs.IndexRows.{map_take_all}
 use Rattle.module_table.proofs.Found.{reports_same, for_boxed}
 use Rattle.module_table.specs.inner.Reported.{Reports}
@@ -21,13 +21,12 @@ returns-then-not-is_new-clause-fault c =
     let i = c.loop-info.info-index in
     let first = c.in_ok-is_new.field-0-0 in
     let target = c.info.inside.target in
-    let at = to_map target_of infos i _ (read_at infos i _ c.loop-info-test.true c.info-item.is) ∙ ap (λ (r : InfoValue). Some r.target) (sym c.info.view_is) in
+    let at = to_map target_of infos i _ (read_at infos i c.loop-info-test.true c.info-item.is) ∙ ap (λ (r : InfoValue). Some r.target) (sym c.info.view_is) in
     let h = c.in_ok-is_new.ensures in
-    let stored = h.stored in
-    let repeated = repeats_if_found text_of (map target_of infos) i _ c.loop-info.targets.keys c.insert_full.new.self.keys at c.loop-info.invariant.same
-    c.loop-info.invariant.differ h.keys first (sym c.if-not-is_new.true ∙ h.added) stored.0 stored.1 stored.2 in
+    let repeated = repeats_if_found text_of (map target_of infos) i _ c.loop-info.targets.keys at c.loop-info.invariant.same
+    c.loop-info.invariant.differ h.keys first (sym c.if-not-is_new.true ∙ h.added) h.stored in
     for_boxed (λ fault. (t : TableValue) (kept : List Name) → infos ≡ t.infos → Reports 2 t kept fault) _ _
-    (λ t kept same. reports_same 2 t kept _ _ (ap InfoTwice c.in_ok-target.ensures)
+    (λ t kept same. reports_same 2 t kept (ap InfoTwice c.in_ok-target.ensures)
     (record {
       present = (
         first,
@@ -44,16 +43,12 @@ loop-info-preserved c =
     let infos = c.args.infos.now in
     let i = c.loop-info.info-index in
     let info = c.info-item.result in
-    let at = to_map target_of infos i info (read_at infos i info c.loop-info-test.true c.info-item.is) ∙
+    let at = to_map target_of infos i info (read_at infos i c.loop-info-test.true c.info-item.is) ∙
     ap (λ (r : InfoValue). Some r.target) (sym c.info.view_is) in
     let h = c.in_ok-is_new.ensures in
-    let fresh = sym c.if-not-is_new.false ∙ h.added in
-    record {
-      same = keys_if_new text_of (map target_of infos) i _ c.loop-info.targets.keys c.insert_full.new.self.keys at c.loop-info.invariant.same
-          c.loop-info.invariant.differ h.keys fresh;
-      differ = differ_if_new text_of (map target_of infos) i _ c.loop-info.targets.keys c.insert_full.new.self.keys at c.loop-info.invariant.same
-          c.loop-info.invariant.differ h.keys fresh;
-    }
+    let now = added_if_new text_of (map target_of infos) i _ c.loop-info.targets.keys at c.loop-info.invariant.same c.loop-info.invariant.differ h.keys
+    (sym c.if-not-is_new.false ∙ h.added) in
+    record { same = now.0; differ = now.1 }
 
 pub returns-clause-ok : goal.returns-clause-ok
 returns-clause-ok c =

@@ -1,9 +1,9 @@
-use Rattle.std.proofs.Common.{◌≡◌, ap, map, refl, subst, sym, ◌∙◌, List, ℕ, Some}
+use Rattle.std.proofs.Common.{◌≡◌, ap, map, refl, subst, sym, ◌∙◌, List, ℕ, Some, map-id}
 use Rattle.document_values.specs.Rule.{RuleValue}
 use Rattle.ninja_text.specs.Firsts.{IsFirstRepetition}
 use Rattle.module_table.specs.declared.fault.Maker.TheVariants.{Object}
 use Rattle.module_table.specs.declared.fault.TableFault.TheVariants.{ObjectTwice}
-use Rattle.module_table.proofs.Lists.{repeats_if_found, keys_if_new, differ_if_new, text_repetition, map_same, read_at}
+use Rattle.module_table.proofs.Lists.{repeats_if_found, added_if_new, text_repetition, read_at}
 use Rattle.module_table.proofs.Found.{reports_same, for_boxed}
 use Rattle.module_table.specs.inner.Reported.{Reports}
 use Rattle.module_table.specs.TableValue.{TableValue}
@@ -20,15 +20,14 @@ returns-then-not-is_new-clause-fault c =
     let i = c.loop-index.index in
     let first = c.in_ok-first.first in
     let path = c.rule.inside.object in
-    let at = to_map object_of objects i _ (read_at objects i _ c.loop-index-test.true c.index-objects-index.is) ∙
+    let at = to_map object_of objects i _ (read_at objects i c.loop-index-test.true c.index-objects-index.is) ∙
     ap (λ (r : RuleValue). Some r.object) (sym c.rule.view_is) in
     let h = c.in_ok-first.ensures in
-    let stored = h.stored in
-    let repeated = repeats_if_found (λ n. n) (map object_of objects) i _ c.loop-index.paths.keys c.insert_full.new.self.keys
-    (at ∙ ap Some (sym c.in_ok-path.ensures)) (map_same c.loop-index.paths.keys ∙ c.loop-index.invariant.same) c.loop-index.invariant.differ h.keys first
-    (sym c.if-not-is_new.true ∙ h.added) stored.0 stored.1 stored.2 in
+    let repeated = repeats_if_found (λ n. n) (map object_of objects) i _ c.loop-index.paths.keys
+    (at ∙ ap Some (sym c.in_ok-path.ensures)) (map-id c.loop-index.paths.keys ∙ c.loop-index.invariant.same) c.loop-index.invariant.differ h.keys first
+    (sym c.if-not-is_new.true ∙ h.added) h.stored in
     for_boxed (λ fault. (t : TableValue) (kept : List Name) → objects ≡ t.objects → Reports 1 t kept fault) _ _
-    (λ t kept same. reports_same 1 t kept _ _ (ap (λ p. ObjectTwice p (Object first) (Object i)) c.in_ok-path-2.ensures)
+    (λ t kept same. reports_same 1 t kept (ap (λ p. ObjectTwice p (Object first) (Object i)) c.in_ok-path-2.ensures)
     (record {
       present = (
         first,
@@ -47,15 +46,9 @@ loop-index-preserved c =
     let objects = c.args.objects.now in
     let i = c.loop-index.index in
     let rule = c.index-objects-index.result in
-    let at = to_map object_of objects i rule (read_at objects i rule c.loop-index-test.true c.index-objects-index.is) ∙
+    let at = to_map object_of objects i rule (read_at objects i c.loop-index-test.true c.index-objects-index.is) ∙
     ap (λ (r : RuleValue). Some r.object) (sym c.rule.view_is) ∙ ap Some (sym c.in_ok-path.ensures) in
-    let before = map_same c.loop-index.paths.keys ∙ c.loop-index.invariant.same in
     let h = c.in_ok-first.ensures in
-    let fresh = sym c.if-not-is_new.false ∙ h.added in
-    record {
-      same = sym (map_same c.insert_full.new.self.keys) ∙
-          keys_if_new (λ n. n) (map object_of objects) i _ c.loop-index.paths.keys c.insert_full.new.self.keys at before c.loop-index.invariant.differ h.keys
-          fresh;
-      differ = differ_if_new (λ n. n) (map object_of objects) i _ c.loop-index.paths.keys c.insert_full.new.self.keys at before c.loop-index.invariant.differ
-          h.keys fresh;
-    }
+    let now = added_if_new (λ n. n) (map object_of objects) i _ c.loop-index.paths.keys at (map-id c.loop-index.paths.keys ∙ c.loop-index.invariant.same)
+    c.loop-index.invariant.differ h.keys (sym c.if-not-is_new.false ∙ h.added) in
+    record { same = sym (map-id c.insert_full.new.self.keys) ∙ now.0; differ = now.1 }

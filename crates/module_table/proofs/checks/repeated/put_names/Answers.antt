@@ -1,4 +1,4 @@
-use Rattle.std.proofs.Common.{◌≡◌, ◌∙◌, ◌<◌, ◌+◌, ap, arith, cond, length, sym, map, List, ℕ, Some, get_or}
+use Rattle.std.proofs.Common.{◌≡◌, ◌∙◌, ◌<◌, ◌+◌, ap, arith, cond, length, sym, map, List, ℕ, Some, get_or, map-id}
 use Rattle.std.proofs.lemmas.List.{length-take}
 use Rattle.std.proofs.lemmas.Option.{slice_get-get_or}
 use Rattle.module_table.specs.inner.Views.{provision_of, names_of}
@@ -6,7 +6,7 @@ use Rattle.module_table.specs.Modules.{provisions}
 use Rattle.module_table.specs.TableValue.{TableValue}
 use Rattle.module_table.specs.declared.modules.Module.{Module}
 use Rattle.module_table.specs.declared.fault.TableFault.TheVariants.{ProvidedTwice}
-use Rattle.module_table.proofs.Lists.{repeats_if_found, keys_if_new, differ_if_new, map_same, read_at}
+use Rattle.module_table.proofs.Lists.{repeats_if_found, added_if_new, read_at}
 use Rattle.module_table.proofs.Found.{reports_provided_twice, for_boxed}
 use Rattle.module_table.specs.inner.Reported.{Reports}
 use Rattle.module_table.proofs.checks.repeated.put_names.Goals as goal
@@ -27,12 +27,11 @@ returns-then-not-is_new-clause-fault c =
     let i = c.loop-module.module-index in
     let m = c.module-item.result in
     let first = c.in_ok-first.first in
-    let there = read_at provided i m c.loop-module-test.true c.module-item.is in
+    let there = read_at provided i c.loop-module-test.true c.module-item.is in
     let h = c.in_ok-first.ensures in
-    let stored = h.stored in
-    let repeated = repeats_if_found (λ n. n) (names_of list) i c.in_ok-copy.field-0 c.loop-module.names.keys c.insert_full.new.self.keys
-    (name_at provided i m there c.in_ok-copy.field-0 c.in_ok-copy.ensures) (map_same c.loop-module.names.keys ∙ c.loop-module.invariant.same)
-    c.loop-module.invariant.differ h.keys first (sym c.if-not-is_new.true ∙ h.added) stored.0 stored.1 stored.2 in
+    let repeated = repeats_if_found (λ n. n) (names_of list) i c.in_ok-copy.field-0 c.loop-module.names.keys
+    (name_at provided i m there c.in_ok-copy.field-0 c.in_ok-copy.ensures) (map-id c.loop-module.names.keys ∙ c.loop-module.invariant.same)
+    c.loop-module.invariant.differ h.keys first (sym c.if-not-is_new.true ∙ h.added) h.stored in
     let within : first < length provided = omega (arith, repeated.earlier, c.loop-module-test.true) in
     let e = get_or provided first c.index-provided-first.result in
     for_boxed (λ fault. (t : TableValue) (kept : List Name) → list ≡ provisions t → Reports 3 t kept fault) _ _
@@ -48,19 +47,13 @@ returns-then-not-is_new-clause-fault c =
 pub loop-module-preserved : goal.loop-module-preserved
 loop-module-preserved c =
     let provided = c.args.provided.now in
-    let list = map provision_of provided in
     let i = c.loop-module.module-index in
-    let at = name_at provided i c.module-item.result (read_at provided i c.module-item.result c.loop-module-test.true c.module-item.is) c.in_ok-copy.field-0
+    let at = name_at provided i c.module-item.result (read_at provided i c.loop-module-test.true c.module-item.is) c.in_ok-copy.field-0
     c.in_ok-copy.ensures in
-    let before = map_same c.loop-module.names.keys ∙ c.loop-module.invariant.same in
     let h = c.in_ok-first.ensures in
-    record {
-      same = sym (map_same c.insert_full.new.self.keys) ∙
-          keys_if_new (λ n. n) (names_of list) i c.in_ok-copy.field-0 c.loop-module.names.keys c.insert_full.new.self.keys at before
-          c.loop-module.invariant.differ h.keys (sym c.if-not-is_new.false ∙ h.added);
-      differ = differ_if_new (λ n. n) (names_of list) i c.in_ok-copy.field-0 c.loop-module.names.keys c.insert_full.new.self.keys at before
-          c.loop-module.invariant.differ h.keys (sym c.if-not-is_new.false ∙ h.added);
-    }
+    let now = added_if_new (λ n. n) (names_of (map provision_of provided)) i c.in_ok-copy.field-0 c.loop-module.names.keys at
+    (map-id c.loop-module.names.keys ∙ c.loop-module.invariant.same) c.loop-module.invariant.differ h.keys (sym c.if-not-is_new.false ∙ h.added) in
+    record { same = sym (map-id c.insert_full.new.self.keys) ∙ now.0; differ = now.1 }
 
 -- the index of a name that is not new is one of those before
 pub bounds-provided-first : goal.bounds-provided-first

@@ -1,10 +1,10 @@
-use Rattle.std.proofs.Common.{◌∙◌, ◌+◌, [], ap, map, sym, refl, slice_get, take, Some, List, Vec, ℕ}
+use Rattle.std.proofs.Common.{◌∙◌, [], ap, map, sym, refl, slice_get, take, Some, List, Vec, ℕ, take_all}
 use Rattle.std.specs.declared.alloc.Global.{Global}
 use Rattle.module_table.specs.Modules.{provisions}
 use Rattle.module_table.specs.inner.Views.{names_of}
 use Rattle.module_table.specs.inner.Reported.{Reports}
 use Rattle.module_table.specs.declared.fault.TableFault.TheVariants.{ModuleUnknown}
-use Rattle.module_table.proofs.IndexRows.{are_indexes, take_all}
+use Rattle.module_table.proofs.IndexRows.{are_indexes}
 use Rattle.module_table.proofs.Found.{none_named, for_boxed, in_row, reports_unknown}
 use Rattle.module_table.proofs.Lists.{finds, pushes_next, same_reads, read_at}
 use Rattle.module_table.proofs.checks.required.check_objects_known.Goals as goal
@@ -18,11 +18,11 @@ returns-in-None-clause-fault c =
     let keys = (names_of (provisions c.args.modules.now)) in
     let o = c.loop-object.object in
     let rule = c.index-objects-object.result in
-    let here = read_at c.objects-objects.result.now o rule c.loop-object-test.true c.index-objects-object.is in
+    let here = read_at c.objects-objects.result.now o c.loop-object-test.true c.index-objects-object.is in
     let i = c.loop-required.required-index in
     let name = c.required-item.result in
     let list = c.deref-required-items.ensures.value ∙ ap required_by c.rule.view_is in
-    let at = same_reads i (sym list) ∙ read_at c.deref-required-items.result.now i name c.loop-required-test.true c.required-item.is in
+    let at = same_reads i (sym list) ∙ read_at c.deref-required-items.result.now i c.loop-required-test.true c.required-item.is in
     for_boxed (λ fault. (kept : List Name) → Reports 5 t kept fault) _ _
     (λ kept. reports_unknown items_of t kept c.loop-object.indexes.items o rule _ (same_reads o (sym c.objects-objects.ensures) ∙ here)
     (c.loop-object.invariant ∙ ap (λ os. map names_wanted (take o os)) c.objects-objects.ensures) (
@@ -32,7 +32,7 @@ returns-in-None-clause-fault c =
         here = at;
         holds = λ k at. let p = from_map name_of (provisions t) k name at in none_named (provisions t) name (sym c.in-None.ensures.module) k p.0 (p.1, p.2);
         before = λ k y lt at_k absent. let r =
-            in_row keys c.loop-required.row.items (take i c.deref-required-items.result.now) k y c.loop-required.invariant
+            in_row keys c.loop-required.row.items (take i c.deref-required-items.result.now) k c.loop-required.invariant
             (in_take i c.deref-required-items.result.now k y lt (same_reads k list ∙ at_k)) in absent r.0 r.2;
       },
       ap (λ n. ModuleUnknown n o) c.in_ok-name-in-None.ensures,
@@ -43,25 +43,24 @@ loop-required-preserved c =
     let required = c.deref-required-items.result.now in
     let i = c.loop-required.required-index in
     let name = c.required-item.result in
-    pushes_next (slice_get (names_of (provisions c.args.modules.now))) Some (take i required) (take (i + 1) required) name
-    [] _ _ _ (take_next required i name (read_at required i name c.loop-required-test.true c.required-item.is)) c.loop-required.invariant
+    pushes_next (slice_get (names_of (provisions c.args.modules.now))) Some (take i required) name
+    [] _ _ (take_next required i name (read_at required i c.loop-required-test.true c.required-item.is)) c.loop-required.invariant
     c.in_ok-push-in-Some.ensures.items (finds (names_of (provisions c.args.modules.now)) name (Some c.in-Some.index) c.in-Some.ensures.index)
 
 pub returns-clause-ok : goal.returns-clause-ok
 returns-clause-ok c =
     are_indexes c.args.modules.now (names_of (provisions c.args.modules.now)) c.loop-object.indexes.items refl
     (c.loop-object.invariant ∙
-    ap (map names_wanted) (take_all c.objects-objects.result.now c.loop-object.object c.loop-object-test.false ∙ c.objects-objects.ensures))
+    ap (map names_wanted) (take_all c.loop-object.object c.objects-objects.result.now c.loop-object-test.false ∙ c.objects-objects.ensures))
 
 pub loop-object-preserved : goal.loop-object-preserved
 loop-object-preserved c =
     let objects = c.objects-objects.result.now in
     let o = c.loop-object.object in
     let rule = c.index-objects-object.result in
-    pushes_next (λ (row : Vec ℕ Global). map (slice_get (names_of (provisions c.args.modules.now))) row.items) names_wanted (take o objects)
-    (take (o + 1) objects) rule
-    [] _ _ _ (take_next objects o rule (read_at objects o rule c.loop-object-test.true c.index-objects-object.is)) c.loop-object.invariant
+    pushes_next (λ (row : Vec ℕ Global). map (slice_get (names_of (provisions c.args.modules.now))) row.items) names_wanted (take o objects) rule
+    [] _ _ (take_next objects o rule (read_at objects o c.loop-object-test.true c.index-objects-object.is)) c.loop-object.invariant
     c.in_ok-push.ensures.items
     (c.loop-required.invariant ∙
-    ap (map Some) (take_all c.deref-required-items.result.now c.loop-required.required-index c.loop-required-test.false ∙
+    ap (map Some) (take_all c.loop-required.required-index c.deref-required-items.result.now c.loop-required-test.false ∙
     (c.deref-required-items.ensures.value ∙ ap required_by c.rule.view_is)))

@@ -1,5 +1,4 @@
-use Rattle.std.proofs.Common.{rules, tests, Ok, ◌≡◌, ◌∙◌, ap, length, map, refl, subst, sym, List, ℕ, Vec}
-use Rattle.std.specs.declared.alloc.Global.{Global}
+use Rattle.std.proofs.Common.{rules, tests, Ok, ◌≡◌, ◌∙◌, ap, length, map, refl, subst, sym, List}
 use Rattle.std.specs.List.{filter_map}
 use Rattle.std.proofs.lemmas.List.{map-append}
 use Rattle.std.specs.declared.alloc.AllocError.{AllocError}
@@ -8,8 +7,7 @@ use Rattle.std.proofs.lemmas.Iterator.Consumers.{YieldsList-at, YieldsList-from_
 use Rattle.dep_order.specs.Needs.{NeedsAreNodes}
 use Rattle.dep_order.specs.Rows.{rows}
 use Rattle.dep_order.specs.Sortings.{IsSortingOf}
-use Rattle.module_table.specs.Modules.{DependsOn, Provision, provisions}
-use Rattle.module_table.specs.TableValue.{TableValue}
+use Rattle.module_table.specs.Modules.{DependsOn, provisions}
 use Rattle.module_table.specs.inner.Numbered.{maker_at}
 use Rattle.module_table.specs.inner.Views.{provision_of}
 use Rattle.module_table.specs.inner.Reported.{Reports}
@@ -17,6 +15,7 @@ use Rattle.module_table.proofs.IndexRows.{numbered, map_take_all, sorting_of, ar
 use Rattle.module_table.proofs.Lists.{maps_next, read_at}
 use Rattle.module_table.proofs.Found.{for_boxed}
 use Rattle.module_table.proofs.checks.required.check_rings.Goals as goal
+use Rattle.module_table.proofs.checks.required.check_rings.Goals.{After-loop-row}
 use Rattle.ninja_text.proofs.ForCallers.{to_map}
 use Rattle.ninja_text.specs.Bytes.{Name}
 use Rattle.module_table.proofs.Words.{items_of}
@@ -26,55 +25,46 @@ loop-row-preserved c =
     let required = c.args.required.now in
     let i = c.loop-row.row-index in
     let row = c.row-item.result in
-    let at = to_map items_of required i row (read_at required i row c.loop-row-test.true c.row-item.is) in
+    let at = to_map items_of required i row (read_at required i c.loop-row-test.true c.row-item.is) in
     let made = items_from_collect {E = AllocError} (Ok c.in_ok-collect.field-0) c.in_ok-collect.ensures.ran
     (YieldsList-from_filter_map _ (maker_at (map provision_of c.provided-provided.result.now))
     (YieldsList-at c.filter_map-objects.ensures.source (YieldsList-from_slice row.items (c.iter.ensures.rest ∙ c.deref.ensures.value)))
     c.filter_map-objects.ensures.closure (λ x r q k. search (rules, tests))) in
-    maps_next (filter_map (maker_at (map provision_of c.provided-provided.result.now))) (rows required) i row.items _ _ _ at c.loop-row.invariant
+    maps_next (filter_map (maker_at (map provision_of c.provided-provided.result.now))) (rows required) i at c.loop-row.invariant
     (ap rows c.in_ok-push.ensures.items ∙ map-append items_of c.loop-row.needs.items _) made
 
 -- what each object needs
-made_needs : (required : List (Vec ℕ Global)) (t : TableValue) (ps : List Provision) (nodes : List (List ℕ)) →
-    nodes ≡ map (filter_map (maker_at ps)) (rows required) → ps ≡ provisions t → nodes ≡ map (filter_map (maker_at (provisions t))) (rows required)
-made_needs required t ps nodes made same = made ∙ ap (λ ps. map (filter_map (maker_at ps)) (rows required)) same
+made : (c : After-loop-row) → rows c.loop-row.needs.items ≡ map (filter_map (maker_at (provisions c.args.modules.now))) (rows c.args.required.now)
+made c =
+    let required = c.args.required.now in
+    c.loop-row.invariant ∙
+    ap (map (filter_map (maker_at (map provision_of c.provided-provided.result.now))))
+    (map_take_all items_of required c.loop-row.row-index c.loop-row-test.false) ∙
+    ap (λ ps. map (filter_map (maker_at ps)) (rows required)) c.provided-provided.ensures.provisions
 
 pub new-graph-requires : goal.new-graph-requires
 new-graph-requires c =
     let t = c.args.modules.now in
     let required = rows c.args.required.now in
-    let made = made_needs c.args.required.now t _ _
-    (c.loop-row.invariant ∙
-    ap (map (filter_map (maker_at (map provision_of c.provided-provided.result.now))))
-    (map_take_all items_of c.args.required.now c.loop-row.row-index c.loop-row-test.false)) c.provided-provided.ensures.provisions in
-    subst NeedsAreNodes (sym made) (are_nodes t (provisions t) required (numbered t required c.provided-provided.ensures.differ c.requires))
+    subst NeedsAreNodes (sym (made (goal.at.new-graph-requires c).After-loop-row))
+    (are_nodes t (provisions t) required (numbered t required c.provided-provided.ensures.differ c.requires))
 
 pub returns-in-Order-clause-ok : goal.returns-in-Order-clause-ok
 returns-in-Order-clause-ok c =
     let t = c.args.modules.now in
     let required = rows c.args.required.now in
-    let made = c.new-graph.ensures ∙
-    made_needs c.args.required.now t _ _
-    (c.loop-row.invariant ∙
-    ap (map (filter_map (maker_at (map provision_of c.provided-provided.result.now))))
-    (map_take_all items_of c.args.required.now c.loop-row.row-index c.loop-row-test.false)) c.provided-provided.ensures.provisions in
     let sorted = subst (IsSortingOf (length t.objects) (DependsOn t)) c.in-Order.is
-    (sorting_of t (provisions t) required (numbered t required c.provided-provided.ensures.differ c.requires) c.new-graph.result _ made
-    c.in_ok-order.ensures) in
+    (sorting_of t (provisions t) required (numbered t required c.provided-provided.ensures.differ c.requires) c.new-graph.result _
+    (c.new-graph.ensures ∙ made (goal.at.returns-in-Order-clause-ok c).After-loop-row) c.in_ok-order.ensures) in
     sorted.0
 
 pub returns-clause-fault : goal.returns-clause-fault
 returns-clause-fault c =
     let t = c.args.modules.now in
     let required = rows c.args.required.now in
-    let made = c.new-graph.ensures ∙
-    made_needs c.args.required.now t _ _
-    (c.loop-row.invariant ∙
-    ap (map (filter_map (maker_at (map provision_of c.provided-provided.result.now))))
-    (map_take_all items_of c.args.required.now c.loop-row.row-index c.loop-row-test.false)) c.provided-provided.ensures.provisions in
     let sorted = subst (IsSortingOf (length t.objects) (DependsOn t)) c.in-Cycle.is
-    (sorting_of t (provisions t) required (numbered t required c.provided-provided.ensures.differ c.requires) c.new-graph.result _ made
-    c.in_ok-order.ensures) in
+    (sorting_of t (provisions t) required (numbered t required c.provided-provided.ensures.differ c.requires) c.new-graph.result _
+    (c.new-graph.ensures ∙ made (goal.at.returns-clause-fault c).After-loop-row) c.in_ok-order.ensures) in
     for_boxed (λ fault. (kept : List Name) → Reports 8 t kept fault) _ _
     (λ kept. record { present = sorted.1; coded = refl })
     c.failure_of.ensures

@@ -1,18 +1,16 @@
-use Rattle.std.proofs.Common.{◌≡◌, ℕ, ◌+◌, ◌<◌, ◌≤◌, ◌^◌, ap, sym, subst, refl, length, map, get_or, List, arith}
+use Rattle.std.proofs.Common.{◌≡◌, ◌+◌, ◌<◌, ◌^◌, ap, sym, subst, refl, length, map, get_or, List, arith}
 use Rattle.std.proofs.lemmas.Option.{slice_get-get_or}
-use Rattle.std.specs.List.Sorted.{IsPermutation, IsSorted}
-use Rattle.module_table.specs.TableValue.{TableValue, table_with}
-use Rattle.module_table.specs.Sound.{IsSound}
+use Rattle.module_table.specs.TableValue.{table_with}
 use Rattle.module_table.specs.Modules.{provisions}
 use Rattle.module_table.specs.Needed.{lent}
-use Rattle.module_table.specs.inner.Origins.{origins_of, Origin}
 use Rattle.module_table.specs.inner.Graph.{IsModuleGraph}
-use Rattle.module_table.specs.inner.Ranks.{pairs_of, AreListed, AreByName, AreNumbers, AreRanks}
+use Rattle.module_table.specs.inner.Ranks.{pairs_of, AreByNumber, AreByName, AreNumbers, AreRanks}
 use Rattle.module_table.specs.declared.fault.Maker.TheVariants.{Object}
-use Rattle.module_table.proofs.Lists.{zip_length, read_at}
-use Rattle.module_table.proofs.Graph.{IsPlaceOf, module_places, named_there, pair_there}
-use Rattle.module_table.proofs.Pairs.{are_numbers, are_ranked, by_name, module_cmp, lent_modules, listed_more, ranks_more}
+use Rattle.module_table.proofs.Lists.{read_at}
+use Rattle.module_table.proofs.Graph.{named_there, pair_there, many_origins}
+use Rattle.module_table.proofs.Pairs.{are_numbers, are_ranked, by_name, lent_modules, listed_more, ranks_more}
 use Rattle.module_table.proofs.needed.Needs.new.Goals as goal
+use Rattle.module_table.proofs.needed.Needs.new.Goals.{After-sort_unstable}
 use Rattle.module_table.specs.declared.needed.Numbered.{Numbered}
 
 pub named_at-requires : goal.named_at-requires
@@ -27,60 +25,59 @@ loop-index-preserved c =
     let k = c.loop-index.index in
     let pair = pair_there t c.args.origins.now c.requires.origins k (get_or c.args.origins.now k (Object 0, 0)) (lent c.named_at.result)
     (slice_get-get_or c.args.origins.now k (Object 0, 0) c.loop-index-test.true) c.named_at.ensures in
-    subst (AreListed (provisions t) (k + 1)) (sym c.in_ok-push.ensures.items)
+    subst (AreByNumber (provisions t) (k + 1)) (sym c.in_ok-push.ensures.items)
     (listed_more (provisions t) k c.loop-index.modules.items (record { name = c.named_at.result.0; file = c.named_at.result.1; index = k }) refl pair
     c.loop-index.invariant)
 
 -- all modules, once they are sorted
-sorted_modules : (t : TableValue) → IsSound t → (origins : List (Origin)) → origins ≡ origins_of t → (i : ℕ) → length origins ≤ i → i ≤ length origins →
-    (made sorted : List Numbered) → AreListed (provisions t) i made → length sorted ≡ length made → IsPermutation made sorted → IsSorted module_cmp sorted →
-    AreByName (provisions t) sorted
-sorted_modules t sound origins are i over under made sorted listed long permuted rising =
-    let all : i ≡ length (provisions t) =
-    omega (arith, over, under, (zip_length (IsPlaceOf t) (provisions t) (origins_of t) (module_places t)), ap length are) in
-    by_name t sound made (subst (λ n. AreListed (provisions t) n made) all listed) sorted long permuted rising
+sorted : (c : After-sort_unstable) → AreByName (provisions (table_with c.args.objects.now c.args.infos.now)) c.sort_unstable.new.self.items
+sorted c =
+    let t = table_with c.args.objects.now c.args.infos.now in
+    let modules = c.sort_unstable.new.self.items in
+    let made = c.loop-index.modules.items in
+    let long : length modules ≡ length made = omega (arith, c.sort_unstable.ensures.len, c.sort_unstable.new.self.ok.0, c.loop-index.modules.ok.0) in
+    let all : c.loop-index.index ≡ length (provisions t) = omega (
+      arith,
+      c.loop-index-test.false,
+      c.loop-index.auto.index-end,
+      (many_origins t),
+      ap length c.requires.origins,
+    ) in
+    by_name t c.requires.sound made (subst (λ n. AreByNumber (provisions t) n made) all c.loop-index.invariant) modules long
+    c.sort_unstable.ensures.permutation c.sort_unstable.ensures.sorted
 
 pub index_mut-requires : goal.index_mut-requires
 index_mut-requires c =
     let t = table_with c.args.objects.now c.args.infos.now in
     let modules = c.sort_unstable.new.self.items in
-    let made = c.loop-index.modules.items in
-    let long : length modules ≡ length made = omega (arith, c.sort_unstable.ensures.len, c.sort_unstable.new.self.ok.0, c.loop-index.modules.ok.0) in
-    let by = sorted_modules t c.requires.sound c.args.origins.now c.requires.origins c.loop-index.index c.loop-index-test.false c.loop-index.auto.index-end made
-    modules c.loop-index.invariant long c.sort_unstable.ensures.permutation c.sort_unstable.ensures.sorted in
+    let by = sorted (goal.at.index_mut-requires c).After-sort_unstable in
     let i = c.loop-rank.rank in
     let m = c.numbered-item.result in
     let within = (subst AreNumbers (sym c.deref-numbered-items.ensures.value) (are_numbers (provisions t) modules by)).below i m
-    (read_at c.deref-numbered-items.result.now i m c.loop-rank-test.true c.numbered-item.is) in
+    (read_at c.deref-numbered-items.result.now i c.loop-rank-test.true c.numbered-item.is) in
     omega (arith, within, c.loop-rank.invariant.as_many, c.loop-rank.ranks.ok.0)
 
 pub loop-rank-preserved : goal.loop-rank-preserved
 loop-rank-preserved c =
     let t = table_with c.args.objects.now c.args.infos.now in
     let modules = c.sort_unstable.new.self.items in
-    let made = c.loop-index.modules.items in
-    let long : length modules ≡ length made = omega (arith, c.sort_unstable.ensures.len, c.sort_unstable.new.self.ok.0, c.loop-index.modules.ok.0) in
-    let by = sorted_modules t c.requires.sound c.args.origins.now c.requires.origins c.loop-index.index c.loop-index-test.false c.loop-index.auto.index-end made
-    modules c.loop-index.invariant long c.sort_unstable.ensures.permutation c.sort_unstable.ensures.sorted in
+    let by = sorted (goal.at.loop-rank-preserved c).After-sort_unstable in
     let i = c.loop-rank.rank in
     let m = c.numbered-item.result in
     let items = c.deref-numbered-items.result.now in
     ranks_more items i c.loop-rank.ranks.items m (subst AreNumbers (sym c.deref-numbered-items.ensures.value) (are_numbers (provisions t) modules by))
-    (read_at items i m c.loop-rank-test.true c.numbered-item.is) c.loop-rank.invariant
+    (read_at items i c.loop-rank-test.true c.numbered-item.is) c.loop-rank.invariant
 
 pub invariant_of-result : goal.invariant_of-result
 invariant_of-result c =
     let t = table_with c.args.objects.now c.args.infos.now in
     let modules = c.sort_unstable.new.self.items in
-    let made = c.loop-index.modules.items in
-    let long : length modules ≡ length made = omega (arith, c.sort_unstable.ensures.len, c.sort_unstable.new.self.ok.0, c.loop-index.modules.ok.0) in
-    let by = sorted_modules t c.requires.sound c.args.origins.now c.requires.origins c.loop-index.index c.loop-index-test.false c.loop-index.auto.index-end made
-    modules c.loop-index.invariant long c.sort_unstable.ensures.permutation c.sort_unstable.ensures.sorted in
+    let by = sorted (goal.at.invariant_of-result c).After-sort_unstable in
     let items = c.deref-numbered-items.result.now in
     let all : c.loop-rank.rank ≡ length items = omega (arith, c.loop-rank-test.false, c.loop-rank.auto.rank-end) in
     let ranks = subst (λ (xs : List Numbered). AreRanks xs (length xs) c.loop-rank.ranks.items) c.deref-numbered-items.ensures.value
     (subst (λ n. AreRanks items n c.loop-rank.ranks.items) all c.loop-rank.invariant) in
     let ranked = are_ranked (provisions t) modules by c.loop-rank.ranks.items ranks (map lent (pairs_of modules)) (lent_modules modules) in
     let bound : length (provisions t) + length t.objects < 2 ^ 64 =
-    omega (arith, (zip_length (IsPlaceOf t) (provisions t) (origins_of t) (module_places t)), ap length c.requires.origins) in
+    omega (arith, (many_origins t), ap length c.requires.origins) in
     (c.requires.sound, subst (IsModuleGraph t) (sym c.in_ok-reaching.ensures) c.requires.graph, ranked, bound)

@@ -1,9 +1,9 @@
 use Rattle.module_table.specs.Modules.{provisions}
-use Rattle.module_table.specs.inner.Ranks.{AreListed, AreRanks}
+use Rattle.module_table.specs.inner.Ranks.{AreByNumber, AreRanks}
 use Rattle.module_table.proofs.needed.Needs.new.Given as goal
 
 abbrev pub invariant-loop-index : goal.invariant-loop-index
-invariant-loop-index l = AreListed (provisions (record { objects = l.objects; infos = l.infos })) l.index l.modules.items
+invariant-loop-index l = AreByNumber (provisions (record { objects = l.objects; infos = l.infos })) l.index l.modules.items
 
 abbrev pub invariant-loop-rank : goal.invariant-loop-rank
 invariant-loop-rank l = AreRanks l.numbered-items l.rank l.ranks.items

@@ -25,7 +25,7 @@ named_at-requires c =
     let name = c.args.name.now in
     let origin = c.index-origin.result.now in
     let found = found_there t names origins c.self.invariant.0 c.self.invariant.1 index name c.in-Some.ensures.found origin
-    (read_at origins index origin (within_places t names origins c.self.invariant.0 c.self.invariant.1 index name c.in-Some.ensures.found)
+    (read_at origins index (within_places t names origins c.self.invariant.0 c.self.invariant.1 index name c.in-Some.ensures.found)
     c.index-origin.ensures) in (
       name,
       found.0,
@@ -45,7 +45,7 @@ returns-in-Some-clause-found c =
     let named = same_place c.objects.result.now t.objects c.infos.result.now t.infos origin pair c.objects.ensures.objects c.infos.ensures c.named_at.ensures in
     subst (λ (s : TableValue). IsProvidedBy s origin.0 name c.named_at.result.1.now) c.self.view_is
     (provided_there t names origins c.self.invariant.0 c.self.invariant.1 index name c.in-Some.ensures.found origin
-    (read_at origins index origin (within_places t names origins c.self.invariant.0 c.self.invariant.1 index name c.in-Some.ensures.found)
+    (read_at origins index (within_places t names origins c.self.invariant.0 c.self.invariant.1 index name c.in-Some.ensures.found)
     c.index-origin.ensures) pair named)
 
 pub returns-in-None-clause-none : goal.returns-in-None-clause-none

@@ -1,2 +1,0 @@
-mod PoolLemmas
-pub mod ForCallers

@@ -1,9 +1,0 @@
-use Rattle.std.proofs.Common.{take}
-use Rattle.info_pool.specs.inner.Pools.{By, key_of, rows_of, AreListed, StillListed}
-use Rattle.info_pool.proofs.rows.list_modules.Given as goal
-
-abbrev pub invariant-loop-index : goal.invariant-loop-index
-invariant-loop-index l = record {
-  still : StillListed l.initial.listed l.listed;
-  all : (by : By) → AreListed (key_of by) l.number (take l.index l.info.modules) (rows_of l.listed by) l.shared.items;
-}

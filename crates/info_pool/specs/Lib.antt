@@ -1,4 +1,0 @@
-pub mod Indexes
-pub mod Pool
-pub mod Scratch
-pub mod inner

@@ -1,0 +1,114 @@
+//! Names and files that modules of several targets share: whether a pool returns a part, and which
+//! modules are in it. The program prints the same with the table of all modules.
+
+use crate::common::{name, path, push_line, value};
+use document_values::Rule;
+use module_table::{Pool, Requirements, Scratch};
+use scan_docs::info_read;
+use std::alloc::Global;
+use std::test::Fail;
+use table_keys::KeyDigest;
+
+/// Info files 0, 1 and 2 have a module `P` with a file each. Info files 2, 3 and 4 have a module
+/// with the file `s.pcm`: `Q`, `R` and `S`. Info file 5 requires `R`.
+const INFOS: [&[u8]; 6] = [
+    br#"{"version":1,"target":"a","modules":[{"name":"P","bmi":"a.pcm","requires":[]}]}"#,
+    br#"{"version":1,"target":"b","modules":[{"name":"P","bmi":"b.pcm","requires":[]}]}"#,
+    br#"{"version":1,"target":"c","modules":[{"name":"Q","bmi":"s.pcm","requires":[]},
+        {"name":"P","bmi":"c.pcm","requires":[{"name":"Q","bmi":"s.pcm"}]}]}"#,
+    br#"{"version":1,"target":"d","modules":[{"name":"R","bmi":"s.pcm","requires":[]}]}"#,
+    br#"{"version":1,"target":"e","modules":[{"name":"S","bmi":"s.pcm","requires":[]}]}"#,
+    br#"{"version":1,"target":"f","modules":[
+        {"name":"F","bmi":"f.pcm","requires":[{"name":"R","bmi":"s.pcm"}]}]}"#,
+];
+
+fn pool(alloc: Global) -> Result<Pool, Fail> {
+    let mut pool = Pool::new(alloc, KeyDigest::new().key());
+    for info in INFOS {
+        pool = pool.push(alloc, Some(value(info_read(alloc, info))?))?;
+    }
+    Ok(pool)
+}
+
+/// An object that requires this module.
+fn object(alloc: Global, module: &str) -> Result<Rule, Fail> {
+    let mut required = Vec::new(alloc);
+    required.push(name(alloc, module)?)?;
+    Ok(Rule {
+        object: path(alloc, "main.o")?,
+        provided: Vec::new(alloc),
+        required,
+    })
+}
+
+/// The files in the part of these info files that an object needs, a line for each, or nothing if
+/// there is no part.
+fn files(
+    alloc: Global,
+    pool: &Pool,
+    objects: &[Rule],
+    linked: &[usize],
+    scratch: &mut Scratch,
+) -> Result<Vec<u8>, Fail> {
+    let mut files = Vec::new(alloc);
+    if let Some(part) = pool.part(alloc, objects, linked, Requirements::Kept, scratch)? {
+        for info in &part {
+            for module in &info.modules {
+                push_line(&mut files, module.file.bytes())?;
+            }
+        }
+    }
+    Ok(files)
+}
+
+/// Whether the parts for an object that requires this module have these files, one part after
+/// another with one scratch.
+fn are(alloc: Global, module: &str, wanted: &[(&[usize], &[u8])]) -> Result<bool, Fail> {
+    let pool = pool(alloc)?;
+    let objects = [object(alloc, module)?];
+    let mut scratch = Scratch::new(alloc);
+    let mut are = true;
+    for (linked, lines) in wanted {
+        let found = files(alloc, &pool, &objects, linked, &mut scratch)?;
+        are &= found.as_slice() == *lines;
+    }
+    Ok(are)
+}
+
+#[test]
+fn one_of_the_modules_that_share_a_name_is_linked(rt: HostRuntime) -> Result<(), Fail> {
+    let wanted: [(&[usize], &[u8]); 5] = [
+        (&[2], b"c.pcm\ns.pcm\n"),
+        (&[1], b"b.pcm\n"),
+        (&[0], b"a.pcm\n"),
+        (&[5, 1, 3], b"b.pcm\n"),
+        (&[3], b""),
+    ];
+    assert!(rt; are(rt.alloc(), "P", &wanted)?);
+    Ok(())
+}
+
+#[test]
+fn two_linked_modules_share_a_name_or_a_file(rt: HostRuntime) -> Result<(), Fail> {
+    let wanted: [(&[usize], &[u8]); 5] = [
+        (&[0, 1], b""),
+        (&[2, 0], b""),
+        (&[1, 2], b""),
+        (&[2, 3], b""),
+        (&[2], b"c.pcm\ns.pcm\n"),
+    ];
+    assert!(rt; are(rt.alloc(), "P", &wanted)?);
+    Ok(())
+}
+
+#[test]
+fn a_module_is_required_whose_file_others_share(rt: HostRuntime) -> Result<(), Fail> {
+    let wanted: [(&[usize], &[u8]); 4] = [
+        (&[3, 5], b"s.pcm\nf.pcm\n"),
+        (&[4, 5], b""),
+        (&[2, 5], b""),
+        (&[5, 3, 0], b"f.pcm\ns.pcm\n"),
+    ];
+    assert!(rt; are(rt.alloc(), "F", &wanted)?);
+    Ok(())
+}

@@ -1,0 +1,404 @@
+-- What lists have, and rows of entries by keys: an entry that is added is listed.
+use Rattle.std.proofs.Common.{◌≡◌, ℕ, zero, suc, ◌+◌, ◌<◌, ◌≤◌, ◌⊎◌, Bool, true, false, cond, List, [], ◌∷◌, ◌++◌, length, Option, Some, None, option_copied, refl, ap, subst, sym, ◌∙◌, inl, inr, ⊎_elim, arith, slice_get, bytes_eq, true≢false, is_some, IfNone, IfSome, MatchBool, Bor, get_or, map, length-append}
+use Rattle.std.specs.List.{AllWithin, AllZip, HoldsAt}
+use Rattle.std.specs.Option.{MatchOption, option_eq}
+use Rattle.std.specs.Cmp.Lexicographic.{bytes_decides}
+use Rattle.std.proofs.lemmas.Option.{slice_get_read, slice_get_within, get_or_from_slice_get}
+use Rattle.document_values.specs.Info.{ModuleValue, InfoValue}
+use Rattle.module_table.specs.declared.pool.rows.ModuleAt.{ModuleAt}
+use Rattle.module_table.specs.declared.pool.rows.Row.{Row}
+use Rattle.module_table.specs.declared.pool.rows.Shared.{Shared}
+use Rattle.module_table.specs.declared.pool.rows.Listed.{Listed}
+use Rattle.module_table.specs.inner.Pools.{Has, By, by_name, by_file, key_of, Rows, rows_of, module_at, InRow, IsSameRow, IsPut, StillListed, AreListed, Below, IsRowUnlinked, IsUnlinked, IsKnownModule, IsSource, IsRelated, HasSource, HasShared, IsPool, AreIndexes, AreFit, IsFitAt, IsAlone, IsApart, IsCopied, IsPicked, IsPickedOf}
+use Rattle.ninja_text.proofs.ForCallers.{same_some, in_first, in_second, from_push, three_ways, same_cons, to_map, from_map, placed as index_of}
+use Rattle.document_values.specs.Rule.{RuleValue}
+use Rattle.module_table.specs.Parts.{HasModule, IsAlike, IsPartOf, KeepsRequired, InfosApart, OwnApart, AreClosed, IsEnough}
+use Rattle.module_table.specs.Pool.{AreLinked}
+use Rattle.module_table.specs.declared.pool.related.Related.{Related}
+use Rattle.module_table.proofs.Words.{At, Pair, target_of}
+
+abbrev pub modules_of : InfoValue → List ModuleValue
+modules_of info = info.modules
+
+-- ---- the first few elements of a list
+
+pub each_next : {X : Type 0} (P : ℕ → X → Type 0) (xs : List X) (i : ℕ) (x : X) → At xs i x
+    → ((k : ℕ) (y : X) → k < i → At xs k y → P k y) → P i x → (k : ℕ) (y : X) → k < i + 1 → At xs k y → P k y
+each_next P xs i x at before here k y lt at_k =
+    elim (three_ways k i) [
+      | inl less ↦ before k y less at_k
+      | inr rest ↦ elim rest [
+        | inl same ↦ subst (λ n. P n y) (sym same) (subst (P i) (same_some _ _ (sym at ∙ ap (slice_get xs) (sym same) ∙ at_k)) here)
+        | inr more ↦ absurd (omega (arith, lt, more))
+      ]
+    ]
+
+pub each_all : {X : Type 0} (P : ℕ → X → Type 0) (xs : List X) (i : ℕ) → length xs ≤ i → ((k : ℕ) (y : X) → k < i → At xs k y → P k y)
+    → (k : ℕ) (y : X) → At xs k y → P k y
+each_all P xs i past before k y at = let within = slice_get_within xs k y at in before k y (omega (arith, within, past)) at
+
+pub below_next : {X : Type 0} (P : X → Type 0) (xs : List X) (i : ℕ) (x : X) → At xs i x → Below P xs i → P x → Below P xs (i + 1)
+below_next P xs i x at before here = each_next (λ k. P) xs i x at before here
+
+pub below_map : {X : Type 0} (P Q : X → Type 0) (xs : List X) (i : ℕ) → ((x : X) → P x → Q x) → Below P xs i → Below Q xs i
+below_map P Q xs i weaker before k x lt at = weaker x (before k x lt at)
+
+pub below_all : {X : Type 0} (P : X → Type 0) (xs : List X) (i : ℕ) → length xs ≤ i → Below P xs i → (x : X) → Has xs x → P x
+below_all P xs i past before x h = each_all (λ k. P) xs i past before h.0 x h.1
+
+-- what `all` or `any` finds out of each element
+each_within : {X : Type 0} (P : X → Type 0) (xs : List X) → AllWithin P xs 0 (length xs) → (x : X) → Has xs x → P x
+each_within P xs all x h = let within = slice_get_within xs h.0 x h.1 in subst P (get_or_from_slice_get xs h.0 x x h.1) (all h.0 x (omega arith) within)
+
+pub all_true : {X : Type 0} (P : X → Type 0) (Q : Type 0) (xs : List X) (r : Bool) → MatchBool r (AllWithin P xs 0 (length xs)) Q → r ≡ true → (x : X)
+    → Has xs x → P x
+all_true P Q xs true h e = each_within P xs h
+all_true P Q xs false h e = absurd (true≢false (sym e))
+
+all_pushed : {X : Type 0} (P : X → Type 0) (xs new : List X) (y : X) → new ≡ xs ++ y ∷ [] → ((x : X) → Has xs x → P x) → P y → (x : X) → Has new x → P x
+all_pushed P xs new y pushed before here x h =
+    elim (from_push xs y h.0 x (ap (λ ys. slice_get ys h.0) (sym pushed) ∙ h.1)) [ inl old ↦ before x (h.0, old) | inr last ↦ subst P last.1 here ]
+
+-- the element at an index is equal to b
+pub same_at : {X : Type 0} (eq : X → X → Bool) → ((x y : X) → eq x y ≡ true → x ≡ y) → (xs : List X) (i : ℕ) (r : Option (Bor X)) (b : Bor X)
+    → MatchOption r (length xs ≤ i) (λ x. (i < length xs) × HoldsAt (λ y. x.now ≡ y) xs i) → option_eq (λ x y. eq x.now y.now) r (Some b) ≡ true
+    → At xs i b.now
+same_at eq means xs i None b at e = absurd (true≢false (sym e))
+same_at eq means xs i (Some x) b at e = slice_get_read xs _ i x.now refl at.0 (at.1 x.now) ∙ ap Some (means x.now b.now e)
+
+-- ---- truth values
+
+pub there_is : {X : Type 0} (P : X → Type 0) (o : Option X) → is_some o ≡ true → IfSome o P → (x : X) × (o ≡ Some x) × P x
+there_is P None e h = absurd (true≢false (sym e))
+there_is P (Some x) e h = (x, refl, h)
+
+pub if_none : {X : Type 0} (P : Type 0) (o : Option X) → is_some o ≡ false → IfNone o P → P
+if_none P None e h = h
+if_none P (Some x) e h = absurd (true≢false e)
+
+-- ---- what is read and what is pushed
+
+pub has_grown : {X : Type 0} (xs new : List X) (y x : X) → new ≡ xs ++ y ∷ [] → Has xs x → Has new x
+has_grown xs new y x pushed h = (h.0, ap (λ ys. slice_get ys h.0) pushed ∙ in_first xs (y ∷ []) h.0 x h.1)
+
+pub has_new : {X : Type 0} (xs new : List X) (y : X) → new ≡ xs ++ y ∷ [] → Has new y
+has_new xs new y pushed = (length xs + 0, ap (λ ys. slice_get ys (length xs + 0)) pushed ∙ in_second xs (y ∷ []) 0 y refl)
+
+pub last_at : {X : Type 0} (xs : List X) (y : X) (n : ℕ) → n ≡ length xs → At (xs ++ y ∷ []) n y
+last_at xs y n same = let at : n ≡ length xs + 0 = omega (arith, same) in ap (slice_get (xs ++ y ∷ [])) at ∙ in_second xs (y ∷ []) 0 y refl
+
+-- ---- rows
+
+abbrev pub first_of : Row → ModuleAt
+first_of row = row.first
+
+abbrev pub number_of : Row → Option ℕ
+number_of row = row.number
+
+abbrev info_at : ModuleAt → ℕ
+info_at m = m.info
+
+pub same_row : (r : Row) → IsSameRow r r
+same_row r = (refl, λ x h. h)
+
+pub row_of_row : (a b c : Row) → IsSameRow a b → IsSameRow b c → IsSameRow a c
+row_of_row a b c h k = (k.0 ∙ h.0, λ x e. k.1 x (h.1 x e))
+
+-- a module stays listed in a row that stays, by all that its info shares
+in_row_still : (P Q : Shared → Type 0) (old new : Option Row) (at : ModuleAt) → ((s : Shared) → P s → Q s)
+    → ((r : Row) → old ≡ Some r → (row : Row) × (new ≡ Some row) × IsSameRow r row) → InRow P old at → InRow Q new at
+in_row_still P Q old new at more kept h =
+    let k = kept h.0 h.1 in (
+      k.0,
+      k.1,
+      elim h.2 [
+        | inl first ↦ inl (k.2.0 ∙ first)
+        | inr shared ↦ inr (shared.0, more shared.0 shared.1, k.2.1 shared.0.number shared.2, shared.3, shared.4 ∙ ap info_at (sym k.2.0))
+      ],
+    )
+
+module _ (old new : Rows) (key : List ℕ) (at : ModuleAt) (shared : List Shared) (put : IsPut bytes_eq old new key at shared) where
+  there : (q : List ℕ) → q ≡ key → new q ≡ Some put.row
+  there q same = put.updates q ∙ ap (λ b. cond b (Some put.row) (old q)) ((bytes_decides key q).1 (sym same))
+
+  cases : (q : List ℕ) → (q ≡ key) ⊎ (new q ≡ old q)
+  cases q = by (bytes_eq key q) refl
+    where
+      by : (b : Bool) → bytes_eq key q ≡ b → (q ≡ key) ⊎ (new q ≡ old q)
+      by true e = inl (sym ((bytes_decides key q).0 e))
+      by false e = inr (put.updates q ∙ ap (λ b. cond b (Some put.row) (old q)) e)
+
+  pub row_kept : (q : List ℕ) (r : Row) → old q ≡ Some r → (row : Row) × (new q ≡ Some row) × IsSameRow r row
+  row_kept q r h = elim (cases q) [ inl same ↦ (put.row, there q same, put.kept r (ap old (sym same) ∙ h)) | inr other ↦ (r, other ∙ h, same_row r) ]
+
+  now_in_row : (q : List ℕ) → q ≡ key → InRow (Has shared) (new q) at
+  now_in_row q same = subst (λ o. InRow (Has shared) o at) (sym (there q same)) put.listed
+
+  -- one more module of the info is listed
+  pub module_listed : (by : ModuleValue → List ℕ) (number : ℕ) (modules : List ModuleValue) (m : ModuleValue) (before : List Shared) → by m ≡ key
+      → at ≡ module_at number (length modules)
+      → ((s : Shared) → Has before s → Has shared s) → AreListed by number modules old before → AreListed by number (modules ++ m ∷ []) new shared
+  module_listed by number modules m before own here more listed j x has = elim (from_push modules m j x has) [
+    | inl old_j ↦ in_row_still (Has before) (Has shared) (old (by x)) (new (by x)) (module_at number j) more (row_kept (by x)) (listed j x old_j)
+    | inr last ↦ subst (λ a. InRow (Has shared) (new (by x)) a) (here ∙ ap (module_at number) (sym last.0)) (now_in_row (by x) (ap by (sym last.1) ∙ own))
+  ]
+
+-- the module is listed, and its info shares more
+pub put_more : (old new : Rows) (key : List ℕ) (at : ModuleAt) (before shared : List Shared) → ((s : Shared) → Has before s → Has shared s)
+    → IsPut bytes_eq old new key at before → IsPut bytes_eq old new key at shared
+put_more old new key at before shared more put = record {
+  row = put.row;
+  updates = put.updates;
+  kept = put.kept;
+  listed = in_row_still (Has before) (Has shared) (Some put.row) (Some put.row) at more (λ r e. (r, e, same_row r)) put.listed;
+}
+
+-- the module is listed by its name and by its file
+pub each_put : (old new : Listed) (m : ModuleValue) (at : ModuleAt) (shared : List Shared)
+    → IsPut bytes_eq (rows_of old by_name) (rows_of new by_name) m.name at shared → IsPut bytes_eq (rows_of old by_file) (rows_of new by_file) m.file at shared
+    → (by : By) → IsPut bytes_eq (rows_of old by) (rows_of new by) (key_of by m) at shared
+each_put old new m at shared named filed by_name = named
+each_put old new m at shared named filed by_file = filed
+
+-- what `get` returns is the row of the key
+pub unlinked : (linked : List ℕ) (stamps : List ModuleAt) (rows : Rows) (key : List ℕ) (r : Option (Bor Row)) → option_copied r ≡ rows key
+    → IfSome r (λ row. IsRowUnlinked linked stamps row.now) → IsUnlinked linked stamps rows key
+unlinked linked stamps rows key None same all row e = let none : None ≡ Some row = same ∙ e in cc
+unlinked linked stamps rows key (Some r) same all row e = subst (IsRowUnlinked linked stamps) (same_some _ _ (same ∙ e)) all
+
+-- ---- What is looked at of linked info files and of objects, and what is copied of the info files
+
+-- ---- what is looked at
+
+module _ (linked : List ℕ) (related : List (Option Related)) (stamps : List ModuleAt) (fit : (n : ℕ) → Has linked n → IsFitAt linked related stamps n) where
+  alone : (n : ℕ) (s : Shared) → Has linked n → HasShared related n s → IsAlone linked stamps n s
+  alone n s h (r, at, shared) = let f = fit n h in let same : r ≡ f.0 = cc in f.3 s (subst (λ (r : Related). Has r.shared.items s) same shared)
+
+  pub all_fit : AreFit linked related stamps
+  all_fit = record {
+    closed = λ n k h source. let f = fit n h in let same : source.0 ≡ f.0 = same_some _ _ (same_some _ _ (sym source.1 ∙ f.1)) in
+        f.2 k (subst (λ (r : Related). Has r.sources.items k) same source.2);
+    first = λ n s h shared. (alone n s h shared).0;
+    stamped = λ n s h shared. (alone n s h shared).1;
+  }
+
+pub known_there : (known : List (Option InfoValue)) (n : ℕ) (value : InfoValue) → get_or known n None ≡ Some value → At known n (Some value)
+known_there [] n value e = cc
+known_there (x ∷ xs) zero value e = ap Some e
+known_there (x ∷ xs) (suc n) value e = known_there xs n value e
+
+module _ (known : List (Option InfoValue)) (linked : List ℕ) (infos : List InfoValue) (are : AreLinked known linked infos) where
+  -- a module of the info files is one that is known
+  known_at : (i j : ℕ) (m : ModuleValue) → HasModule infos i j m → (n : ℕ) × (At linked i n) × IsKnownModule known n j m
+  known_at i j m has =
+      let at = ap (λ xs. slice_get xs i) (sym are) ∙ to_map Some infos i has.0 has.1 in
+      let n = from_map (λ k. get_or known k None) linked i (Some has.0) at in
+      (n.0, n.1, (has.0, known_there known n.0 has.0 n.2, has.2))
+
+  -- and a module that is known of a linked info is one of the info files
+  linked_at : (i n j : ℕ) (m : ModuleValue) → At linked i n → IsKnownModule known n j m → HasModule infos i j m
+  linked_at i n j m here has =
+      let at = ap (λ xs. slice_get xs i) are ∙ to_map (λ k. get_or known k None) linked i n here ∙
+      ap Some (get_or_from_slice_get known n (Some has.0) None has.1) in
+      let info = from_map Some infos i (Some has.0) at in
+      (info.0, info.1, ap (λ (v : InfoValue). slice_get v.modules j) (same_some _ _ info.2) ∙ has.2)
+
+  module _ (listed : Listed) (related : List (Option Related)) (pool : IsPool known listed related) (indexes : List ℕ) (at : AreIndexes linked indexes)
+      (stamps : List ModuleAt) (fit : AreFit linked related stamps) where
+    -- no info is linked twice
+    once : (i k n : ℕ) → At linked i n → At linked k n → i ≡ k
+    once i k n a b = same_some _ _ (sym (at i n a) ∙ at k n b)
+
+    -- two linked modules in one row are one
+    one_in_row : (found : Option Row) (n p : ℕ) (j l : ℕ) → Has linked n → Has linked p → InRow (HasShared related n) found (module_at n j)
+        → InRow (HasShared related p) found (module_at p l)
+        → module_at n j ≡ module_at p l
+    one_in_row found n p j l has_n has_p a b =
+        let row : a.0 ≡ b.0 = same_some _ _ (sym a.1 ∙ b.1) in
+        elim a.2 [
+          | inl first_a ↦ elim b.2 [
+            | inl first_b ↦ sym first_a ∙ ap first_of row ∙ first_b
+            | inr s ↦ absurd (fit.first p s.0 has_p s.1 (subst (Has linked) (ap info_at (sym first_a ∙ ap first_of row)
+                ∙ sym s.4) has_n))
+          ]
+          | inr s ↦ elim b.2 [
+            | inl first_b ↦ absurd (fit.first n s.0 has_n s.1
+                (subst (Has linked) (ap info_at (sym first_b ∙ ap first_of (sym row)) ∙ sym s.4) has_p))
+            | inr t ↦
+                let number : s.0.number ≡ t.0.number = same_some _ _ (sym s.2 ∙ ap number_of row ∙ t.2) in
+                ap (module_at n) (sym s.3) ∙ same_some _ _ (sym (fit.stamped n s.0 has_n s.1) ∙ ap (slice_get stamps) number ∙ fit.stamped p t.0 has_p t.1)
+                ∙ ap (module_at p) t.3
+          ]
+        ]
+
+    apart_by : (by : By) (i j k l : ℕ) (a b : ModuleValue) → HasModule infos i j a → HasModule infos k l b → key_of by a ≡ key_of by b → (i ≡ k) × (j ≡ l)
+    apart_by by i j k l a b has_a has_b alike =
+        let x = known_at i j a has_a in
+        let y = known_at k l b has_b in
+        let same = one_in_row (rows_of listed by (key_of by b)) x.0 y.0 j l (i, x.1) (k, y.1)
+        (subst (λ q. InRow (HasShared related x.0) (rows_of listed by q) (module_at x.0 j)) alike (pool.are_listed by x.0 j a x.2))
+        (pool.are_listed by y.0 l b y.2) in
+        (once i k y.0 (x.1 ∙ ap (λ (m : ModuleAt). Some m.info) same) y.1, ap (λ (m : ModuleAt). m.module) same)
+
+    infos_apart : InfosApart infos
+    infos_apart i j k l a b has_a has_b = ⊎_elim (apart_by by_name i j k l a b has_a has_b) (apart_by by_file i j k l a b has_a has_b)
+
+    are_closed : AreClosed infos
+    are_closed i j m name file has needs =
+        let x = known_at i j m has in
+        let s = pool.sources x.0 j m (name, file) x.2 (index_of m.required (name, file) needs) in
+        let there = fit.closed x.0 s.0 (i, x.1) s.1 in (
+          there.0,
+          s.2.0,
+          s.2.1,
+          linked_at there.0 s.0 s.2.0 s.2.1 there.1 s.2.2,
+          s.2.3,
+          s.2.4,
+          λ private.
+              once there.0 i x.0 (there.1 ∙ ap Some (s.2.5 private)) x.1,
+        )
+
+    -- a linked module is not in a row of which nothing is linked
+    none_in_row : (rows : Rows) (key : List ℕ) (i n j : ℕ) → At linked i n → IsUnlinked linked stamps rows key
+        → InRow (HasShared related n) (rows key) (module_at n j) → ⊥
+    none_in_row rows key i n j linked_n none h =
+        let row = none h.0 h.1 in
+        elim h.2 [
+          | inl first ↦ row.first (i, linked_n ∙ ap (λ (m : ModuleAt). Some m.info) (sym first))
+          | inr s ↦ row.stamped s.0.number (module_at n s.0.module) s.2 (fit.stamped n s.0 (i, linked_n) s.1) (i, linked_n)
+        ]
+
+    -- so a key of an object is that of no linked module
+    key_apart : (by : By) (key : List ℕ) (i k : ℕ) (m : ModuleValue) → HasModule infos i k m → IsUnlinked linked stamps (rows_of listed by) key →
+        key ≡ key_of by m → ⊥
+    key_apart by key i k m has none same = let x = known_at i k m has in
+        none_in_row (rows_of listed by) key i x.0 k x.1 none (rw same (pool.are_listed by x.0 k m x.2))
+
+    module _ (objects : List RuleValue) (rules : (o : ℕ) (rule : RuleValue) → At objects o rule → IsApart linked stamps listed rule) where
+      own_apart : OwnApart objects infos
+      own_apart = record {
+        names = λ o j i k rule name file m here provides has. key_apart by_name name i k m has ((rules o rule here).provided (name, file) (j, provides)).0;
+        files = λ o j i k rule name file m here provides has. key_apart by_file file i k m has ((rules o rule here).provided (name, file) (j, provides)).1;
+        paths = λ o i k rule m here has. key_apart by_file rule.object i k m has (rules o rule here).path;
+      }
+
+      -- the part that was copied is enough
+      pub enough : (part : List InfoValue) → IsPartOf part infos → IsEnough objects part infos
+      enough part is_part = record { is_part = is_part; infos_apart = infos_apart; own_apart = own_apart; closed = are_closed }
+
+-- ---- what is copied
+
+-- one more module is copied
+pub one_more_picked : (keeps : Type 0) (known : List (Option InfoValue)) (n : ℕ) (info old new : InfoValue) (m : ModuleValue) → IsPickedOf keeps known n old
+    → get_or known n None ≡ Some info → IsCopied keeps info m → new.target ≡ old.target → new.modules ≡ old.modules ++ m ∷ [] → IsPickedOf keeps known n new
+one_more_picked keeps known n info old new m picked is copied target pushed = (
+  picked.0,
+  picked.1,
+  (
+    target ∙ picked.2.0,
+    all_pushed (IsCopied keeps picked.0) old.modules new.modules m pushed picked.2.1
+        (subst (λ v. IsCopied keeps v m) (same_some _ _ (sym is ∙ picked.1)) copied),
+  ),
+)
+
+module _ (keeps : Type 0) where
+  abbrev AreCopied : List InfoValue → List InfoValue → Type 0
+  AreCopied part infos = (i j : ℕ) (m : ModuleValue) → HasModule part i j m
+      → (k : ℕ) × (w : ModuleValue) × HasModule infos i k w × IsAlike m w × (keeps → m ≡ w)
+
+  one_copied : (info p : InfoValue) (infos part : List InfoValue) → IsPicked keeps info p → AreCopied part infos → AreCopied (p ∷ part) (info ∷ infos)
+  one_copied info p infos part picked others zero j m has =
+      let copy = picked.1 m (j, ap (λ (v : InfoValue). slice_get v.modules j) (sym (same_some _ _ (sym has.1))) ∙ has.2) in
+      (copy.0, copy.1, (info, refl, copy.2), copy.3, copy.4)
+  one_copied info p infos part picked others (suc i) j m has = others i j m has
+
+  all_copied : (known : List (Option InfoValue)) (linked : List ℕ) (part : List InfoValue) → AllZip (IsPickedOf keeps known) linked part
+      → (infos : List InfoValue) × AreLinked known linked infos ×
+      (map target_of part ≡ map target_of infos) × AreCopied part infos
+  all_copied known [] [] h = ([], refl, refl, λ i j m has. let none = has.1 in cc)
+  all_copied known [] (p ∷ part) h = absurd h
+  all_copied known (n ∷ linked) [] h = absurd h
+  all_copied known (n ∷ linked) (p ∷ part) h =
+      let rest = all_copied known linked part h.1 in
+      (h.0.0 ∷ rest.0, same_cons (sym h.0.1) rest.1, same_cons h.0.2.0 rest.2, one_copied h.0.0 p rest.0 part h.0.2 rest.3)
+
+  pub part_of : (known : List (Option InfoValue)) (linked : List ℕ) (part : List InfoValue) → AllZip (IsPickedOf keeps known) linked part
+      → (infos : List InfoValue) × AreLinked known linked infos × IsPartOf part infos × (keeps → KeepsRequired part infos)
+  part_of known linked part h =
+      let all = all_copied known linked part h in (
+        all.0,
+        all.1,
+        record { targets = all.2; modules = λ i j m has. let c = all.3 i j m has in (c.0, c.1, c.2, c.3) },
+        λ kept i j m has. let c = all.3 i j m has in (c.0, subst (λ w. HasModule all.0 i c.0 w) (sym (c.4 kept)) c.2),
+      )
+
+-- ---- how info files are related
+
+-- these info files have what a module of the info file that is added requires
+abbrev pub IsSourced : List (Option InfoValue) → InfoValue → List ℕ → Pair → Type 0
+IsSourced infos info sources pair = (k : ℕ) × Has sources k × IsSource (infos ++ Some info ∷ []) (length infos) pair k
+
+pub is_source : (known : List (Option InfoValue)) (i k l : ℕ) (m : ModuleValue) (pair : Pair) → IsKnownModule known k l m
+    → bytes_eq m.name pair.0 ≡ true → bytes_eq m.file pair.1 ≡ true → (m.is_private ≡ true → k ≡ i) → IsSource known i pair k
+is_source known i k l m pair has name file private = (l, m, has, (bytes_decides m.name pair.0).0 name, (bytes_decides m.file pair.1).0 file, private)
+
+-- ---- a pool that grows by one
+
+from_grown : (known : List (Option InfoValue)) (x : Option InfoValue) (i j : ℕ) (m : ModuleValue) → IsKnownModule (known ++ x ∷ []) i j m
+    → IsKnownModule known i j m ⊎ ((i ≡ length known) × ((value : InfoValue) × (x ≡ Some value) × (At value.modules j m)))
+from_grown known x i j m has = elim (from_push known x i (Some has.0) has.1)
+    [ inl old ↦ inl (has.0, old, has.2) | inr last ↦ inr (last.0, (has.0, last.1, has.2)) ]
+
+module _ (known : List (Option InfoValue)) (listed new : Listed) (related : List (Option Related)) (pool : IsPool known listed related)
+    (still : StillListed listed new)
+    (x : Option InfoValue) (r : Option Related) (is : (info : InfoValue) → x ≡ Some info → (s : Related) × (r ≡ Some s) × IsRelated known info new s) where
+  abbrev all_known : List (Option InfoValue)
+  all_known = known ++ x ∷ []
+
+  abbrev all_related : List (Option Related)
+  all_related = related ++ r ∷ []
+
+  as_many : length all_related ≡ length all_known
+  as_many = let many = pool.many in simp length-append (omega (arith, many))
+
+  shared_kept : (i : ℕ) (s : Shared) → HasShared related i s → HasShared all_related i s
+  shared_kept i s h = (h.0, in_first related (r ∷ []) i (Some h.0) h.1, h.2)
+
+  relation_at : (i : ℕ) (s : Related) → i ≡ length known → r ≡ Some s → At all_related i (Some s)
+  relation_at i s same e = let many = pool.many in last_at related r i (omega (arith, same, many)) ∙ ap Some e
+
+  now_listed : (by : By) (i j : ℕ) (m : ModuleValue) → IsKnownModule all_known i j m
+      → InRow (HasShared all_related i) (rows_of new by (key_of by m)) (module_at i j)
+  now_listed by i j m has = elim (from_grown known x i j m has) [
+    | inl old ↦ in_row_still (HasShared related i) (HasShared all_related i) _ _ (module_at i j) (shared_kept i) (still by (key_of by m))
+        (pool.are_listed by i j m old)
+    | inr own ↦
+        let s = is own.1.0 own.1.1 in
+        in_row_still (Has s.0.shared.items) (HasShared all_related i) _ _ (module_at i j) (λ t h. (s.0, relation_at i s.0 own.0 s.1, h))
+        (λ row e. (row, e, same_row row))
+        (subst (λ n. InRow (Has s.0.shared.items) (rows_of new by (key_of by m)) (module_at n j)) (sym own.0) (s.2.are_listed by j m own.1.2))
+  ]
+
+  sources : (i j : ℕ) (m : ModuleValue) (pair : Pair) → IsKnownModule all_known i j m → Has m.required pair
+      → (k : ℕ) × HasSource all_related i k × IsSource all_known i pair k
+  sources i j m pair has needs =
+      elim (from_grown known x i j m has) [
+        | inl old ↦
+            let s = pool.sources i j m pair old needs in
+            let w = s.2.2 in (
+              s.0,
+              (s.1.0, in_first related (r ∷ []) i (Some s.1.0) s.1.1, s.1.2),
+              (s.2.0, s.2.1, (w.0, in_first known (x ∷ []) s.0 (Some w.0) w.1, w.2), s.2.3, s.2.4, s.2.5),
+            )
+        | inr own ↦
+            let s = is own.1.0 own.1.1 in
+            let found = s.2.sources j m pair own.1.2 needs in (
+              found.0,
+              (s.0, relation_at i s.0 own.0 s.1, found.1),
+              subst (λ (o : Option InfoValue). IsSource (known ++ o ∷ []) i pair found.0) (sym own.1.1)
+                  (subst (λ n. IsSource (known ++ Some own.1.0 ∷ []) n pair found.0) (sym own.0) found.2),
+            )
+      ]
+
+  pub pool_grown : IsPool all_known new all_related
+  pool_grown = record { are_listed = now_listed; sources = sources; many = as_many }

@@ -1,0 +1,21 @@
+use Rattle.std.proofs.Common.{Option, ◌∙◌, ap, refl, subst, sym, slice_get, IfSome, Bor}
+use Rattle.std.proofs.lemmas.Option.{slice_get_read}
+use Rattle.module_table.specs.declared.pool.rows.ModuleAt.{ModuleAt}
+use Rattle.module_table.specs.inner.Pools.{Has, IsRowUnlinked}
+use Rattle.module_table.specs.declared.pool.rows.Row.{Row}
+use Rattle.ninja_text.proofs.ForCallers.{same_some}
+use Rattle.module_table.proofs.pool.links.Links.module_of.Goals as goal
+
+-- said here, so that a body which compares other info files is rejected soon
+pub returns-else-has-2 : goal.returns-else-has-2
+returns-else-has-2 c =
+    let links = c.args.self.now in
+    let h = c.in_ok-stamp.ensures.lookup in
+    subst (λ (o : Option (Bor Row)). IfSome o (λ row. IsRowUnlinked links.linked.now links.stamps.now row.now)) (sym c.in_ok-row.was) (record {
+      first = c.has.ensures.unlinked c.if-has.false;
+      stamped = λ x at is at_x.
+          let same = same_some _ _
+          (sym (slice_get_read links.stamps.now _ c.in_ok-number.number c.in_ok-stamp.field-0.now refl h.3.0 h.1) ∙
+          ap (slice_get links.stamps.now) (same_some _ _ (sym c.in_ok-number.was ∙ is)) ∙ at_x) in
+          subst (λ (m : ModuleAt). Has links.linked.now m.info → ⊥) same (c.has-2.ensures.unlinked c.if-has-2.false);
+    })

@@ -1,0 +1,10 @@
+-- A scratch that has not been used.
+use Rattle.std.specs.Prelude.{◌≡◌, []}
+use Rattle.module_table.specs.declared.pool.picking.Scratch.{Scratch}
+
+-- it has no indexes and stamps of links, and no picked modules
+pub record IsUnused (scratch : Scratch) : Type 0 where
+  pub indexes : scratch.indexes.items ≡ []
+  pub stamps : scratch.stamps.items ≡ []
+  pub picked : scratch.picked.modules.items ≡ []
+  pub picked_indexes : scratch.picked.indexes.items ≡ []
