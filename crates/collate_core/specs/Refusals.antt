@@ -101,6 +101,6 @@ WasRead target (Map o fault) read = read ≡ table_of target
 WasRead target other read = Unit {0}
 
 -- a rejected target has what was read of it
-abbrev pub HasRead : TargetValue → RefusedTarget → Type 0
-HasRead target refused =
+abbrev pub HasReadOf : TargetValue → RefusedTarget → Type 0
+HasReadOf target refused =
     WasRead target refused.refusal (table_with refused.objects.items refused.infos.items)

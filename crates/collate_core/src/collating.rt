@@ -6,7 +6,7 @@ ghost use Rattle.module_table.specs.Sound.{IsSound};
 ghost use Rattle.collate_core.specs.Documents.{table_of};
 ghost use Rattle.collate_core.specs.Collation.{Collates};
 ghost use Rattle.collate_core.specs.Headline.{IsHeadline, IsDyndepOf};
-ghost use Rattle.collate_core.specs.Refusals.{IsRefusal, HasRead};
+ghost use Rattle.collate_core.specs.Refusals.{IsRefusal, HasReadOf};
 ghost use Rattle.collate_core.specs.inner.Parts.{IsTableText, IsTextsRefusal, IsWrittenOf};
 
 use crate::collated::{Collated, CollatedParts};
@@ -91,7 +91,7 @@ pub fn collate_or_refused<M: MapStyle>(
     ensures headline { IfOk result (IsHeadline target.now) }
     ensures refused { IfErr result (ForFault (λ refused. IsRefusal target.now
         (option_map M.written (option_copied style.entry)) refused.refusal)) }
-    ensures read { IfErr result (ForFault (HasRead target.now)) }
+    ensures read { IfErr result (ForFault (HasReadOf target.now)) }
 {
     crate::laws::headline();
     let table = table_of(alloc, target)?;
@@ -158,7 +158,7 @@ pub fn collate_dyndep_or_refused(
     ensures dyndep { IfOk result (λ text. IsDyndepOf target.now text.items) }
     ensures refused { IfErr result
         (ForFault (λ refused. IsRefusal target.now None refused.refusal)) }
-    ensures read { IfErr result (ForFault (HasRead target.now)) }
+    ensures read { IfErr result (ForFault (HasReadOf target.now)) }
 {
     crate::laws::headline();
     module_table::laws::added_files_can_be_ordered();

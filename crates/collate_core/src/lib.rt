@@ -7,7 +7,7 @@
 //!   `IsRefusal`). The law [`one_outcome`] says that there are never both, nor two errors.
 //!   [`collate_dyndep`] returns only the dyndep text (`specs/Headline.antt`, `IsDyndepOf`). An
 //!   error has objects and info files by their indexes. [`collate_or_refused`] and its like also
-//!   return what was read of the target (`specs/Refusals.antt`, `HasRead`).
+//!   return what was read of the target (`specs/Refusals.antt`, `HasReadOf`).
 //! - The result has the headline (`specs/Headline.antt`, `IsHeadline`): the dyndep text stands for
 //!   one statement per object and for nothing else. On every build that names the file on exactly
 //!   the objects it has exactly one effect, which adds to each object's edge exactly what the

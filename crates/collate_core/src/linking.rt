@@ -3,7 +3,7 @@ ghost use Rattle.std.specs.Prelude.{◌≡◌, ◌<◌, MatchOption, IfOk, IfErr
 ghost use Rattle.std.specs.Option.{option_copied, option_map};
 ghost use Rattle.ninja_text.specs.Failure.{ForFault};
 ghost use Rattle.module_table.specs.Sound.{IsSound, PrivateAreProvided};
-ghost use Rattle.collate_core.specs.Refusals.{HasRead};
+ghost use Rattle.collate_core.specs.Refusals.{HasReadOf};
 ghost use Rattle.collate_core.specs.Projects.{IsLinkedRefusal, target_of, linked_infos};
 ghost use Rattle.collate_core.specs.inner.Parts.{CollatesLinked};
 ghost use Rattle.collate_core.specs.inner.PartTables.{IsEnoughFor};
@@ -46,7 +46,7 @@ pub(crate) fn collate_linked<M: MapStyle>(
     ensures refused { IfErr result (ForFault (λ refused. IsLinkedRefusal
         (option_map M.written (option_copied style.entry))
         outs.now (length outs.now) target.now refused.refusal)) }
-    ensures read { IfErr result (ForFault (HasRead (target_of outs.now target.now))) }
+    ensures read { IfErr result (ForFault (HasReadOf (target_of outs.now target.now))) }
 {
     let Some(infos) = infos_of(alloc, target.linked, outs)? else {
         return Err(Failure::Fault(without_table(alloc, Refusal::LinkedLater)));

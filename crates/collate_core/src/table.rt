@@ -4,7 +4,7 @@ ghost use Rattle.ninja_text.specs.Failure.{ForFault, Turns};
 ghost use Rattle.scan_docs.specs.Scan.{IsRuleText};
 ghost use Rattle.module_maps.specs.Maps.{Written};
 ghost use Rattle.collate_core.specs.Documents.{all_rules, table_of, AreScansAccepted, IsResolved};
-ghost use Rattle.collate_core.specs.Refusals.{IsRefusal, IsScanRefusal, IsInfoRefusal, HasRead};
+ghost use Rattle.collate_core.specs.Refusals.{IsRefusal, IsScanRefusal, IsInfoRefusal, HasReadOf};
 ghost use Rattle.collate_core.specs.inner.Parts.{IsTableText, ForScan, ForInfo, IsOfTable};
 ghost use Rattle.collate_core.specs.inner.ReadInfos.{AreReadAs};
 
@@ -28,7 +28,7 @@ pub(crate) fn table_of(alloc: Global, target: &Target<'_>) -> Result<Table, Fail
     // whatever the style, since maps come later
     ensures refused { IfErr result (ForFault (λ refused.
         (style : Option Written) → IsRefusal target.now style refused.refusal)) }
-    ensures read { IfErr result (ForFault (HasRead target.now)) }
+    ensures read { IfErr result (ForFault (HasReadOf target.now)) }
 {
     let objects = match rules_of_all(alloc, target.setting, target.scans) {
         Ok(objects) => objects,
