@@ -1,6 +1,7 @@
 -- The reader of edge listings, line by line, and the laws of lines and of texts.
-use Rattle.std.proofs.Common.{◌≡◌, ◌≢◌, ℕ, ◌+◌, ◌<◌, Bool, true, false, zero, suc, List, [], ◌∷◌, ◌++◌, length, refl, sym, ap, ◌∙◌, Some, None, Ok, Err, arith, inl, inr, ◌≤◌, subst, ◌⊎◌}
+use Rattle.std.proofs.Common.{◌≡◌, ◌≢◌, ℕ, ◌+◌, ◌<◌, Bool, true, false, zero, suc, List, [], ◌∷◌, ◌++◌, length, refl, sym, ap, append_assoc, ◌∙◌, Some, None, Ok, Err, arith, inl, inr, ◌≤◌, subst, ◌⊎◌}
 use Rattle.std.specs.Prelude.{Result, IfOk, IfErr, All, slice_set, slice_index_or, nat_lt}
+use Rattle.ninja_text.specs.Failure.{Gives}
 use Rattle.ninja_text.specs.Paths.{path_of}
 use Rattle.ninja_text.specs.declared.fault.PathFault.{PathFault}
 use Rattle.build_effect.specs.EdgeValue.{EdgeValue}
@@ -99,6 +100,19 @@ behind paths (Err fault) = Err fault
 pub behind_none : (found : Result (List (List ℕ)) PathFault) → found ≡ behind [] found
 behind_none (Ok more) = refl
 behind_none (Err fault) = refl
+
+pub behind_one : (paths : List (List ℕ)) {new : List (List ℕ)} {path : List ℕ} (found : Result (List ℕ) PathFault) (more : Result (List (List ℕ)) PathFault)
+    → found ≡ Ok path → new ≡ paths ++ path ∷ [] → behind paths (with_path found more) ≡ behind new more
+behind_one paths {new} {path} found (Ok rest) is pushed = rw (is, pushed) (ap Ok (sym (append_assoc paths (path ∷ []) rest)))
+behind_one paths {new} {path} found (Err fault) is pushed = subst (λ found. behind paths (with_path found (Err fault)) ≡ Err fault) (sym is) refl
+
+-- the fault of one path is that of all
+pub path_failed : {T : Type 0} (view : T → List (List ℕ)) (paths : List (List ℕ)) {all : Result (List (List ℕ)) PathFault} (found : Result (List ℕ) PathFault)
+    (more : Result (List (List ℕ)) PathFault) (failure : Failure PathFault) → all ≡ behind paths (with_path found more)
+    → Gives {V = List ℕ} (λ path. path) (Err failure) found → Gives view (Err failure) all
+path_failed view paths {all} found more Memory is gives = tt
+path_failed view paths {all} found more (Fault fault) is gives =
+    is ∙ subst (λ found. behind paths (with_path found more) ≡ Err fault) (sym gives) refl
 
 -- if there are strings, there are paths
 pub paths_somehow : (texts paths : List (List ℕ)) → paths_of texts ≡ Ok paths → texts ≢ [] → paths ≢ []

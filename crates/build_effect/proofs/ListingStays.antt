@@ -1,5 +1,5 @@
 -- A fault in the bytes so far is the fault of every text that begins with them.
-use Rattle.std.proofs.Common.{◌≡◌, ℕ, ◌<◌, List, [], ◌∷◌, ◌++◌, length, inl, inr, ap, sym, subst, ◌∙◌, arith, append_assoc, length-append}
+use Rattle.std.proofs.Common.{ℕ, ◌<◌, List, [], ◌∷◌, ◌++◌, length, inl, inr, ap, sym, subst, ◌∙◌, arith, append_assoc, length-append}
 use Rattle.std.specs.List.{flat_map}
 use Rattle.ninja_text.specs.Lines.{line_limit, line_end, IsLine, Divides}
 use Rattle.ninja_text.proofs.ForCallers.{divides_some, AllByRecursion-append, one_more_line}

@@ -1,6 +1,5 @@
 -- Strings that are valid paths, and the first one that is not.
-use Rattle.std.proofs.Common.{◌≡◌, ℕ, zero, suc, ◌+◌, ◌<◌, List, [], ◌∷◌, ◌++◌, length, map, take, Some, Result, Ok, Err, refl, ap, sym, subst, ◌∙◌, inl, inr, arith, slice_get, length-append, get_or, drop, drop_at, Bool}
-use Rattle.build_effect.proofs.Lists.{from_some}
+use Rattle.std.proofs.Common.{◌≡◌, ℕ, zero, suc, ◌+◌, ◌<◌, List, [], ◌∷◌, ◌++◌, length, map, take, Some, Result, Ok, refl, ap, sym, subst, ◌∙◌, inl, inr, arith, slice_get, length-append, get_or, drop, drop_at, Bool}
 use Rattle.std.proofs.lemmas.List.{map-append, length-map, drop-map}
 use Rattle.std.proofs.lemmas.Option.{slice_get_within}
 use Rattle.ninja_text.specs.Paths.{path_of}
@@ -12,7 +11,7 @@ use Rattle.build_effect.specs.Faults.{path_texts, IsNoPath, HasRefused}
 use Rattle.build_effect.specs.inner.Added.{addition_of}
 use Rattle.build_effect.specs.inner.BadPaths.{IsBadText, IsBadTextFrom, IsBadTextOf, IsBadStatement}
 use Rattle.build_effect.specs.declared.fault.EffectFault.{EffectFault}
-use Rattle.ninja_text.proofs.ForCallers.{in_append, in_first, in_second, from_push, in_take, take_next}
+use Rattle.ninja_text.proofs.ForCallers.{from_push, in_take, take_next}
 use Rattle.build_effect.proofs.Effects.{path_at, all_paths}
 use Rattle.build_effect.proofs.StringTexts.{between, range_map}
 

@@ -1,8 +1,8 @@
 -- The strings of a build line, one after another in one text.
-use Rattle.std.proofs.Common.{◌≡◌, ◌≢◌, ◌∙◌, ℕ, ◌+◌, ◌-◌, ◌≤◌, suc, List, [], ◌∷◌, ◌++◌, length, map, take, drop, refl, sym, ap, arith, append_assoc, length-append, length-drop}
+use Rattle.std.proofs.Common.{◌≡◌, ◌≢◌, ◌∙◌, ℕ, ◌+◌, ◌-◌, ◌≤◌, ◌<◌, suc, get_or, List, [], ◌∷◌, ◌++◌, length, map, take, drop, refl, sym, ap, subst, arith, append_assoc, length-append, length-drop}
 use Rattle.std.specs.Prelude.{slice_range}
 use Rattle.std.proofs.lemmas.List.{append-nil, map-append, take-append-le, drop-append-le, take_all, take_at, drop_at, take-map, drop-map}
-use Rattle.std.proofs.lemmas.List.Elements.{All-take, All-drop}
+use Rattle.std.proofs.Math.Seq.{drop-cons}
 use Rattle.build_effect.specs.inner.Strings.{text_of, texts_of, IsWithin, AreWithin, AreEnds, edge_texts_of}
 use Rattle.build_effect.specs.declared.listing.rows.ListEnds.{ListEnds}
 use Rattle.build_effect.specs.declared.strings.Span.{Span}
@@ -44,13 +44,14 @@ whole_range xs to end = take_all (to - 0) xs (omega (arith, end))
 pub range_map : {X Y : Type 0} (f : X → Y) (xs : List X) (from to : ℕ) → slice_range (map f xs) from to ≡ map f (slice_range xs from to)
 range_map f xs from to = ap (take (to - from)) (drop-map f from xs) ∙ take-map f (to - from) (drop from xs)
 
--- the strings from one index to another are those of the spans from one to the other
-pub texts_range : (text : List ℕ) (spans : List Span) (from to : ℕ) → slice_range (texts_of text spans) from to ≡ texts_of text (slice_range spans from to)
-texts_range text spans from to = range_map (text_of text) spans from to
-
--- and they are in the text
-pub within_range : (text : List ℕ) (spans : List Span) (from to : ℕ) → AreWithin text spans → AreWithin text (slice_range spans from to)
-within_range text spans from to within = All-take (IsWithin text) (to - from) (drop from spans) (All-drop (IsWithin text) from spans within)
+-- a part of a list begins with the element at its first index
+pub range_next : (xs : List (List ℕ)) (index next to : ℕ) → next ≡ index + 1 → index < to → index < length xs
+    → slice_range xs index to ≡ get_or xs index [] ∷ slice_range xs next to
+range_next xs index next to is before within =
+    let one_less : to - index ≡ suc (to - suc index) = omega (arith, before) in
+    let one_more : suc index ≡ next = omega (arith, is) in
+    subst (λ k. slice_range xs index to ≡ get_or xs index [] ∷ slice_range xs k to) one_more
+    (ap (take (to - index)) (drop-cons xs index [] within) ∙ ap (λ n. take n (get_or xs index [] ∷ drop (suc index) xs)) one_less)
 
 -- ---- the five lists of a build line
 

@@ -168,8 +168,8 @@ impl SharedStrings {
         ensures { Gives (λ paths. paths.items) result (paths_of (slice_range self.now from to)) }
     {
         let mut paths = Vec::with_capacity(alloc, to - from)?;
-        for span in &self.spans[from..to] {
-            paths.push(Path::within(alloc, &self.text, span.start, span.end)?)?;
+        for index in from..to {
+            paths.push(self.path(alloc, index)?)?;
         }
         Ok(paths)
     }

@@ -1,4 +1,4 @@
-use Rattle.std.proofs.Common.{◌≡◌, ◌+◌, [], get_or, take, ap, sym, subst, arith, ◌<◌, length}
+use Rattle.std.proofs.Common.{◌≡◌, ◌+◌, [], get_or, take, ap, sym, subst, arith}
 use Rattle.std.proofs.lemmas.Option.{slice_get-get_or}
 use Rattle.build_effect.specs.Effect.{ArePaths}
 use Rattle.build_effect.specs.inner.BadPaths.{IsBadTextFrom}

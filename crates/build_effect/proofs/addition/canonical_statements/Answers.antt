@@ -1,4 +1,4 @@
-use Rattle.std.proofs.Common.{◌≡◌, ℕ, ◌+◌, Some, length, take, refl, ap, sym, subst, ◌∙◌, arith}
+use Rattle.std.proofs.Common.{◌≡◌, ◌+◌, length, take, refl, ap, sym, subst, arith}
 use Rattle.std.proofs.lemmas.Result.{err_from_is_err_and}
 use Rattle.std.proofs.lemmas.List.{length-map}
 use Rattle.std.proofs.lemmas.Option.{slice_get_read}
@@ -7,7 +7,7 @@ use Rattle.dyndep_file.specs.StatementValue.{StatementValue}
 use Rattle.build_effect.specs.Effect.{ArePaths, AreCanonical}
 use Rattle.build_effect.specs.inner.BadPaths.{IsBadTextFrom, IsBadStatement}
 use Rattle.build_effect.proofs.Lists.{for_fault}
-use Rattle.build_effect.proofs.PathTexts.{as_many, canonical_of, more_statements, first_bad_statement}
+use Rattle.build_effect.proofs.PathTexts.{canonical_of, more_statements, first_bad_statement}
 use Rattle.build_effect.proofs.addition.canonical_statements.Goals as goal
 
 pub returns-in_err-paths-clause-fault : goal.returns-in_err-paths-clause-fault

@@ -1,7 +1,6 @@
 use Rattle.std.proofs.Common.{true, false, ◌∙◌, ◌<◌, length, get_or, None, refl, ap, sym, arith}
 use Rattle.std.proofs.lemmas.Option.{slice_get_read, slice_get-get_or}
 use Rattle.std.proofs.lemmas.List.{get_or_read}
-use Rattle.dyndep_file.specs.StatementValue.{StatementValue}
 use Rattle.build_effect.specs.declared.fault.EffectFault.TheVariants.{StatementTwice}
 use Rattle.build_effect.proofs.StatementChecks.{more_inverse, still_differ, repeated_on, is_there}
 use Rattle.build_effect.proofs.effect.statements_of_edges.Goals as goal

@@ -1,12 +1,11 @@
-use Rattle.std.proofs.Common.{length, ◌≡◌, ◌∙◌, ◌∷◌, ◌&&◌, [], refl, sym, ap, true, false, Some, None}
-use Rattle.std.specs.Prelude.{not, if◌then◌else◌}
+use Rattle.std.proofs.Common.{length, ◌≡◌, ◌∙◌, ◌&&◌, refl, sym, ap, true, false, Some}
+use Rattle.std.specs.Prelude.{not}
 use Rattle.ninja_text.specs.Paths.{is_empty}
 use Rattle.ninja_text.specs.TokenViews.{seen_token, symbols_left}
 use Rattle.ninja_text.specs.declared.token.TokenKind.TheVariants.{Bar, DoubleBar}
 use Rattle.ninja_text.specs.Symbols.{front_words, past_sign, part_words, words_of_part}
 use Rattle.build_effect.specs.ListingLines.{is_rule_name}
 use Rattle.build_effect.specs.inner.ListingWalk.{right_texts}
-use Rattle.build_effect.specs.inner.Strings.{edge_texts_of}
 use Rattle.build_effect.proofs.ListingLineLemmas.{left_texts, no_rule, walked, no_outputs, some_outputs, left_over, without_output, without_name, without_end, is_whole}
 use Rattle.build_effect.proofs.StringTexts.{counted, parts_are}
 use Rattle.build_effect.proofs.listing.rows.edge_texts.Goals as goal

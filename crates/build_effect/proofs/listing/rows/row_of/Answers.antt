@@ -1,4 +1,4 @@
-use Rattle.std.proofs.Common.{◌≡◌, ◌∙◌, sym, ap, refl, subst, Option}
+use Rattle.std.proofs.Common.{◌∙◌, sym, ap, refl, subst, Option}
 use Rattle.ninja_text.specs.Failure.{Gives}
 use Rattle.ninja_text.specs.Assignments.{SeenAssignment}
 use Rattle.ninja_text.specs.LineViews.{seen_line}

@@ -1,22 +1,26 @@
-use Rattle.std.proofs.Common.{◌≡◌, ◌∙◌, List, ap, sym, subst}
+use Rattle.std.proofs.Common.{◌∙◌, ◌+◌, ℕ, List, Vec, Global, [], ap, refl, get_or, arith, rules}
 use Rattle.std.specs.Prelude.{slice_range}
-use Rattle.std.specs.Rc.{rc_slice_items}
-use Rattle.build_effect.specs.declared.strings.Span.{Span}
+use Rattle.std.proofs.lemmas.Result.{err_from_is_err_and}
+use Rattle.ninja_text.specs.Paths.{path_of}
 use Rattle.build_effect.specs.inner.ListingWalk.{paths_of}
-use Rattle.build_effect.specs.inner.Strings.{AreWithin, texts_of}
-use Rattle.build_effect.proofs.ListingLaws.{behind, behind_none}
-use Rattle.build_effect.proofs.StringTexts.{texts_range, within_range}
+use Rattle.build_effect.proofs.ListingLaws.{behind, behind_one, path_failed}
+use Rattle.build_effect.proofs.StringTexts.{range_next}
 use Rattle.build_effect.proofs.strings.SharedStrings.paths.Goals as goal
 
-pub loop-span-init : goal.loop-span-init
-loop-span-init c =
-    let text = rc_slice_items c.self.inside.text in
-    let part = λ (spans : List Span). slice_range spans c.args.from c.args.to in
-    let all : c.deref.result.now ≡ c.self.inside.spans.items = c.deref.ensures.value in
-    record {
-      within = within_range text c.deref.result.now c.args.from c.args.to (subst (AreWithin text) (sym all) c.self.invariant);
-      paths =
-          ap (λ strings. paths_of (slice_range strings c.args.from c.args.to)) (sym c.self.view_is)
-          ∙ ap paths_of (texts_range text c.self.inside.spans.items c.args.from c.args.to ∙ ap (λ spans. texts_of text (part spans)) (sym all))
-          ∙ behind_none _ ∙ ap (λ paths. behind paths (paths_of (texts_of text (part c.deref.result.now)))) (sym c.in_ok-paths.ensures.items);
-    }
+pub loop-index-preserved : goal.loop-index-preserved
+loop-index-preserved c =
+    let strings = c.args.self.now in
+    let index = c.loop-index.index in
+    c.loop-index.invariant
+    ∙ ap (λ texts. behind c.loop-index.paths.items (paths_of texts)) (range_next strings index (index + 1) c.args.to refl (grind arith) (grind arith))
+    ∙ behind_one c.loop-index.paths.items (path_of (get_or strings index [])) (paths_of (slice_range strings (index + 1) c.args.to)) (grind rules) c.in_ok-push.ensures.items
+
+pub returns-in_err-path : goal.returns-in_err-path
+returns-in_err-path c =
+    let strings = c.args.self.now in
+    let index = c.loop-index.index in
+    let p = err_from_is_err_and c.from_residual-in_err-path.result c.from_residual-in_err-path.ensures.1 in
+    rw (p.1, p.2) (path_failed (λ (paths : Vec (List ℕ) Global). paths.items) c.loop-index.paths.items (path_of (get_or strings index []))
+    (paths_of (slice_range strings (index + 1) c.args.to)) c.in_err-path.field-0.0
+    (c.loop-index.invariant
+    ∙ ap (λ texts. behind c.loop-index.paths.items (paths_of texts)) (range_next strings index (index + 1) c.args.to refl (grind arith) (grind arith))) c.in_err-path.ensures)
