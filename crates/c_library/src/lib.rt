@@ -131,7 +131,8 @@ pub extern "C" fn dyncollate_statements(
     statements_into(alloc, dyndep, numbers, text)
 }
 
-/// Returns where the error of a line is that a command prints on standard error, and which error it is.
+/// Returns where the error of a line is that a command prints on standard error, and which error it
+/// is.
 #[unsafe(no_mangle)]
 pub extern "C" fn dyncollate_locate(line: &[u8]) -> Location
     ensures { (target : Option ℕ) (error : CommandError) → IsLineOf target error line.now

@@ -61,9 +61,10 @@ one_unread error other =
     (one_read (codes "a.ddi") (codes "A"))
     (stops _ (stops _ (stops _ ((error, refl, other), refl) refl) refl) refl)
 
--- a document of which one byte more was read than it may have has not ended, and one that has as many as it may have has
+-- a document of which one byte more was read than it may have has not ended
 too_large : (bytes : List ℕ) → length bytes ≡ 16777217 → (up_to document_most bytes).ended ≡ false
 too_large bytes e = rw e refl
 
+-- one that has as many bytes as it may have has ended
 largest : (bytes : List ℕ) → length bytes ≡ 16777216 → (up_to document_most bytes).ended ≡ true
 largest bytes e = rw e refl

@@ -1,5 +1,5 @@
 -- What the parts of a run have led to, the calls that they make, and what their loops make.
-use Rattle.std.proofs.Common.{◌-◌, arith, codes, length-drop, ◌≡◌, ◌∙◌, ℕ, ◌+◌, ◌<◌, List, [], ◌∷◌, ◌++◌, drop, length, get_or, suc, Option, Some, None, Result, Ok, Err, refl, ap, ap₂, sym, append_assoc, append-nil, add-one, drop-cons, ◌≤◌, map, take, subst, slice_get, option_map, Vec, IfOk, IsErr, IsErrAnd, MatchResult, Global}
+use Rattle.std.proofs.Common.{◌-◌, arith, codes, length-drop, ◌≡◌, ◌∙◌, ℕ, ◌+◌, ◌<◌, List, [], ◌∷◌, ◌++◌, drop, length, get_or, suc, Option, Some, None, Result, Ok, Err, refl, ap, ap₂, sym, append_assoc, append-nil, add-one, drop-cons, ◌≤◌, map, take, slice_get, option_map, Vec, IfOk, IsErr, IsErrAnd, MatchResult, Global}
 use Rattle.commands.specs.Folder.{FileCall, Adds, MakesCalls, reading, up_to}
 use Rattle.std.specs.declared.alloc.AllocError.{AllocError}
 use Rattle.std.specs.List.{flat_map}
@@ -83,8 +83,8 @@ mapped_next f xs i x within is = ap (map f) (take_next xs i x (at_index xs i x w
 -- the line of a run that stops with a message, if there was memory for it
 pub its_line : (number : ℕ) (text : Text) (message : Result (Vec ℕ Global) AllocError) (stop : Stop) →
     IfOk message (λ m. m.items ≡ text) → IsStoppedWith number message stop → ForFault (λ l. l ≡ failed number text) stop
-its_line number text (Err refused) stop is h = subst (ForFault (λ l. l ≡ failed number text)) (sym h) tt
-its_line number text (Ok message) stop is h = subst (ForFault (λ l. l ≡ failed number text)) (sym h) (ap (failed number) is)
+its_line number text (Err refused) stop is h = rw h tt
+its_line number text (Ok message) stop is h = rw h (ap (failed number) is)
 
 -- a fault that is reported as it is printed
 pub by_print : {F : Type 0} (prefix : Text) (text : F → Text) (failure : Failure F) (stop : Stop) →
@@ -120,7 +120,7 @@ held_fault V text failure stop h =
 pub held : {V F : Type 0} (text : F → Text) (Post : Failure F → Stop → Type 0) (r : Result V (Failure F)) (s : Outcome V) →
     ((failure : Failure F) (stop : Stop) → Post failure stop → Reports text failure stop) →
     MatchResult r (λ value. s ≡ Ok value) (λ failure. IsErrAnd s (Post failure)) → ValueOf text r [] s
-held text Post (Ok value) s to h = subst (ValueOf text (Ok value) []) (sym h) (refl, refl)
+held text Post (Ok value) s to h = rw h (refl, refl)
 held {V = V} text Post (Err failure) (Err stop) to h = held_fault V text failure stop (to failure stop h)
 held text Post (Err failure) (Ok value) to h = absurd h
 
@@ -129,15 +129,6 @@ pub unwritten : {T V F : Type 0} (view : T → V) (text : F → Text) (failure :
     Gives view (Err failure) meaning → Reports text failure stop → Returns (λ t. meaning ≡ Ok t) (λ fault. meaning ≡ Err fault) text [] (Err stop)
 unwritten view text Memory stop meaning is h = fault_reported (λ t. meaning ≡ Ok t) (λ fault. meaning ≡ Err fault) text Memory stop tt h
 unwritten view text (Fault fault) stop meaning is h = fault_reported (λ t. meaning ≡ Ok t) (λ fault. meaning ≡ Err fault) text (Fault fault) stop is h
-
--- the same in other words
-pub in_words : {V F G : Type 0} (IsValue : V → Type 0) (IsFault : F → Type 0) (text : F → Text) (IsOther : G → Type 0) (other : G → Text)
-    (calls : List FileCall) (s : Outcome V) → ((fault : F) → IsFault fault → (o : G) × IsOther o × (text fault ≡ other o)) →
-    Returns IsValue IsFault text calls s → Returns IsValue IsOther other calls s
-in_words IsValue IsFault text IsOther other calls (Ok value) to h = h
-in_words IsValue IsFault text IsOther other calls (Err Memory) to h = h
-in_words IsValue IsFault text IsOther other calls (Err (Fault l)) to (none, (fault, is, line)) =
-    let o = to fault is in (none, (o.0, o.1, line ∙ ap refusal o.2))
 
 -- ---- parts in turn
 
@@ -184,21 +175,16 @@ module _ {A B : Type 0} {First : Part A} {Second : A → Part B} where
 
 -- the last part has this value, and memory ran out
 pub no_value : {V : Type 0} (value : V) (s : Outcome V) → Passes s Memory → Done value [] s
-no_value value s end = subst (Done value []) (sym (passed end)) refl
+no_value value s end = rw (passed end) refl
 
 -- a part that makes no call
 pub at_once : {V : Type 0} (known : Known) (Holds : Part V) (r : Outcome V) → Holds [] r → Runs known known Holds r
 at_once known Holds r h = ([], none_made known, h)
 
--- the same under an equation
-pub run_as : {A V : Type 0} (Holds : A → Part V) (old new : Known) (s : Outcome V) {a b : A} → a ≡ b → Runs old new (Holds a) s →
-    Runs old new (Holds b) s
-run_as Holds old new s is h = subst (λ x. Runs old new (Holds x) s) is h
-
 -- the stop of a part is that of the whole, whose value is viewed
 pub run_stop : {T V : Type 0} (view : T → V) (old new : Known) (Holds : Part V) (s : Outcome T) (stop : Stop) →
     Runs old new Holds (Err stop) → Passes s stop → Runs old new Holds (seen view s)
-run_stop view old new Holds s stop h end = subst (λ s. Runs old new Holds (seen view s)) (sym (passed end)) h
+run_stop view old new Holds s stop h end = rw (passed end) h
 
 -- ---- parts in a loop
 
@@ -219,7 +205,7 @@ pub leads_on : {V : Type 0} (old mid new : Known) (Left Less Whole : Part V) (Ma
 leads_on old mid new Left Less Whole Made (before, so_far, leads) (calls, after, made) to = (
   before ++ calls,
   both_made old mid new before calls so_far after,
-  λ more outcome h. subst (λ all. Whole all outcome) (sym (append_assoc before calls more)) (leads (calls ++ more) outcome (to calls more outcome made h)),
+  λ more outcome h. rw (append_assoc before calls more) (leads (calls ++ more) outcome (to calls more outcome made h)),
 )
 
 -- at the end
@@ -235,21 +221,21 @@ module _ {V X : Type 0} (Next : V → X → Part V) (xs : List X) (Whole : Part 
       Leads old mid (Each Next value (drop i xs)) Whole → Runs mid new (Next value x) (Ok next) → Leads old new (Each Next next (drop (i + 1) xs)) Whole
   each_next i x value next mid new here leads ran =
       leads_on old mid new (Each Next value (drop i xs)) (Each Next next (drop (i + 1) xs)) Whole (λ calls. Next value x calls (Ok next)) leads ran
-      (λ calls more s own rest. subst (λ ys. Each Next value ys (calls ++ more) s) (sym (drop_next xs i x here)) (goes_on next calls more refl own rest))
+      (λ calls more s own rest. rw (drop_next xs i x here) (goes_on next calls more refl own rest))
 
   -- it stopped the run
   pub each_last : (i : ℕ) (x : X) (value : V) (mid new : Known) (stop : Stop) → slice_get xs i ≡ Some x →
       Leads old mid (Each Next value (drop i xs)) Whole → Runs mid new (Next value x) (Err stop) → Runs old new Whole (Err stop)
   each_last i x value mid new stop here leads (calls, made, own) =
       leads_end old mid new (Each Next value (drop i xs)) Whole (Err stop) leads
-      (calls, made, subst (λ ys. Each Next value ys calls (Err stop)) (sym (drop_next xs i x here)) (stops stop own refl))
+      (calls, made, rw (drop_next xs i x here) (stops stop own refl))
 
   -- after the last
   pub each_done : (i : ℕ) (value : V) (new : Known) → length xs ≤ i → Leads old new (Each Next value (drop i xs)) Whole →
       Runs old new Whole (Ok value)
   each_done i value new past leads =
       leads_end old new new (Each Next value (drop i xs)) Whole (Ok value) leads
-      ([], none_made new, subst (λ ys. Each Next value ys [] (Ok value)) (sym (drop_all i xs past)) (refl, refl))
+      ([], none_made new, rw (drop_all i xs past) (refl, refl))
 
 -- ---- files
 

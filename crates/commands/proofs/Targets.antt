@@ -1,5 +1,5 @@
 -- What the targets of a run collate to, and how a rejected one is reported.
-use Rattle.std.proofs.Common.{◌≡◌, ◌∙◌, ℕ, suc, List, [], ◌∷◌, ◌++◌, map, zip, Bool, Option, Result, Ok, Err, refl, ap, sym, subst, arith, zero, ◌<◌, inl, inr, true, false, cond, length, Some, None, ap₂, bytes_eq, ◌+◌, take, get_or, append-nil, All, IsUtf8, Vec, OnOk, slice_get, option_map, Global}
+use Rattle.std.proofs.Common.{◌≡◌, ◌∙◌, ℕ, suc, List, [], ◌∷◌, ◌++◌, map, zip, Bool, Option, Result, Ok, Err, refl, ap, sym, arith, zero, ◌<◌, inl, inr, true, false, cond, length, Some, None, ap₂, bytes_eq, ◌+◌, take, get_or, append-nil, All, IsUtf8, Vec, OnOk, slice_get, option_map, Global}
 use Rattle.std.specs.List.{AllZip}
 use Rattle.std.proofs.lemmas.List.{map-append, take_more, length-map, map_push}
 use Rattle.std.proofs.lemmas.List.Elements.{All-nil, All-cons, All-append, All-map}
@@ -28,8 +28,8 @@ use Rattle.commands.specs.TableFaults.{fault_text}
 use Rattle.commands.specs.Targets.{TargetOf}
 use Rattle.commands.specs.inner.Refusals.{refusal_line, refused_line}
 use Rattle.ninja_text.proofs.ForCallers.{element_at, from_map, from_push, take_next}
-use Rattle.commands.proofs.Outcomes.{fault_reported, in_words}
-use Rattle.std.proofs.lemmas.Option.{slice_get_within, slice_get-get_or, slice_get-map}
+use Rattle.commands.specs.Outcomes as outcomes
+use Rattle.std.proofs.lemmas.Option.{same_Some, slice_get_within, slice_get-get_or, slice_get-map}
 use Rattle.commands.specs.ProjectCommand.{ReadTargetValue, index_or_head, last_with, LinksTo, At, IsTargetOutcome, IsTargetStop, project_target, names_at, all_files}
 use Rattle.commands.specs.inner.ProjectTargets.{LinkEarlier, IsReportable}
 use Rattle.std.specs.Option.{option_map_or}
@@ -57,14 +57,14 @@ all_rules_text s (scan ∷ scans) h =
 
 pub objects_text : (target : TargetValue) (style : Option Written) (c : CollatedValue) → Collates target style c → All IsUtf8 c.objects
 objects_text target style c h =
-    subst (All IsUtf8) (sym h.objects)
+    rw h.objects
     (All-map IsUtf8 (λ (r : RuleValue). r.object) (table_of target).objects (all_rules_text target.setting target.scans h.resolved.documents.scans.each))
 
 -- what holds of the first list holds of the first parts
 pub first_all : {A B : Type 0} (P : A → Type 0) (xs : List A) (ys : List B) → All P xs → All (λ (p : A × B). P p.0) (zip xs ys)
 first_all {A} {B} P xs ys h = λ k d lt.
     let left : k < length xs = omega (arith, lt, length-zip xs ys) in
-    subst (λ (p : A × B). P p.0) (sym (get_or-zip xs ys k d left (omega (arith, lt, length-zip xs ys)))) (h k d.0 left)
+    rw (get_or-zip xs ys k d left (omega (arith, lt, length-zip xs ys))) (h k d.0 left)
 
 -- ---- the files of a collated target
 
@@ -93,9 +93,9 @@ pub names_line : (target : TargetValue) (refusal : Refusal) (read : TableValue) 
     refusal_line read.objects names refusal ≡ refusal_by_names target.setting target.scans names refusal
 names_line target (Scan i f) read names h = refl
 names_line target (Info i f) read names h = refl
-names_line target (Table f) read names h = ap (λ (t : TableValue). fault_text t.objects names f) h
+names_line target (Table f) read names h = rw h refl
 names_line target (StatementTooLong k) read names h = refl
-names_line target (Map o f) read names h = ap (λ (t : TableValue). map_text t.objects o f) h
+names_line target (Map o f) read names h = rw h refl
 names_line target LinkedLater read names h = refl
 
 -- and info files have the names that are in the info documents
@@ -103,41 +103,23 @@ infos_line : (target : TargetValue) (refusal : Refusal) (read : TableValue) → 
     refusal_line read.objects (map (λ (i : InfoValue). i.target) read.infos) refusal ≡ refusal_text target refusal
 infos_line target (Scan i f) read h = refl
 infos_line target (Info i f) read h = refl
-infos_line target (Table f) read h =
-    ap (λ (t : TableValue). fault_text t.objects (map (λ (i : InfoValue). i.target) t.infos) f) h
-    ∙ ap (λ names. fault_text (all_rules target.setting target.scans) names f) (map-map (λ (i : InfoValue). i.target) info_of target.infos)
+infos_line target (Table f) read h = rw (h, map-map (λ (i : InfoValue). i.target) info_of target.infos) refl
 infos_line target (StatementTooLong k) read h = refl
-infos_line target (Map o f) read h = ap (λ (t : TableValue). map_text t.objects o f) h
+infos_line target (Map o f) read h = rw h refl
 infos_line target LinkedLater read h = refl
-
--- what is known of a rejected target
-abbrev pub IsRejected : TargetValue → Option Written → RefusedTarget → Type 0
-IsRejected target style r = IsRefusal target style r.refusal × WasRead target r.refusal (table_with r.objects.items r.infos.items)
-
--- its line is that of its rejection
-rejected_line : (target : TargetValue) (style : Option Written) (r : RefusedTarget) → IsRejected target style r →
-    (other : Refusal) × IsRefusal target style other × (refused_line r ≡ refusal_text target other)
-rejected_line target style r (is, read) = (r.refusal, is, infos_line target r.refusal (table_with r.objects.items r.infos.items) read)
-
--- both facts of a fault
-both : {F : Type 0} (P Q : F → Type 0) (failure : Failure F) → ForFault P failure → ForFault Q failure → ForFault (λ f. P f × Q f) failure
-both P Q Memory p q = tt
-both P Q (Fault f) p q = (p, q)
 
 -- the run stops with that line
 pub target_rejected : (target : TargetValue) (style : Option Written) (failure : Failure RefusedTarget) (stop : Failure LineValue) →
     ForFault (λ (r : RefusedTarget). IsRefusal target style r.refusal) failure →
     ForFault (λ (r : RefusedTarget). WasRead target r.refusal (table_with r.objects.items r.infos.items)) failure →
     Reports refused_line failure stop → TargetOf target style [] (Err stop)
-target_rejected target style failure stop is read h =
-    in_words (Collates target style) (IsRejected target style) refused_line (IsRefusal target style) (refusal_text target)
-    [] (Err stop) (rejected_line target style)
-    (fault_reported (Collates target style) (IsRejected target style) refused_line failure stop (both _ _ failure is read) h)
+target_rejected target style Memory Memory is read h = refl
+target_rejected target style Memory (Fault l) is read h = absurd (let e : Fault l ≡ Memory = h in cc)
+target_rejected target style (Fault r) Memory is read h = refl
+target_rejected target style (Fault r) (Fault l) is read h =
+    (refl, (r.refusal, is, h ∙ ap outcomes.refusal (infos_line target r.refusal (table_with r.objects.items r.infos.items) read)))
 
 -- ---- the last target with an info
-
-some_same : {X : Type 0} {x y : X} → Some x ≡ Some y → x ≡ y
-some_same e = cc
 
 last_with_push : (ts : List ReadTargetValue) (t : ReadTargetValue) (info : List ℕ) →
     last_with (ts ++ t ∷ []) info ≡ cond (bytes_eq t.spec.info info) (Some (length ts)) (last_with ts info)
@@ -155,8 +137,8 @@ last_with_within [] info k e = cc
 last_with_within (h ∷ ts) info k e = go (last_with ts info) (bytes_eq h.spec.info info) (λ j d. last_with_within ts info j d) e
   where
     go : (r : Option ℕ) (b : Bool) → ((j : ℕ) → r ≡ Some j → j < length ts) → index_or_head r b ≡ Some k → k < suc (length ts)
-    go (Some j) b within e = let lt : j < length ts = within j refl in let same : suc j ≡ k = some_same e in omega (arith, lt, same)
-    go None true within e = let same : 0 ≡ k = some_same e in omega (arith, same)
+    go (Some j) b within e = let lt : j < length ts = within j refl in let same : suc j ≡ k = same_Some _ _ e in omega (arith, lt, same)
+    go None true within e = let same : 0 ≡ k = same_Some _ _ e in omega (arith, same)
     go None false within e = cc
 
 -- the writers of one target more
@@ -187,14 +169,14 @@ pub links_push : (targets : List ReadTargetValue) (target : ReadTargetValue) →
 links_push targets target before own = λ index t e. elim (from_push targets target index t e) [
   | inl h ↦ before index t h
   | inr h ↦
-      subst (λ (t : ReadTargetValue). All (λ k. k < index) t.linked) h.1 (subst (λ n. All (λ k. k < n) target.linked) (sym h.0) own)
+      rw (← h.1, h.0) own
 ]
 
 -- ---- parts about one target
 
 pub at_target : {V : Type 0} (index : ℕ) (Holds : Part V) (own outcome : Outcome V) (n : ℕ) → index ≡ n → Holds [] own → IsTargetOutcome index own outcome →
     At n Holds [] outcome
-at_target index Holds own outcome n e h is = (own, h, subst (λ i. IsTargetOutcome i own outcome) e is)
+at_target index Holds own outcome n e h is = (own, h, rw e at is)
 
 -- it has a value
 pub at_value : {V : Type 0} (index : ℕ) (own : Outcome V) (value : V) → IsTargetOutcome index own (Ok value) → own ≡ Ok value
@@ -206,7 +188,7 @@ pub at_target_seen : {T V : Type 0} (view : T → V) (index : ℕ) (Holds : Part
     IsTargetOutcome index own outcome → At n Holds [] (seen view outcome)
 at_target_seen view index Holds (Ok value) outcome n e h is = (Ok (view value), h, ap (seen view) is)
 at_target_seen view index Holds (Err stop) (Ok value) n e h is = absurd is
-at_target_seen view index Holds (Err stop) (Err other) n e h is = (Err stop, h, subst (λ i. IsTargetStop i stop other) e is)
+at_target_seen view index Holds (Err stop) (Err other) n e h is = (Err stop, h, rw e at is)
 
 -- ---- the rejected target of a project
 
@@ -226,9 +208,9 @@ pub line_is : (style : Option Written) (targets : List ReadTargetValue) (n : ℕ
     refusal_line read.objects names refusal ≡ refusal_by_names t.spec.setting t.scans names refusal
 line_is style targets n refusal read t names at h =
     let found = from_map project_target targets n h.1 h.3 in
-    let is_t : found.0 ≡ t = some_same (sym found.1 ∙ at) in
+    let is_t : found.0 ≡ t = same_Some _ _ (sym found.1 ∙ at) in
     let is_p : h.1 ≡ project_target t = sym found.2 ∙ ap project_target is_t in
-    names_line (target_of h.0 (project_target t)) refusal read names (subst (λ (p : ProjectTargetValue). WasRead (target_of h.0 p) refusal read) is_p h.4)
+    names_line (target_of h.0 (project_target t)) refusal read names (rw is_p at h.4)
 
 -- the names of the targets so far, and of one more
 pub names_next : (targets : List ReadTargetValue) (linked : List ℕ) (i : ℕ) (t : ReadTargetValue) (so_far : List (List ℕ)) (name : List ℕ) → i < length linked →
@@ -258,12 +240,12 @@ same_length f h xs ys e = sym (length-map xs f) ∙ ap length e ∙ length-map y
 pub same_at : {A B C : Type 0} (f : A → C) (h : B → C) (xs : List A) (ys : List B) (i : ℕ) (x : A) (y : B) →
     map f xs ≡ map h ys → slice_get xs i ≡ Some x → slice_get ys i ≡ Some y → f x ≡ h y
 same_at f h xs ys i x y e at here =
-    some_same (sym (slice_get-map f xs i ∙ ap (option_map f) at) ∙ ap (λ zs. slice_get zs i) e ∙ slice_get-map h ys i ∙ ap (option_map h) here)
+    same_Some _ _ (sym (slice_get-map f xs i ∙ ap (option_map f) at) ∙ ap (λ zs. slice_get zs i) e ∙ slice_get-map h ys i ∙ ap (option_map h) here)
 
 pub second_all : {A B : Type 0} (P : B → Type 0) (xs : List A) (ys : List B) → All P ys → All (λ (p : A × B). P p.1) (zip xs ys)
 second_all {A} {B} P xs ys h = λ k d lt.
     let right : k < length ys = omega (arith, lt, length-zip xs ys) in
-    subst (λ (p : A × B). P p.1) (sym (get_or-zip xs ys k d (omega (arith, lt, length-zip xs ys)) right)) (h k d.1 right)
+    rw (get_or-zip xs ys k d (omega (arith, lt, length-zip xs ys)) right) (h k d.1 right)
 
 -- ---- files
 

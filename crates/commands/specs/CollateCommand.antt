@@ -71,17 +71,12 @@ files_of spec c =
     map_files spec.restat c.objects c.maps
     ++ output_file spec.restat spec.info c.info ∷ output_file false spec.dyndep c.dyndep ∷ []
 
--- What a run reads and leaves for a target document with these members.
-abbrev pub TargetRun : document.TargetDocumentValue → Part OutputValue
-TargetRun spec = do
-  files ← FilesOf spec spec.linked
-  collated ← TargetOf (target_with spec files) (style_of spec.map_form)
-  _ ← EdgesPass files.listing spec.dyndep_path collated.dyndep
-  Writes (files_of spec collated)
-
 -- What a run reads and leaves for these bytes of a target document. It reads no file of a rejected
 -- one.
 abbrev pub CollateRun : Bytes → Part OutputValue
 CollateRun bytes = do
   spec ← SpecOf bytes
-  TargetRun spec
+  files ← FilesOf spec spec.linked
+  collated ← TargetOf (target_with spec files) (style_of spec.map_form)
+  _ ← EdgesPass files.listing spec.dyndep_path collated.dyndep
+  Writes (files_of spec collated)

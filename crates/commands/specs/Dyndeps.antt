@@ -1,19 +1,14 @@
 -- What a part of a run gives that reads a dyndep file.
-use Rattle.std.specs.Prelude.{◌≡◌, List, Some, Result}
-use Rattle.ninja_text.specs.Bytes.{Bytes, PathText}
+use Rattle.std.specs.Prelude.{List, Result}
+use Rattle.ninja_text.specs.Bytes.{PathText}
 use Rattle.ninja_text.specs.declared.failure.Failure.{Failure}
 use Rattle.dyndep_file.specs.StatementValue.{StatementValue}
-use Rattle.dyndep_file.specs.Reader.{DyndepReaderState, IsReadFaultIn, IsReadFailureIn, IsReadFaultOf}
+use Rattle.dyndep_file.specs.Reader.{IsReadFaultIn, IsReadFaultOf}
 use Rattle.dyndep_file.specs.Reading.{StandsFor}
 use Rattle.dyndep_file.specs.FaultTexts.{read_fault_text}
 use Rattle.dyndep_file.specs.declared.fault.ReadFault.{ReadFault}
 use Rattle.commands.specs.Folder.{FileRead}
 use Rattle.commands.specs.Outcomes.{Part, IsResultOf, ReadsAs, ValueOf}
-
--- a reader of dyndep files has failed: memory ran out, or a fault is in the bytes
-abbrev pub HasFailedDyndep : Bytes → DyndepReaderState → Type 0
-HasFailedDyndep bytes reader =
-    (failure : Failure ReadFault) × (reader.failed ≡ Some failure) × IsReadFailureIn bytes failure
 
 -- the result of reading a dyndep file
 abbrev pub DyndepRead : Type 0

@@ -31,12 +31,6 @@ ListingTextOf edges =
     (λ fault. listing_text_or_fault edges ≡ Err fault)
     (listing_write_text edges)
 
--- what a run prints for the edges after the effect
-abbrev pub PrintsListing : List EdgeValue → Part OutputValue
-PrintsListing edges = do
-  text ← ListingTextOf edges
-  Prints text
-
 -- What a run prints for a name, and for an edge list and the dyndep file of that name that were
 -- read.
 abbrev pub EffectOfRead : Text → ListingRead → DyndepRead → Part OutputValue
@@ -45,7 +39,8 @@ EffectOfRead name listing dyndep = do
   old ← ListingOf listing
   statements ← DyndepOf dyndep
   new ← EffectOf old path statements
-  PrintsListing new
+  text ← ListingTextOf new
+  Prints text
 
 -- What a run prints for a name, and for these bytes of an edge list and of the dyndep file of
 -- that name.

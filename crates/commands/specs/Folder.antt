@@ -1,8 +1,11 @@
 -- The calls by which files are read, compared and written.
-use Rattle.std.specs.Prelude.{◌≡◌, ◌⊎◌, ℕ, nat_lt, List, ◌∷◌, [], ◌++◌, length, Bool, true, false, Option, option_map, Result, Ok, Err, Vec}
+use Rattle.std.specs.Prelude.{◌≡◌, ◌⊎◌, ℕ, nat_lt, List, ◌∷◌, [], ◌++◌, length, Bool, true, false, Option, Some, option_map, Result, Ok, Err, Vec}
 use Rattle.std.specs.Global.{Global}
 use Rattle.std.specs.declared.io.Error.{Error}
 use Rattle.ninja_text.specs.Bytes.{Bytes, PathText}
+use Rattle.ninja_text.specs.Failure.{ForFault}
+use Rattle.ninja_text.specs.LineReading.{LinesRead}
+use Rattle.ninja_text.specs.declared.failure.Failure.{Failure}
 
 -- what was read of a file: its bytes, or those that it begins with, and whether it ended there
 pub record FileRead : Type 0 where
@@ -45,6 +48,11 @@ abbrev pub ReadsOn : {R : Type 0} → (Bytes → R → Type 0) → (Bytes → R 
     → Type 0
 ReadsOn has_read has_failed bytes true reader = has_read bytes reader
 ReadsOn has_read has_failed bytes false reader = has_failed bytes reader
+
+-- a reader of lines has failed: memory ran out, or such a fault is in the bytes
+abbrev pub HasFailed : {S F : Type 0} → (Bytes → F → Type 0) → Bytes → LinesRead S F → Type 0
+HasFailed {F = F} IsFaultIn bytes reader =
+    (failure : Failure F) × (reader.failed ≡ Some failure) × ForFault (IsFaultIn bytes) failure
 
 -- The reader was given what was read of a file: all bytes, or those up to a piece at which it has
 -- failed.

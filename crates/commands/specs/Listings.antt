@@ -1,24 +1,16 @@
 -- What a part of a run gives that reads an edge list.
-use Rattle.std.specs.Prelude.{◌≡◌, List, Some, Result}
+use Rattle.std.specs.Prelude.{List, Result}
 use Rattle.ninja_text.specs.Bytes.{Bytes, Text, PathText}
-use Rattle.ninja_text.specs.Failure.{ForFault}
 use Rattle.ninja_text.specs.declared.failure.Failure.{Failure}
 use Rattle.build_effect.specs.EdgeValue.{EdgeValue}
 use Rattle.build_effect.specs.Graphs.{IsGraph}
-use Rattle.build_effect.specs.ListingReaders.{ListingReaderState, IsListingFaultIn, IsListingFault}
+use Rattle.build_effect.specs.ListingReaders.{IsListingFaultIn, IsListingFault}
 use Rattle.build_effect.specs.ListingReading.{Lists}
-use Rattle.build_effect.specs.declared.fault.LineFault.{LineFault}
 use Rattle.build_effect.specs.declared.fault.ListFault.{ListFault}
 use Rattle.build_effect.specs.declared.fault.ListFault.TheVariants.{AtLine, NoGraph}
 use Rattle.commands.specs.EdgeFaults.{edges_fault_text}
 use Rattle.commands.specs.Folder.{FileRead}
 use Rattle.commands.specs.Outcomes.{Part, IsResultOf, ReadsAs, ValueOf}
-
--- a reader of edge lists has failed: memory ran out, or a fault is in the bytes
-abbrev pub HasFailedListing : Bytes → ListingReaderState → Type 0
-HasFailedListing bytes reader =
-    (failure : Failure LineFault) × (reader.failed ≡ Some failure)
-    × ForFault (IsListingFaultIn bytes) failure
 
 -- the result of reading an edge list
 abbrev pub ListingRead : Type 0

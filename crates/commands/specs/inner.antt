@@ -2,4 +2,4 @@ pub mod Parts
 pub mod ProjectTargets
 pub mod Refusals
 pub mod Stops
-pub mod Writing
+pub mod TargetRuns

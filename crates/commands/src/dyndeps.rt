@@ -5,7 +5,7 @@ ghost use Rattle.commands.specs.Dyndeps.{DyndepOf};
 ghost use Rattle.commands.specs.Show.{ShowOfRead, ShowRun};
 
 use crate::folder::PieceReader;
-use crate::reading::{FileReader, read_text};
+use crate::reading::FileReader;
 use crate::stop::{self, Output, Stop};
 use dyndep_file::{Dyndep, DyndepReader, ReadFault};
 use ninja_text::Failure;
@@ -15,7 +15,7 @@ use std::alloc::Global;
 pub fn show(alloc: Global, text: &[u8]) -> Result<Output, Stop>
     ensures { ShowRun text.now [] result }
 {
-    show_of_read(alloc, read_text(DyndepReader::new(alloc), text))
+    show_of_read(alloc, Dyndep::of(alloc, text))
 }
 
 /// Runs `show DYNDEP` on the dyndep file, once it was read. A line that was read can be too long to
@@ -34,12 +34,12 @@ pub(crate) fn show_of_read(alloc: Global, dyndep: DyndepRead) -> Result<Output, 
 pub(crate) type DyndepRead = Result<Dyndep, Failure<ReadFault>>;
 
 impl PieceReader for DyndepReader {
-    ghost use Rattle.dyndep_file.specs.Reader.{HasReadDyndep};
-    ghost use Rattle.commands.specs.Dyndeps.{HasFailedDyndep};
+    ghost use Rattle.dyndep_file.specs.Reader.{HasReadDyndep, IsReadFaultIn};
+    ghost use Rattle.commands.specs.Folder.{HasFailed};
 
     ghost has_read = { HasReadDyndep };
 
-    ghost has_failed = { HasFailedDyndep };
+    ghost has_failed = { HasFailed IsReadFaultIn };
 
     fn read_piece(&mut self, piece: &[u8]) -> bool {
         self.feed(piece).is_ok()

@@ -12,13 +12,13 @@ ghost use Rattle.commands.specs.inner.Parts.{bytes_of};
 use crate::answer::push_line;
 use crate::dyndeps::{DyndepRead, statements_of};
 use crate::folder::PieceReader;
-use crate::reading::{FileReader, read_text};
+use crate::reading::FileReader;
 use crate::refusal::{cycle_text, first_output, joined};
 use crate::stop::{self, Output, Stop};
 use build_effect::{Graph, ListFault, ListingReader, ListingWriteFault, apply, edge_order};
 use collate_core::{Collated, check_edges};
 use dep_order::Sorting;
-use dyndep_file::{Dyndep, DyndepReader};
+use dyndep_file::Dyndep;
 use ninja_text::{Failure, Path};
 use std::alloc::Global;
 
@@ -26,9 +26,12 @@ use std::alloc::Global;
 pub fn effect(alloc: Global, name: &str, edges: &[u8], dyndep: &[u8]) -> Result<Output, Stop>
     ensures { EffectRun name.now edges.now dyndep.now [] result }
 {
-    let listing = read_text(ListingReader::new(alloc), edges);
-    let dyndep = read_text(DyndepReader::new(alloc), dyndep);
-    effect_of_read(alloc, name, listing, dyndep)
+    effect_of_read(
+        alloc,
+        name,
+        Graph::of(alloc, edges),
+        Dyndep::of(alloc, dyndep),
+    )
 }
 
 /// Runs `effect NAME EDGES DYNDEP` on the name and the two files, once they were read. The name is
@@ -89,7 +92,7 @@ fn listing_text(alloc: Global, graph: &Graph) -> Result<Vec<u8>, Stop>
 pub fn order(alloc: Global, edges: &[u8]) -> Result<Output, Stop>
     ensures { OrderRun edges.now [] result }
 {
-    order_of_read(alloc, read_text(ListingReader::new(alloc), edges))
+    order_of_read(alloc, Graph::of(alloc, edges))
 }
 
 /// Runs `order EDGES` on the edge list, once it was read.
@@ -139,12 +142,12 @@ pub(crate) fn pass_edges(
 pub(crate) type ListingRead = Result<Graph, Failure<ListFault>>;
 
 impl PieceReader for ListingReader {
-    ghost use Rattle.build_effect.specs.ListingReaders.{HasReadListing};
-    ghost use Rattle.commands.specs.Listings.{HasFailedListing};
+    ghost use Rattle.build_effect.specs.ListingReaders.{HasReadListing, IsListingFaultIn};
+    ghost use Rattle.commands.specs.Folder.{HasFailed};
 
     ghost has_read = { HasReadListing };
 
-    ghost has_failed = { HasFailedListing };
+    ghost has_failed = { HasFailed IsListingFaultIn };
 
     fn read_piece(&mut self, piece: &[u8]) -> bool {
         self.feed(piece).is_ok()

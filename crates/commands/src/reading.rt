@@ -3,7 +3,7 @@
 
 ghost use Rattle.std.specs.Prelude.{◌≡◌, ◌++◌, ◌∷◌, [], map, string_bytes, IfOk, OnOk};
 ghost use Rattle.commands.specs.Files.{FilesOf};
-ghost use Rattle.commands.specs.Folder.{FileRead, WasGiven, whole};
+ghost use Rattle.commands.specs.Folder.{FileRead, WasGiven};
 ghost use Rattle.commands.specs.Outcomes.{Runs, ReadsDocument, ReadsAll, ReadsAs, seen};
 ghost use Rattle.commands.specs.inner.Parts.{bytes_of, contents};
 
@@ -76,16 +76,6 @@ pub(crate) fn read_file<R: FileReader, F: Folder>(
         Ok(()) => Ok(reader.read()),
         Err(error) => Err(stop::of_unread(alloc, name, error)),
     }
-}
-
-/// Returns what a new reader makes of a file of these bytes.
-pub(crate) fn read_text<R: FileReader>(reader: R, text: &[u8]) -> R::Read
-    requires { R.has_read [] reader }
-    ensures { R.follows (whole text.now) result }
-{
-    let mut reader = reader;
-    let _ = reader.read_piece(text);
-    reader.read()
 }
 
 /// The files of a target.

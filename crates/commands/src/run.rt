@@ -4,11 +4,9 @@
 ghost use Rattle.command_line.specs.Tasks.{task_value};
 ghost use Rattle.commands.specs.Answers.{file_value};
 ghost use Rattle.commands.specs.Files.{WritesFile, WritesFiles};
-ghost use Rattle.commands.specs.Folder.{MakesCalls};
 ghost use Rattle.commands.specs.Outcomes.{Runs};
 ghost use Rattle.commands.specs.Program.{ArgumentsRun, IsProgramRun, words_of};
 ghost use Rattle.commands.specs.Runs.{TaskRun};
-ghost use Rattle.commands.specs.inner.Writing.{IsLeft};
 
 use crate::answer::{Answer, print};
 use crate::dyndeps::show_of_read;
@@ -117,12 +115,12 @@ pub fn write_files<F: Folder>(alloc: Global, output: &Output, folder: &mut F) ->
     Ok(())
 }
 
-/// Writes a file, or leaves it alone.
+/// Writes a file, or leaves it alone if it may be left alone and has its bytes.
 fn write_file<F: Folder>(alloc: Global, file: &OutputFile, folder: &mut F) -> Result<(), Stop>
     ensures { Runs (F.calls folder.old) (F.calls folder.new) (WritesFile (file_value file.now))
         result }
 {
-    if is_left(file, folder) {
+    if file.keeps && folder.has(file.name.as_str(), file.bytes.as_slice()) {
         return Ok(());
     }
     match folder.write(file.name.as_str(), file.bytes.as_slice()) {
@@ -132,12 +130,4 @@ fn write_file<F: Folder>(alloc: Global, file: &OutputFile, folder: &mut F) -> Re
             Err(stop::stopped(3, message.map(String::into_bytes)))
         }
     }
-}
-
-/// Returns whether a file is left alone: it may be, and it has its bytes.
-fn is_left<F: Folder>(file: &OutputFile, folder: &mut F) -> bool
-    ensures { MakesCalls (F.calls folder.old) (F.calls folder.new)
-        (IsLeft (file_value file.now) result) }
-{
-    file.keeps && folder.has(file.name.as_str(), file.bytes.as_slice())
 }

@@ -7,10 +7,11 @@ ghost use Rattle.module_table.specs.TableValue.{table_with};
 ghost use Rattle.collate_core.specs.Collation.{Collates};
 ghost use Rattle.collate_core.specs.Refusals.{IsRefusal, WasRead};
 ghost use Rattle.commands.specs.Answers.{file_value};
-ghost use Rattle.commands.specs.CollateCommand.{style_of, map_files, files_of, target_with, SpecOf, TargetRun, CollateRun};
+ghost use Rattle.commands.specs.CollateCommand.{style_of, map_files, files_of, target_with, SpecOf, CollateRun};
 ghost use Rattle.commands.specs.One.{OneRun};
 ghost use Rattle.commands.specs.Outcomes.{Runs};
 ghost use Rattle.commands.specs.Targets.{TargetOf};
+ghost use Rattle.commands.specs.inner.TargetRuns.{TargetRun};
 
 use crate::edges::pass_edges;
 use crate::folder::Folder;

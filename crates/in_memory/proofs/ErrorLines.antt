@@ -113,43 +113,21 @@ no_entry path.TooLong item = refl
 
 -- ---- documents
 
--- the name of an error of a document is passed over
-module _ (text : Text) where
-  s3 : which_in (shown (codes "S3 BadShape " ++ text)) ≡ (83, 3, in_document (shown (codes " " ++ text)))
-  s3 = refl
-
-  s4 : which_in (shown (codes "S4 NoPrimaryOutput " ++ text)) ≡ (83, 4, in_document (shown (codes " " ++ text)))
-  s4 = refl
-
-  s5 : which_in (shown (codes "S5 HeaderUnit " ++ text)) ≡ (83, 5, in_document (shown (codes " " ++ text)))
-  s5 = refl
-
-  s6 : which_in (shown (codes "S6 BadName " ++ text)) ≡ (83, 6, in_document (shown (codes " " ++ text)))
-  s6 = refl
-
-  s7 : which_in (shown (codes "S7 BadPath " ++ text)) ≡ (83, 7, in_document (shown (codes " " ++ text)))
-  s7 = refl
-
-  s8 : which_in (shown (codes "S8 TooLarge " ++ text)) ≡ (83, 8, in_document (shown (codes " " ++ text)))
-  s8 = refl
-
 reads_doc : (fault : DocFault) → (doc_which fault).2.1 ≤ absent → (doc_which fault).2.2 ≤ absent → which_in (shown (doc_fault_text fault)) ≡ doc_which fault
 reads_doc doc.NotJson item entry = refl
 reads_doc doc.BadVersion item entry = refl
 reads_doc (doc.BadShape p member) item entry =
     let rest = codes " member " ++ key member in
-    s3 (place_text p ++ codes " member " ++ key member)
-    ∙ ap (λ (x : Text). S 3 (in_document (shown (codes " " ++ x)))) (append_assoc (place_text p) (codes " member ") (key member))
+    ap (λ (x : Text). S 3 (in_document (shown (codes " " ++ x)))) (append_assoc (place_text p) (codes " member ") (key member))
     ∙ ap (S 3) (reads_place p rest item entry (λ n. refl) (λ n. refl))
-reads_doc (doc.NoPrimaryOutput p) item entry = s4 (place_text p) ∙ ap (S 4) (reads_last p item entry)
-reads_doc (doc.HeaderUnit p) item entry = s5 (place_text p) ∙ ap (S 5) (reads_last p item entry)
-reads_doc (doc.BadName p) item entry = s6 (place_text p) ∙ ap (S 6) (reads_last p item entry)
+reads_doc (doc.NoPrimaryOutput p) item entry = ap (S 4) (reads_last p item entry)
+reads_doc (doc.HeaderUnit p) item entry = ap (S 5) (reads_last p item entry)
+reads_doc (doc.BadName p) item entry = ap (S 6) (reads_last p item entry)
 reads_doc (doc.BadPath p fault) item entry =
     let rest = codes " " ++ path_fault_text fault in
-    s7 (place_text p ++ codes " " ++ path_fault_text fault)
-    ∙ ap (λ (x : Text). S 7 (in_document (shown (codes " " ++ x)))) (append_assoc (place_text p) (codes " ") (path_fault_text fault))
+    ap (λ (x : Text). S 7 (in_document (shown (codes " " ++ x)))) (append_assoc (place_text p) (codes " ") (path_fault_text fault))
     ∙ ap (S 7) (reads_place p rest item entry (λ n. refl) (no_entry fault))
-reads_doc (doc.TooLarge p) item entry = s8 (place_text p) ∙ ap (S 8) (reads_last p item entry)
+reads_doc (doc.TooLarge p) item entry = ap (S 8) (reads_last p item entry)
 
 -- a document's error names no line
 no_line : (fault : DocFault) → labelled (shown (doc_fault_text fault)) (codes "line ") ≡ None
@@ -279,17 +257,6 @@ reads_name path.AboveRoot = (refl, refl)
 reads_name (path.Unwritable index) = (refl, refl)
 reads_name path.TooLong = (refl, refl)
 
--- the name of an error of a statement is passed over
-module _ (text : Text) where
-  y1 : read_text (shown (codes "Y1 Unwritable statement " ++ text)) ≡ ((0, absent, absent), Y 1 (in_statement (shown (codes " statement " ++ text))))
-  y1 = refl
-
-  y2 : read_text (shown (codes "Y2 StatementTooLong statement " ++ text)) ≡ ((0, absent, absent), Y 2 (in_statement (shown (codes " statement " ++ text))))
-  y2 = refl
-
-  e8 : read_text (shown (codes "E8 BadPath statement " ++ text)) ≡ ((0, absent, absent), E 8 (in_statement (shown (codes " statement " ++ text))))
-  e8 = refl
-
 abbrev nowhere : Which → Where × Which
 nowhere w = ((0, absent, absent), w)
 
@@ -299,11 +266,10 @@ reads_write (write.Unwritable statement path) item entry =
     simp (append_assoc, append-nil) in (
       refl,
       ap (λ (x : Text). read_text (shown (codes "Y1 Unwritable statement " ++ x))) same
-          ∙ y1 (decimal statement ++ (codes " path " ++ (decimal path ++ [])))
           ∙ ap (λ (s : Spot). nowhere (Y 1 s)) (reads_path statement path [] item entry (λ n. refl)),
     )
 reads_write (write.StatementTooLong statement) item entry =
-    (refl, y2 (decimal statement) ∙ ap (λ (s : Spot). nowhere (Y 2 s)) (reads_statement statement item))
+    (refl, ap (λ (s : Spot). nowhere (Y 2 s)) (reads_statement statement item))
 reads_write (write.Io written) item entry = (refl, refl)
 
 reads_effect : (fault : EffectFault) → (effect_which fault).2.1 ≤ absent → (effect_which fault).2.2 ≤ absent → Reads (of_effect fault)
@@ -314,7 +280,6 @@ reads_effect (effect.BadPath statement path fault) item entry =
     = simp (append_assoc, append-nil) in (
       refl,
       ap (λ (x : Text). read_text (shown (codes "E8 BadPath statement " ++ x))) same
-          ∙ e8 (decimal statement ++ (codes " path " ++ (decimal path ++ rest)))
           ∙ ap (λ (s : Spot). nowhere (E 8 s)) (reads_path statement path rest item entry (λ n. refl)),
     )
 reads_effect (effect.NotBound output) item entry = (refl, refl)

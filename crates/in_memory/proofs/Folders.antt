@@ -52,4 +52,4 @@ pub run_over : (files old_files new_files : List GivenFile) (old_calls new_calls
 run_over files old_files new_files old_calls new_calls Run outcome are none answered (calls, adds, runs) =
     let same = same_folder new_files files new_calls calls
     (ap out adds ∙ ap₂ (λ fs cs. calls_on fs cs ++ calls) are none ∙ sym (with_more files [] calls)) in
-    (calls, subst (λ fs. All (IsCallOf fs) calls) same.0 (subst (All (IsCallOf new_files)) same.1 answered), runs)
+    (calls, rw (← same.0, ← same.1) answered, runs)

@@ -1,5 +1,5 @@
 -- The message of each run that fails is that of an error.
-use Rattle.std.proofs.Common.{◌≡◌, ◌∙◌, ℕ, ◌+◌, List, [], ◌∷◌, ◌++◌, length, zip, Option, Some, None, Ok, Err, ap, refl, subst, sym, codes}
+use Rattle.std.proofs.Common.{◌≡◌, ◌∙◌, ℕ, ◌+◌, List, [], ◌∷◌, ◌++◌, length, zip, Option, Some, None, Ok, Err, ap, refl, codes}
 use Rattle.ninja_text.specs.Bytes.{Bytes, Name, PathText, Text}
 use Rattle.ninja_text.specs.declared.failure.Failure.{Failure}
 use Rattle.ninja_text.specs.declared.failure.Failure.TheVariants.{Fault, Memory}
@@ -13,7 +13,7 @@ use Rattle.collate_core.specs.Documents.{all_rules}
 use Rattle.collate_core.specs.Values.{CollatedValue, TargetValue}
 use Rattle.collate_core.specs.declared.fault.Refusal.{Refusal}
 use Rattle.collate_core.specs.declared.fault.Refusal.TheVariants as refusal
-use Rattle.commands.specs.CollateCommand.{CollateRun, SpecOf, TargetRun, style_of, target_with}
+use Rattle.commands.specs.CollateCommand.{CollateRun, SpecOf, style_of, target_with}
 use Rattle.commands.specs.Dyndeps.{DyndepOf, DyndepRead}
 use Rattle.commands.specs.EdgeChecks.{EdgesPass, OrderableOf, TextEffectOf}
 use Rattle.commands.specs.Effect.{EffectOf, EffectRun, ListingTextOf, NameOf}
@@ -48,14 +48,14 @@ module _ (Is : LineValue → Type 0) where
   in_turn one two calls stop (goes_on value before after is first second) = two value after stop second
   in_turn {First = First} one two calls stop (stops failure first is) =
       let same : failure ≡ Fault stop = cc in
-      one calls stop (subst (λ (f : Failure LineValue). First calls (Err f)) same first)
+      one calls stop (rw same at first)
 
   reads_as : {V : Type 0} (Follows : FileRead → V → Type 0) (name : PathText) → Is (outcomes.failed 3 (codes "cannot read " ++ name)) →
       All (ReadsAs Follows name)
-  reads_as Follows name unread calls stop (call, is) = subst Is (sym is) unread
+  reads_as Follows name unread calls stop (call, is) = rw is unread
 
   reads : (name : PathText) → Is (outcomes.failed 3 (codes "cannot read " ++ name)) → All (ReadsDocument name)
-  reads name unread calls stop (call, is) = subst Is (sym is) unread
+  reads name unread calls stop (call, is) = rw is unread
 
   each : {V X : Type 0} (Next : V → X → Part V) → ((value : V) (x : X) → All (Next value x)) → (value : V) (xs : List X) → All (Each Next value xs)
   each Next are value [] = λ calls stop is. absurd is
@@ -81,47 +81,52 @@ by_names setting scans names refusal.LinkedLater = plain of_link
 abbrev Plain : {V : Type 0} → Part V → Type 0
 Plain = All IsPlain
 
+-- a part that stops with the text of a fault
+said : {F : Type 0} {IsFault : F → Type 0} {text : F → Text} → ((fault : F) → IsPlain (outcomes.refusal (text fault))) → (calls : List FileCall) (stop : LineValue) →
+    (calls ≡ []) × ((fault : F) × IsFault fault × (stop ≡ outcomes.refusal (text fault))) → IsPlain stop
+said are calls stop (none, (fault, is, same)) = rw same (are fault)
+
 target_of : (target : TargetValue) (style : Option Written) → Plain (TargetOf target style)
-target_of target style calls stop (none, (fault, is, same)) = subst IsPlain (sym same) (by_names target.setting target.scans _ fault)
+target_of target style = said λ fault. by_names target.setting target.scans _ fault
 
 listing_of : (read : ListingRead) → Plain (ListingOf read)
-listing_of read calls stop (none, (fault, is, same)) = subst IsPlain (sym same) (plain (in_edges fault))
+listing_of read = said λ fault. plain (in_edges fault)
 
 dyndep_of : (read : DyndepRead) → Plain (DyndepOf read)
-dyndep_of read calls stop (none, (fault, is, same)) = subst IsPlain (sym same) (plain (in_dyndep fault))
+dyndep_of read = said λ fault. plain (in_dyndep fault)
 
 spec_of : (bytes : Bytes) → Plain (SpecOf bytes)
-spec_of bytes calls stop (none, (fault, is, same)) = subst IsPlain (sym same) (plain (in_target fault))
+spec_of bytes = said λ fault. plain (in_target fault)
 
 project_document_of : (bytes : Bytes) → Plain (ProjectDocumentOf bytes)
-project_document_of bytes calls stop (none, (fault, is, same)) = subst IsPlain (sym same) (plain (in_project fault))
+project_document_of bytes = said λ fault. plain (in_project fault)
 
 name_of : (name : Text) → Plain (NameOf name)
-name_of name calls stop (none, (fault, is, same)) = subst IsPlain (sym same) (plain (of_name fault))
+name_of name = said λ fault. plain (of_name fault)
 
 effect_of : (old : List EdgeValue) (path : PathText) (statements : List StatementValue) → Plain (EffectOf old path statements)
-effect_of old path statements calls stop (none, (fault, is, same)) = subst IsPlain (sym same) (plain (of_effect fault))
+effect_of old path statements = said λ fault. plain (of_effect fault)
 
 text_effect_of : (dyndep : Text) (name : PathText) (old : List EdgeValue) → Plain (TextEffectOf dyndep name old)
-text_effect_of dyndep name old calls stop (none, (fault, is, same)) = subst IsPlain (sym same) (plain (of_effect fault))
+text_effect_of dyndep name old = said λ fault. plain (of_effect fault)
 
 orderable_of : (old new : List EdgeValue) → Plain (OrderableOf old new)
-orderable_of old new calls stop (none, (fault, is, same)) = subst IsPlain (sym same) (plain (of_cycle old fault.items))
+orderable_of old new = said λ fault. plain (of_cycle old fault.items)
 
 order_of : (edges : List EdgeValue) → Plain (OrderOf edges)
-order_of edges calls stop (none, (fault, is, same)) = subst IsPlain (sym same) (plain (of_cycle edges fault.items))
+order_of edges = said λ fault. plain (of_cycle edges fault.items)
 
 listing_text_of : (edges : List EdgeValue) → Plain (ListingTextOf edges)
-listing_text_of edges calls stop (none, (fault, is, same)) = subst IsPlain (sym same) (plain (of_listing edges fault))
+listing_text_of edges = said λ fault. plain (of_listing edges fault)
 
 dyndep_text_of : (statements : List StatementValue) → Plain (DyndepTextOf statements)
-dyndep_text_of statements calls stop (none, (fault, is, same)) = subst IsPlain (sym same) (plain (of_statement fault))
+dyndep_text_of statements = said λ fault. plain (of_statement fault)
 
 form_of : (earlier : List ReadTargetValue) (spec : document.TargetDocumentValue) → Plain (FormOf earlier spec)
-form_of earlier spec calls stop (none, (fault, is, same)) = subst IsPlain (sym same) (plain (in_target fault))
+form_of earlier spec = said λ fault. plain (in_target fault)
 
 links_of : (earlier : List ReadTargetValue) (infos : List PathText) → Plain (LinksOf earlier infos)
-links_of earlier infos calls stop (none, (fault, is, same)) = subst IsPlain (sym same) (plain of_link)
+links_of earlier infos = said λ fault. plain of_link
 
 edges_pass : (listing : Option ListingRead) (name : PathText) (dyndep : Text) → Plain (EdgesPass listing name dyndep)
 edges_pass None name dyndep = λ calls stop is. absurd is.1.0
@@ -145,14 +150,12 @@ files spec linked =
 
 -- ---- commands
 
-target_run : (spec : document.TargetDocumentValue) → Plain (TargetRun spec)
-target_run spec =
+collate_run : (bytes : Bytes) → Plain (CollateRun bytes)
+collate_run bytes =
+    in_turn IsPlain (spec_of bytes) λ spec.
     in_turn IsPlain (files spec spec.linked) λ read.
     in_turn IsPlain (target_of (target_with spec read) (style_of spec.map_form)) λ collated.
     in_turn IsPlain (edges_pass read.listing spec.dyndep_path collated.dyndep) λ passed calls stop is. absurd is.1.0
-
-collate_run : (bytes : Bytes) → Plain (CollateRun bytes)
-collate_run bytes = in_turn IsPlain (spec_of bytes) target_run
 
 one_run : (scan : Text) (dir : PathText) (ext : Text) → Plain (OneRun scan dir ext)
 one_run scan dir ext = in_turn IsPlain (target_of (one_target (one_setting dir ext) scan) None) λ collated calls stop is. absurd is.1.0

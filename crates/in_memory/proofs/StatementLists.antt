@@ -6,11 +6,12 @@ use Rattle.std.specs.Global.{Global}
 use Rattle.std.specs.List.{flat_map}
 use Rattle.std.specs.declared.alloc.AllocError.{AllocError}
 use Rattle.ninja_text.specs.Bytes.{Text, PathText}
+use Rattle.dyndep_file.specs.Reader.{IsReadFaultOf}
 use Rattle.dyndep_file.specs.Reading.{StandsFor}
 use Rattle.dyndep_file.specs.StatementValue.{StatementValue}
 use Rattle.dyndep_file.specs.declared.fault.ReadFault.{ReadFault}
 use Rattle.in_memory.specs.Replies.{ReplyValue, as_number}
-use Rattle.in_memory.specs.Statements.{IsFaultOf, Tells, fault_reply, faulty, stands, statement_numbers, statement_paths, statements_reply}
+use Rattle.in_memory.specs.Statements.{Tells, fault_reply, faulty, stands, statement_numbers, statement_paths, statements_reply}
 
 abbrev pub text_of : Bor (Vec ℕ Global) → PathText
 text_of path = path.now.items
@@ -46,7 +47,7 @@ pub tells_stands : (text : Text) (statements : List StatementValue) (result : Re
 tells_stands text statements (Ok reply) stand is = stands statements stand is
 tells_stands text statements (Err none) stand is = tt
 
-pub tells_fault : (text : Text) (fault : ReadFault) (result : Result ReplyValue AllocError) → IsFaultOf text fault →
+pub tells_fault : (text : Text) (fault : ReadFault) (result : Result ReplyValue AllocError) → IsReadFaultOf text fault →
     IfOk result (λ reply. reply ≡ fault_reply fault) → IfOk result (Tells text)
 tells_fault text fault (Ok reply) of_text is = faulty fault of_text is
 tells_fault text fault (Err none) of_text is = tt

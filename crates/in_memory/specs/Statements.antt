@@ -5,7 +5,8 @@ use Rattle.std.specs.List.{flat_map}
 use Rattle.dep_order.specs.Numbers.{Numbers}
 use Rattle.ninja_text.specs.Bytes.{Text, PathText}
 use Rattle.dyndep_file.specs.FaultTexts.{line_fault_text, read_fault_text}
-use Rattle.dyndep_file.specs.Reading.{HasReadFault, StandsFor}
+use Rattle.dyndep_file.specs.Reader.{IsReadFaultOf}
+use Rattle.dyndep_file.specs.Reading.{StandsFor}
 use Rattle.dyndep_file.specs.StatementValue.{StatementValue}
 use Rattle.dyndep_file.specs.declared.fault.ReadFault.{ReadFault}
 use Rattle.dyndep_file.specs.declared.fault.ReadFault.TheVariants.{AtLine, Io}
@@ -36,14 +37,9 @@ fault_reply (AtLine line fault) =
     record { status = 1; numbers = line ∷ []; text = line_fault_text fault }
 fault_reply Io = record { status = 1; numbers = []; text = read_fault_text Io }
 
--- the text, read as a dyndep file, has this error
-abbrev pub IsFaultOf : Text → ReadFault → Type 0
-IsFaultOf text (AtLine line fault) = HasReadFault text (record { line = line; fault = fault })
-IsFaultOf text Io = ⊥
-
 -- The reply for a dyndep file: the statements that it is read as, or its error.
 pub data Tells (text : Text) (reply : ReplyValue) : Type 0 where
   stands : (statements : List StatementValue) → StandsFor text statements →
       reply ≡ statements_reply statements → Tells text reply
-  faulty : (fault : ReadFault) → IsFaultOf text fault → reply ≡ fault_reply fault →
+  faulty : (fault : ReadFault) → IsReadFaultOf text fault → reply ≡ fault_reply fault →
       Tells text reply

@@ -1,9 +1,9 @@
 //! The commands of `dyncollate` over files that are values: names and bytes that the caller has in
 //! memory, and no directory.
 //!
-//! - [`one_run`], [`show_run`], [`effect_run`] and [`order_run`] return what the command does on the
-//!   bytes of its files (`specs/Runs.antt`). [`collate_run`] and [`project_run`] also take the files
-//!   that documents may name (`specs/Given.antt`).
+//! - [`one_run`], [`show_run`], [`effect_run`] and [`order_run`] return what the command does on
+//!   the bytes of its files (`specs/Runs.antt`). [`collate_run`] and [`project_run`] also take the
+//!   files that documents may name (`specs/Given.antt`).
 //! - [`project_names`] returns the names of a project's target documents.
 //! - [`one_into`] and the like write what a command returns into memory of the caller
 //!   (`specs/Replies.antt`), also for files that lie in one text (`specs/Cuts.antt`).

@@ -2,7 +2,7 @@
 
 ghost use Rattle.std.specs.Prelude.{◌≡◌, ℕ, Option, option_map};
 ghost use Rattle.in_memory.specs.Locations.{CommandError, IsLineOf, location};
-ghost use Rattle.in_memory.specs.inner.Lines.{code, document, from_space, in_document, in_item, in_path, in_statement, labelled, lined, number_after, numbered, spot, targeted, without_program};
+ghost use Rattle.in_memory.specs.inner.Lines.{code, document, from_space, in_document, in_statement, labelled, lined, number_after, numbered, spot, targeted, without_program};
 
 /// Stands for a number that an error does not have.
 const ABSENT: usize = usize::MAX;
@@ -63,7 +63,7 @@ pub fn locate(line: &[u8]) -> Location
     ensures { (target : Option ℕ) (error : CommandError) → IsLineOf target error line.now
         → result ≡ location target error }
 {
-    let (target, text) = target(message(line));
+    let (target, text) = target(line);
     let (document, index, text) = document(text);
     let (document, line, text) = lined(document, text);
     let (letter, number, text) = code(text);
@@ -82,17 +82,11 @@ pub fn locate(line: &[u8]) -> Location
     }
 }
 
-/// Returns a line without the program's name.
-fn message(line: &[u8]) -> &[u8]
-    ensures { result.now ≡ without_program line.now }
+/// Returns the index of the target that a line names after the program, and the text after it.
+fn target(line: &[u8]) -> (usize, &[u8])
+    ensures { (result.0, result.1.now) ≡ targeted (without_program line.now) }
 {
-    line.strip_prefix(b"dyncollate: ").unwrap_or(line)
-}
-
-/// Returns the index of the target that a text names first, and the text after it.
-fn target(text: &[u8]) -> (usize, &[u8])
-    ensures { (result.0, result.1.now) ≡ targeted text.now }
-{
+    let text = line.strip_prefix(b"dyncollate: ").unwrap_or(line);
     labelled(text, b"target ").unwrap_or((ABSENT, text))
 }
 
@@ -176,22 +170,13 @@ fn spot(letter: u8, number: usize, text: &[u8]) -> (usize, usize, usize, usize)
 fn in_document(text: &[u8]) -> (usize, usize, usize, usize)
     ensures { result ≡ in_document text.now }
 {
-    if let Some((rule, rest)) = numbered(text, b" rule ") {
-        in_item(rule, rest)
-    } else if let Some((module, rest)) = numbered(text, b" module ") {
-        in_item(module, rest)
-    } else {
-        (0, ABSENT, ABSENT, ABSENT)
-    }
-}
-
-/// Returns which entry of this rule or module a text begins with.
-fn in_item(item: usize, text: &[u8]) -> (usize, usize, usize, usize)
-    ensures { result ≡ in_item item text.now }
-{
-    if let Some((entry, _)) = numbered(text, b" provides ") {
+    let found = numbered(text, b" rule ").or(numbered(text, b" module "));
+    let Some((item, rest)) = found else {
+        return (0, ABSENT, ABSENT, ABSENT);
+    };
+    if let Some((entry, _)) = numbered(rest, b" provides ") {
         (PROVIDES, item, entry, ABSENT)
-    } else if let Some((entry, _)) = numbered(text, b" requires ") {
+    } else if let Some((entry, _)) = numbered(rest, b" requires ") {
         (REQUIRES, item, entry, ABSENT)
     } else {
         (0, item, ABSENT, ABSENT)
@@ -202,21 +187,12 @@ fn in_item(item: usize, text: &[u8]) -> (usize, usize, usize, usize)
 fn in_statement(text: &[u8]) -> (usize, usize, usize, usize)
     ensures { result ≡ in_statement text.now }
 {
-    if let Some((statement, rest)) = numbered(text, b" statement ") {
-        in_path(statement, rest)
-    } else {
-        (0, ABSENT, ABSENT, ABSENT)
-    }
-}
-
-/// Returns which path of this statement a text begins with.
-fn in_path(statement: usize, text: &[u8]) -> (usize, usize, usize, usize)
-    ensures { result ≡ in_path statement text.now }
-{
-    if let Some((path, _)) = numbered(text, b" path ") {
-        (PATHS, statement, path, ABSENT)
-    } else {
-        (0, statement, ABSENT, ABSENT)
+    let Some((statement, rest)) = numbered(text, b" statement ") else {
+        return (0, ABSENT, ABSENT, ABSENT);
+    };
+    match numbered(rest, b" path ") {
+        Some((path, _)) => (PATHS, statement, path, ABSENT),
+        None => (0, statement, ABSENT, ABSENT),
     }
 }
 

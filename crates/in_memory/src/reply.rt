@@ -49,7 +49,11 @@ impl Model for Reply {
 
     ghost Value = { ReplyValue };
 
-    ghost view = { λ r. record { status = r.status; numbers = r.numbers.items; text = r.text.items } };
+    ghost view = { λ r. record {
+      status = r.status;
+      numbers = r.numbers.items;
+      text = r.text.items;
+    } };
 }
 
 impl Reply {

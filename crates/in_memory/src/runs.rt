@@ -54,9 +54,9 @@ pub fn order_run(alloc: Global, edges: &[u8]) -> Result<Answer, AllocError>
     Answer::of(alloc, commands::order(alloc, edges))
 }
 
-/// Runs `collate TARGETFILE` on the bytes of a target document. For a name in the document, the first
-/// file with that name is read; a name without a file is a file that cannot be read. The answer has
-/// the files to be written, and writes none.
+/// Runs `collate TARGETFILE` on the bytes of a target document. For a name in the document, the
+/// first file with that name is read; a name without a file is a file that cannot be read. The
+/// answer has the files to be written, and writes none.
 pub fn collate_run(alloc: Global, document: &[u8], files: &[File<'_>]) -> Result<Answer, AllocError>
     ensures { Answers (Over files.now (CollateRun document.now)) result }
 {

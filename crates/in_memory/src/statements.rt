@@ -1,14 +1,12 @@
 //! The statements of a dyndep file, as data.
 
-ghost use Rattle.std.specs.Prelude.{◌≡◌, ◌++◌, ⊤, IfErr, IfOk, OnOk};
+ghost use Rattle.std.specs.Prelude.{◌≡◌, ◌++◌, ⊤, IfOk, OnOk};
 ghost use Rattle.std.specs.List.{flat_map};
-ghost use Rattle.ninja_text.specs.Failure.{ForFault};
-ghost use Rattle.dyndep_file.specs.Reading.{StandsFor};
 ghost use Rattle.in_memory.specs.Replies.{Puts};
-ghost use Rattle.in_memory.specs.Statements.{IsFaultOf, Tells, fault_reply, statement_numbers, statement_paths, statements_reply};
+ghost use Rattle.in_memory.specs.Statements.{Tells, fault_reply, statement_numbers, statement_paths, statements_reply};
 
 use crate::reply::{Outcome, Reply, put};
-use dyndep_file::{Dyndep, DyndepReader, ReadFault, Statement};
+use dyndep_file::{Dyndep, ReadFault, Statement};
 use ninja_text::Failure;
 use std::alloc::{AllocError, Global};
 
@@ -22,21 +20,11 @@ pub fn statements_into(
 ) -> Outcome
     ensures { Puts ⊤ (Tells dyndep.now) numbers.old text.old numbers.new text.new result }
 {
-    match read(alloc, dyndep) {
+    match Dyndep::of(alloc, dyndep) {
         Ok(dyndep) => put(of_statements(alloc, &dyndep), numbers, text),
         Err(Failure::Fault(fault)) => put(of_fault(alloc, fault), numbers, text),
         Err(Failure::Memory) => Outcome::without(4),
     }
-}
-
-/// Returns the statements of a dyndep file.
-fn read(alloc: Global, text: &[u8]) -> Result<Dyndep, Failure<ReadFault>>
-    ensures read { IfOk result (StandsFor text.now) }
-    ensures faulty { IfErr result (ForFault (IsFaultOf text.now)) }
-{
-    let mut reader = DyndepReader::new(alloc);
-    reader.feed(text)?;
-    reader.finish()
 }
 
 /// Returns what is reported of these statements.
@@ -63,7 +51,8 @@ fn push_statement(
 ) -> Result<(), AllocError>
     ensures { OnOk result (
         (numbers.new.items ≡ numbers.old.items ++ statement_numbers statement.now)
-        × (text.new.items ≡ text.old.items ++ flat_map (λ path. path) (statement_paths statement.now))) }
+        × (text.new.items
+        ≡ text.old.items ++ flat_map (λ path. path) (statement_paths statement.now))) }
 {
     numbers.extend_from_slice(&[
         usize::from(statement.restat),

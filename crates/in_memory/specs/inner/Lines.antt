@@ -1,6 +1,7 @@
 -- How the line of an error is read.
 use Rattle.std.specs.Prelude.{ℕ, ◌+◌, ◌-◌, ◌*◌, min, ◌&&◌, ◌||◌, ◌==◌, if◌then◌else◌, [], ◌∷◌, length, take, drop, Option, Some, None, option_map, unwrap_or, bytes_eq, codes}
 use Rattle.std.specs.Char.{is_ascii_digit, is_ascii_uppercase}
+use Rattle.std.specs.Option.{option_or}
 use Rattle.ninja_text.specs.Bytes.{Text, space}
 use Rattle.in_memory.specs.declared.location.Location.{Location}
 use Rattle.in_memory.specs.Locations.{Spot, Where, Which, absent, location_of, no_spot}
@@ -79,12 +80,15 @@ in_item item text =
     (unwrap_or (option_map (λ it. (2, item, it.0, absent)) (numbered text (codes " requires ")))
     (0, item, absent, absent))
 
+-- the same, if there is a rule or module
+abbrev pub in_found : Option (ℕ × Text) → Spot
+in_found None = no_spot
+in_found (Some found) = in_item found.0 found.1
+
 -- the rule or module that the text names
 abbrev pub in_document : Text → Spot
 in_document text =
-    unwrap_or (option_map (λ found. in_item found.0 found.1) (numbered text (codes " rule ")))
-    (unwrap_or (option_map (λ found. in_item found.0 found.1) (numbered text (codes " module ")))
-    no_spot)
+    in_found (option_or (numbered text (codes " rule ")) (numbered text (codes " module ")))
 
 -- this statement, and the path that the text names
 abbrev pub in_path : ℕ → Text → Spot

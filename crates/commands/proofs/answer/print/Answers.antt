@@ -27,7 +27,7 @@ returns-in-Ok-write_text g c =
       | in-Err w ↦ search rules
     ] in
     inl (record {
-      out = subst (IsWritten g.O.WriteCall.contents c.args.out.now c.write_text.new.self) are.1 c.in-Ok-write_text.ensures.bytes;
+      out = rw are.1 at c.in-Ok-write_text.ensures.bytes;
       err = subst (IsPut g.E.WriteCall.contents c.args.err.now c.write_text-in-Ok-write_text.new.self) are.2
           (put g.E.WriteCall.contents c.args.err.now c.write_text-in-Ok-write_text.new.self _ c.write_text-in-Ok-write_text.result
           c.write_text-in-Ok-write_text.ensures.bytes);
@@ -42,8 +42,7 @@ returns-in-Err-write_text g c =
     ] in
     inr (record {
       written = c.in-Err-write_text.field-0.written;
-      out = subst (λ text. IsCutShort g.O.WriteCall.contents c.args.out.now c.write_text.new.self text c.in-Err-write_text.field-0.written) are.1
-          c.in-Err-write_text.ensures.bytes;
+      out = rw are.1 at c.in-Err-write_text.ensures.bytes;
       err = put g.E.WriteCall.contents c.args.err.now c.write_text-in-Err-write_text.new.self (line (codes "cannot write standard output"))
           c.write_text-in-Err-write_text.result c.write_text-in-Err-write_text.ensures.bytes;
       status = refl;

@@ -22,7 +22,7 @@ returns-in_err-push_line-in-Order c = next _ c.in_ok-graph.ensures (search rules
 pub returns-in-Order : goal.returns-in-Order
 returns-in-Order c =
     let graph = c.in_ok-graph.graph in
-    let sorting = subst (IsSortingOf (length graph) (EdgeNeeds graph)) c.in-Order.is c.in_ok-order.ensures in
+    let sorting = rw c.in-Order.is at c.in_ok-order.ensures in
     let order = c.deref-edge_index-items.result.now in
     let text = of_all (order_text c.graph.inside.edges.items) order c.loop-edge_index.edge_index-index c.loop-edge_index.text.items c.loop-edge_index-test.false
     c.loop-edge_index.invariant
@@ -32,7 +32,7 @@ returns-in-Order c =
 pub returns : goal.returns
 returns c =
     let graph = c.in_ok-graph.graph in
-    let sorting = subst (IsSortingOf (length graph) (EdgeNeeds graph)) c.in-Cycle.is c.in_ok-order.ensures in
+    let sorting = rw c.in-Cycle.is at c.in_ok-order.ensures in
     let stop = its_line 1 _ _ c.stopped.result c.cycle_text.ensures c.stopped.ensures in
     let same = ap₂ cycle_text c.edges-in-Cycle.ensures.edges c.deref.ensures.value in
     next _ c.in_ok-graph.ensures (said (PrintsOrder graph) _ (λ (cycle : Vec ℕ Global). cycle_text graph cycle.items) c.in-Cycle.cycle c.stopped.result sorting

@@ -1,4 +1,4 @@
-use Rattle.std.proofs.Common.{◌≡◌, ◌∙◌, ℕ, List, [], Option, Some, length, refl, ap, ap₂, subst, sym, Ok, Err, Vec, Global}
+use Rattle.std.proofs.Common.{◌≡◌, ◌∙◌, ℕ, List, [], Option, Some, length, refl, ap, ap₂, subst, Ok, Err, Vec, Global}
 use Rattle.ninja_text.specs.Failure.{ForFault}
 use Rattle.ninja_text.specs.declared.failure.Failure.{Failure}
 use Rattle.dep_order.specs.Needs.{IsOrderable}
@@ -19,13 +19,13 @@ use Rattle.commands.proofs.edges.pass_edges.Goals as goal
 -- one that gives a graph
 passed_on : {given : Option ListingRead} {edges : List EdgeValue} (name dyndep : List ℕ) (s : Outcome (Unit {0})) → given ≡ Some (Ok edges) →
     GraphPasses edges name dyndep [] s → EdgesPass given name dyndep [] s
-passed_on {edges = edges} name dyndep s e h = subst (λ l. EdgesPass l name dyndep [] s) (sym e) (goes_on edges [] [] refl (refl, refl) h)
+passed_on {edges = edges} name dyndep s e h = rw e (goes_on edges [] [] refl (refl, refl) h)
 
 -- and one that does not
 rejected : {given : Option ListingRead} {failure : Failure ListFault} (name dyndep : List ℕ) (stop : Stop) → given ≡ Some (Err failure) →
     Reports edges_fault_text failure stop → EdgesPass given name dyndep [] (Err stop)
 rejected {failure = failure} name dyndep stop e h =
-    subst (λ l. EdgesPass l name dyndep [] (Err stop)) (sym e) (stops stop (held_fault (List EdgeValue) edges_fault_text failure stop h) refl)
+    rw e (stops stop (held_fault (List EdgeValue) edges_fault_text failure stop h) refl)
 
 -- the edges after the effect have this sorting
 abbrev Sorts : List ℕ → List ℕ → List EdgeValue → Sorting → Type 0
@@ -35,7 +35,7 @@ Sorts name dyndep old sorting =
 ordered : (name dyndep : List ℕ) (old : List EdgeValue) {sorting : Sorting} {order : Vec ℕ Global} → sorting ≡ Order order → Sorts name dyndep old sorting →
     GraphPasses old name dyndep [] (Ok tt)
 ordered name dyndep old {sorting} {order} e (new, effect, is) =
-    let orderable = subst (IsSortingOf (length new) (EdgeNeeds new)) e is in goes_on new [] [] refl (refl, effect) (refl, orderable.0)
+    let orderable = rw e at is in goes_on new [] [] refl (refl, effect) (refl, orderable.0)
 
 cyclic : (name dyndep : List ℕ) (old : List EdgeValue) (cycle : Vec ℕ Global) (stop : Stop) → Sorts name dyndep old (Cycle cycle) →
     ForFault (λ l. l ≡ refusal (cycle_text old cycle.items)) stop → GraphPasses old name dyndep [] (Err stop)

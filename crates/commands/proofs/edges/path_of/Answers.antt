@@ -1,4 +1,4 @@
-use Rattle.std.proofs.Common.{ℕ, List, [], refl, subst, Ok, codes, Err}
+use Rattle.std.proofs.Common.{ℕ, List, [], refl, Ok, codes, Err}
 use Rattle.ninja_text.specs.FaultTexts.{path_fault_text}
 use Rattle.commands.specs.EdgeFaults.{name_fault_text}
 use Rattle.commands.specs.Effect.{NameOf}
@@ -6,10 +6,9 @@ use Rattle.commands.proofs.Outcomes.{by_print, unwritten}
 use Rattle.commands.proofs.edges.path_of.Goals as goal
 
 pub returns-in-Ok : goal.returns-in-Ok
-returns-in-Ok c = subst (λ name. NameOf name [] (Ok c.in-Ok.path)) c.as_bytes.ensures.value (refl, c.in-Ok.ensures.meaning)
+returns-in-Ok c = (refl, rw c.as_bytes.ensures.value at c.in-Ok.ensures.meaning)
 
 pub returns-in-Err : goal.returns-in-Err
 returns-in-Err c =
-    subst (λ name. NameOf name [] (Err c.of_fault.result)) c.as_bytes.ensures.value
-    (unwritten (λ (path : List ℕ). path) name_fault_text c.in-Err.failure c.of_fault.result _ c.in-Err.ensures.meaning
-    (by_print (codes "name: ") path_fault_text c.in-Err.failure c.of_fault.result c.of_fault.ensures))
+    unwritten (λ (path : List ℕ). path) name_fault_text c.in-Err.failure c.of_fault.result _ (rw c.as_bytes.ensures.value at c.in-Err.ensures.meaning)
+    (by_print (codes "name: ") path_fault_text c.in-Err.failure c.of_fault.result c.of_fault.ensures)

@@ -1,4 +1,4 @@
-use Rattle.std.proofs.Common.{◌∷◌, ◌+◌, drop, ◌≡◌, ℕ, ◌<◌, ◌≤◌, List, [], Option, length, zip, refl, ap, sym, subst, arith, Ok, Err}
+use Rattle.std.proofs.Common.{◌∷◌, ◌+◌, drop, ◌≡◌, ℕ, ◌<◌, ◌≤◌, List, [], Option, length, zip, refl, ap, arith, Ok, Err}
 use Rattle.std.proofs.lemmas.List.{drop_all}
 use Rattle.std.proofs.lemmas.Slice.Zip.{length-zip}
 use Rattle.commands.specs.declared.projects.ReadTarget.TheInside.{Inside}
@@ -17,8 +17,7 @@ at_own : (view t : ReadTargetValue) (collated : CollatedValue) (listing : Option
     view ≡ t → listing ≡ view.listing → path ≡ view.spec.dyndep_path → EdgesPass listing path collated.dyndep [] own → IsTargetOutcome index own s →
     At index (EdgesPass t.listing t.spec.dyndep_path collated.dyndep) [] s
 at_own view t collated listing path index own s v l p h is =
-    subst (λ (z : ReadTargetValue). At index (EdgesPass z.listing z.spec.dyndep_path collated.dyndep) [] s) v
-    (own, subst (λ x. EdgesPass x view.spec.dyndep_path collated.dyndep [] own) l (subst (λ x. EdgesPass listing x collated.dyndep [] own) p h), is)
+    (own, rw (l, p, v) at h, is)
 
 -- the targets that are left
 left : (c : After-pass_edges-passed) → drop c.loop-index.index (zip c.args.targets.now c.args.outs.now)
@@ -40,7 +39,7 @@ checked c s is =
 pub loop-index-preserved : goal.loop-index-preserved
 loop-index-preserved c =
     let before = (goal.at.loop-index-preserved c).After-pass_edges-passed in
-    λ s h. c.loop-index.invariant s (subst (λ (ps : List (ReadTargetValue × CollatedValue)). AllEdgesPass c.loop-index.index ps [] s) (sym (left before))
+    λ s h. c.loop-index.invariant s (rw (left before)
     (next _ (checked before (Ok tt) c.in_ok-at_target.ensures) h))
 
 -- the edges of this one can't be put in order
@@ -48,8 +47,8 @@ pub returns-in_err-at_target : goal.returns-in_err-at_target
 returns-in_err-at_target c =
     let before = (goal.at.returns-in_err-at_target c).After-pass_edges-passed in
     let stop : Outcome (Unit {0}) = Err c.in_err-at_target.field-0.0 in
-    subst (AllEdgesPass 0 (zip c.args.targets.now c.args.outs.now) []) (sym (passed c.from_residual.ensures))
-    (c.loop-index.invariant stop (subst (λ (ps : List (ReadTargetValue × CollatedValue)). AllEdgesPass c.loop-index.index ps [] stop) (sym (left before))
+    rw (passed c.from_residual.ensures)
+    (c.loop-index.invariant stop (rw (left before)
     (stops _ (checked before stop c.in_err-at_target.ensures) refl)))
 
 pub returns : goal.returns
@@ -59,4 +58,4 @@ returns c =
     let i : ℕ = c.loop-index.index in
     let past : length (zip targets outs) ≤ i = omega (arith, length-zip targets outs, c.loop-index-test.false) in
     c.loop-index.invariant (Ok tt)
-    (subst (λ (ps : List (ReadTargetValue × CollatedValue)). AllEdgesPass i ps [] (Ok tt)) (sym (drop_all i (zip targets outs) past)) (refl, refl))
+    (rw (drop_all i (zip targets outs) past) (refl, refl))

@@ -1,4 +1,4 @@
-use Rattle.std.proofs.Common.{rules, ◌≡◌, ◌∙◌, ◌+◌, ◌<◌, ℕ, List, ◌∷◌, [], ◌++◌, length, take, map, ap, ap₂, subst, sym, arith, take_all, Vec, Global, Bor}
+use Rattle.std.proofs.Common.{rules, ◌≡◌, ◌∙◌, ◌+◌, ◌<◌, ℕ, List, ◌∷◌, [], ◌++◌, length, take, map, ap, ap₂, sym, arith, take_all, Vec, Global, Bor}
 use Rattle.collate_core.specs.Values.{ProjectTargetValue}
 use Rattle.commands.specs.ProjectCommand.{ReadTargetValue, project_target}
 use Rattle.commands.proofs.Targets.{same_at, same_length}
@@ -27,7 +27,7 @@ loop-index-preserved c =
     ∙ same_at texts (λ (t : ReadTargetValue). t.scans) scans targets i c.index-scans-index.result c.index-targets-index.result c.requires
     (at_index scans i c.index-scans-index.result (omega (arith, within, same)) c.index-scans-index.is)
     (at_index targets i c.index-targets-index.result within c.index-targets-index.is) in
-    subst (λ (parts : List ProjectTargetValue). parts ≡ map project_target (take (i + 1) targets)) (sym c.in_ok-parts-2.ensures)
+    rw c.in_ok-parts-2.ensures
     (ap₂ (λ a b. a ++ b ∷ []) c.loop-index.invariant (its_part _ c.index-targets-index.result (search rules) (search rules) own (search rules) (search rules))
     ∙ sym {A = List ProjectTargetValue} (mapped_next project_target targets i c.index-targets-index.result within c.index-targets-index.is))
 

@@ -1,4 +1,4 @@
-use Rattle.std.proofs.Common.{rules, ◌≡◌, ◌∙◌, List, [], length, map, string_bytes, refl, ap, subst, Ok, Err}
+use Rattle.std.proofs.Common.{rules, ◌≡◌, ◌∙◌, List, [], length, map, string_bytes, refl, ap, Ok, Err}
 use Rattle.ninja_text.specs.Bytes.{Text}
 use Rattle.scan_docs.specs.Target.{TargetDocumentValue}
 use Rattle.commands.specs.Outcomes.{Outcome, seen, stops}
@@ -24,7 +24,7 @@ links g c s is =
     let own : c.len-index.result ≡ length c.earlier.inside.list.items = search rules in
     let named = ap (map string_bytes) c.deref.ensures.value ∙ ap (λ (s : TargetDocumentValue). s.linked) c.spec.view_is in
     at_target_seen bytes_of _ (LinksOf c.args.earlier.now c.args.spec.now.linked) c.links_of.result s _ (own ∙ ap length c.earlier.view_is)
-    (subst (λ (ns : List Text). LinksOf c.args.earlier.now ns [] (seen bytes_of c.links_of.result)) named c.links_of.ensures) is
+    (rw named at c.links_of.ensures) is
 
 pub returns-in_err-at_target-clause-read : goal.returns-in_err-at_target-clause-read
 returns-in_err-at_target-clause-read g c =
@@ -60,5 +60,5 @@ returns-clause-links g c =
     let linked = c.in_ok-linked.linked in
     let infos = map string_bytes c.deref.result.now in
     let own : LinksOf earlier infos [] (Ok linked.items) =
-    subst (λ s. LinksOf earlier infos [] (seen bytes_of s)) (at_value c.len-index.result c.links_of.result linked c.in_ok-linked.ensures) c.links_of.ensures in
+    rw (at_value c.len-index.result c.links_of.result linked c.in_ok-linked.ensures) at c.links_of.ensures in
     links_within earlier infos linked.items own.1

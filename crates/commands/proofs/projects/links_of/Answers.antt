@@ -1,4 +1,4 @@
-use Rattle.std.proofs.Common.{rules, ◌≡◌, ℕ, ◌+◌, ◌<◌, List, [], ◌∷◌, ◌++◌, length, take, get_or, map, string_bytes, Option, Some, None, codes, refl, ap, ap₂, subst, sym, ◌∙◌, String, Global}
+use Rattle.std.proofs.Common.{rules, ◌≡◌, ℕ, ◌+◌, ◌<◌, List, [], ◌∷◌, ◌++◌, length, take, get_or, map, string_bytes, Option, Some, None, codes, refl, ap, ap₂, sym, ◌∙◌, String, Global}
 use Rattle.std.proofs.lemmas.List.{map_push, take_all}
 use Rattle.ninja_text.proofs.ForCallers.{to_map}
 use Rattle.commands.specs.ProjectCommand.{ReadTargetValue, last_with, LinksLater, LinksTo}
@@ -33,7 +33,7 @@ loop-info-preserved c =
 pub returns : goal.returns
 returns c =
     let all = take_all c.loop-info.info-index c.args.infos.now c.loop-info-test.false in
-    (refl, subst (λ infos. LinksTo c.args.targets.now (map string_bytes infos) c.loop-info.linked.items) all c.loop-info.invariant)
+    (refl, rw all at c.loop-info.invariant)
 
 -- one that no target has
 pub returns-in_default : goal.returns-in_default

@@ -1,4 +1,4 @@
-use Rattle.std.proofs.Common.{◌≡◌, ◌∙◌, List, [], length, map, string_bytes, zip, codes, refl, ap, subst, sym, Ok, Err}
+use Rattle.std.proofs.Common.{◌≡◌, ◌∙◌, List, [], length, map, string_bytes, zip, codes, refl, ap, Ok, Err}
 use Rattle.std.proofs.lemmas.List.{length-map}
 use Rattle.scan_docs.specs.FaultTexts.{doc_fault_text}
 use Rattle.scan_docs.specs.Document.{IsRefused}
@@ -9,7 +9,7 @@ use Rattle.commands.specs.CollateCommand.{style_of}
 use Rattle.commands.specs.Outcomes.{Outcome, OutputValue, Part, Runs, Writes, stops, ◌>>=◌}
 use Rattle.commands.specs.ProjectCommand.{ReadTargetValue, AllEdgesPass, HasProject, ProjectOf, ProjectRun, ReadsTargets, all_files, form_of, project_target, project_text}
 use Rattle.commands.specs.inner.ProjectTargets.{LinkEarlier}
-use Rattle.commands.proofs.Outcomes.{by_print, fault_reported, last, next, none_made, pure_next, run_as, run_once, run_last}
+use Rattle.commands.proofs.Outcomes.{by_print, fault_reported, last, next, none_made, pure_next, run_once, run_last}
 use Rattle.commands.proofs.Targets.{objects_are_text}
 use Rattle.commands.proofs.projects.project.Given as given
 use Rattle.commands.proofs.projects.project.Goals as goal
@@ -29,10 +29,10 @@ pub returns-in_err-read : goal.returns-in_err-read
 returns-in_err-read g c =
     let named = ap (map string_bytes) c.deref.ensures.value ∙ ap (λ (p : ProjectValue). p.targets) c.project.view_is in
     pure_next _ c.in-Ok.project (refl, c.in-Ok.ensures.accepted)
-    (run_last _ _ (run_as ReadsTargets _ _ (Err c.in_err-read.field-0.0) named c.in_err-read.ensures) c.from_residual.ensures)
+    (run_last _ _ (rw named at c.in_err-read.ensures) c.from_residual.ensures)
 
 pub all_collated-requires : goal.all_collated-requires
-all_collated-requires g c = subst LinkEarlier (sym c.as_slice-targets.ensures.value) c.read.invariant.0
+all_collated-requires g c = rw c.as_slice-targets.ensures.value c.read.invariant.0
 
 -- what comes after the targets
 abbrev AfterTargets : List ReadTargetValue → Part OutputValue
@@ -44,7 +44,7 @@ targets_next : (g : given.Over) (c : In_ok-read g) (own : List ReadTargetValue) 
 targets_next g c own s same rest =
     let named = ap (map string_bytes) c.deref.ensures.value ∙ ap (λ (p : ProjectValue). p.targets) c.project.view_is in
     pure_next _ c.in-Ok.project (refl, c.in-Ok.ensures.accepted)
-    (run_once _ _ (run_as ReadsTargets _ _ (Ok c.in_ok-read.read) named c.in_ok-read.ensures) (subst (λ ts. AfterTargets ts [] s) same rest))
+    (run_once _ _ (rw named at c.in_ok-read.ensures) (rw same at rest))
 
 pub returns-in_err-outs : goal.returns-in_err-outs
 returns-in_err-outs g c =
@@ -59,9 +59,8 @@ all_pass-requires g c =
 
 pub returns-in_err-all_pass : goal.returns-in_err-all_pass
 returns-in_err-all_pass g c =
-    let pass = λ (outs : List CollatedValue). AllEdgesPass 0 (zip c.as_slice-targets.result.now outs) [] (Err c.in_err-all_pass.field-0.0) in
     targets_next g (goal.at.returns-in_err-all_pass g c).In_ok-read _ _ (c.as_slice-targets.ensures.value ∙ c.read.view_is)
-    (next _ c.in_ok-outs.ensures (last _ (subst pass c.deref-2.ensures.value c.in_err-all_pass.ensures) c.from_residual-in_err-all_pass.ensures))
+    (next _ c.in_ok-outs.ensures (last _ (rw c.deref-2.ensures.value at c.in_err-all_pass.ensures) c.from_residual-in_err-all_pass.ensures))
 
 pub write_all-requires : goal.write_all-requires
 write_all-requires g c =
@@ -70,6 +69,5 @@ write_all-requires g c =
 
 pub returns : goal.returns
 returns g c =
-    let pass = λ (outs : List CollatedValue). AllEdgesPass 0 (zip c.as_slice-targets.result.now outs) [] (Ok tt) in
     targets_next g (goal.at.returns g c).In_ok-read _ _ (c.as_slice-targets.ensures.value ∙ c.read.view_is)
-    (next _ c.in_ok-outs.ensures (next _ (subst pass c.deref-2.ensures.value c.in_ok-all_pass.ensures) c.write_all.ensures))
+    (next _ c.in_ok-outs.ensures (next _ (rw c.deref-2.ensures.value at c.in_ok-all_pass.ensures) c.write_all.ensures))

@@ -1,4 +1,4 @@
-use Rattle.std.proofs.Common.{rules, ◌≡◌, ◌∙◌, List, [], length, ap, sym, subst, Ok, Err}
+use Rattle.std.proofs.Common.{rules, ◌≡◌, ◌∙◌, List, [], length, ap, Ok, Err}
 use Rattle.ninja_text.specs.declared.failure.Failure.TheVariants.{Memory, Fault}
 use Rattle.dep_order.specs.Numbers.{Numbers}
 use Rattle.scan_docs.specs.Target.{TargetDocumentValue}
@@ -61,7 +61,7 @@ returns-in_err-linked-clause-read g c =
     let (calls, made, failed) = c.in_err-linked.ensures.read in
     let all = after_spec c.args.earlier.now spec calls (Err c.in_err-linked.field-0.0) failed in
     run_next _ _ c.in_ok-document.ensures (pure_next _ _ own
-    (calls, made, subst (AfterSpec c.args.earlier.now spec calls) (sym (passed c.from_residual-in_err-linked.ensures)) all))
+    (calls, made, rw (passed c.from_residual-in_err-linked.ensures) all))
 
 pub returns-clause-read : goal.returns-clause-read
 returns-clause-read g c =

@@ -1,4 +1,4 @@
-use Rattle.std.proofs.Common.{◌≡◌, Some, slice_get, ◌+◌, ◌≤◌, ◌∷◌, [], ◌++◌, drop, length, map, string_bytes, refl, subst, sym, arith}
+use Rattle.std.proofs.Common.{◌≡◌, Some, slice_get, ◌+◌, ◌≤◌, ◌∷◌, [], ◌++◌, drop, length, map, string_bytes, refl, arith}
 use Rattle.std.proofs.lemmas.List.{length-map}
 use Rattle.commands.specs.Outcomes.{Each, Runs, stops}
 use Rattle.commands.specs.ProjectCommand.{ReadsTarget, ReadsTargets}
@@ -13,15 +13,13 @@ here g c = mapped_at string_bytes c.args.names.now _ c.name-item.result _ c.loop
 
 pub loop-name-init : goal.loop-name-init
 loop-name-init g c =
-    let known = g.F.Folder.calls c.args.folder.now in
-    let All = ReadsTargets (map string_bytes c.args.names.now) in
-    subst (λ targets. Leads known known (Each ReadsTarget targets (map string_bytes c.args.names.now)) All) (sym c.new-targets.ensures) (leads_none known All)
+    rw c.new-targets.ensures (leads_none (g.F.Folder.calls c.args.folder.now) (ReadsTargets (map string_bytes c.args.names.now)))
 
 pub returns-in_err-target : goal.returns-in_err-target
 returns-in_err-target g c =
     let names = map string_bytes c.args.names.now in
     let (calls, made, failed) = c.in_err-target.ensures.read in
-    subst (Runs _ _ (ReadsTargets names)) (sym (passed c.from_residual.ensures))
+    rw (passed c.from_residual.ensures)
     (each_last ReadsTarget names (ReadsTargets names) _ c.loop-name.name-index c.as_str.result.now _ _ _ _
     (here g (goal.at.returns-in_err-target g c).After-read_target) c.loop-name.invariant (calls, made, stops _ failed refl))
 
@@ -29,7 +27,7 @@ returns-in_err-target g c =
 pub returns-in_err-targets : goal.returns-in_err-targets
 returns-in_err-targets g c =
     let names = map string_bytes c.args.names.now in
-    subst (Runs _ _ (ReadsTargets names)) (sym (passed c.from_residual-in_err-targets.ensures))
+    rw (passed c.from_residual-in_err-targets.ensures)
     (each_last ReadsTarget names (ReadsTargets names) _ c.loop-name.name-index c.as_str.result.now _ _ _ _
     (here g (goal.at.returns-in_err-targets g c).After-read_target) c.loop-name.invariant (run_once _ _ c.in_ok-target.ensures.read refl))
 
@@ -37,8 +35,7 @@ pub loop-name-preserved : goal.loop-name-preserved
 loop-name-preserved g c =
     let names = map string_bytes c.args.names.now in
     let targets = c.loop-name.targets in
-    subst (λ ts. Leads (g.F.Folder.calls c.args.folder.now) (g.F.Folder.calls c.read_target.new.folder)
-    (Each ReadsTarget ts (drop (c.loop-name.name-index + 1) names)) (ReadsTargets names)) (sym c.in_ok-targets.ensures)
+    rw c.in_ok-targets.ensures
     (each_next ReadsTarget names (ReadsTargets names) _ c.loop-name.name-index c.as_str.result.now targets (targets ++ c.in_ok-target.target ∷ []) _ _
     (here g (goal.at.loop-name-preserved g c).After-read_target) c.loop-name.invariant
     (run_once _ _ c.in_ok-target.ensures.read (refl, refl)))

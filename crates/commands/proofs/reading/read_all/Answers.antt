@@ -14,9 +14,7 @@ here g c = mapped_at string_bytes c.args.names.now _ c.name-item.result _ c.loop
 pub loop-name-init : goal.loop-name-init
 loop-name-init g c =
     let known = g.F.Folder.calls c.args.folder.now in
-    let All = ReadsAll (map string_bytes c.args.names.now) in
-    subst (λ files. Leads known known (Each ReadsNext files (map string_bytes c.args.names.now)) All) (sym (ap (map bytes_of) c.new-files.ensures.items))
-    (leads_none known All)
+    rw c.new-files.ensures.items (leads_none known (ReadsAll (map string_bytes c.args.names.now)))
 
 pub returns-in_err-file : goal.returns-in_err-file
 returns-in_err-file g c =

@@ -1,4 +1,4 @@
-use Rattle.std.proofs.Common.{rules, ◌≡◌, ℕ, List, [], codes, Option, Some, None, Result, map, string_bytes, refl, ap, sym, subst, Ok, Err, IfOk, String, Vec, option_map, Global}
+use Rattle.std.proofs.Common.{rules, ◌≡◌, ℕ, List, [], codes, Option, Some, None, Result, map, string_bytes, refl, ap, sym, Ok, Err, IfOk, String, Vec, option_map, Global}
 use Rattle.std.specs.IoError.{error_kind}
 use Rattle.std.specs.declared.alloc.AllocError.{AllocError}
 use Rattle.std.specs.declared.io.Error.{Error}
@@ -20,22 +20,19 @@ of_words : (arguments : Result (Vec (String Global) Global) Error) (words : Vec 
     arguments ≡ Ok words → items ≡ words.items → AreCallOf (map string_bytes items) found → task ≡ found →
     AreTask (words_of arguments) (option_map task_value task)
 of_words arguments words items found task is read call same =
-    subst (λ a. AreTask (words_of a) (option_map task_value task)) (sym is)
-    (subst (λ t. AreTask (words_of (Ok words)) (option_map task_value t)) (sym same)
-    (sym (subst (λ i. AreCallOf (map string_bytes i) found) read call)))
+    rw (is, same) (sym (rw read at call))
 
 -- and there is none if there are no arguments
 of_error : (arguments : Result (Vec (String Global) Global) Error) (error : Error) (task : Option Task) →
     arguments ≡ Err error → (error_kind error ≡ OutOfMemory → ⊥) → task ≡ None → AreTask (words_of arguments) (option_map task_value task)
 of_error arguments error task is other same =
-    subst (λ a. AreTask (words_of a) (option_map task_value task)) (sym is)
-    (subst (λ t. AreTask (words_of (Err error)) (option_map task_value t)) (sym same) other)
+    rw (is, same) other
 
 -- which is reported
 refused : (words : Words) (message : Result (Vec ℕ Global) AllocError) (stop : Stop) →
     AreTask words None → IfOk message (λ v. v.items ≡ codes "usage") → IsStoppedWith 2 message stop → ArgumentsOf words [] (Err stop)
-refused words (Err error) stop is text h = subst (λ s. ArgumentsOf words [] (Err s)) (sym h) refl
-refused words (Ok message) stop is text h = subst (λ s. ArgumentsOf words [] (Err s)) (sym h) (refl, is, ap (failed 2) text)
+refused words (Err error) stop is text h = rw h refl
+refused words (Ok message) stop is text h = rw h (refl, is, ap (failed 2) text)
 
 pub returns-in_err-task-in-Ok : goal.returns-in_err-task-in-Ok
 returns-in_err-task-in-Ok g c = pure_last _ _ refl c.from_residual.ensures
@@ -49,7 +46,7 @@ returns-in_default g c =
       | in-Ok+in_ok-task-in-Ok w ↦ of_words _ _ _ _ _ w.in-Ok.is w.deref.ensures.value w.in_ok-task-in-Ok.ensures w.task-is
       | in-Err-2 w ↦ of_error _ _ _ w.in-Err-2.is (search rules) w.task-is
     ] in
-    let none = subst (λ t. AreTask (words_of c.args.arguments.now) (option_map task_value t)) c.in_default.is is in
+    let none = rw c.in_default.is at is in
     ([], none_made _, stops c.stopped.result (refused (words_of c.args.arguments.now) _ _ none c.from_slice.ensures.items c.stopped.ensures) refl)
 
 -- the task that is run
@@ -59,7 +56,7 @@ its_task g c =
       | in-Ok+in_ok-task-in-Ok w ↦ of_words _ _ _ _ _ w.in-Ok.is w.deref.ensures.value w.in_ok-task-in-Ok.ensures w.task-is
       | in-Err-2 w ↦ of_error _ _ _ w.in-Err-2.is (search rules) w.task-is
     ] in
-    subst (λ t. AreTask (words_of c.args.arguments.now) (option_map task_value t)) c.in-Some.is is
+    rw c.in-Some.is at is
 
 pub returns-in_err-output : goal.returns-in_err-output
 returns-in_err-output g c =

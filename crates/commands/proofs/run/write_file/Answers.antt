@@ -1,41 +1,54 @@
-use Rattle.std.proofs.Common.{rules, ◌≡◌, ◌++◌, ◌∷◌, [], List, Bool, true, false, codes, refl, ap₂, subst, inl, inr, Result, Ok, Err}
+use Rattle.std.proofs.Common.{rules, ◌≡◌, ◌++◌, ◌∷◌, [], List, codes, refl, if◌then◌else◌, inl, inr, Result, Ok, Err, true, false}
 use Rattle.std.specs.declared.io.Error.{Error}
 use Rattle.ninja_text.specs.Bytes.{Bytes, PathText}
 use Rattle.ninja_text.specs.Failure.{ForFault}
 use Rattle.commands.specs.Answers.{file_value}
 use Rattle.commands.specs.Files.{writes}
-use Rattle.commands.specs.Folder.{FileCall, Adds, MakesCalls, writing}
+use Rattle.commands.specs.Folder.{FileCall, Adds, MakesCalls, comparing, writing}
 use Rattle.commands.specs.Outcomes.{FileValue, failed}
-use Rattle.commands.specs.inner.Writing.{IsLeft}
-use Rattle.commands.proofs.Outcomes.{both_made, Known}
+use Rattle.commands.proofs.Outcomes.{both_made, none_made, Known}
+use Rattle.commands.proofs.run.write_file.Given as given
 use Rattle.commands.proofs.run.write_file.Goals as goal
+use Rattle.commands.proofs.run.write_file.Goals.{After-write, else-file-via-then-file+else-has, else-file-via-else-file}
 
--- a file that is written, since it is not left alone
-put : (old mid new : Known) (file : FileValue) {left : Bool} {name : PathText} {bytes : Bytes} (result : Result (Unit {0}) Error) →
-    left ≡ false → name ≡ file.name → bytes ≡ file.bytes → MakesCalls old mid (IsLeft file left) → Adds mid new (writing name bytes result ∷ []) →
-    Adds old new (writes file result)
-put old mid new file {left} {name} {bytes} result to_write is_name is_bytes (calls, made, own) wrote =
-    let before = subst (λ l. IsLeft file l calls) to_write own in
-    subst (Adds old new) (ap₂ (λ (cs : List FileCall) (c : FileCall). cs ++ c ∷ []) before
-    (ap₂ (λ (x : PathText) (y : Bytes). writing x y result) is_name is_bytes))
-    (both_made old mid new calls (writing name bytes result ∷ []) made wrote)
+-- the calls before a file is written
+abbrev compares : FileValue → List FileCall
+compares file = if file.keeps then comparing file.name file.bytes false ∷ [] else []
 
-pub returns-then-is_left : goal.returns-then-is_left
-returns-then-is_left g c =
-    let (calls, made, own) = c.is_left.ensures in
-    (calls, made, inl (subst (λ l. IsLeft (file_value c.args.file.now) l calls) c.if-is_left.true own))
+compared : (g : given.Over) (c : After-write g) →
+    MakesCalls (g.F.Folder.calls c.args.folder.now) (g.F.Folder.calls c.else-file.folder) (λ calls. calls ≡ compares (file_value c.args.file.now))
+compared g c = elim c.else-file.branch [
+  | else-file-via-then-file+else-has w ↦ rw w.folder-is (
+    comparing w.as_str.result.now w.as_slice.result.now false ∷ [],
+    w.if-has.ensures,
+    rw (w.if-file.true, w.as_str.ensures.value, w.as_slice.ensures.value) refl,
+  )
+  | else-file-via-else-file w ↦ rw w.folder-is ([], none_made _, rw w.if-file.false refl)
+]
+
+-- and the call that writes it
+put : (old mid new : Known) (file : FileValue) {name : PathText} {bytes : Bytes} (result : Result (Unit {0}) Error) → name ≡ file.name → bytes ≡ file.bytes →
+    MakesCalls old mid (λ calls. calls ≡ compares file) → Adds mid new (writing name bytes result ∷ []) → Adds old new (writes file result)
+put old mid new file {name} {bytes} result is_name is_bytes (calls, made, own) wrote =
+    rw (own, is_name, is_bytes) at (both_made old mid new calls (writing name bytes result ∷ []) made wrote)
+
+pub returns-then-has : goal.returns-then-has
+returns-then-has g c = (
+  comparing c.as_str.result.now c.as_slice.result.now true ∷ [],
+  c.if-has.ensures,
+  inl (c.if-file.true, rw (c.as_str.ensures.value, c.as_slice.ensures.value) refl),
+)
 
 pub returns-in-Ok : goal.returns-in-Ok
 returns-in-Ok g c =
     let file = file_value c.args.file.now in
-    (writes file (Ok tt), put _ _ _ file (Ok tt) c.if-is_left.false c.as_str.ensures.value c.as_slice.ensures.value c.is_left.ensures c.in-Ok.ensures, inr refl)
+    let before = compared g (goal.at.returns-in-Ok g c).After-write in
+    (writes file (Ok tt), put _ _ _ file (Ok tt) c.as_str-2.ensures.value c.as_slice-2.ensures.value before c.in-Ok.ensures, inr refl)
 
 pub returns-in-Err : goal.returns-in-Err
 returns-in-Err g c =
     let file = file_value c.args.file.now in
+    let before = compared g (goal.at.returns-in-Err g c).After-write in
     let error = c.in-Err.field-0 in
-    let message : ForFault (λ l. l ≡ failed 3 (codes "cannot write " ++ file.name)) c.stopped.result = search rules in (
-      writes file (Err error),
-      put _ _ _ file (Err error) c.if-is_left.false c.as_str.ensures.value c.as_slice.ensures.value c.is_left.ensures c.in-Err.ensures,
-      ((error, refl), message),
-    )
+    let message : ForFault (λ l. l ≡ failed 3 (codes "cannot write " ++ file.name)) c.stopped.result = search rules in
+    (writes file (Err error), put _ _ _ file (Err error) c.as_str-2.ensures.value c.as_slice-2.ensures.value before c.in-Err.ensures, ((error, refl), message))

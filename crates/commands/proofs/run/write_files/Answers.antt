@@ -21,7 +21,7 @@ loop-file-init g c = leads_none (g.F.Folder.calls c.args.folder.now) (WritesFile
 pub returns-in_err-write_file : goal.returns-in_err-write_file
 returns-in_err-write_file g c =
     let files = c.args.output.now.files in
-    subst (Runs _ _ (WritesFiles files)) (sym (passed c.from_residual.ensures))
+    rw (passed c.from_residual.ensures)
     (each_last (λ done. WritesFile) files (WritesFiles files) _ c.loop-file.file-index _ tt _ _ _
     (here g (goal.at.returns-in_err-write_file g c).After-write_file) c.loop-file.invariant
     c.in_err-write_file.ensures)

@@ -1,16 +1,12 @@
-use Rattle.std.proofs.Common.{rules, ◌≡◌, List, [], ◌∷◌, ◌++◌, map, append_assoc, ap, ap₂, string_bytes, subst, sym, ◌∙◌, All, IsUtf8, OnOk, Result, Ok, Err, false}
+use Rattle.std.proofs.Common.{rules, ◌≡◌, List, [], ◌∷◌, ◌++◌, map, append_assoc, ap, ap₂, string_bytes, ◌∙◌, Ok, false}
 use Rattle.std.specs.declared.alloc.AllocError.{AllocError}
+use Rattle.std.proofs.lemmas.Result.{on_ok_weaker}
 use Rattle.scan_docs.specs.Target.{TargetDocumentValue}
 use Rattle.commands.specs.Answers.{file_value}
 use Rattle.commands.specs.CollateCommand.{output_file, map_files}
 use Rattle.commands.specs.Outcomes.{FileValue}
 use Rattle.commands.proofs.Targets.{file_more}
 use Rattle.commands.proofs.target.append_files.Goals as goal
-
--- what follows from a fact that holds if a call succeeds
-if_done : {T E : Type 0} (r : Result T E) (P Q : Type 0) → (P → Q) → OnOk r P → OnOk r Q
-if_done (Ok x) P Q to h = to h
-if_done (Err e) P Q to h = tt
 
 -- the maps, the info and the dyndep text, in this order
 pub returns : goal.returns
@@ -32,7 +28,7 @@ returns c =
     ap (λ k. before ++ map_files k collated.objects collated.maps) keeps in
     let info_in = file_more {E = AllocError} (Ok tt) _ c.add.new.list.items _ (output_file spec.restat spec.info collated.info) info c.in_ok-add.ensures
     ∙ ap (λ (files : List FileValue). files ++ output_file spec.restat spec.info collated.info ∷ []) maps_in in
-    if_done c.add-2.result _ _
+    on_ok_weaker c.add-2.result
     (λ h. h ∙ ap (λ (files : List FileValue). files ++ output_file false spec.dyndep collated.dyndep ∷ []) info_in
     ∙ append_assoc (before ++ maps) (output_file spec.restat spec.info collated.info ∷ []) (output_file false spec.dyndep collated.dyndep ∷ [])
     ∙ append_assoc before maps (output_file spec.restat spec.info collated.info ∷ output_file false spec.dyndep collated.dyndep ∷ []))
@@ -40,4 +36,4 @@ returns c =
 
 -- the objects are text
 pub append_maps-requires : goal.append_maps-requires
-append_maps-requires c = subst (All IsUtf8) (sym (c.deref.ensures.value ∙ c.into_parts-dyndep_text.ensures.objects)) c.requires
+append_maps-requires c = rw (c.deref.ensures.value, c.into_parts-dyndep_text.ensures.objects) c.requires

@@ -25,7 +25,7 @@ unreachable-requires c =
     let text : IsUtf8 c.in-Some.object.now = subst (λ (p : List ℕ × Vec ℕ Global). IsUtf8 p.0) (sym turn.1)
     (All-get_or (λ (p : List ℕ × Vec ℕ Global). IsUtf8 p.0) (zip objects maps) (length c.loop-object.yielded) _ turn.0
     (first_all IsUtf8 objects maps c.requires)) in
-    let read : IsUtf8 c.bytes.result.now = subst IsUtf8 (sym c.bytes.ensures.text) text in
+    let read : IsUtf8 c.bytes.result.now = rw c.bytes.ensures.text text in
     search rules
 
 -- the file of one object more

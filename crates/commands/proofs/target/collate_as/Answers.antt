@@ -1,4 +1,4 @@
-use Rattle.std.proofs.Common.{rules, ◌≡◌, Option, Some, None, Result, subst, sym, IfOk, IfErr}
+use Rattle.std.proofs.Common.{rules, ◌≡◌, Option, Some, None, Result, IfOk, IfErr}
 use Rattle.ninja_text.specs.Failure.{ForFault}
 use Rattle.ninja_text.specs.declared.failure.Failure.{Failure}
 use Rattle.scan_docs.specs.declared.map_form.MapForm.{MapForm}
@@ -21,7 +21,7 @@ Gives target form result =
 -- the form that there is
 of_form : (target : TargetValue) (form is : Option MapForm) (result : Result CollatedValue (Failure RefusedTarget)) → form ≡ is → Gives target is result →
     Gives target form result
-of_form target form is result same h = subst (λ f. Gives target f result) (sym same) h
+of_form target form is result same h = rw same h
 
 pub returns-in-None : goal.returns-in-None
 returns-in-None c =

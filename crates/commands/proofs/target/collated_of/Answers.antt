@@ -1,4 +1,4 @@
-use Rattle.std.proofs.Common.{◌≡◌, ◌∙◌, ℕ, List, [], Ok, Err, map, refl, ap, subst, Vec, Global, Bor}
+use Rattle.std.proofs.Common.{◌≡◌, ◌∙◌, ℕ, List, [], Ok, Err, map, refl, ap, Vec, Global, Bor}
 use Rattle.scan_docs.specs.Scan.{SettingValue}
 use Rattle.scan_docs.specs.Target as document
 use Rattle.collate_core.specs.Values.{TargetValue, CollatedValue}
@@ -20,11 +20,7 @@ of_document : (spec view : document.TargetDocumentValue) (files : TargetFilesVal
     view ≡ spec → scans ≡ files.scans → infos ≡ files.infos → kept ≡ view.kept →
     TargetOf (target_of view.target view.setting scans infos kept) (style_of view.map_form) [] s →
     TargetOf (target_with spec files) (style_of spec.map_form) [] s
-of_document spec view files scans infos kept s v d i k h =
-    subst (λ (v : document.TargetDocumentValue). TargetOf (target_of v.target v.setting files.scans files.infos v.kept) (style_of v.map_form) [] s) v
-    (subst (λ (k : List (List ℕ)). TargetOf (target_of view.target view.setting files.scans files.infos k) (style_of view.map_form) [] s) k
-    (subst (λ (i : List (List ℕ)). TargetOf (target_of view.target view.setting files.scans i kept) (style_of view.map_form) [] s) i
-    (subst (λ (d : List (List ℕ)). TargetOf (target_of view.target view.setting d infos kept) (style_of view.map_form) [] s) d h)))
+of_document spec view files scans infos kept s v d i k h = rw (d, i, k, v) at h
 
 abbrev texts : List (Bor (List ℕ)) → List (List ℕ)
 texts lent = map (λ text. text.now) lent

@@ -15,12 +15,11 @@ unfolding is_target_name
 is_letter = refl
 
 its_name : (found : Option (List ℕ)) (name : List ℕ) → found ≡ Some name → SomeIff found (IsTrue (is_target_name (codes "t"))) (codes "t") → name ≡ codes "t"
-its_name found name e h = (subst (λ n. SomeIff n (IsTrue (is_target_name (codes "t"))) (codes "t")) e h).1
+its_name found name e h = (rw e at h).1
 
 pub unreachable-requires : goal.unreachable-requires
 unreachable-requires c =
-    subst (λ name. SomeIff name (IsTrue (is_target_name (codes "t"))) (codes "t"))
-    c.in_default.is c.in_ok-name.ensures is_letter
+    (rw c.in_default.is at c.in_ok-name.ensures) is_letter
 
 pub returns-in_err-name : goal.returns-in_err-name
 returns-in_err-name c = stops Memory refl (search rules)

@@ -1,4 +1,4 @@
-use Rattle.std.proofs.Common.{◌≡◌, ◌∙◌, ℕ, List, [], ◌++◌, map, refl, ap, subst}
+use Rattle.std.proofs.Common.{◌≡◌, ◌∙◌, ℕ, List, [], ◌++◌, map, refl, ap}
 use Rattle.scan_docs.specs.Target.{TargetDocumentValue}
 use Rattle.commands.specs.Answers.{file_value}
 use Rattle.commands.specs.CollateCommand.{files_of, style_of, target_with}
@@ -13,9 +13,7 @@ use Rattle.commands.proofs.target.target_run.Goals as goal
 -- the edge list and the path of the target
 passes_as : (spec view : TargetDocumentValue) (files inside : TargetFilesValue) (dyndep : List ℕ) (s : Outcome (Unit {0})) → inside ≡ files → view ≡ spec →
     EdgesPass inside.listing view.dyndep_path dyndep [] s → EdgesPass files.listing spec.dyndep_path dyndep [] s
-passes_as spec view files inside dyndep s f v h =
-    subst (λ (x : TargetFilesValue). EdgesPass x.listing spec.dyndep_path dyndep [] s) f
-    (subst (λ (x : TargetDocumentValue). EdgesPass inside.listing x.dyndep_path dyndep [] s) v h)
+passes_as spec view files inside dyndep s f v h = rw (f, v) at h
 
 pub append_files-requires : goal.append_files-requires
 append_files-requires g c =

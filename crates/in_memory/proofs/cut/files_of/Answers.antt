@@ -44,5 +44,5 @@ returns-clause-files c =
     let stored : c.loop-file.stored ≡ true = search (rules, tests) in
     let no_lengths : length c.loop-file.left.now ≡ 0 = search (rules, tests) in
     let no_text : length c.loop-file.rest.now ≡ 0 = search (rules, tests) in
-    subst (AreCut c.args.lengths.now c.args.text.now) (append-nil c.loop-file.files.items)
+    rw (append-nil c.loop-file.files.items) at
     (c.loop-file.invariant.1 stored [] (no_files c.loop-file.left.now c.loop-file.rest.now no_lengths no_text))

@@ -4,4 +4,4 @@ use Rattle.in_memory.proofs.into.put_answer.Goals as goal
 
 pub returns-in-Ok : goal.returns-in-Ok
 returns-in-Ok c =
-    put_ok (HasAnswer c.args.answer) c.of.result _ _ _ _ _ (has_answer c.args.answer c.in-Ok.answer c.of.result c.in-Ok.is c.of.ensures) c.put.ensures
+    put_ok (HasAnswer c.args.answer) c.of.result (has_answer c.args.answer c.in-Ok.answer c.of.result c.in-Ok.is c.of.ensures) c.put.ensures

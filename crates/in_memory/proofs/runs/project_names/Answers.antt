@@ -1,4 +1,4 @@
-use Rattle.std.proofs.Common.{ap, subst}
+use Rattle.std.proofs.Common.{ap}
 use Rattle.ninja_text.specs.Failure.{ForFault}
 use Rattle.scan_docs.specs.Document.{IsRefused}
 use Rattle.scan_docs.specs.Project.{ProjectValue}
@@ -12,5 +12,5 @@ returns-in-Ok c = accepted c.in-Ok.project c.in-Ok.ensures.accepted (ap (λ (p :
 pub returns-in-Err-Fault : goal.returns-in-Err-Fault
 returns-in-Err-Fault c =
     rejected c.in-Err-Fault.field-0-0
-    (subst (ForFault (IsRefused project_checks c.args.document.now)) c.in-Err-Fault.field-0-is c.in-Err-Fault.ensures.refused)
+    (rw c.in-Err-Fault.field-0-is at c.in-Err-Fault.ensures.refused)
     c.new.ensures.items

@@ -1,4 +1,4 @@
-use Rattle.std.proofs.Common.{rules, ◌≡◌, ◌∙◌, ◌<◌, List, length, get_or, ap, sym, subst, string_bytes, Some, All}
+use Rattle.std.proofs.Common.{rules, ◌≡◌, ◌∙◌, ◌<◌, List, length, get_or, ap, sym, string_bytes, Some, All}
 use Rattle.std.proofs.lemmas.List.{get_or_push}
 use Rattle.std.proofs.lemmas.Map.Text.{btree_map_updates_text}
 use Rattle.commands.specs.ProjectCommand.{ReadTargetValue}
@@ -18,7 +18,7 @@ invariant_of-result c =
     get_or_push ts target c.index.result.now c.len-index.result (sym at) in
     let named : c.deref.result.now ≡ c.index.result.now.spec.info = search rules in
     rw c.in_ok-list.ensures (
-      links_push ts target c.self.invariant.0 (subst (λ (n : List ReadTargetValue). All (λ k. k < length n) target.linked) (sym c.self.view_is) c.requires),
+      links_push ts target c.self.invariant.0 (rw c.self.view_is c.requires),
       writer_push ts target (string_bytes c.in_ok-info.info) c.len-index.result (writer_of writers) (writer_of c.insert.new.self) c.self.invariant.1
           (c.in_ok-info.ensures.ok ∙ named ∙ ap (λ (t : ReadTargetValue). t.spec.info) here) at
           (btree_map_updates_text (string_bytes c.in_ok-info.info) writers c.insert.new.self (Some c.len-index.result) c.in_ok-insert.ensures.updates),

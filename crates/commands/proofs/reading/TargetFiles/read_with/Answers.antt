@@ -1,9 +1,9 @@
-use Rattle.std.proofs.Common.{◌≡◌, ◌∙◌, Option, Some, None, map, string_bytes, refl, ap, sym, subst, Ok, Err, String, option_map, Global}
+use Rattle.std.proofs.Common.{◌≡◌, ◌∙◌, Option, Some, None, map, string_bytes, refl, ap, Ok, Err, String, option_map, Global}
 use Rattle.ninja_text.specs.Bytes.{Text}
 use Rattle.scan_docs.specs.Target.{TargetDocumentValue}
 use Rattle.commands.specs.Listings.{ListingRead, ReadsListing}
 use Rattle.commands.specs.Outcomes.{Outcome, Runs, ReadsAll, ReadsIfNamed, stops}
-use Rattle.commands.proofs.Outcomes.{at_once, run_as, run_next, run_once, run_last, Known}
+use Rattle.commands.proofs.Outcomes.{at_once, run_next, run_once, run_last, Known}
 use Rattle.commands.proofs.reading.TargetFiles.read_with.Goals as goal
 use Rattle.commands.proofs.reading.TargetFiles.read_with.Goals.{in-Some+in_ok-read_file-in-Some, in-None}
 
@@ -12,24 +12,23 @@ of_name : (old new : Known) (s : Outcome (Option ListingRead)) {given is : Optio
     option_map string_bytes given ≡ edges → given ≡ is →
     Runs old new (ReadsIfNamed ReadsListing (option_map string_bytes is)) s → Runs old new (ReadsIfNamed ReadsListing edges) s
 of_name old new s named e h =
-    subst (λ n. Runs old new (ReadsIfNamed ReadsListing n) s) named
-    (subst (λ n. Runs old new (ReadsIfNamed ReadsListing (option_map string_bytes n)) s) (sym e) h)
+    rw (← named, e) h
 
 pub returns-in_err-scans : goal.returns-in_err-scans
 returns-in_err-scans g c =
     let named = ap (map string_bytes) c.deref.ensures.value ∙ ap (λ (s : TargetDocumentValue). s.scans) c.spec.view_is in
-    run_last _ _ (run_as ReadsAll _ _ _ named c.in_err-scans.ensures) c.from_residual.ensures
+    run_last _ _ (rw named at c.in_err-scans.ensures) c.from_residual.ensures
 
 pub returns-in_err-infos : goal.returns-in_err-infos
 returns-in_err-infos g c =
     let named = ap (map string_bytes) c.deref.ensures.value ∙ ap (λ (s : TargetDocumentValue). s.scans) c.spec.view_is in
-    run_next _ _ (run_as ReadsAll _ _ _ named c.in_ok-scans.ensures) (run_last _ _ c.in_err-infos.ensures c.from_residual-in_err-infos.ensures)
+    run_next _ _ (rw named at c.in_ok-scans.ensures) (run_last _ _ c.in_err-infos.ensures c.from_residual-in_err-infos.ensures)
 
 pub returns-in_err-read_file-in-Some : goal.returns-in_err-read_file-in-Some
 returns-in_err-read_file-in-Some g c =
     let named = ap (map string_bytes) c.deref.ensures.value ∙ ap (λ (s : TargetDocumentValue). s.scans) c.spec.view_is in
-    let failed = run_as ReadsListing _ _ (Err c.in_err-read_file-in-Some.field-0.0) c.as_str.ensures.value c.in_err-read_file-in-Some.ensures in
-    run_next _ _ (run_as ReadsAll _ _ _ named c.in_ok-scans.ensures) (run_next _ _ c.in_ok-infos.ensures
+    let failed = rw c.as_str.ensures.value at c.in_err-read_file-in-Some.ensures in
+    run_next _ _ (rw named at c.in_ok-scans.ensures) (run_next _ _ c.in_ok-infos.ensures
     (run_last _ _ (of_name _ _ (Err c.in_err-read_file-in-Some.field-0.0) (ap (λ (s : TargetDocumentValue). s.edges) c.spec.view_is) c.in-Some.is
     (failed.0, failed.1, stops _ failed.2 refl)) c.from_residual-in_err-read_file-in-Some.ensures))
 
@@ -44,13 +43,10 @@ returns g c =
     let read : Runs start end Reads (Ok listing) = elim c.match-spec.branch [
       | in-Some+in_ok-read_file-in-Some w ↦
           let its : ListingRead = w.in_ok-read_file-in-Some.field-0 in
-          subst (λ l. Runs start end Reads (Ok l)) (sym w.listing-is)
-          (subst (λ f. Runs start (g.F.Folder.calls f) Reads (Ok (Some its))) (sym w.folder-is)
-          (of_name _ _ (Ok (Some its)) edges w.in-Some.is
-          (run_once _ _ (run_as ReadsListing _ _ (Ok its) w.as_str.ensures.value w.in_ok-read_file-in-Some.ensures) (refl, refl))))
+          rw (w.listing-is, w.folder-is) (of_name _ _ (Ok (Some its)) edges w.in-Some.is
+          (run_once _ _ (rw w.as_str.ensures.value at w.in_ok-read_file-in-Some.ensures) (refl, refl)))
       | in-None w ↦
-          subst (λ l. Runs start end Reads (Ok l)) (sym w.listing-is)
-          (subst (λ f. Runs start (g.F.Folder.calls f) Reads (Ok None)) (sym w.folder-is)
-          (of_name _ _ (Ok None) edges w.in-None.is (at_once _ (ReadsIfNamed ReadsListing None) (Ok None) (refl, refl))))
+          rw (w.listing-is, w.folder-is)
+          (of_name _ _ (Ok None) edges w.in-None.is (at_once _ (ReadsIfNamed ReadsListing None) (Ok None) (refl, refl)))
     ] in
-    run_next _ _ (run_as ReadsAll _ _ _ named c.in_ok-scans.ensures) (run_next _ _ c.in_ok-infos.ensures (run_once _ _ read (refl, refl)))
+    run_next _ _ (rw named at c.in_ok-scans.ensures) (run_next _ _ c.in_ok-infos.ensures (run_once _ _ read (refl, refl)))
