@@ -1,4 +1,3 @@
 pub mod Name
 pub mod Rule
 pub mod Info
-pub mod Parts
