@@ -64,7 +64,7 @@ impl<'a> Model for Target<'a> {
 ///
 /// Returns the first [`Refusal`] of the target, in the order of that type. Unless an allocation
 /// fails, the call succeeds if and only if the target has none
-/// ([`one_outcome`](crate::one_outcome)).
+/// ([`one_outcome`](crate::laws::one_outcome)).
 pub fn collate<M: MapStyle>(
     alloc: Global,
     target: &Target<'_>,

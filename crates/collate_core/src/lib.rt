@@ -4,7 +4,7 @@
 //! - [`collate`] takes the scan documents of a target and the info files of the targets that it
 //!   links. It succeeds if and only if no error of [`Refusal`] is present (`specs/Collation.antt`,
 //!   `Collates`), and otherwise returns the first in that order (`specs/Refusals.antt`,
-//!   `IsRefusal`). The law [`one_outcome`] says that there are never both, nor two errors.
+//!   `IsRefusal`). By the law [`laws::one_outcome`] there are never both, nor two errors.
 //!   [`collate_dyndep`] returns only the dyndep text (`specs/Headline.antt`, `IsDyndepOf`). An
 //!   error has objects and info files by their indexes. [`collate_or_refused`] and its like also
 //!   return what was read of the target (`specs/Refusals.antt`, `HasReadOf`).
@@ -17,11 +17,11 @@
 //! - [`project`] collates targets that link earlier ones (`specs/Projects.antt`). Their dyndep
 //!   files may be applied in any order (`ProjectOrders.antt`), and the maps have what each object
 //!   needs over the whole project (`ProjectNeeds.antt`).
-//! - The laws [`no_race`], [`no_false_wait`], [`no_false_rebuild`] and [`no_false_cycle`] say what
-//!   these files mean for a build (`specs/Builds.antt`, `specs/BuildLaws.antt`). In every order in
-//!   which the edges can run, the edge of an object comes after the producers of the BMIs that the
-//!   object requires. An edge needs what it needed before and what it imports, and nothing else,
-//!   directly, in a chain or in a cycle.
+//! - The laws [`laws::no_race`], [`laws::no_false_wait`], [`laws::no_false_rebuild`] and
+//!   [`laws::no_false_cycle`] say what these files mean for a build (`specs/Builds.antt`,
+//!   `specs/BuildLaws.antt`). In every order in which the edges can run, the edge of an object comes
+//!   after the producers of the BMIs that the object requires. An edge needs what it needed before
+//!   and what it imports, and nothing else, directly, in a chain or in a cycle.
 //!
 //! The definitions speak of one table, which is a function of the documents' bytes
 //! (`specs/Documents.antt`, `table_of`). A target of a project is collated by the table of a part
@@ -67,10 +67,6 @@ pub use collating::{
     Target, collate, collate_dyndep, collate_dyndep_or_refused, collate_or_refused,
 };
 pub use fault::{Refusal, RefusedTarget, RehearseFault};
-pub use laws::{
-    headline, no_false_cycle, no_false_rebuild, no_false_wait, no_race, one_outcome, project_maps,
-    project_orders,
-};
 pub use module_maps::{Clang, Gcc, MapEntry, MapFault, MapStyle, ModuleMap, UnwritableMap};
 pub use projects::{ProjectOut, ProjectTarget, project, project_or_refused};
 pub use rehearsal::{check_edges, rehearse};
