@@ -9,11 +9,11 @@ import sys
 from dataclasses import dataclass
 from pathlib import Path
 
-# The processor time in seconds that a proof by one job takes: of a run of rt all check with other work on the machine, and of the two
-# shortest, of bench/run build. Only the proportions count: for the order and the progress.
-SECONDS = {"ninja_text": 121, "dep_order": 98, "dyndep_file": 89, "table_keys": 9, "document_values": 56, "scan_docs": 208,
-           "module_maps": 72, "module_table": 297, "build_effect": 204, "collate_core": 175, "command_line": 46,
-           "system_files": 27, "commands": 234, "dyncollate": 112, "in_memory": 118, "c_library": 94}
+# The processor time in seconds that a proof by one job takes, as bench/run build measures it (in_memory and c_library: rt all check, with
+# other work on the machine). Only the proportions count: for the order and the progress.
+SECONDS = {"ninja_text": 135, "dep_order": 92, "dyndep_file": 79, "table_keys": 10, "document_values": 28, "scan_docs": 205,
+           "module_maps": 69, "module_table": 293, "build_effect": 212, "collate_core": 191, "command_line": 50,
+           "system_files": 26, "commands": 252, "dyncollate": 97, "in_memory": 118, "c_library": 94}
 
 
 @dataclass(eq=False)
