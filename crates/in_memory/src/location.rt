@@ -190,9 +190,10 @@ fn in_statement(text: &[u8]) -> (usize, usize, usize, usize)
     let Some((statement, rest)) = numbered(text, b" statement ") else {
         return (0, ABSENT, ABSENT, ABSENT);
     };
-    match numbered(rest, b" path ") {
-        Some((path, _)) => (PATHS, statement, path, ABSENT),
-        None => (0, statement, ABSENT, ABSENT),
+    if let Some((path, _)) = numbered(rest, b" path ") {
+        (PATHS, statement, path, ABSENT)
+    } else {
+        (0, statement, ABSENT, ABSENT)
     }
 }
 
