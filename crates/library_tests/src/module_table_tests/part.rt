@@ -1,10 +1,15 @@
 //! An object requires one of the modules of a linked target.
+ghost use Rattle.std.specs.Prelude.{◌++◌};
+ghost use Rattle.table_keys.specs.Entries.{TableEntries};
+ghost use Rattle.table_keys.specs.Keys.{HasAdded};
+ghost use Rattle.module_table.specs.Pool.{pool_entries};
+
 use document_values::{Info, Rule};
 use module_table::{Pool, Requirements, Scratch};
 use scan_docs::{Setting, info_read, scan};
-use std::alloc::Global;
+use std::alloc::{AllocError, Global};
 use std::test::Fail;
-use table_keys::TableKey;
+use table_keys::KeyDigest;
 
 const DOCUMENT: &[u8] = br#"{"version":1,"rules":[
     {"primary-output":"main.o","requires":[{"logical-name":"B"}]}]}"#;
@@ -23,11 +28,22 @@ fn objects(alloc: Global) -> Result<Vec<Rule>, Fail> {
     Ok(scan(alloc, DOCUMENT, &setting)?)
 }
 
-/// A pool with one info file.
-fn pool(alloc: Global) -> Result<Pool, Fail> {
-    let key = TableKey::of(&[b"A".as_slice(), b"mod/A.pcm", b"B", b"mod/B.pcm"]);
-    let info = info_read(alloc, INFO)?;
-    Ok(Pool::new(alloc, key).push(alloc, Some(info))?)
+/// A pool with this info file, under a key of the names and files of its modules.
+fn pool(alloc: Global, info: Info) -> Result<Pool, AllocError> {
+    let mut digest = KeyDigest::new();
+    add_modules(&mut digest, &info);
+    Pool::new(alloc, digest.key()).push(alloc, Some(info))
+}
+
+/// Adds the names and files of the modules of an info file.
+pub(crate) fn add_modules(digest: &mut KeyDigest, info: &Info)
+    ensures { (entries : TableEntries) → HasAdded digest.old entries
+        → HasAdded digest.new (entries ++ pool_entries info.now) }
+{
+    for module in &info.modules {
+        digest.add(module.name.bytes());
+        digest.add(module.file.bytes());
+    }
 }
 
 /// The part of the pool's first info file that the objects require.
@@ -41,7 +57,8 @@ fn part(alloc: Global, pool: &Pool, objects: &[Rule]) -> Result<Vec<Info>, Fail>
 
 #[test]
 fn the_part_has_the_required_module_alone(rt: HostRuntime) -> Result<(), Fail> {
-    let part = part(rt.alloc(), &pool(rt.alloc())?, &objects(rt.alloc())?)?;
+    let pool = pool(rt.alloc(), info_read(rt.alloc(), INFO)?)?;
+    let part = part(rt.alloc(), &pool, &objects(rt.alloc())?)?;
     assert!(rt; part.len() == 1 && part[0].modules.len() == 1);
     assert!(rt; part[0].modules[0].name.text() == "B");
     Ok(())

@@ -1,13 +1,18 @@
 //! Names and files that modules of several targets share: whether a pool returns a part, and which
 //! modules are in it. The program prints the same with the table of all modules.
 
+ghost use Rattle.std.specs.List.{flat_map};
+ghost use Rattle.table_keys.specs.Keys.{IsKeyOf};
+ghost use Rattle.module_table.specs.Pool.{pool_entries};
+
 use crate::common::{name, path, push_line, value};
-use document_values::Rule;
+use crate::module_table_tests::part::add_modules;
+use document_values::{Info, Rule};
 use module_table::{Pool, Requirements, Scratch};
 use scan_docs::info_read;
-use std::alloc::Global;
+use std::alloc::{AllocError, Global};
 use std::test::Fail;
-use table_keys::KeyDigest;
+use table_keys::{KeyDigest, TableKey};
 
 /// Info files 0, 1 and 2 have a module `P` with a file each. Info files 2, 3 and 4 have a module
 /// with the file `s.pcm`: `Q`, `R` and `S`. Info file 5 requires `R`.
@@ -23,11 +28,32 @@ const INFOS: [&[u8]; 6] = [
 ];
 
 fn pool(alloc: Global) -> Result<Pool, Fail> {
-    let mut pool = Pool::new(alloc, KeyDigest::new().key());
+    let mut infos = Vec::new(alloc);
     for info in INFOS {
-        pool = pool.push(alloc, Some(value(info_read(alloc, info))?))?;
+        infos.push(value(info_read(alloc, info))?)?;
+    }
+    Ok(pool_of(alloc, infos)?)
+}
+
+/// A pool of these info files, under a key of the names and files of all their modules.
+fn pool_of(alloc: Global, infos: Vec<Info>) -> Result<Pool, AllocError> {
+    let mut pool = Pool::new(alloc, key_of(&infos));
+    let count = infos.len();
+    let mut rest = infos.into_iter();
+    for _ in 0..count {
+        pool = pool.push(alloc, rest.next())?;
     }
     Ok(pool)
+}
+
+fn key_of(infos: &[Info]) -> TableKey
+    ensures { IsKeyOf result (flat_map pool_entries infos.now) }
+{
+    let mut digest = KeyDigest::new();
+    for info in infos {
+        add_modules(&mut digest, info);
+    }
+    digest.key()
 }
 
 /// An object that requires this module.
