@@ -7,7 +7,7 @@ ghost use Rattle.commands.specs.Folder.{reading};
 ghost use Rattle.commands.specs.Outcomes.{printed, written, IsUnread, Reports};
 ghost use Rattle.commands.specs.ProjectCommand.{IsTargetOutcome, target_text};
 ghost use Rattle.commands.specs.inner.Refusals.{refused_line};
-ghost use Rattle.commands.specs.inner.Stops.{IsStoppedWith, ReportsPrinted};
+ghost use Rattle.commands.specs.inner.Stops.{IsStoppedWith, IsFailedCall, ReportsPrinted};
 
 use crate::refusal::{edges_fault_text, effect_text, refused_text};
 use build_effect::{EffectFault, ListFault};
@@ -99,11 +99,18 @@ pub(crate) fn stopped(status: u8, message: Result<Vec<u8>, AllocError>) -> Stop
 pub(crate) fn of_unread(alloc: Global, name: &str, error: io::Error) -> Stop
     ensures { IsUnread name.now (reading name.now (Err error) ∷ []) result }
 {
+    let message = format!(in alloc; "cannot read {name}");
+    of_failed_call(&error, message.map(String::into_bytes))
+}
+
+/// Stops the run because memory ran out, if that is the error, and with this message otherwise.
+fn of_failed_call(error: &io::Error, message: Result<Vec<u8>, AllocError>) -> Stop
+    ensures { IsFailedCall error.now message result }
+{
     if error.kind() == ErrorKind::OutOfMemory {
         return Failure::Memory;
     }
-    let message = format!(in alloc; "cannot read {name}");
-    stopped(3, message.map(String::into_bytes))
+    stopped(3, message)
 }
 
 /// Stops the run at a fault, which is reported after this prefix.

@@ -1,6 +1,9 @@
 -- How the reason is made why a run stops.
 use Rattle.std.specs.Prelude.{◌≡◌, ⊤, ℕ, ◌++◌, Option, Some, Ok, Err, Result, Vec}
 use Rattle.std.specs.Global.{Global}
+use Rattle.std.specs.IoError.{error_kind}
+use Rattle.std.specs.declared.io.Error.{Error}
+use Rattle.std.specs.declared.io.ErrorKind.TheVariants.{OutOfMemory}
 use Rattle.std.specs.declared.alloc.AllocError.{AllocError}
 use Rattle.ninja_text.specs.Bytes.{Text}
 use Rattle.ninja_text.specs.declared.failure.Failure.{Failure}
@@ -11,6 +14,13 @@ use Rattle.commands.specs.Outcomes.{LineValue, failed, refusal}
 abbrev pub IsStoppedWith : ℕ → Result (Vec ℕ Global) AllocError → Failure LineValue → Type 0
 IsStoppedWith number (Err refused) stop = stop ≡ Memory
 IsStoppedWith number (Ok message) stop = stop ≡ Fault (failed number message.items)
+
+-- The run stops because memory ran out, if that is the error of a call, and with this message if
+-- it is another error.
+abbrev pub IsFailedCall : Error → Result (Vec ℕ Global) AllocError → Failure LineValue → Type 0
+IsFailedCall error message stop =
+    (error_kind error ≡ OutOfMemory → stop ≡ Memory)
+    × ((error_kind error ≡ OutOfMemory → ⊥) → IsStoppedWith 3 message stop)
 
 -- why the run stops at a failure: memory, or the fault as it is printed, after this prefix
 abbrev pub ReportsPrinted : {F : Type 0} → Text → (F → Option Text) → Failure F → Failure LineValue
