@@ -38,7 +38,7 @@ class Manual(unittest.TestCase):
         self.equal_lists(in_sources, re.findall(rf"^\.It Sy ({FAULT})$", self.page, re.M))
 
     def test_commands(self):
-        arguments = (TOP / "crates/command_line/src/arguments.rt").read_text()
+        arguments = (TOP / "crates/command_line/src/lib.rt").read_text()
         commands = re.findall(r'\bwith_command\(\s*alloc,\s*\S+,\s*"([a-z]+)"', arguments)
         self.assertEqual(len(commands), len(re.findall(r"\bwith_command\(", arguments)), "each command that is added has a name")
         self.equal_lists(commands, re.findall(r"^\.Cm (.*)", section(self.page, "SYNOPSIS", "DESCRIPTION"), re.M))

@@ -37,7 +37,7 @@ def names_used(text):
     """What the `use` lines of a file bring: names, each with its file and what it is called there, and names of files."""
     names, files = {}, {}
     for crate, inside, listed, alias in re.findall(
-            r"^ *(?:ghost )?use Rattle\.(\w+)\.specs\.([\w.]+?)(?:\.\{(.*)\})?(?: as (\w+))?;?$", text, re.M):
+            r"^ *(?:ghost |pub )?use Rattle\.(\w+)\.specs\.([\w.]+?)(?:\.\{(.*)\})?(?: as (\w+))?;?$", text, re.M):
         file = f"{crate}/specs/{inside.replace('.', '/')}.antt"
         names |= {name.strip("◌"): (file, name.strip("◌")) for name in listed.split(", ")}
         files |= {alias: file} if alias else {}
@@ -52,7 +52,7 @@ class Specs:
         self.length = text.count("\n")
         self.names, self.files = names_used(text)
         self.definitions, self.homes = {}, {}
-        for part in re.split(r"\n\n+", re.sub(r"^(use|pub mod) .*\n", "", text, flags=re.M)):
+        for part in re.split(r"\n\n+", re.sub(r"^(use|pub use|pub mod) .*\n", "", text, flags=re.M)):
             defined = [name.strip("◌") for name in BEGINNING.findall(part)]
             if defined:
                 self.definitions[defined[0]] = part.strip("\n")
@@ -68,6 +68,8 @@ def named(text, names, files):
     """The definitions that a text names."""
     for before, name in re.findall(r"(?<![\w.])(?:(\w+)\.)?(\w+)", re.sub(r"--.*|codes \"[^\"]*\"", "", text)):
         file, name = (files[before], name) if before in files else names.get(before or name, ("", ""))
+        while file in SPECS and name not in SPECS[file].homes and name in SPECS[file].names:
+            file, name = SPECS[file].names[name]  # the file passes it on by `pub use`
         if file in SPECS and name in SPECS[file].homes:
             yield file, SPECS[file].homes[name]
 

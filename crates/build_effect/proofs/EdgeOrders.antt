@@ -1,23 +1,15 @@
 -- Orders of the graph after several files.
 use Rattle.std.proofs.Common.{◌≡◌, ◌≢◌, ℕ, zero, suc, ◌+◌, ◌<◌, ◌≤◌, ◌⊎◌, List, [], ◌∷◌, ◌++◌, length, Some, refl, ap, subst, sym, ◌∙◌, inl, inr, arith, append_assoc}
-use Rattle.std.specs.Prelude.{slice_get, slice_index, Contains}
 use Rattle.std.proofs.lemmas.Option.{slice_get_within, get_or_from_slice_get, slice_get_read}
+use Rattle.build_effect.specs.Prelude.{slice_get, slice_index, Contains, IsOrderable, StatementValue, EdgeValue, IsTheOneOn, extended, Extends, NamedFile, FilesMeet, GainsExactly, made_by, HasInput, Names, MakesAt, EdgeNeeds, HasOutputsOnly, IsRisingNumbering, IsLevelNumbering, LevelOrders, rank_at, AreOrdered, IsAboveOthers, FilesOrder, AddsAt, MeetsPremises, AdditionNeeds}
 use Rattle.build_effect.proofs.Lists.{path_option_decides, from_some}
-use Rattle.dep_order.specs.Needs.{IsOrderable}
 use Rattle.dep_order.proofs.ForCallers.{layered}
-use Rattle.dyndep_file.specs.StatementValue.{StatementValue}
-use Rattle.build_effect.specs.EdgeValue.{EdgeValue}
-use Rattle.build_effect.specs.Graphs.{made_by, HasInput, MakesAt, Names, EdgeNeeds}
-use Rattle.build_effect.specs.Effect.{IsTheOneOn, Extends, extended}
-use Rattle.build_effect.specs.Premises.{AddsAt, AdditionNeeds, MeetsPremises}
-use Rattle.build_effect.specs.Files.{NamedFile, FilesMeet, GainsExactly}
-use Rattle.build_effect.specs.Numbering.{HasOutputsOnly, IsRisingNumbering, IsAboveOthers, AreOrdered, rank_at, FilesOrder, IsLevelNumbering, LevelOrders}
 use Rattle.ninja_text.proofs.ForCallers.{in_append, in_first, in_second, element_at, choose, three_ways}
 
 -- what an extended edge reads: what the edge read, or an added input
-reads_of : (e : EdgeValue) (x : StatementValue) (file : List ℕ) → HasInput (extended e x) file →
+reads_of : (e : EdgeValue) (x : StatementValue) {file : List ℕ} → HasInput (extended e x) file →
     HasInput e file ⊎ ((m : ℕ) × (slice_get x.implicit_inputs m ≡ Some file))
-reads_of e x file h =
+reads_of e x {file} h =
     elim (in_append e.inputs ((e.implicit_inputs ++ x.implicit_inputs) ++ e.order_only) h.0 file h.1) [
       | inl p ↦ inl (h.0, in_first e.inputs (e.implicit_inputs ++ e.order_only) h.0 file p)
       | inr p ↦ elim (in_append (e.implicit_inputs ++ x.implicit_inputs) e.order_only p.0 file p.2) [
@@ -58,7 +50,7 @@ names_one (f ∷ files) e =
       ]
     ]
 
-module _ (files : List NamedFile) (g h new : List EdgeValue) (order ranks : List ℕ) (meets : FilesMeet g files)
+module _ {files : List NamedFile} {g h new : List EdgeValue} {order ranks : List ℕ} (meets : FilesMeet g files)
     (all : (n : ℕ) → n < length files → Contains order n) (gains : GainsExactly files g order new)
     (outputs : HasOutputsOnly files g h) (level : IsRisingNumbering files g h ranks) (others : IsAboveOthers files g h ranks) (added : AreOrdered files) where
   -- the edge has the one statement k of file n
@@ -69,8 +61,8 @@ module _ (files : List NamedFile) (g h new : List EdgeValue) (order ranks : List
   abbrev Turns : EdgeValue → EdgeValue → Type 0
   Turns e x = (NamesNone files e × (x ≡ e)) ⊎ ((n : ℕ) × (k : ℕ) × (a : StatementValue) × Has e n k a × (x ≡ extended e a))
 
-  turns : (i : ℕ) (x : EdgeValue) → slice_get new i ≡ Some x → (e : EdgeValue) × (slice_get g i ≡ Some e) × Turns e x
-  turns i x here =
+  turns : (i : ℕ) {x : EdgeValue} → slice_get new i ≡ Some x → (e : EdgeValue) × (slice_get g i ≡ Some e) × Turns e x
+  turns i here =
       let within : i < length new = slice_get_within _ _ _ here in
       let at = element_at g i (omega (arith, gains.same_edges)) in
       elim (names_one files at.0) [
@@ -82,9 +74,9 @@ module _ (files : List NamedFile) (g h new : List EdgeValue) (order ranks : List
       ]
 
   -- the edges of h make what those after all files make
-  makes_same : (b j : ℕ) (file : List ℕ) → MakesAt new b j file → MakesAt h b j file
-  makes_same b j file m =
-      let from = turns b m.0 m.1 in
+  makes_same : (b : ℕ) {j : ℕ} {file : List ℕ} → MakesAt new b j file → MakesAt h b j file
+  makes_same b {j} m =
+      let from = turns b m.1 in
       elim from.2 [
         | inl same ↦ (from.0, outputs.others b from.0 from.1 same.0, ap (λ e. slice_get (made_by e) j) (sym same.1) ∙ m.2)
         | inr one ↦ (
@@ -100,18 +92,18 @@ module _ (files : List NamedFile) (g h new : List EdgeValue) (order ranks : List
       ((e : EdgeValue) × (n : ℕ) × (k : ℕ) × (a : StatementValue) × (m : ℕ) × (slice_get g b ≡ Some e) × Has e n k a ×
       (slice_get a.implicit_outputs m ≡ Some file))
 
-  origin_of : (b j : ℕ) (file : List ℕ) (e x : EdgeValue) → slice_get g b ≡ Some e → slice_get (made_by x) j ≡ Some file → Turns e x → Origin b j file
-  origin_of b j file e x here makes (inl same) = inl (e, here, ap (λ d. slice_get (made_by d) j) (sym same.1) ∙ makes)
-  origin_of b j file e x here makes (inr one) =
-      let joined : slice_get (made_by e ++ one.2.implicit_outputs) j ≡ Some file =
+  origin_of : (b j : ℕ) {file : List ℕ} {e x : EdgeValue} → slice_get g b ≡ Some e → slice_get (made_by x) j ≡ Some file → Turns e x → Origin b j file
+  origin_of b j {e} here makes (inl same) = inl (e, here, ap (λ d. slice_get (made_by d) j) (sym same.1) ∙ makes)
+  origin_of b j {file} {e} here makes (inr one) =
+      let joined =
       ap (λ xs. slice_get xs j) (append_assoc e.outputs e.implicit_outputs one.2.implicit_outputs) ∙ ap (λ d. slice_get (made_by d) j) (sym one.4) ∙ makes in
       elim (in_append (made_by e) one.2.implicit_outputs j file joined) [
         | inl old ↦ inl (e, here, old)
         | inr more ↦ inr (e, one.0, one.1, one.2, more.0, here, one.3, more.2)
       ]
 
-  origin : (b j : ℕ) (file : List ℕ) → MakesAt new b j file → Origin b j file
-  origin b j file m = let from = turns b m.0 m.1 in origin_of b j file from.0 m.0 from.1 m.2 from.2
+  origin : (b j : ℕ) {file : List ℕ} → MakesAt new b j file → Origin b j file
+  origin b j {file} m = let from = turns b m.1 in origin_of b j from.1 m.2 from.2
 
   -- the second number of edge i: that of the statement on it
   Second : ℕ → ℕ → Type 0
@@ -131,7 +123,7 @@ module _ (files : List NamedFile) (g h new : List EdgeValue) (order ranks : List
                   let name : has.0.name ≡ one.1.name = cc in
                   let same_file = meets.names_differ n one.0 has.0 one.1 has.1 one.2 name in
                   let file : has.0 ≡ one.1 = cc in
-                  let statement : IsTheOneOn one.1.additions at.0 k a =
+                  let statement =
                   subst (λ (d : EdgeValue). IsTheOneOn one.1.additions d k a) edge (subst (λ (f : NamedFile). IsTheOneOn f.additions e k a) file has.3) in
                   let same_index = gained.2.only k a statement.is statement.on in
                   ap (λ m. rank_at added.ranks m gained.0) (sym same_file) ∙ ap (rank_at added.ranks n) (sym same_index),
@@ -157,9 +149,9 @@ module _ (files : List NamedFile) (g h new : List EdgeValue) (order ranks : List
       ]
 
   -- the edges of a file have no larger number than those of a later one
-  not_above : (n m i j : ℕ) (f d : NamedFile) (x y : EdgeValue) → m ≤ n → slice_get files n ≡ Some f → slice_get files m ≡ Some d → slice_get g i ≡ Some x →
+  not_above : (n m i j : ℕ) {f d : NamedFile} {x y : EdgeValue} → m ≤ n → slice_get files n ≡ Some f → slice_get files m ≡ Some d → slice_get g i ≡ Some x →
       slice_get g j ≡ Some y → Names f.name x → Names d.name y → slice_index ranks j ≤ slice_index ranks i
-  not_above n m i j f d x y order_of at_f at_d at_x at_y names_x names_y =
+  not_above n m i j {f} {d} {x} {y} order_of at_f at_d at_x at_y names_x names_y =
       elim (three_ways m n) [
         | inl less ↦ level.rising m n j i d f y x less at_d at_f at_y at_x names_y names_x
         | inr rest ↦ elim rest [
@@ -191,29 +183,29 @@ module _ (files : List NamedFile) (g h new : List EdgeValue) (order ranks : List
         let less = added.below n o k l m new_one.4 has.0 there.0 x file has.1 there.1 has.3.is at (y, there.3.is, new_one.7) in
         let left = second_at b o l y d new_one.5 there in
         let right = second_at a n k x e here has in
-        by_first xs a b (not_above n o a b has.0 there.0 e d less.0 has.1 there.1 here new_one.5 has.2 there.2) (omega arith)
+        by_first xs a b (not_above n o a b less.0 has.1 there.1 here new_one.5 has.2 there.2) (omega arith)
 
     falls_from : (a b j : ℕ) (x : EdgeValue) (file : List ℕ) (e : EdgeValue) → HasInput x file → MakesAt new b j file → slice_get g a ≡ Some e → Turns e x →
         Falls xs a b
     unfolding Falls
     falls_from a b j x file e reads made here (inl same) =
-        inl (level.below a b (e, file, j, outputs.others a e here same.0, subst (λ (d : EdgeValue). HasInput d file) same.1 reads, makes_same b j file made))
+        inl (level.below a b (e, file, j, outputs.others a e here same.0, subst (λ (d : EdgeValue). HasInput d file) same.1 reads, makes_same b made))
     falls_from a b j x file e reads made here (inr one) =
-        elim (reads_of e one.2 file (subst (λ (d : EdgeValue). HasInput d file) one.4 reads)) [
+        elim (reads_of e one.2 (subst (λ (d : EdgeValue). HasInput d file) one.4 reads)) [
           | inl old ↦ inl (level.below a b (
             record e { implicit_outputs = e.implicit_outputs ++ one.2.implicit_outputs },
             file,
             j,
             outputs.named one.0 one.3.0 a e one.1 one.2 one.3.1 here one.3.2 one.3.3,
             old,
-            makes_same b j file made,
+            makes_same b made,
           ))
-          | inr new_input ↦ added_falls a b j e one.0 one.1 one.2 new_input.0 file here one.3 new_input.1 (makes_same b j file made) (origin b j file made)
+          | inr new_input ↦ added_falls a b j e one.0 one.1 one.2 new_input.0 file here one.3 new_input.1 (makes_same b made) (origin b j made)
         ]
 
     falls : (a b : ℕ) → EdgeNeeds new a b → Falls xs a b
     unfolding Falls
-    falls a b needs = let from = turns a needs.0 needs.3 in falls_from a b needs.2 needs.0 needs.1 from.0 needs.4 needs.5 from.1 from.2
+    falls a b needs = let from = turns a needs.3 in falls_from a b needs.2 needs.0 needs.1 from.0 needs.4 needs.5 from.1 from.2
 
     orderable : IsOrderable (length new) (EdgeNeeds new)
     unfolding Falls
@@ -223,17 +215,17 @@ module _ (files : List NamedFile) (g h new : List EdgeValue) (order ranks : List
 
 pub files_order : FilesOrder
 files_order files g h new order ranks meets all gains outputs level others added =
-    let s = seconds files g h new order ranks meets all gains outputs level others added in
-    orderable files g h new order ranks meets all gains outputs level others added s.0 s.1 s.2
+    let s = seconds meets all gains outputs level others added in
+    orderable meets all gains outputs level others added s.0 s.1 s.2
 
 -- One file is a list of one file.
 
-only : {X : Type 0} (x : X) (n : ℕ) (y : X) → slice_get (x ∷ []) n ≡ Some y → (n ≡ 0) × (x ≡ y)
-only x zero y e = (refl, from_some e)
-only x (suc n) y e = cc
+only : {X : Type 0} {x : X} (n : ℕ) {y : X} → slice_get (x ∷ []) n ≡ Some y → (n ≡ 0) × (x ≡ y)
+only zero e = (refl, from_some e)
+only (suc n) e = cc
 
-both : {X : Type 0} (x : X) (n m : ℕ) (y z : X) → slice_get (x ∷ []) n ≡ Some y → slice_get (x ∷ []) m ≡ Some z → n ≡ m
-both x n m y z a b = (only x n y a).0 ∙ sym (only x m z b).0
+both : {X : Type 0} (x : X) {n m : ℕ} {y z : X} → slice_get (x ∷ []) n ≡ Some y → slice_get (x ∷ []) m ≡ Some z → n ≡ m
+both x {n} {m} {y} {z} a b = (only n a).0 ∙ sym (only m b).0
 
 module _ (f : NamedFile) (g h new : List EdgeValue) (ranks : List ℕ) (meets : MeetsPremises g f.name f.additions) (gives : Extends g f.name f.additions new)
     (outputs : HasOutputsOnly (f ∷ []) g h)
@@ -243,9 +235,9 @@ module _ (f : NamedFile) (g h new : List EdgeValue) (ranks : List ℕ) (meets : 
 
   one_meets : FilesMeet g single
   one_meets = record {
-    each = λ n d at. subst (λ (z : NamedFile). MeetsPremises g z.name z.additions) (only f n d at).1 meets;
-    names_differ = λ n m d e at_d at_e same. both f n m d e at_d at_e;
-    added_apart = λ n m k l i j d e file at_d at_e p q. both f n m d e at_d at_e;
+    each = λ n d at. subst (λ (z : NamedFile). MeetsPremises g z.name z.additions) (only n at).1 meets;
+    names_differ = λ n m d e at_d at_e same. both f at_d at_e;
+    added_apart = λ n m k l i j d e file at_d at_e p q. both f at_d at_e;
   }
 
   one_order : (n : ℕ) → n < length single → Contains (0 ∷ []) n
@@ -256,7 +248,7 @@ module _ (f : NamedFile) (g h new : List EdgeValue) (ranks : List ℕ) (meets : 
   one_gains = record {
     same_edges = gives.same_edges;
     named = λ p n d i e listed at here names.
-        let same : f ≡ d = (only f n d at).1 in
+        let same : f ≡ d = (only n at).1 in
         let one = gives.named i e here (subst (λ (z : NamedFile). Names z.name e) (sym same) names) in
         (one.0, one.1, subst (λ (z : NamedFile). IsTheOneOn z.additions e one.0 one.1) same one.2, one.3);
     others = λ i e here none. gives.others i e here (none 0 0 f refl refl);
@@ -267,30 +259,30 @@ module _ (f : NamedFile) (g h new : List EdgeValue) (ranks : List ℕ) (meets : 
     each = level.each;
     below = level.below;
     level = λ n i j d x y at at_x at_y names_x names_y.
-        let same = sym (only f n d at).1 in
+        let same = sym (only n at).1 in
         level.level i j x y at_x at_y (subst (λ (z : NamedFile). Names z.name x) same names_x) (subst (λ (z : NamedFile). Names z.name y) same names_y);
-    rising = λ n m i j d l x y less at_d at_l at_x at_y names_x names_y. let same = both f n m d l at_d at_l in absurd (omega arith);
+    rising = λ n m i j d l x y less at_d at_l at_x at_y names_x names_y. let same = both f at_d at_l in absurd (omega arith);
   }
 
   one_above : IsAboveOthers single g h ranks
   one_above n k m i j l d a e file at_d at_a input none makes here names =
-      let same = sym (only f n d at_d).1 in
+      let same = sym (only n at_d).1 in
       level.linked k m i j l a e file (subst (λ (z : NamedFile). slice_get z.additions k ≡ Some a) same at_a) input (λ o p adds. none 0 o p f refl adds) makes
       here (subst (λ (z : NamedFile). Names z.name e) same names)
 
-  one_row : (n k : ℕ) → n ≡ 0 → rank_at (added.0 ∷ []) n k ≡ slice_index added.0 k
-  one_row n k e = ap (λ m. rank_at (added.0 ∷ []) m k) e
+  one_row : {n : ℕ} (k : ℕ) → n ≡ 0 → rank_at (added.0 ∷ []) n k ≡ slice_index added.0 k
+  one_row k e = ap (λ m. rank_at (added.0 ∷ []) m k) e
 
   one_ordered : AreOrdered single
   one_ordered = record {
     ranks = added.0 ∷ [];
     below = λ n m k l i j d x a file at_d at_x at_a input adds.
-        let first = only f n d at_d in
-        let second = only f m x at_x in
+        let first = only n at_d in
+        let second = only m at_x in
         let here : slice_get f.additions k ≡ Some a = cc in
-        let there : AddsAt f.additions l j file = subst (λ (z : NamedFile). AddsAt z.additions l j file) (sym second.1) adds in
+        let there = subst (λ (z : NamedFile). AddsAt z.additions l j file) (sym second.1) adds in
         let less = added.1.below k l (a, there.0, file, i, j, here, there.1, input, there.2) in
-        (omega arith, omega (arith, one_row n k first.0, one_row m l second.0, less));
+        (omega arith, omega (arith, one_row k first.0, one_row l second.0, less));
   }
 
   one_file : IsOrderable (length new) (EdgeNeeds new)

@@ -1,19 +1,9 @@
 -- Under the premises there is exactly one effect, and there is one if and only if no check fails.
 use Rattle.std.proofs.Common.{◌≡◌, ◌≢◌, ℕ, ◌+◌, ◌<◌, ◌⊎◌, Bool, List, ◌++◌, length, Some, Result, Ok, refl, ap, subst, sym, ◌∙◌, inl, inr, arith, append_assoc, zero, suc, Err}
-use Rattle.std.specs.Prelude.{slice_get}
 use Rattle.std.proofs.lemmas.Option.{slice_get_within}
+use Rattle.build_effect.specs.Prelude.{slice_get, path_of, PathFault, StatementValue, ChecksSuffice, FaultsExclude, EdgeValue, ArePaths, IsCanonical, AreCanonical, IsOn, IsTheOneOn, AllBound, extended, Extends, Effect, EffectGives, path_texts, IsRepeated, NoneRepeated, AllMentioned, added_outputs, NoneMadeBefore, made_by, Names, MakesAt, IsMade, MadeOnce, AddedOnce, MeetsPremises, OneEffect, AddedTwice, BadPath, NotBound, NotMentioned, StatementTwice}
 use Rattle.build_effect.proofs.Lists.{path_option_decides, same_lists, same_map, same_ok, one_part, from_some}
-use Rattle.ninja_text.specs.declared.fault.PathFault.{PathFault}
-use Rattle.dyndep_file.specs.StatementValue.{StatementValue}
-use Rattle.build_effect.specs.EdgeValue.{EdgeValue}
-use Rattle.build_effect.specs.Graphs.{made_by, MakesAt, Names, MadeOnce, IsMade}
-use Rattle.build_effect.specs.Effect.{ArePaths, IsCanonical, AreCanonical, IsOn, IsTheOneOn, extended, Extends, Effect, EffectGives, AllBound}
-use Rattle.build_effect.specs.Premises.{AddedOnce, MeetsPremises, OneEffect}
 use Rattle.ninja_text.proofs.ForCallers.{in_append, from_map, to_map, element_at, choose, in_first, in_second, three_ways, offset, in_flat_map, from_flat_map}
-use Rattle.ninja_text.specs.Paths.{path_of}
-use Rattle.build_effect.specs.Faults.{path_texts, IsRepeated, NoneRepeated, AllMentioned, NoneMadeBefore, added_outputs}
-use Rattle.build_effect.specs.Checks.{ChecksSuffice, FaultsExclude}
-use Rattle.build_effect.specs.declared.fault.EffectFault.TheVariants.{BadPath, NotBound, StatementTwice, NotMentioned, AddedTwice}
 
 -- ---- under the premises there is exactly one effect
 
@@ -46,28 +36,29 @@ pub effect_gives : EffectGives
 effect_gives g new name ss additions canonical effect =
     subst (λ xs. Extends g name xs new) (same_additions ss effect.additions additions effect.canonical canonical) effect.gives
 
--- statements give at most one graph
-pub same_gives : (g : List EdgeValue) (name : List ℕ) (xs : List StatementValue) (new other : List EdgeValue) → Extends g name xs new →
-    Extends g name xs other → new ≡ other
-same_gives g name xs new other c d =
-    same_lists new other (c.same_edges ∙ sym d.same_edges) (λ i x y ex ey.
-    let within : i < length new = slice_get_within _ _ _ ex in
-    let at = element_at g i (omega (arith, c.same_edges)) in
-    elim (path_option_decides at.0.dyndep (Some name)) [
-      | inl names ↦
-          let u = c.named i at.0 at.1 names in
-          let v = d.named i at.0 at.1 names in
-          let same_index : v.0 ≡ u.0 = u.2.only v.0 v.1 v.2.is v.2.on in
-          let same : u.1 ≡ v.1 = from_some (sym u.2.is ∙ ap (slice_get xs) (sym same_index) ∙ v.2.is) in
-          from_some (sym ex ∙ u.3 ∙ ap (λ a. Some (extended at.0 a)) same ∙ sym v.3 ∙ ey)
-      | inr others ↦ from_some (sym ex ∙ c.others i at.0 at.1 others ∙ sym (d.others i at.0 at.1 others) ∙ ey)
-    ])
+module _ (g : List EdgeValue) (name : List ℕ) where
+  -- statements give at most one graph
+  pub same_gives : (xs : List StatementValue) (new other : List EdgeValue) → Extends g name xs new →
+      Extends g name xs other → new ≡ other
+  same_gives xs new other c d =
+      same_lists new other (c.same_edges ∙ sym d.same_edges) (λ i x y ex ey.
+      let within : i < length new = slice_get_within _ _ _ ex in
+      let at = element_at g i (omega (arith, c.same_edges)) in
+      elim (path_option_decides at.0.dyndep (Some name)) [
+        | inl names ↦
+            let u = c.named i at.0 at.1 names in
+            let v = d.named i at.0 at.1 names in
+            let same_index : v.0 ≡ u.0 = u.2.only v.0 v.1 v.2.is v.2.on in
+            let same : u.1 ≡ v.1 = from_some (sym u.2.is ∙ ap (slice_get xs) (sym same_index) ∙ v.2.is) in
+            from_some (sym ex ∙ u.3 ∙ ap (λ a. Some (extended at.0 a)) same ∙ sym v.3 ∙ ey)
+        | inr others ↦ from_some (sym ex ∙ c.others i at.0 at.1 others ∙ sym (d.others i at.0 at.1 others) ∙ ey)
+      ])
 
-pub same_effect : (g : List EdgeValue) (name : List ℕ) (ss : List StatementValue) (new other : List EdgeValue) → Effect g name ss new → Effect g name ss other →
-    new ≡ other
-same_effect g name ss new other c d =
-    let same = same_additions ss _ _ d.canonical c.canonical in
-    same_gives g name c.additions new other c.gives (subst (λ xs. Extends g name xs other) same d.gives)
+  pub same_effect : (ss : List StatementValue) (new other : List EdgeValue) → Effect g name ss new → Effect g name ss other →
+      new ≡ other
+  same_effect ss new other c d =
+      let same = same_additions ss _ _ d.canonical c.canonical in
+      same_gives c.additions new other c.gives (subst (λ xs. Extends g name xs other) same d.gives)
 
 -- what an edge becomes: itself, or what the one statement on it makes of it
 abbrev pub Becomes : List ℕ → List StatementValue → EdgeValue → EdgeValue → Type 0

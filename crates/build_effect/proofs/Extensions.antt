@@ -1,58 +1,50 @@
 -- The edges with what statements add are the effect.
 use Rattle.std.proofs.Common.{◌≡◌, ◌≢◌, ◌⊎◌, ℕ, ◌+◌, List, [], ◌∷◌, ◌++◌, length, take, get_or, Option, Some, None, refl, ap, sym, subst, ◌∙◌, inl, inr, arith, slice_get, length-append}
 use Rattle.std.proofs.lemmas.Option.{slice_get_within, slice_get-get_or, get_or_from_slice_get}
-use Rattle.dyndep_file.specs.StatementValue.{StatementValue}
-use Rattle.build_effect.specs.EdgeValue.{EdgeValue}
-use Rattle.build_effect.specs.Graphs.{Names, HasInput, IsGraph, MakesAt, made_by}
-use Rattle.build_effect.specs.Effect.{IsOn, Extends, OnlyEffect, extended}
-use Rattle.build_effect.specs.Checks.{ChecksSuffice}
-use Rattle.build_effect.specs.inner.StatementEdges.{AreInverse, statement_on}
-use Rattle.build_effect.specs.inner.Makers.{AreMade, Made}
-use Rattle.build_effect.specs.inner.Added.{added_files}
+use Rattle.build_effect.specs.Prelude.{StatementValue, ChecksSuffice, EdgeValue, IsOn, extended, Extends, OnlyEffect, made_by, HasInput, Names, MakesAt, IsGraph, added_files, AreChecked, IsEdgeAfter, AreExtended, Has, Made, AreMade, statement_on, AreInverse}
 use Rattle.build_effect.proofs.MakerTables.{from_numbered, in_numbered}
-use Rattle.build_effect.specs.inner.Checked.{AreChecked}
-use Rattle.build_effect.specs.inner.Extended.{IsEdgeAfter, AreExtended}
 use Rattle.build_effect.proofs.Lists.{same_lists, from_some}
 use Rattle.ninja_text.proofs.ForCallers.{in_append, in_first, in_second, element_at, from_push, from_take, in_take, take_next}
-use Rattle.build_effect.specs.inner.Inputs.{Has}
 
-has_first : (xs ys : List (List ℕ)) (y : List ℕ) → Has xs y → Has (xs ++ ys) y
-has_first xs ys y h = (h.0, in_first xs ys h.0 y h.1)
+module _ (xs ys : List (List ℕ)) (y : List ℕ) where
+  has_first : Has xs y → Has (xs ++ ys) y
+  has_first h = (h.0, in_first xs ys h.0 y h.1)
 
-has_second : (xs ys : List (List ℕ)) (y : List ℕ) → Has ys y → Has (xs ++ ys) y
-has_second xs ys y h = (length xs + h.0, in_second xs ys h.0 y h.1)
+  has_second : Has ys y → Has (xs ++ ys) y
+  has_second h = (length xs + h.0, in_second xs ys h.0 y h.1)
 
 -- an edge without a statement stays as it is
-pub unchanged : (e after : EdgeValue) (additions : List StatementValue) (statement : Option ℕ) → ((k : ℕ) → statement ≡ Some k → ⊥) → after ≡ e →
+pub unchanged : {e after : EdgeValue} (additions : List StatementValue) (statement : Option ℕ) → ((k : ℕ) → statement ≡ Some k → ⊥) → after ≡ e →
     IsEdgeAfter e additions statement after
-unchanged e after additions None none same = same
-unchanged e after additions (Some k) none same = absurd (none k refl)
+unchanged additions None none same = same
+unchanged additions (Some k) none same = absurd (none k refl)
 
-plain_of : (additions : List StatementValue) (statement : Option ℕ) (e x : EdgeValue) → statement ≡ None → IsEdgeAfter e additions statement x → x ≡ e
-plain_of additions None e x is h = h
-plain_of additions (Some k) e x is h = cc
+module _ (additions : List StatementValue) where
+  plain_of : (statement : Option ℕ) {e x : EdgeValue} → statement ≡ None → IsEdgeAfter e additions statement x → x ≡ e
+  plain_of None is h = h
+  plain_of (Some k) is h = cc
 
-more_of : (additions : List StatementValue) (statement : Option ℕ) (k : ℕ) (a : StatementValue) (e x : EdgeValue) → statement ≡ Some k →
-    slice_get additions k ≡ Some a → IsEdgeAfter e additions statement x → x ≡ extended e a
-more_of additions None k a e x is at h = cc
-more_of additions (Some l) k a e x is at h = h a (ap (slice_get additions) (from_some is) ∙ at)
+  more_of : (statement : Option ℕ) {k : ℕ} {a : StatementValue} (e : EdgeValue) {x : EdgeValue} → statement ≡ Some k →
+      slice_get additions k ≡ Some a → IsEdgeAfter e additions statement x → x ≡ extended e a
+  more_of None e is at h = cc
+  more_of (Some l) {a} e is at h = h a (ap (slice_get additions) (from_some is) ∙ at)
 
 last_at : {X : Type 0} (xs : List X) (y : X) → slice_get (xs ++ y ∷ []) (length xs) ≡ Some y
 last_at [] y = refl
 last_at (x ∷ xs) y = last_at xs y
 
 -- one more edge
-pub more_extended : (g : List EdgeValue) (additions : List StatementValue) (statement_of : List (Option ℕ)) (new : List EdgeValue) (i : ℕ) (e x : EdgeValue) →
+pub more_extended : (g : List EdgeValue) {additions : List StatementValue} {statement_of : List (Option ℕ)} {new : List EdgeValue} (i : ℕ) (e x : EdgeValue) →
     slice_get g i ≡ Some e → AreExtended (take i g) additions statement_of new → IsEdgeAfter e additions (statement_on statement_of i) x →
     AreExtended (take (i + 1) g) additions statement_of (new ++ x ∷ [])
-more_extended g additions statement_of new i e x at are comes =
+more_extended g {additions} {statement_of} {new} i e x at are comes =
     subst (λ xs. AreExtended xs additions statement_of (new ++ x ∷ [])) (sym (take_next g i e at)) (record { as_many = count; plain = plain; more = more })
   where
     count : length (new ++ x ∷ []) ≡ length (take i g ++ e ∷ [])
     count = omega (arith, length-append new (x ∷ []), length-append (take i g) (e ∷ []), are.as_many)
 
-    index_is : (j : ℕ) → j ≡ length (take i g) → j ≡ i
-    index_is j same =
+    index_is : {j : ℕ} → j ≡ length (take i g) → j ≡ i
+    index_is same =
         let here = last_at (take i g) e in
         let within = slice_get_within g i e at in
         let low = from_take (i + 1) g (length (take i g)) e (ap (λ xs. slice_get xs (length (take i g))) (take_next g i e at) ∙ here) in
@@ -64,7 +56,7 @@ more_extended g additions statement_of new i e x at are comes =
         elim (from_push (take i g) e j d at_j) [
           | inl p ↦ in_first new (x ∷ []) j d (are.plain j d p none)
           | inr p ↦
-              let same : x ≡ d = plain_of additions (statement_on statement_of i) e x (ap (statement_on statement_of) (sym (index_is j p.0)) ∙ none) comes ∙
+              let same = plain_of additions (statement_on statement_of i) (ap (statement_on statement_of) (sym (index_is p.0)) ∙ none) comes ∙
               p.1 in
               ap (slice_get (new ++ x ∷ [])) (p.0 ∙ sym are.as_many) ∙ last_at new x ∙ ap (λ z. Some z) same
         ]
@@ -75,8 +67,8 @@ more_extended g additions statement_of new i e x at are comes =
         elim (from_push (take i g) e j d at_j) [
           | inl p ↦ in_first new (x ∷ []) j (extended d a) (are.more j k d a p some at_k)
           | inr p ↦
-              let same : x ≡ extended d a =
-              more_of additions (statement_on statement_of i) k a e x (ap (statement_on statement_of) (sym (index_is j p.0)) ∙ some) at_k comes ∙
+              let same =
+              more_of additions (statement_on statement_of i) e (ap (statement_on statement_of) (sym (index_is p.0)) ∙ some) at_k comes ∙
               ap (λ z. extended z a) p.1 in
               ap (slice_get (new ++ x ∷ [])) (p.0 ∙ sym are.as_many) ∙ last_at new x ∙ ap (λ z. Some z) same
         ]
@@ -89,8 +81,8 @@ on_or_not (Some k) = inr (k, refl)
 module _ (g : List EdgeValue) (name : List ℕ) (ss additions : List StatementValue) (statement_of : List (Option ℕ)) (new : List EdgeValue)
     (checked : AreChecked g name ss additions statement_of) (are : AreExtended g additions statement_of new) where
   -- the new edges are what the statements give
-  given_are : (given : List EdgeValue) → Extends g name additions given → given ≡ new
-  given_are given gives =
+  given_are : {given : List EdgeValue} → Extends g name additions given → given ≡ new
+  given_are {given} gives =
       same_lists given new (gives.same_edges ∙ sym are.as_many) (λ i x y at_x at_y.
       let within = slice_get_within given i x at_x in
       let at = element_at g i (omega arith) in
@@ -101,7 +93,7 @@ module _ (g : List EdgeValue) (name : List ℕ) (ss additions : List StatementVa
         | inr some ↦
             let p = checked.matched.on i some.0 some.1 in
             let edge : p.2.0 ≡ at.0 = cc in
-            let names : Names name at.0 = subst (λ (z : EdgeValue). Names name z) edge p.2.2 in
+            let names = subst (λ (z : EdgeValue). Names name z) edge p.2.2 in
             let q = gives.named i at.0 at.1 names in
             let same_index = q.2.only some.0 p.0 p.1 (subst (IsOn p.0) edge p.2.3) in
             let same : p.0 ≡ q.1 = cc in
@@ -112,13 +104,13 @@ module _ (g : List EdgeValue) (name : List ℕ) (ss additions : List StatementVa
   is_effect graph suffice =
       let r = suffice g name ss additions graph.made_once checked.canonical checked.matched.bound checked.matched.single checked.matched.mentioned checked.fresh
       in
-      let same = given_are r.0 r.1 in
+      let same = given_are r.1 in
       (subst (Extends g name additions) same r.1, subst (OnlyEffect g name ss) same r.2)
 
   -- the origin of each edge of the new graph
-  from_old : (i : ℕ) (x : EdgeValue) → slice_get new i ≡ Some x →
+  from_old : (i : ℕ) {x : EdgeValue} → slice_get new i ≡ Some x →
       (e : EdgeValue) × (slice_get g i ≡ Some e) × ((x ≡ e) ⊎ ((a : StatementValue) × (x ≡ extended e a)))
-  from_old i x at_x =
+  from_old i {x} at_x =
       let within = slice_get_within new i x at_x in
       let at = element_at g i (omega arith) in
       elim (on_or_not (statement_on statement_of i)) [
@@ -126,8 +118,8 @@ module _ (g : List EdgeValue) (name : List ℕ) (ss additions : List StatementVa
         | inr some ↦ let p = checked.matched.on i some.0 some.1 in (at.0, at.1, inr (p.0, from_some (sym at_x ∙ are.more i some.0 at.0 p.0 at.1 some.1 p.1)))
       ]
 
-  still_reads : (e : EdgeValue) (a : StatementValue) (file : List ℕ) → HasInput e file → HasInput (extended e a) file
-  still_reads e a file h =
+  still_reads : (e : EdgeValue) (a : StatementValue) {file : List ℕ} → HasInput e file → HasInput (extended e a) file
+  still_reads e a {file} h =
       elim (in_append e.inputs (e.implicit_inputs ++ e.order_only) h.0 file h.1) [
         | inl p ↦ has_first e.inputs ((e.implicit_inputs ++ a.implicit_inputs) ++ e.order_only) file (h.0, p)
         | inr p ↦ has_second e.inputs ((e.implicit_inputs ++ a.implicit_inputs) ++ e.order_only) file
@@ -141,19 +133,19 @@ module _ (g : List EdgeValue) (name : List ℕ) (ss additions : List StatementVa
   is_graph graph suffice =
       record {
         outputs = λ i x at.
-            let b = from_old i x at in
+            let b = from_old i at in
             elim b.2 [
               | inl same ↦ subst (λ (z : EdgeValue). z.outputs ≢ []) (sym same) (graph.outputs i b.0 b.1)
               | inr more ↦ subst (λ (z : EdgeValue). z.outputs ≢ []) (sym more.1) (graph.outputs i b.0 b.1)
             ];
         made_once = (is_effect graph suffice).0.made_once;
         dyndep_is_input = λ i x file at names.
-            let b = from_old i x at in
+            let b = from_old i at in
             elim b.2 [
               | inl same ↦ subst (λ (z : EdgeValue). HasInput z file) (sym same)
                   (graph.dyndep_is_input i b.0 file b.1 (subst (λ (z : EdgeValue). Names file z) same names))
               | inr more ↦ subst (λ (z : EdgeValue). HasInput z file) (sym more.1)
-                  (still_reads b.0 more.0 file (graph.dyndep_is_input i b.0 file b.1 (subst (λ (z : EdgeValue). Names file z) more.1 names)))
+                  (still_reads b.0 more.0 (graph.dyndep_is_input i b.0 file b.1 (subst (λ (z : EdgeValue). Names file z) more.1 names)))
             ];
       }
 
@@ -161,8 +153,8 @@ module _ (g : List EdgeValue) (name : List ℕ) (ss additions : List StatementVa
   module _ (edge_of : List ℕ) (as_many : length edge_of ≡ length additions) (inverse : AreInverse (length g) edge_of statement_of) (made : Made)
       (made_are : AreMade g made) where
     -- a file of the edge, or an added output, is made by the edge after
-    still_made : (i : ℕ) (e : EdgeValue) (file : List ℕ) → slice_get g i ≡ Some e → Has (made_by e) file → (j : ℕ) × MakesAt new i j file
-    still_made i e file at h =
+    still_made : (i : ℕ) {e : EdgeValue} (file : List ℕ) → slice_get g i ≡ Some e → Has (made_by e) file → (j : ℕ) × MakesAt new i j file
+    still_made i {e} file at h =
         elim (on_or_not (statement_on statement_of i)) [
           | inl none ↦ (h.0, (e, are.plain i e at none, h.1))
           | inr some ↦
@@ -179,7 +171,7 @@ module _ (g : List EdgeValue) (name : List ℕ) (ss additions : List StatementVa
     found : (k : ℕ) (file : List ℕ) (i : ℕ) → slice_get (made ++ added_files edge_of additions) k ≡ Some (file, i) → (j : ℕ) × MakesAt new i j file
     found k file i at =
         elim (in_append made (added_files edge_of additions) k (file, i) at) [
-          | inl h ↦ let m = made_are.found k file i h in still_made i m.1.0 file m.1.1 (m.0, m.1.2)
+          | inl h ↦ let m = made_are.found k file i h in still_made i file m.1.1 (m.0, m.1.2)
           | inr h ↦
               let r = from_numbered (λ (a : StatementValue). a.implicit_outputs) (λ n. get_or edge_of n 0) additions h.0 file i h.2 in
               let within = slice_get_within additions r.0 r.1 r.3 in
@@ -204,14 +196,14 @@ module _ (g : List EdgeValue) (name : List ℕ) (ss additions : List StatementVa
               old (j, ap (λ z. slice_get (made_by z) j) (sym same) ∙ at_j)
           | inr some ↦
               let p = checked.matched.on i some.0 some.1 in
-              let same : x ≡ extended e.0 p.0 = from_some (sym at_x ∙ are.more i some.0 e.0 p.0 e.1 some.1 p.1) in
+              let same = from_some (sym at_x ∙ are.more i some.0 e.0 p.0 e.1 some.1 p.1) in
               elim (in_append e.0.outputs (e.0.implicit_outputs ++ p.0.implicit_outputs) j file (ap (λ z. slice_get (made_by z) j) (sym same) ∙ at_j)) [
                 | inl h ↦ old (has_first e.0.outputs e.0.implicit_outputs file (j, h))
                 | inr h ↦ elim (in_append e.0.implicit_outputs p.0.implicit_outputs h.0 file h.2) [
                   | inl q ↦ old (has_second e.0.outputs e.0.implicit_outputs file (h.0, q))
                   | inr q ↦
-                      let r = in_numbered (λ (a : StatementValue). a.implicit_outputs) (λ n. get_or edge_of n 0) additions some.0 q.0 p.0 file p.1 q.2 in
-                      let edge : get_or edge_of some.0 0 ≡ i = get_or_from_slice_get edge_of some.0 i 0 (inverse.from i some.0 some.1) in
+                      let r = in_numbered (λ (a : StatementValue). a.implicit_outputs) (λ n. get_or edge_of n 0) additions some.0 q.0 p.1 q.2 in
+                      let edge = get_or_from_slice_get edge_of some.0 i 0 (inverse.from i some.0 some.1) in
                       (length made + r.0, in_second made (added_files edge_of additions) r.0 (file, i) (r.1 ∙ ap (λ n. Some (file, n)) edge))
                 ]
               ]

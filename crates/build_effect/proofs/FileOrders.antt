@@ -1,16 +1,10 @@
 -- Files that add to different edges may be applied in any order.
 use Rattle.std.proofs.Common.{◌≡◌, ◌≢◌, ℕ, zero, suc, ◌<◌, ◌⊎◌, List, [], ◌∷◌, length, Some, refl, ap, subst, sym, ◌∙◌, inl, inr, arith}
-use Rattle.std.specs.Prelude.{slice_get}
 use Rattle.std.proofs.lemmas.Option.{slice_get_within}
+use Rattle.build_effect.specs.Prelude.{slice_get, StatementValue, EdgeValue, IsTheOneOn, extended, Extends, OnlyEffect, NamedFile, AreFiles, FilesMeet, Applies, GainsExactly, AreFileIndices, AnyOrder, SameFiles, OrdersEndAlike, Names, AddsAt, MeetsPremises}
 use Rattle.build_effect.proofs.Lists.{path_option_decides, same_lists, from_some}
-use Rattle.build_effect.specs.EdgeValue.{EdgeValue}
-use Rattle.build_effect.specs.Graphs.{Names}
-use Rattle.build_effect.specs.Effect.{IsTheOneOn, Extends, OnlyEffect, extended}
-use Rattle.build_effect.specs.Premises.{AddsAt, MeetsPremises}
-use Rattle.build_effect.specs.Files.{NamedFile, AreFiles, FilesMeet, Applies, GainsExactly, AreFileIndices, AnyOrder, SameFiles, OrdersEndAlike}
 use Rattle.ninja_text.proofs.ForCallers.{element_at}
 use Rattle.build_effect.proofs.Effects.{ComesTo, origin_in, one_effect}
-use Rattle.dyndep_file.specs.StatementValue.{StatementValue}
 
 -- the origin of an edge of the graph after an effect
 pub comes_to : (g : List EdgeValue) (name : List ℕ) (additions : List StatementValue) (new : List EdgeValue) → Extends g name additions new →
@@ -62,50 +56,40 @@ module _ (g : List EdgeValue) (name : List ℕ) (additions : List StatementValue
 record RestMeets (files : List NamedFile) (g : List EdgeValue) (order : List ℕ) : Type 0 where
   each : (p n : ℕ) (f : NamedFile) → slice_get order p ≡ Some n → slice_get files n ≡ Some f → MeetsPremises g f.name f.additions
 
-tail_indices : (files : List NamedFile) (n : ℕ) (order : List ℕ) → AreFileIndices files (n ∷ order) → AreFileIndices files order
-tail_indices files n order indices =
-    record { within = λ p m e. indices.within (suc p) m e; differ = λ p q m e f. let same = indices.differ (suc p) (suc q) m e f in omega arith }
+module _ (files : List NamedFile) (n : ℕ) (order : List ℕ) where
+  tail_indices : AreFileIndices files (n ∷ order) → AreFileIndices files order
+  tail_indices indices =
+      record { within = λ p m e. indices.within (suc p) m e; differ = λ p q m e f. let same = indices.differ (suc p) (suc q) m e f in omega arith }
 
--- an index of the rest is not the first
-not_first : (files : List NamedFile) (n : ℕ) (order : List ℕ) → AreFileIndices files (n ∷ order) → (p m : ℕ) → slice_get order p ≡ Some m → n ≡ m → ⊥
-not_first files n order indices p m e same = let same_index = indices.differ 0 (suc p) m (ap Some same) e in omega arith
+  -- an index of the rest is not the first
+  not_first : AreFileIndices files (n ∷ order) → (p m : ℕ) → slice_get order p ≡ Some m → n ≡ m → ⊥
+  not_first indices p m e same = let same_index = indices.differ 0 (suc p) m (ap Some same) e in omega arith
 
 module _ (files : List NamedFile) (start : List EdgeValue) (are : AreFiles files) (all : FilesMeet start files) where
-  gains_named : (n : ℕ) (order : List ℕ) (g : List EdgeValue) → AreFileIndices files (n ∷ order) → (f : NamedFile) → slice_get files n ≡ Some f →
-      (mid : List EdgeValue) → Extends g f.name f.additions mid → (new : List EdgeValue) → GainsExactly files mid order new →
-      (p m : ℕ) (h : NamedFile) (i : ℕ) (e : EdgeValue) → slice_get (n ∷ order) p ≡ Some m → slice_get files m ≡ Some h → slice_get g i ≡ Some e →
-      Names h.name e →
-      (k : ℕ) × (a : StatementValue) × IsTheOneOn h.additions e k a × (slice_get new i ≡ Some (extended e a))
-  gains_named n order g indices f at mid first new more zero m h i e listed there here names =
-      let same : f ≡ h = cc in
-      let gained = first.named i e here (names ∙ ap (λ (x : NamedFile). Some x.name) (sym same)) in
-      let last = more.others i (extended e gained.1) gained.3 (λ q l x at_q at_l again.
-      not_first files n order indices q l at_q
-      (all.names_differ n l f x at at_l (from_some (sym (names ∙ ap (λ (x : NamedFile). Some x.name) (sym same)) ∙ again)))) in
-      (gained.0, gained.1, subst (λ (x : NamedFile). IsTheOneOn x.additions e gained.0 gained.1) same gained.2, last)
-  gains_named n order g indices f at mid first new more (suc p) m h i e listed there here names =
-      let unnamed : e.dyndep ≢ Some f.name = λ same.
-      not_first files n order indices p m listed (all.names_differ n m f h at there (from_some (sym same ∙ names))) in
-      more.named p m h i e listed there (first.others i e here unnamed) names
-
-  gains_others : (n : ℕ) (order : List ℕ) (g : List EdgeValue) → AreFileIndices files (n ∷ order) → (f : NamedFile) → slice_get files n ≡ Some f →
-      (mid : List EdgeValue) → Extends g f.name f.additions mid → (new : List EdgeValue) → GainsExactly files mid order new →
-      (i : ℕ) (e : EdgeValue) → slice_get g i ≡ Some e →
-      ((p m : ℕ) (h : NamedFile) → slice_get (n ∷ order) p ≡ Some m → slice_get files m ≡ Some h → e.dyndep ≢ Some h.name) → slice_get new i ≡ Some e
-  gains_others n order g indices f at mid first new more i e here none =
-      more.others i e (first.others i e here (none 0 n f refl at)) (λ p m h listed there. none (suc p) m h listed there)
-
   -- the gains of the first file and those of the rest
-  gains : (n : ℕ) (order : List ℕ) (g : List EdgeValue) → AreFileIndices files (n ∷ order) → (f : NamedFile) → slice_get files n ≡ Some f →
-      (mid : List EdgeValue) → Extends g f.name f.additions mid → (new : List EdgeValue) → GainsExactly files mid order new →
-      GainsExactly files g (n ∷ order) new
-  gains n order g indices f at mid first new more =
-      record {
-        same_edges = more.same_edges ∙
-            first.same_edges;
-        named = gains_named n order g indices f at mid first new more;
-        others = gains_others n order g indices f at mid first new more;
-      }
+  module _ {n : ℕ} {order : List ℕ} {g mid new : List EdgeValue} {f : NamedFile} (indices : AreFileIndices files (n ∷ order)) (at : slice_get files n ≡ Some f)
+      (first : Extends g f.name f.additions mid) (more : GainsExactly files mid order new) where
+    gains_named : (p m : ℕ) (h : NamedFile) (i : ℕ) (e : EdgeValue) → slice_get (n ∷ order) p ≡ Some m → slice_get files m ≡ Some h → slice_get g i ≡ Some e →
+        Names h.name e → (k : ℕ) × (a : StatementValue) × IsTheOneOn h.additions e k a × (slice_get new i ≡ Some (extended e a))
+    gains_named zero m h i e listed there here names =
+        let same : f ≡ h = cc in
+        let gained = first.named i e here (names ∙ ap (λ (x : NamedFile). Some x.name) (sym same)) in
+        let last = more.others i (extended e gained.1) gained.3 (λ q l x at_q at_l again.
+        not_first files n order indices q l at_q
+        (all.names_differ n l f x at at_l (from_some (sym (names ∙ ap (λ (x : NamedFile). Some x.name) (sym same)) ∙ again)))) in
+        (gained.0, gained.1, subst (λ (x : NamedFile). IsTheOneOn x.additions e gained.0 gained.1) same gained.2, last)
+    gains_named (suc p) m h i e listed there here names =
+        let unnamed : e.dyndep ≢ Some f.name = λ same.
+        not_first files n order indices p m listed (all.names_differ n m f h at there (from_some (sym same ∙ names))) in
+        more.named p m h i e listed there (first.others i e here unnamed) names
+
+    gains : GainsExactly files g (n ∷ order) new
+    gains =
+        record {
+          same_edges = more.same_edges ∙ first.same_edges;
+          named = gains_named;
+          others = λ i e here none. more.others i e (first.others i e here (none 0 n f refl at)) (λ p m h listed there. none (suc p) m h listed there);
+        }
 
   run : (order : List ℕ) (g : List EdgeValue) → AreFileIndices files order → RestMeets files g order →
       (new : List EdgeValue) × Applies files g order new × GainsExactly files g order new
@@ -120,7 +104,7 @@ module _ (files : List NamedFile) (start : List EdgeValue) (are : AreFiles files
             (λ k l i j file a b. not_first files n order indices p m e (all.added_apart n m k l i j at.0 h file at.1 there a b));
       } in
       let more = run order first.0 (tail_indices files n order indices) left in
-      (more.0, (at.0, first.0, at.1, first.2, more.1), gains n order g indices at.0 at.1 first.0 first.1 more.0 more.2)
+      (more.0, (at.0, first.0, at.1, first.2, more.1), gains indices at.1 first.1 more.2)
 
 pub any_order : AnyOrder
 any_order files g order are all indices = run files g are all order g indices (record { each = λ p n f e there. all.each n f there })
@@ -141,42 +125,43 @@ NamesOne files order e = (p : ℕ) × (n : ℕ) × (f : NamedFile) × (slice_get
 abbrev NamesNone : List NamedFile → List ℕ → EdgeValue → Type 0
 NamesNone files order e = (p n : ℕ) (f : NamedFile) → slice_get order p ≡ Some n → slice_get files n ≡ Some f → e.dyndep ≢ Some f.name
 
-names_none_more : (files : List NamedFile) (n : ℕ) (order : List ℕ) (e : EdgeValue) (f : NamedFile) → slice_get files n ≡ Some f → e.dyndep ≢ Some f.name →
-    NamesNone files order e → NamesNone files (n ∷ order) e
-names_none_more files n order e f at not none zero m h listed there =
-    subst (λ (x : NamedFile). e.dyndep ≢ Some x.name) (from_some (sym at ∙ ap (slice_get files) (from_some listed) ∙ there)) not
-names_none_more files n order e f at not none (suc p) m h listed there = none p m h listed there
+module _ (files : List NamedFile) where
+  names_none_more : (n : ℕ) (order : List ℕ) (e : EdgeValue) (f : NamedFile) → slice_get files n ≡ Some f → e.dyndep ≢ Some f.name →
+      NamesNone files order e → NamesNone files (n ∷ order) e
+  names_none_more n order e f at not none zero m h listed there =
+      subst (λ (x : NamedFile). e.dyndep ≢ Some x.name) (from_some (sym at ∙ ap (slice_get files) (from_some listed) ∙ there)) not
+  names_none_more n order e f at not none (suc p) m h listed there = none p m h listed there
 
-names_one : (files : List NamedFile) (order : List ℕ) → AreFileIndices files order → (e : EdgeValue) → NamesOne files order e ⊎ NamesNone files order e
-names_one files [] indices e = inr (λ p n f none. cc)
-names_one files (n ∷ order) indices e =
-    let at = element_at files n (indices.within 0 n refl) in
-    elim (path_option_decides e.dyndep (Some at.0.name)) [
-      | inl names ↦ inl (0, n, at.0, refl, at.1, names)
-      | inr not ↦ elim (names_one files order (tail_indices files n order indices) e) [
-        | inl h ↦ inl (suc h.0, h.1, h.2, h.3, h.4, h.5)
-        | inr none ↦ inr (names_none_more files n order e at.0 at.1 not none)
+  names_one : (order : List ℕ) → AreFileIndices files order → (e : EdgeValue) → NamesOne files order e ⊎ NamesNone files order e
+  names_one [] indices e = inr (λ p n f none. cc)
+  names_one (n ∷ order) indices e =
+      let at = element_at files n (indices.within 0 n refl) in
+      elim (path_option_decides e.dyndep (Some at.0.name)) [
+        | inl names ↦ inl (0, n, at.0, refl, at.1, names)
+        | inr not ↦ elim (names_one order (tail_indices files n order indices) e) [
+          | inl h ↦ inl (suc h.0, h.1, h.2, h.3, h.4, h.5)
+          | inr none ↦ inr (names_none_more n order e at.0 at.1 not none)
+        ]
       ]
-    ]
 
--- what each edge gains does not depend on the order
-same_gains : (files : List NamedFile) (g : List EdgeValue) (order other : List ℕ) (a b : List EdgeValue) → AreFileIndices files order → SameFiles order other →
-    GainsExactly files g order a → GainsExactly files g other b → a ≡ b
-same_gains files g order other a b indices same p q =
-    same_lists a b (p.same_edges ∙ sym q.same_edges) (λ i x y ex ey.
-    let within : i < length a = slice_get_within _ _ _ ex in
-    let at = element_at g i (omega (arith, p.same_edges)) in
-    elim (names_one files order indices at.0) [
-      | inl h ↦
-          let there = same.0 h.0 h.1 h.3 in
-          let u = p.named h.0 h.1 h.2 i at.0 h.3 h.4 at.1 h.5 in
-          let v = q.named there.0 h.1 h.2 i at.0 there.1 h.4 at.1 h.5 in
-          let same_index : v.0 ≡ u.0 = u.2.only v.0 v.1 v.2.is v.2.on in
-          let addition : u.1 ≡ v.1 = from_some (sym u.2.is ∙ ap (slice_get h.2.additions) (sym same_index) ∙ v.2.is) in
-          from_some (sym ex ∙ u.3 ∙ ap (λ z. Some (extended at.0 z)) addition ∙ sym v.3 ∙ ey)
-      | inr none ↦ from_some (sym ex ∙ p.others i at.0 at.1 none ∙ sym (q.others i at.0 at.1 (λ r n f listed there.
-          let back = same.1 r n listed in none back.0 n f back.1 there)) ∙ ey)
-    ])
+  -- what each edge gains does not depend on the order
+  same_gains : (g : List EdgeValue) (order other : List ℕ) (a b : List EdgeValue) → AreFileIndices files order → SameFiles order other →
+      GainsExactly files g order a → GainsExactly files g other b → a ≡ b
+  same_gains g order other a b indices same p q =
+      same_lists a b (p.same_edges ∙ sym q.same_edges) (λ i x y ex ey.
+      let within : i < length a = slice_get_within _ _ _ ex in
+      let at = element_at g i (omega (arith, p.same_edges)) in
+      elim (names_one order indices at.0) [
+        | inl h ↦
+            let there = same.0 h.0 h.1 h.3 in
+            let u = p.named h.0 h.1 h.2 i at.0 h.3 h.4 at.1 h.5 in
+            let v = q.named there.0 h.1 h.2 i at.0 there.1 h.4 at.1 h.5 in
+            let same_index : v.0 ≡ u.0 = u.2.only v.0 v.1 v.2.is v.2.on in
+            let addition : u.1 ≡ v.1 = from_some (sym u.2.is ∙ ap (slice_get h.2.additions) (sym same_index) ∙ v.2.is) in
+            from_some (sym ex ∙ u.3 ∙ ap (λ z. Some (extended at.0 z)) addition ∙ sym v.3 ∙ ey)
+        | inr none ↦ from_some (sym ex ∙ p.others i at.0 at.1 none ∙ sym (q.others i at.0 at.1 (λ r n f listed there.
+            let back = same.1 r n listed in none back.0 n f back.1 there)) ∙ ey)
+      ])
 
 pub orders_end_alike : OrdersEndAlike
 orders_end_alike files g order other new last are all indices more same p q =

@@ -1,23 +1,11 @@
 -- The row and the class that the walk finds for a line are those of its definition.
 use Rattle.std.proofs.Common.{inl, inr, ◌⊎◌, ◌≡◌, ℕ, Bool, true, false, List, [], ◌∷◌, ◌++◌, append_assoc, length, map, Ok, Err, refl, sym, ap, ◌∙◌, subst, Option, Some, None}
-use Rattle.std.specs.Prelude.{codes, nat_lt, Result, bytes_eq}
 use Rattle.std.proofs.lemmas.List.{map-append, append-nil}
 use Rattle.std.proofs.lemmas.Bool.{cases_Bool, false≢true}
-use Rattle.ninja_text.specs.Lexical.{lexical_fault}
-use Rattle.ninja_text.specs.Tokens.{TokenAt, tokens, value_of}
-use Rattle.ninja_text.specs.Assignments.{SeenAssignment, assignment_of}
-use Rattle.ninja_text.specs.Paths.{path_of, is_empty}
-use Rattle.ninja_text.specs.declared.fault.LexFault.{LexFault}
-use Rattle.ninja_text.specs.declared.fault.PathFault.{PathFault}
+use Rattle.build_effect.specs.Prelude.{nat_lt, Result, bytes_eq, codes, SeenAssignment, assignment_of, lexical_fault, is_empty, path_of, symbols, Symbol, begins_at_start, begins_with_space, after_build, tokens, TokenAt, value_of, LexFault, PathFault, ArePaths, IsFirstRefused, Build, EdgeTexts, IsEdgeLine, Row, CommentRow, BlankRow, BuildRow, DyndepRow, RestatRow, TextIsOfRow, ListingClass, Comment, Blank, Dyndep, Restat, AreEdgePaths, RowIsOfClass, IsListingLine, edge_texts, binding_row, build_row, unindented_row, sound_row, row_of, paths_of, then_paths, edge_paths, build_class, dyndep_class, class_of_row, FindsClass, LineCause, Form}
 use Rattle.ninja_text.proofs.ForCallers.{assignment_not_empty, after_keyword, keyword_first, no_indent_at_token}
-use Rattle.ninja_text.specs.Symbols.{Symbol, symbols, begins_at_start, begins_with_space, after_build}
 use Rattle.std.proofs.lemmas.Slice.Eq.{bytes_eq-Decides}
-use Rattle.build_effect.specs.Effect.{ArePaths}
-use Rattle.build_effect.specs.ListingLines.{EdgeTexts, IsEdgeLine, Row, CommentRow, BlankRow, BuildRow, DyndepRow, RestatRow, TextIsOfRow, AreEdgePaths, ListingClass, Comment, Blank, Build, Dyndep, Restat, RowIsOfClass, IsListingLine}
-use Rattle.build_effect.specs.inner.ListingWalk.{edge_texts, edge_paths, then_paths, build_class, binding_row, build_row, unindented_row, sound_row, row_of, paths_of, dyndep_class, class_of_row, FindsClass}
-use Rattle.build_effect.specs.ListingFaults.{path_texts, IsFirstRefused}
-use Rattle.build_effect.specs.declared.fault.LineCause.{LineCause}
-use Rattle.build_effect.specs.declared.fault.LineCause.TheVariants.{Form}
+use Rattle.build_effect.specs.ListingFaults.{path_texts}
 use Rattle.build_effect.proofs.ListingLineLemmas.{faulty_row}
 use Rattle.build_effect.proofs.ListingForms.{none_left, edge_holds, edge_found}
 
@@ -36,12 +24,13 @@ start_token : (ts : List TokenAt) → begins_at_start ts ≡ true → is_empty t
 start_token [] h = absurd (false≢true h)
 start_token (t ∷ ts) h = refl
 
--- the row of an assignment to a name
-dyndep_named : (a : SeenAssignment) → a.name ≡ codes "dyndep" → binding_row (Some a) ≡ Ok (DyndepRow (value_of a.raw_value))
-dyndep_named a h = rw h refl
+module _ (a : SeenAssignment) where
+  -- the row of an assignment to a name
+  dyndep_named : a.name ≡ codes "dyndep" → binding_row (Some a) ≡ Ok (DyndepRow (value_of a.raw_value))
+  dyndep_named h = rw h refl
 
-restat_named : (a : SeenAssignment) → a.name ≡ codes "restat" → binding_row (Some a) ≡ Ok (RestatRow (nat_lt 0 (length (value_of a.raw_value))))
-restat_named a h = rw h refl
+  restat_named : a.name ≡ codes "restat" → binding_row (Some a) ≡ Ok (RestatRow (nat_lt 0 (length (value_of a.raw_value))))
+  restat_named h = rw h refl
 
 -- a line has a row, or exactly one reason why it has none
 pub data RowCases (text : List ℕ) (comment : Bool) : Type 0 where
@@ -59,7 +48,7 @@ module _ (text : List ℕ) (comment : Bool) where
   row_found CommentRow is = rw is refl
   row_found BlankRow is = sound_found is.0 is.1 (Ok BlankRow) (rw (ap is_empty is.2) refl)
   row_found (BuildRow texts) is =
-      let e = edge_found (symbols text) is.3 is.4 in
+      let e = edge_found is.3 is.4 in
       sound_found is.0 is.1 (Ok (BuildRow texts)) (rw (start_token (tokens text) is.2, no_indent_at_token text is.2)
       (ap (λ ss. unindented_row (after_build (begins_at_start (tokens text)) ss)) e.1 ∙
       ap unindented_row (after_keyword (begins_at_start (tokens text)) e.0 is.2)
@@ -82,7 +71,7 @@ module _ (text : List ℕ) (comment : Bool) where
     said None t = form_is c l (sound_found c l (Err Form) (rw (e, s) (ap unindented_row b ∙ ap build_row t)))
     said (Some texts) t =
         let p = keyword_first (begins_at_start (tokens text)) (symbols text) more b in
-        let x = edge_holds more texts t in
+        let x = edge_holds more t in
         row_is (BuildRow texts) (c, l, p.0, x.0, subst (λ ss. IsEdgeLine ss x.0) (sym p.1) x.1, x.2)
 
   -- an indented line
@@ -112,14 +101,14 @@ module _ (text : List ℕ) (comment : Bool) where
   row_cases = elim (cases_Bool comment) [ inl c ↦ row_is CommentRow c | inr c ↦ sound_cases c (lexical_fault text) refl ]
 
   -- a line has at most one row
-  pub one_row : (row other : Row) → TextIsOfRow text comment row → TextIsOfRow text comment other → row ≡ other
-  one_row row other a b = row_same (sym (row_found row a) ∙ row_found other b)
+  pub one_row : {row other : Row} → TextIsOfRow text comment row → TextIsOfRow text comment other → row ≡ other
+  one_row {row} {other} a b = row_same (sym (row_found row a) ∙ row_found other b)
 
   -- the row that the walk finds is that of the line
-  pub row_holds : (row : Row) → row_of text comment ≡ Ok row → TextIsOfRow text comment row
-  row_holds row h = elim (row_cases) [
+  pub row_holds : {row : Row} → row_of text comment ≡ Ok row → TextIsOfRow text comment row
+  row_holds h = elim (row_cases) [
     | row_is other is ↦ subst (TextIsOfRow text comment) (row_same (sym (row_found other is) ∙ h)) is
-    | lexical_is fault c l ↦ no_row (sym (faulty_row text comment fault c l) ∙ h)
+    | lexical_is fault c l ↦ no_row (sym (faulty_row text c l) ∙ h)
     | form_is c l e ↦ no_row (sym e ∙ h)
   ]
 
@@ -137,38 +126,39 @@ paths_found (text ∷ texts) (path ∷ paths) are =
     rw (first, paths_found texts paths more) refl
 
 -- and the first string that is not a valid path
-refused_at : (before : List (List ℕ)) (text : List ℕ) (after paths : List (List ℕ)) (fault : PathFault) → ArePaths before paths → path_of text ≡ Err fault
+refused_at : (before : List (List ℕ)) (text : List ℕ) (after paths : List (List ℕ)) {fault : PathFault} → ArePaths before paths → path_of text ≡ Err fault
     → paths_of (before ++ text ∷ after) ≡ Err fault
-refused_at [] text after paths fault are refused = rw refused refl
-refused_at (b ∷ before) text after [] fault are refused = absurd (let x = are in cc)
-refused_at (b ∷ before) text after (path ∷ paths) fault are refused =
+refused_at [] text after paths are refused = rw refused refl
+refused_at (b ∷ before) text after [] are refused = absurd (let x = are in cc)
+refused_at (b ∷ before) text after (path ∷ paths) {fault} are refused =
     let h = are in
     let first : path_of b ≡ Ok path = cc in
     let more : ArePaths before paths = (let y : map path_of before ≡ map (λ p. Ok p) paths = cc in y) in
-    rw (first, refused_at before text after paths fault more refused) refl
+    rw (first, refused_at before text after paths more refused) refl
 
-pub refused_found : (texts : List (List ℕ)) (fault : PathFault) → IsFirstRefused texts fault → paths_of texts ≡ Err fault
-refused_found texts fault r = ap paths_of r.whole ∙ refused_at r.before r.text r.after r.paths fault r.are r.refused
+pub refused_found : {texts : List (List ℕ)} {fault : PathFault} → IsFirstRefused texts fault → paths_of texts ≡ Err fault
+refused_found {fault} r = ap paths_of r.whole ∙ refused_at r.before r.text r.after r.paths r.are r.refused
 
--- strings, one list after another
-are_both : (xs ys ps qs : List (List ℕ)) → ArePaths xs ps → ArePaths ys qs → ArePaths (xs ++ ys) (ps ++ qs)
-are_both xs ys ps qs a b =
-    map-append path_of xs ys ∙ ap (λ r. r ++ map path_of ys) a ∙ ap (λ r. map (λ p. Ok p) ps ++ r) b ∙
-    sym (map-append {B = Result (List ℕ) PathFault} (λ p. Ok p) ps qs)
+module _ (xs ys : List (List ℕ)) where
+  -- strings, one list after another
+  are_both : (ps qs : List (List ℕ)) → ArePaths xs ps → ArePaths ys qs → ArePaths (xs ++ ys) (ps ++ qs)
+  are_both ps qs a b =
+      map-append path_of xs ys ∙ ap (λ r. r ++ map path_of ys) a ∙ ap (λ r. map (λ p. Ok p) ps ++ r) b ∙
+      sym (map-append {B = Result (List ℕ) PathFault} (λ p. Ok p) ps qs)
 
-refused_front : (xs ys : List (List ℕ)) (fault : PathFault) → IsFirstRefused xs fault → IsFirstRefused (xs ++ ys) fault
-refused_front xs ys fault r = record {
-  before = r.before;
-  text = r.text;
-  after = r.after ++ ys;
-  whole = ap (λ l. l ++ ys) r.whole ∙ append_assoc r.before (r.text ∷ r.after) ys;
-  paths = r.paths;
-  are = r.are;
-  refused = r.refused;
-}
+  refused_front : {fault : PathFault} → IsFirstRefused xs fault → IsFirstRefused (xs ++ ys) fault
+  refused_front r = record {
+    before = r.before;
+    text = r.text;
+    after = r.after ++ ys;
+    whole = ap (λ l. l ++ ys) r.whole ∙ append_assoc r.before (r.text ∷ r.after) ys;
+    paths = r.paths;
+    are = r.are;
+    refused = r.refused;
+  }
 
-refused_after : (xs ps ys : List (List ℕ)) (fault : PathFault) → ArePaths xs ps → IsFirstRefused ys fault → IsFirstRefused (xs ++ ys) fault
-refused_after xs ps ys fault are r = record {
+refused_after : (xs ps ys : List (List ℕ)) {fault : PathFault} → ArePaths xs ps → IsFirstRefused ys fault → IsFirstRefused (xs ++ ys) fault
+refused_after xs ps ys are r = record {
   before = xs ++ r.before;
   text = r.text;
   after = r.after;
@@ -188,7 +178,7 @@ path_cases (text ∷ texts) = first (path_of text) refl (path_cases texts) where
   first : (o : Result (List ℕ) PathFault) → path_of text ≡ o → PathCases texts → PathCases (text ∷ texts)
   first (Err fault) e more = inr (fault, record { before = []; text = text; after = texts; whole = refl; paths = []; are = refl; refused = e })
   first (Ok path) e (inl more) = inl (path ∷ more.0, are_both (text ∷ []) texts (path ∷ []) more.0 (ap (λ r. r ∷ []) e) more.1)
-  first (Ok path) e (inr more) = inr (more.0, refused_after (text ∷ []) (path ∷ []) texts more.0 (ap (λ r. r ∷ []) e) more.1)
+  first (Ok path) e (inr more) = inr (more.0, refused_after (text ∷ []) (path ∷ []) texts (ap (λ r. r ∷ []) e) more.1)
 
 -- ---- classes
 
@@ -244,9 +234,9 @@ then_cases : {T : Type 0} (P : T → Type 0) (xs ys : List (List ℕ)) (next : L
 then_cases P xs ys next go = elim (path_cases xs) [
   | inl p ↦ elim (go p.0 p.1) [
     | inl t ↦ inl t
-    | inr f ↦ inr (f.0, refused_after xs p.0 ys f.0 p.1 f.1, rw (paths_found xs p.0 p.1) f.2)
+    | inr f ↦ inr (f.0, refused_after xs p.0 ys p.1 f.1, rw (paths_found xs p.0 p.1) f.2)
   ]
-  | inr f ↦ inr (f.0, refused_front xs ys f.0 f.1, rw (refused_found xs f.0 f.1) refl)
+  | inr f ↦ inr (f.0, refused_front xs ys f.1, rw (refused_found f.1) refl)
 ]
 
 edge_cases : (t : EdgeTexts) → Outcome (AreEdgePaths t) (from_outputs t) (edge_paths t)
@@ -302,36 +292,39 @@ all_paths (BuildRow t) c is =
 all_paths (DyndepRow text) c is = (is.0 ∷ [], ap (λ r. r ∷ []) is.1)
 all_paths (RestatRow flag) c is = ([], refl)
 
--- the walk finds the first string of a row that is not a valid path
-pub refused_class : (row : Row) (fault : PathFault) → IsFirstRefused (path_texts row) fault → class_of_row row ≡ Err fault
-refused_class row fault r = elim (class_cases row) [
-  | inl c ↦
-      let p = all_paths row c.0 c.1 in
-      absurd (let x = sym (paths_found (path_texts row) p.0 p.1) ∙ refused_found (path_texts row) fault r in cc)
-  | inr f ↦
-      let same : f.0 ≡ fault =
-      (let x : ◌≡◌ {A = Result (List (List ℕ)) PathFault} (Err f.0) (Err fault) = sym (refused_found (path_texts row) f.0 f.1) ∙
-      refused_found (path_texts row) fault r in cc) in
-      subst (λ g. class_of_row row ≡ Err g) same f.2
-]
+module _ (row : Row) where
+  -- the walk finds the first string of a row that is not a valid path
+  pub refused_class : {fault : PathFault} → IsFirstRefused (path_texts row) fault → class_of_row row ≡ Err fault
+  refused_class {fault} r = elim (class_cases row) [
+    | inl c ↦
+        let p = all_paths row c.0 c.1 in
+        absurd (let x = sym (paths_found (path_texts row) p.0 p.1) ∙ refused_found r in cc)
+    | inr f ↦
+        let same : f.0 ≡ fault =
+        (let x : ◌≡◌ {A = Result (List (List ℕ)) PathFault} (Err f.0) (Err fault) = sym (refused_found f.1) ∙
+        refused_found r in cc) in
+        subst (λ g. class_of_row row ≡ Err g) same f.2
+  ]
 
--- the class that the walk finds is that of the row
-pub class_is_of : (row : Row) (c : ListingClass) → class_of_row row ≡ Ok c → RowIsOfClass row c
-class_is_of row c h = elim (class_cases row) [
-  | inl d ↦ subst (RowIsOfClass row) (class_same (sym (class_found row d.0 d.1) ∙ h)) d.1
-  | inr f ↦ no_class (sym f.2 ∙ h)
-]
+  -- the class that the walk finds is that of the row
+  pub class_is_of : (c : ListingClass) → class_of_row row ≡ Ok c → RowIsOfClass row c
+  class_is_of c h = elim (class_cases row) [
+    | inl d ↦ subst (RowIsOfClass row) (class_same (sym (class_found row d.0 d.1) ∙ h)) d.1
+    | inr f ↦ no_class (sym f.2 ∙ h)
+  ]
 
--- the class that the walk finds is that of the line, and the walk finds it
-pub class_holds : (text : List ℕ) (comment : Bool) (c : ListingClass) → FindsClass text comment c → IsListingLine text comment c
-class_holds text comment c (row, is, of) = (row, row_holds text comment row is, class_is_of row c of)
+module _ (text : List ℕ) (comment : Bool) where
+  module _ (c : ListingClass) where
+    -- the class that the walk finds is that of the line, and the walk finds it
+    pub class_holds : FindsClass text comment c → IsListingLine text comment c
+    class_holds (row, is, of) = (row, row_holds text comment is, class_is_of row c of)
 
-pub finds_class : (text : List ℕ) (comment : Bool) (c : ListingClass) → IsListingLine text comment c → FindsClass text comment c
-finds_class text comment c (row, is, of) = (row, row_found text comment row is, class_found row c of)
+    pub finds_class : IsListingLine text comment c → FindsClass text comment c
+    finds_class (row, is, of) = (row, row_found text comment row is, class_found row c of)
 
--- a line has at most one class
-pub one_class : (text : List ℕ) (comment : Bool) (c d : ListingClass) → IsListingLine text comment c → IsListingLine text comment d → d ≡ c
-one_class text comment c d p q =
-    let a = finds_class text comment c p in
-    let b = finds_class text comment d q in
-    class_same (sym b.2 ∙ ap class_of_row (row_same (sym b.1 ∙ a.1)) ∙ a.2)
+  -- a line has at most one class
+  pub one_class : (c d : ListingClass) → IsListingLine text comment c → IsListingLine text comment d → d ≡ c
+  one_class c d p q =
+      let a = finds_class c p in
+      let b = finds_class d q in
+      class_same (sym b.2 ∙ ap class_of_row (row_same (sym b.1 ∙ a.1)) ∙ a.2)

@@ -1,18 +1,11 @@
 -- The walk over the tokens of a build line finds what the definition says about the whole list of tokens.
-use Rattle.std.proofs.Common.{inl, inr, append_assoc, ◌≡◌, ◌≢◌, ℕ, ◌&&◌, Bool, true, false, List, [], ◌∷◌, ◌++◌, map, refl, sym, ap, ◌∙◌, subst, Option, Some, None}
+use Rattle.std.proofs.Common.{if◌then◌else◌, inl, inr, append_assoc, ◌≡◌, ◌≢◌, ℕ, ◌&&◌, Bool, true, false, List, [], ◌∷◌, ◌++◌, map, refl, sym, ap, ◌∙◌, subst, Option, Some, None}
+use Rattle.build_effect.specs.Prelude.{not, IsTrue, codes, is_empty, Symbol, WordSymbol, SignSymbol, IsPart, front_words, past_words, is_sign, past_sign, part_words, past_part, value_of, TokenKind, Bar, Colon, DoubleBar, EdgeTexts, is_rule_name, IsEdgeLine, meant, right_texts, edge_texts}
 use Rattle.build_effect.proofs.Lists.{none_some}
-use Rattle.std.specs.Prelude.{IsTrue, codes, not, if◌then◌else◌}
 use Rattle.std.proofs.lemmas.List.{append-nil}
 use Rattle.std.proofs.lemmas.Bool.{cases_Bool, and_parts, false≢true, true≢false}
-use Rattle.ninja_text.specs.Tokens.{value_of}
-use Rattle.ninja_text.specs.declared.token.TokenKind.{TokenKind}
-use Rattle.ninja_text.specs.declared.token.TokenKind.TheVariants.{Bar, DoubleBar, Colon}
-use Rattle.ninja_text.specs.Paths.{is_empty}
-use Rattle.ninja_text.specs.Symbols.{Symbol, WordSymbol, SignSymbol, IsPart, front_words, past_words, is_sign, past_sign, part_words, past_part}
 use Rattle.ninja_text.proofs.ForCallers.{raw_words, front_at, front_meant, part_symbols, part_raw, is_part, part_meant, sign_at, part_at}
-use Rattle.build_effect.specs.ListingLines.{EdgeTexts, is_rule_name, IsEdgeLine, meant}
-use Rattle.build_effect.specs.inner.ListingWalk.{right_texts, edge_texts}
-use Rattle.build_effect.proofs.ListingLineLemmas.{left_texts, right_are}
+use Rattle.build_effect.proofs.ListingLineLemmas.{walked}
 
 -- ---- what the walk finds is there
 
@@ -58,12 +51,12 @@ has_some : (b : Bool) → not b ≡ true → b ≡ false
 has_some true h = absurd (false≢true h)
 has_some false h = refl
 
-right_at : (outputs implicit_outputs : List (List ℕ)) (o : Option (List Symbol)) (t : EdgeTexts) → right_texts outputs implicit_outputs o ≡ Some t →
+right_at : (outputs implicit_outputs : List (List ℕ)) (o : Option (List Symbol)) {t : EdgeTexts} → right_texts outputs implicit_outputs o ≡ Some t →
     IsRight outputs implicit_outputs o t
-right_at outputs implicit_outputs None t h = none_some h
-right_at outputs implicit_outputs (Some []) t h = none_some h
-right_at outputs implicit_outputs (Some (SignSymbol sign ∷ more)) t h = none_some h
-right_at outputs implicit_outputs (Some (WordSymbol rule ∷ more)) t h =
+right_at outputs implicit_outputs None h = none_some h
+right_at outputs implicit_outputs (Some []) h = none_some h
+right_at outputs implicit_outputs (Some (SignSymbol sign ∷ more)) h = none_some h
+right_at outputs implicit_outputs (Some (WordSymbol rule ∷ more)) {t} h =
     elim (cases_Bool (not (is_empty outputs) && is_rule_name rule && is_empty (after_order more))) [
       | inl e ↦
           let p = and_parts (not (is_empty outputs) && is_rule_name rule) (is_empty (after_order more)) e in
@@ -107,24 +100,23 @@ side_by_side : (words : EdgeTexts) (made needed waited_for : List Symbol)
 side_by_side words made needed waited_for = simp append_assoc
 
 -- a build line says the strings that the walk finds
-pub edge_holds : (ss : List Symbol) (t : EdgeTexts) → edge_texts ss ≡ Some t →
+pub edge_holds : (ss : List Symbol) {t : EdgeTexts} → edge_texts ss ≡ Some t →
     (words : EdgeTexts) × IsEdgeLine (WordSymbol (codes "build") ∷ ss) words × (t ≡ meant words)
-edge_holds ss t h =
+edge_holds ss {t} h =
     let left = past_words ss in
     let made = past_sign Bar left in
     let colon = past_part made left in
-    let f = right_at (front_words ss) (part_words made) (past_sign Colon colon) t h in
+    let f = right_at (front_words ss) (part_words made) (past_sign Colon colon) h in
     let right = past_words f.more in
     let needed = past_sign Bar right in
     let order = from_order f.more in
     let waited_for = past_sign DoubleBar order in
     let words = raw_texts ss made f.rule f.more in
-    let last : order ≡ part_symbols DoubleBar waited_for =
+    let last =
     part_at DoubleBar order waited_for refl ∙ ap (λ s. part_symbols DoubleBar waited_for ++ s) f.over ∙ append-nil (part_symbols DoubleBar waited_for) in
-    let inputs : f.more ≡ map WordSymbol (raw_words f.more) ++ (part_symbols Bar needed ++ part_symbols DoubleBar waited_for) =
+    let inputs =
     front_at f.more ∙ ap (λ s. map WordSymbol (raw_words f.more) ++ s) (part_at Bar right needed refl ∙ ap (λ s. part_symbols Bar needed ++ s) last) in
-    let from_colon : colon ≡
-    SignSymbol Colon ∷ WordSymbol f.rule ∷ (map WordSymbol (raw_words f.more) ++ (part_symbols Bar needed ++ part_symbols DoubleBar waited_for)) =
+    let from_colon =
     sign_at Colon colon (WordSymbol f.rule ∷ f.more) f.at ∙ ap (λ s. SignSymbol Colon ∷ WordSymbol f.rule ∷ s) inputs in (
       words,
       (
@@ -150,38 +142,38 @@ record Stops (ss : List Symbol) : Type 0 where
   none : front_words ss ≡ []
   all : past_words ss ≡ ss
 
-part_stops : (sign : TokenKind) (part : List Symbol) (words : List (List ℕ)) (rest : List Symbol) → IsPart sign part words → Stops rest → Stops (part ++ rest)
-part_stops sign part words rest (inl p) s = subst (λ x. Stops (x ++ rest)) (sym p.0) s
-part_stops sign part words rest (inr e) s = subst (λ x. Stops (x ++ rest)) (sym e) (record { none = refl; all = refl })
+part_stops : {sign : TokenKind} {part : List Symbol} {words : List (List ℕ)} {rest : List Symbol} → IsPart sign part words → Stops rest → Stops (part ++ rest)
+part_stops {rest} (inl p) s = subst (λ x. Stops (x ++ rest)) (sym p.0) s
+part_stops {rest} (inr e) s = subst (λ x. Stops (x ++ rest)) (sym e) (record { none = refl; all = refl })
 
 -- words are read up to what stops them
-front_is : (words : List (List ℕ)) (rest : List Symbol) → Stops rest → front_words (map WordSymbol words ++ rest) ≡ map value_of words
-front_is [] rest s = s.none
-front_is (word ∷ words) rest s = ap (λ ws. value_of word ∷ ws) (front_is words rest s)
+front_is : (words : List (List ℕ)) {rest : List Symbol} → Stops rest → front_words (map WordSymbol words ++ rest) ≡ map value_of words
+front_is [] s = s.none
+front_is (word ∷ words) {rest} s = ap (λ ws. value_of word ∷ ws) (front_is words s)
 
-past_is : (words : List (List ℕ)) (rest : List Symbol) → Stops rest → past_words (map WordSymbol words ++ rest) ≡ rest
-past_is [] rest s = s.all
-past_is (word ∷ words) rest s = past_is words rest s
+past_is : (words : List (List ℕ)) {rest : List Symbol} → Stops rest → past_words (map WordSymbol words ++ rest) ≡ rest
+past_is [] s = s.all
+past_is (word ∷ words) {rest} s = past_is words s
 
 -- and so is a part, if its sign does not follow it
 module _ (sign : TokenKind) (same : is_sign sign sign ≡ true) (rest : List Symbol) (s : Stops rest) (apart : past_sign sign rest ≡ None) where
-  part_is : (part : List Symbol) (words : List (List ℕ)) → IsPart sign part words → part_words (past_sign sign (part ++ rest)) ≡ map value_of words
-  part_is part words (inl p) = ap (λ x. part_words (past_sign sign (x ++ rest))) p.0 ∙ ap part_words apart ∙ sym (ap (map value_of) p.1)
-  part_is part words (inr e) =
+  part_is : {part : List Symbol} {words : List (List ℕ)} → IsPart sign part words → part_words (past_sign sign (part ++ rest)) ≡ map value_of words
+  part_is (inl p) = ap (λ x. part_words (past_sign sign (x ++ rest))) p.0 ∙ ap part_words apart ∙ sym (ap (map value_of) p.1)
+  part_is {words} (inr e) =
       ap (λ x. part_words (past_sign sign (x ++ rest))) e
-      ∙ ap (λ (b : Bool). part_words (if b then Some (map WordSymbol words ++ rest) else None)) same ∙ front_is words rest s
+      ∙ ap (λ (b : Bool). part_words (if b then Some (map WordSymbol words ++ rest) else None)) same ∙ front_is words s
 
-  part_past : (part : List Symbol) (words : List (List ℕ)) → IsPart sign part words → past_part (past_sign sign (part ++ rest)) (part ++ rest) ≡ rest
-  part_past part words (inl p) = ap (λ x. past_part (past_sign sign (x ++ rest)) (x ++ rest)) p.0 ∙ ap (λ o. past_part o rest) apart
-  part_past part words (inr e) =
+  part_past : {part : List Symbol} {words : List (List ℕ)} → IsPart sign part words → past_part (past_sign sign (part ++ rest)) (part ++ rest) ≡ rest
+  part_past (inl p) = ap (λ x. past_part (past_sign sign (x ++ rest)) (x ++ rest)) p.0 ∙ ap (λ o. past_part o rest) apart
+  part_past {words} (inr e) =
       ap (λ x. past_part (past_sign sign (x ++ rest)) (x ++ rest)) e
       ∙ ap (λ (b : Bool). past_part (if b then Some (map WordSymbol words ++ rest) else None) (SignSymbol sign ∷ map WordSymbol words ++ rest)) same ∙
-      past_is words rest s
+      past_is words s
 
 -- order-only inputs are not implicit inputs
-no_bar : (part : List Symbol) (words : List (List ℕ)) → IsPart DoubleBar part words → past_sign Bar part ≡ None
-no_bar part words (inl p) = ap (past_sign Bar) p.0
-no_bar part words (inr e) = ap (past_sign Bar) e
+no_bar : {part : List Symbol} {words : List (List ℕ)} → IsPart DoubleBar part words → past_sign Bar part ≡ None
+no_bar (inl p) = ap (past_sign Bar) p.0
+no_bar (inr e) = ap (past_sign Bar) e
 
 ends : Stops []
 ends = record { none = refl; all = refl }
@@ -202,38 +194,40 @@ module _ (words : EdgeTexts) (made needed waited_for : List Symbol) (m : IsPart 
   left_symbols = map WordSymbol words.outputs ++ (made ++ colon_symbols)
 
   order_stops : Stops waited_for
-  order_stops = subst Stops (append-nil waited_for) (part_stops DoubleBar waited_for words.order_only [] w ends)
+  order_stops = subst Stops (append-nil waited_for) (part_stops w ends)
 
   needed_stops : Stops (needed ++ waited_for)
-  needed_stops = part_stops Bar needed words.implicit_inputs waited_for n order_stops
+  needed_stops = part_stops n order_stops
 
   colon_stops : Stops colon_symbols
   colon_stops = record { none = refl; all = refl }
 
   made_stops : Stops (made ++ colon_symbols)
-  made_stops = part_stops Bar made words.implicit_outputs colon_symbols m colon_stops
+  made_stops = part_stops m colon_stops
 
   order_is : part_words (past_sign DoubleBar waited_for) ≡ map value_of words.order_only
-  order_is = ap (λ x. part_words (past_sign DoubleBar x)) (sym (append-nil waited_for)) ∙ part_is DoubleBar refl [] ends refl waited_for words.order_only w
+  order_is = ap (λ x. part_words (past_sign DoubleBar x)) (sym (append-nil waited_for)) ∙ part_is DoubleBar refl [] ends refl w
 
   order_past : past_part (past_sign DoubleBar waited_for) waited_for ≡ []
-  order_past = ap (λ x. past_part (past_sign DoubleBar x) x) (sym (append-nil waited_for)) ∙ part_past DoubleBar refl [] ends refl waited_for words.order_only w
-
-  is_whole : true ≡ not (is_empty (map value_of words.outputs)) && is_rule_name words.rule && is_empty {X = Symbol} []
-  is_whole = rw (some_meant words.outputs some, named) refl
+  order_past = ap (λ x. past_part (past_sign DoubleBar x) x) (sym (append-nil waited_for)) ∙ part_past DoubleBar refl [] ends refl w
 
   edge_of_parts : edge_texts left_symbols ≡ Some (meant words)
   edge_of_parts =
-      let bar = no_bar waited_for words.order_only w in
-      left_texts left_symbols (made ++ colon_symbols) colon_symbols _ _ (sym (front_is words.outputs _ made_stops)) (sym (past_is words.outputs _ made_stops))
-      (sym (part_is Bar refl colon_symbols colon_stops refl made _ m)) (sym (part_past Bar refl colon_symbols colon_stops refl made _ m))
-      ∙ right_are (map value_of words.outputs) (map value_of words.implicit_outputs) _ _ _ words.rule words.rule right_symbols (needed ++ waited_for) waited_for
-      [] refl
-      (sym (front_is words.inputs _ needed_stops)) (sym (past_is words.inputs _ needed_stops)) (sym (part_is Bar refl waited_for order_stops bar needed _ n))
-      (sym (part_past Bar refl waited_for order_stops bar needed _ n)) (sym order_is) (sym order_past) true is_whole
+      let bar = no_bar w in
+      walked left_symbols {right = right_symbols} {rule = words.rule} (sym (past_is words.outputs made_stops))
+      (sym (part_past Bar refl colon_symbols colon_stops refl m)) refl refl (sym (past_is words.inputs needed_stops))
+      (sym (part_past Bar refl waited_for order_stops bar n)) (sym order_past) true
+      (rw (front_is words.outputs made_stops, some_meant words.outputs some, named) refl)
+      ∙ rw (
+        front_is words.outputs made_stops,
+        part_is Bar refl colon_symbols colon_stops refl m,
+        front_is words.inputs needed_stops,
+        part_is Bar refl waited_for order_stops bar n,
+        order_is,
+      ) refl
 
 -- the walk finds the strings that a build line says
-pub edge_found : (all : List Symbol) (words : EdgeTexts) → IsEdgeLine all words →
+pub edge_found : {all : List Symbol} (words : EdgeTexts) → IsEdgeLine all words →
     (more : List Symbol) × (all ≡ WordSymbol (codes "build") ∷ more) × (edge_texts more ≡ Some (meant words))
-edge_found all words e =
+edge_found words e =
     (left_symbols words e.0 e.1 e.2 e.3 e.4 e.5 e.6 e.7, e.8 ∙ side_by_side words e.0 e.1 e.2, edge_of_parts words e.0 e.1 e.2 e.3 e.4 e.5 e.6 e.7)

@@ -1,58 +1,31 @@
 -- The reader of edge listings, line by line, and the laws of lines and of texts.
-use Rattle.std.proofs.Common.{◌≡◌, ◌≢◌, ℕ, ◌+◌, ◌<◌, Bool, true, false, zero, suc, List, [], ◌∷◌, ◌++◌, length, refl, sym, ap, append_assoc, ◌∙◌, Some, None, Ok, Err, arith, inl, inr, ◌≤◌, subst, ◌⊎◌}
-use Rattle.std.specs.Prelude.{Result, IfOk, IfErr, All, slice_set, slice_index_or, nat_lt}
-use Rattle.ninja_text.specs.Failure.{Gives}
-use Rattle.ninja_text.specs.Paths.{path_of}
-use Rattle.ninja_text.specs.declared.fault.PathFault.{PathFault}
-use Rattle.build_effect.specs.EdgeValue.{EdgeValue}
-use Rattle.build_effect.specs.ListingLines.{EdgeTexts, ListingClass, Build, Dyndep, Restat, IsListingLine}
-use Rattle.build_effect.specs.inner.ListingWalk.{build_class, dyndep_class, with_path, paths_of, edge_paths, with_last, with_last_dyndep, with_last_restat, step, text_cause, run}
-use Rattle.build_effect.specs.ListingGrammar.{bound, IsListing, listing_end, BeginsListing}
-use Rattle.build_effect.specs.declared.listing.state.Binding.{Binding}
-use Rattle.build_effect.specs.declared.listing.state.Binding.TheVariants.{Open, Closed}
-use Rattle.std.specs.Option.{option_and_then}
-use Rattle.ninja_text.specs.Lines.{line_limit, IsLine, LogicalLine, logical_line, text_of_line, is_comment}
-use Rattle.ninja_text.specs.Failure.{ForFault, Turns}
-use Rattle.ninja_text.specs.LineReading.{BeginsWith, IsNextFault, HasLentAll, FeedsLines, EndsLines}
-use Rattle.ninja_text.specs.FormatReading.{AreReadTo, Reads}
-use Rattle.ninja_text.specs.declared.failure.Failure.{Failure}
-use Rattle.ninja_text.specs.declared.failure.Failure.TheVariants.{Fault, Memory}
+use Rattle.std.proofs.Common.{◌≡◌, ◌≢◌, ℕ, ◌+◌, ◌<◌, Bool, true, false, zero, suc, List, [], ◌∷◌, ◌++◌, length, refl, sym, ap, append_assoc, ◌∙◌, Some, Ok, Err, arith, inl, inr, ◌≤◌, subst, ◌⊎◌}
+use Rattle.build_effect.specs.Prelude.{IfOk, IfErr, nat_lt, slice_index_or, slice_set, All, Option, Result, option_and_then, Gives, Turns, ForFault, AreReadTo, Reads, IsOfClass, IsFaultyAfter, IsDecided, BeginsWith, IsNextFault, HasLentAll, FeedsLines, EndsLines, line_limit, is_comment, IsLine, text_of_line, LogicalLine, logical_line, path_of, Failure, Fault, Memory, PathFault, EdgeValue, IsGraphFault, IsTextCause, IsLineCause, IsListing, listing_end, BeginsListing, Build, EdgeTexts, Row, BuildRow, DyndepRow, RestatRow, ListingClass, Dyndep, Restat, IsListingLine, LeadToEdges, ListingReaderState, HasReadListing, IsListingFaultIn, FeedsListing, line_failure, EndsListing, IsListingFault, listing_format, Lists, IsEndCause, listing_faults, HasFaultyLine, HasFaultyEnd, HasListingFault, ListingValue, TakesRow, GivesEdge, build_row, with_path, paths_of, edge_paths, build_class, dyndep_class, text_cause, with_last, with_last_dyndep, with_last_restat, run, PassesLine, RefusesLine, fault_of_cutter, GraphFault, LineCause, Form, Lexical, LineTooLong, Truncated, LineFault, ListFault, AtLine, NoGraph, Closed, Open}
 use Rattle.ninja_text.proofs.ForCallers.{all_lent, faulty_next, faulty_rest, faulty_at_limit}
 use Rattle.ninja_text.proofs.ForCallers as lines
-use Rattle.build_effect.specs.ListingFaults.{IsTextCause, IsLineCause}
-use Rattle.build_effect.specs.ListingSteps.{ListingValue}
-use Rattle.build_effect.specs.ListingReading.{listing_format, listing_faults, Lists, HasFaultyLine, HasFaultyEnd, IsEndCause, HasListingFault}
-use Rattle.build_effect.specs.ListingReaders.{LeadToEdges, ListingReaderState, HasReadListing, FeedsListing, EndsListing, line_failure, IsListingFaultIn, IsListingFault}
-use Rattle.build_effect.specs.inner.ReadLines.{fault_of_cutter, PassesLine, RefusesLine}
-use Rattle.build_effect.specs.declared.fault.LineCause.{LineCause}
 use Rattle.build_effect.specs.declared.fault.LineCause.TheVariants as causes
-use Rattle.build_effect.specs.declared.fault.LineFault.{LineFault}
-use Rattle.build_effect.specs.declared.fault.ListFault.{ListFault}
-use Rattle.build_effect.specs.declared.fault.ListFault.TheVariants.{AtLine, NoGraph}
-use Rattle.build_effect.specs.Faults.{IsGraphFault}
-use Rattle.build_effect.specs.declared.fault.GraphFault.{GraphFault}
 use Rattle.build_effect.proofs.ListingClasses.{class_holds, one_class}
 use Rattle.build_effect.proofs.ListingCauses.{cause_holds, cause_stops, goes_on, stops_by, line_cases, one_text_cause, class_has_form}
 use Rattle.build_effect.proofs.ListingRuns.{runs_begin, run_more, binding_runs, run_is_listing, listing_is_run, one_list_of_edges, begins_runs}
 use Rattle.std.proofs.lemmas.Bool.{cases_Bool, cases_lt, ltb-true, ltb-false}
-use Rattle.ninja_text.specs.LineFormats.{IsOfClass, IsFaultyAfter, IsDecided}
-use Rattle.build_effect.specs.declared.fault.LineCause.TheVariants.{LineTooLong, Truncated, Lexical, Form, BadPath}
+use Rattle.build_effect.specs.declared.fault.LineCause.TheVariants.{BadPath}
 
 -- ---- the edges so far: the last one changed, one more, and that each has an output
 
--- the last edge set
-pub last_set : (change : EdgeValue → EdgeValue) (es : List EdgeValue) (n : ℕ) (e : EdgeValue) → n + 1 ≡ length es → e ≡ slice_index_or es n e
-    → slice_set es n (change e) ≡ with_last change es
-last_set change [] n e len at = absurd (omega arith)
-last_set change (x ∷ []) zero e len at = ap (λ (t : EdgeValue). change t ∷ []) at
-last_set change (x ∷ []) (suc n) e len at = absurd (omega arith)
-last_set change (x ∷ y ∷ es) zero e len at = absurd (omega arith)
-last_set change (x ∷ y ∷ es) (suc n) e len at = ap (λ l. x ∷ l) (last_set change (y ∷ es) n e (omega arith) at)
+module _ (change : EdgeValue → EdgeValue) where
+  -- the last edge set
+  pub last_set : (es : List EdgeValue) (n : ℕ) {e : EdgeValue} → n + 1 ≡ length es → e ≡ slice_index_or es n e
+      → slice_set es n (change e) ≡ with_last change es
+  last_set [] n len at = absurd (omega arith)
+  last_set (x ∷ []) zero len at = ap (λ (t : EdgeValue). change t ∷ []) at
+  last_set (x ∷ []) (suc n) len at = absurd (omega arith)
+  last_set (x ∷ y ∷ es) zero len at = absurd (omega arith)
+  last_set (x ∷ y ∷ es) (suc n) {e} len at = ap (λ l. x ∷ l) (last_set (y ∷ es) n (omega arith) at)
 
--- an empty list has no last edge to change
-pub none_set : (change : EdgeValue → EdgeValue) (es : List EdgeValue) → (0 < length es → ⊥) → es ≡ with_last change es
-none_set change [] none = refl
-none_set change (e ∷ es) none = absurd (none (omega arith))
+  -- an empty list has no last edge to change
+  pub none_set : (es : List EdgeValue) → (0 < length es → ⊥) → es ≡ with_last change es
+  none_set [] none = refl
+  none_set (e ∷ es) none = absurd (none (omega arith))
 
 -- each edge has an output
 abbrev pub HaveOutputs : List EdgeValue → Type 0
@@ -74,23 +47,19 @@ outputs_pushed [] e all some (suc k) d lt = absurd (omega arith)
 outputs_pushed (f ∷ es) e all some zero d lt = all zero d (omega arith)
 outputs_pushed (f ∷ es) e all some (suc k) d lt = outputs_pushed es e (λ k d lt. all (suc k) d (omega arith)) some k d (omega arith)
 
--- a binding of `dyndep` passes
-pub dyndep_passes : (binding : Binding) (es new : List EdgeValue) (text path : List ℕ) (restat : Bool) → binding ≡ Open false restat → path_of text ≡ Ok path →
-    new ≡ with_last_dyndep path es
-    → (c : ListingClass) × (dyndep_class (path_of text) ≡ Ok c) × (step binding es c ≡ Some (record { edges = new; binding = Open true restat }))
-dyndep_passes binding es new text path restat opened is set = (Dyndep path, ap dyndep_class is, rw (opened, set) refl)
+-- a binding of `dyndep`, a binding of `restat` and a build line pass
+module _ (old : ListingValue) (new : List EdgeValue) where
+  pub dyndep_passes : (text path : List ℕ) {restat : Bool} → old.binding ≡ Open false restat → path_of text ≡ Ok path → new ≡ with_last_dyndep path old.edges →
+      TakesRow old (Ok (DyndepRow text)) (Ok tt) (record { edges = new; binding = Open true restat })
+  dyndep_passes text path opened is set = (Dyndep path, (DyndepRow text, refl, ap dyndep_class is), rw (opened, set) refl)
 
--- a binding of `restat` passes
-pub restat_passes : (binding : Binding) (es new : List EdgeValue) (flag dyndep : Bool) → binding ≡ Open dyndep false → new ≡ with_last_restat flag es
-    → (c : ListingClass) × (◌≡◌ {A = Result ListingClass PathFault} (Ok (Restat flag)) (Ok c)) ×
-    (step binding es c ≡ Some (record { edges = new; binding = Open dyndep true }))
-restat_passes binding es new flag dyndep opened set = (Restat flag, refl, rw (opened, set) refl)
+  pub restat_passes : {found : Result Row LineCause} {flag dyndep : Bool} → found ≡ Ok (RestatRow flag) → old.binding ≡ Open dyndep false →
+      new ≡ with_last_restat flag old.edges → TakesRow old found (Ok tt) (record { edges = new; binding = Open dyndep true })
+  restat_passes {flag} row opened set = (Restat flag, (RestatRow flag, row, refl), rw (opened, set) refl)
 
--- a build line passes
-pub build_passes : (binding : Binding) (es new : List EdgeValue) (edge : EdgeValue) (paths : Result EdgeTexts PathFault) (t : EdgeTexts) → paths ≡ Ok t →
-    edge ≡ bound t None None
-    → new ≡ es ++ edge ∷ [] → (c : ListingClass) × (build_class paths ≡ Ok c) × (step binding es c ≡ Some (record { edges = new; binding = Open false false }))
-build_passes binding es new edge paths t is same pushed = (Build t, ap build_class is, rw (pushed, same) refl)
+  pub build_passes : {edge : EdgeValue} {said : Option EdgeTexts} {texts : EdgeTexts} → said ≡ Some texts → GivesEdge (Ok edge) (edge_paths texts) →
+      new ≡ old.edges ++ edge ∷ [] → TakesRow old (build_row said) (Ok tt) (record { edges = new; binding = Open false false })
+  build_passes {texts} row (t, is, same) pushed = (Build t, (BuildRow texts, ap build_row row, ap build_class is), rw (pushed, same) refl)
 
 -- paths, and then more paths or their fault
 abbrev pub behind : List (List ℕ) → Result (List (List ℕ)) PathFault → Result (List (List ℕ)) PathFault
@@ -125,62 +94,64 @@ paths_somehow (text ∷ texts) [] is some = absurd (no_path (path_of text) (path
 paths_somehow (text ∷ texts) (path ∷ paths) is some = λ h. (let x = h in cc)
 
 -- the paths of a build line, by those of its parts
-pub edge_answer : (t : EdgeTexts) (o i n m l : List (List ℕ)) → paths_of t.outputs ≡ Ok o → paths_of t.implicit_outputs ≡ Ok i → paths_of t.inputs ≡ Ok n
+pub edge_answer : (t : EdgeTexts) {o i n m l : List (List ℕ)} → paths_of t.outputs ≡ Ok o → paths_of t.implicit_outputs ≡ Ok i → paths_of t.inputs ≡ Ok n
     → paths_of t.implicit_inputs ≡ Ok m → paths_of t.order_only ≡ Ok l
     → edge_paths t ≡ Ok (record { rule = t.rule; outputs = o; implicit_outputs = i; inputs = n; implicit_inputs = m; order_only = l })
-edge_answer t o i n m l a b c d e = rw (a, b, c, d, e) refl
+edge_answer t a b c d e = rw (a, b, c, d, e) refl
 
 -- ---- what the reader returns, by the lines that it has read
 
--- the cause of a text is that of its line, if the line is not too long
-pub cause_of_text : (classes : List ListingClass) (line : List ℕ) (cause : LineCause) → length line ≤ line_limit →
-    IsTextCause classes (text_of_line line) (is_comment line) cause → IsLineCause classes line cause
-cause_of_text classes line causes.LineTooLong short is = absurd is
-cause_of_text classes line causes.Truncated short is = absurd is
-cause_of_text classes line (causes.Lexical fault) short is = (short, is)
-cause_of_text classes line causes.Form short is = (short, is)
-cause_of_text classes line (causes.BadPath fault) short is = (short, is)
+module _ (classes : List ListingClass) where
+  -- the cause of a text is that of its line, if the line is not too long
+  pub cause_of_text : (line : List ℕ) (cause : LineCause) → length line ≤ line_limit →
+      IsTextCause classes (text_of_line line) (is_comment line) cause → IsLineCause classes line cause
+  cause_of_text line causes.LineTooLong short is = absurd is
+  cause_of_text line causes.Truncated short is = absurd is
+  cause_of_text line (causes.Lexical fault) short is = (short, is)
+  cause_of_text line causes.Form short is = (short, is)
+  cause_of_text line (causes.BadPath fault) short is = (short, is)
 
--- lines that were read were run over
-ran : (classes : List ListingClass) (value : ListingValue) → LeadToEdges classes value → run Closed [] classes ≡ Some value
-ran classes value led = listing_is_run classes value led.0 led.1
+  -- lines that were read were run over
+  ran : (value : ListingValue) → LeadToEdges classes value → run Closed [] classes ≡ Some value
+  ran value led = listing_is_run value led.0 led.1
 
--- a line that is rejected is the first faulty one
-fault_of_line : (bytes : List ℕ) (lent : List LogicalLine) (number : ℕ) (rest : List ℕ) (value : ListingValue)
-    (read : AreReadTo listing_format LeadToEdges lent value) → BeginsWith bytes lent number rest
-    → (line after : List ℕ) (seen : LogicalLine) (f : LineFault) → rest ≡ line ++ after → IsLine line → length line ≤ line_limit
-    → seen ≡ record (logical_line [] line) { number = number } → f.line ≡ seen.number → text_cause value.binding seen.text seen.comment ≡ Some f.cause →
-    HasFaultyLine bytes f
-fault_of_line bytes lent number rest value read begins line after seen f split is short same at fault =
-    let begun = runs_begin read.classes value (ran read.classes value read.led) in
-    let faulty : text_cause value.binding (text_of_line line) (is_comment line) ≡ Some f.cause = cc in
-    let cause = cause_holds read.classes begun (text_of_line line) (is_comment line) f.cause
-    (subst (λ b. text_cause b (text_of_line line) (is_comment line) ≡ Some f.cause) read.led.1 faulty) in
-    let next = faulty_next listing_format listing_faults bytes lent number rest read.classes begins read.texts begun line after f.cause split is
-    (λ c of on. cause_stops read.classes begun (text_of_line line) (is_comment line) f.cause c cause of.1 on)
-    (cause_of_text read.classes line f.cause short cause) in
-    subst (λ n. HasFaultyLine bytes (record { line = n; cause = f.cause })) (sym (at ∙ ap (λ l. l.number) same)) next
+module _ (bytes : List ℕ) (lent : List LogicalLine) where
+  -- a line that is rejected is the first faulty one
+  fault_of_line : {number : ℕ} {rest : List ℕ} {value : ListingValue} (read : AreReadTo listing_format LeadToEdges lent value) → BeginsWith bytes lent number
+      rest
+      → (line after : List ℕ) {seen : LogicalLine} (f : LineFault) → rest ≡ line ++ after → IsLine line → length line ≤ line_limit
+      → seen ≡ record (logical_line [] line) { number = number } → f.line ≡ seen.number → text_cause value.binding seen.text seen.comment ≡ Some f.cause →
+      HasFaultyLine bytes f
+  fault_of_line {number} {rest} {value} read begins line after f split is short same at fault =
+      let begun = runs_begin read.classes (ran read.classes value read.led) in
+      let faulty : text_cause value.binding (text_of_line line) (is_comment line) ≡ Some f.cause = cc in
+      let cause = cause_holds read.classes begun (text_of_line line) (is_comment line)
+      (subst (λ b. text_cause b (text_of_line line) (is_comment line) ≡ Some f.cause) read.led.1 faulty) in
+      let next = faulty_next listing_format listing_faults bytes lent number rest read.classes begins read.texts begun line after f.cause split is
+      (λ c of on. cause_stops read.classes begun (text_of_line line) (is_comment line) f.cause cause of.1 on)
+      (cause_of_text read.classes line f.cause short cause) in
+      subst (λ n. HasFaultyLine bytes (record { line = n; cause = f.cause })) (sym (at ∙ ap (λ l. l.number) same)) next
 
--- the next line's fault is in the bytes
-fault_of_next : (bytes : List ℕ) (lent : List LogicalLine) (value : ListingValue) (f : LineFault) → AreReadTo listing_format LeadToEdges lent value
-    → IsNextFault RefusesLine fault_of_cutter bytes lent value f → IsListingFaultIn bytes f
-fault_of_next bytes lent value f read (number, rest, begins, inl t) =
-    subst (IsListingFaultIn bytes) (sym t.1)
-    (elim (faulty_at_limit listing_format listing_faults bytes lent number rest read.classes begins read.texts
-    (runs_begin read.classes value (ran read.classes value read.led)) causes.LineTooLong (λ line past. past) t.0.0 t.0) [
-      | inl line ↦ inl line
-      | inr end ↦ inr (end, refl)
-    ])
-fault_of_next bytes lent value f read (number, rest, begins, inr (line, after, split, is, short, seen, same, refused)) =
-    inl (fault_of_line bytes lent number rest value read begins line after seen f split is short same refused.0 refused.1)
+  -- the next line's fault is in the bytes
+  fault_of_next : (value : ListingValue) (f : LineFault) → AreReadTo listing_format LeadToEdges lent value
+      → IsNextFault RefusesLine fault_of_cutter bytes lent value f → IsListingFaultIn bytes f
+  fault_of_next value f read (number, rest, begins, inl t) =
+      subst (IsListingFaultIn bytes) (sym t.1)
+      (elim (faulty_at_limit listing_format listing_faults bytes lent number rest read.classes begins read.texts
+      (runs_begin read.classes (ran read.classes value read.led)) causes.LineTooLong (λ line past. past) t.0.0 t.0) [
+        | inl line ↦ inl line
+        | inr end ↦ inr (end, refl)
+      ])
+  fault_of_next value f read (number, rest, begins, inr (line, after, split, is, short, seen, same, refused)) =
+      inl (fault_of_line read begins line after f split is short same refused.0 refused.1)
 
 -- a line that passes has a class with which the listing continues
 steps_on : (classes : List ListingClass) (old new : ListingValue) (line : LogicalLine) → LeadToEdges classes old → PassesLine old line new
     → (c : ListingClass) × IsListingLine line.text line.comment c × LeadToEdges (classes ++ c ∷ []) new
 steps_on classes old new line led (c, is, steps) =
-    let on : run Closed [] (classes ++ c ∷ []) ≡ Some new =
-    run_more classes (c ∷ []) Closed [] old (ran classes old led) ∙ ap (option_and_then (λ (s : ListingValue). run s.binding s.edges [])) steps in
-    (c, class_holds line.text line.comment c is, (run_is_listing (classes ++ c ∷ []) new on, binding_runs (classes ++ c ∷ []) Closed [] new on))
+    let on =
+    run_more classes (c ∷ []) Closed [] (ran classes old led) ∙ ap (option_and_then (λ (s : ListingValue). run s.binding s.edges [])) steps in
+    (c, class_holds line.text line.comment c is, (run_is_listing (classes ++ c ∷ []) on, binding_runs (classes ++ c ∷ []) Closed [] on))
 
 -- what reading a piece returns and leaves
 pub fed : (bytes all : List ℕ) (old : ListingReaderState) (result : Result Unit (Failure LineFault)) (new : ListingReaderState) → HasReadListing bytes old
@@ -195,110 +166,115 @@ pub fails : (all : List ℕ) (failure : Failure LineFault) (new : ListingReaderS
 fails all (Fault fault) new is = is
 fails all Memory new is = is.0
 
--- what the edges are that all lines led to
-pub listed : (bytes : List ℕ) (r : ListingReaderState) (end : ListingValue × ℕ) → HasReadListing bytes r
-    → ((lent : List LogicalLine) → HasLentAll bytes lent r → EndsLines {S = ListingValue} {F = LineFault} fault_of_cutter bytes lent r.state (Ok end)) →
-    Lists bytes end.0.edges
-listed bytes r end has ends =
-    let e = ends has.lent has.has in
-    all_lent listing_format bytes has.lent end.1 has.read.classes end.0.edges e.1 has.read.texts (subst (LeadToEdges has.read.classes) (sym e.0) has.read.led).0
+module _ (bytes : List ℕ) (r : ListingReaderState) where
+  -- what the edges are that all lines led to
+  pub listed : (end : ListingValue × ℕ) → HasReadListing bytes r
+      → ((lent : List LogicalLine) → HasLentAll bytes lent r → EndsLines {S = ListingValue} {F = LineFault} fault_of_cutter bytes lent r.state (Ok end)) →
+      Lists bytes end.0.edges
+  listed end has ends =
+      let e = ends has.lent has.has in
+      all_lent listing_format bytes has.lent end.1 has.read.classes end.0.edges e.1 has.read.texts
+      (subst (LeadToEdges has.read.classes) (sym e.0) has.read.led).0
 
--- which fault the end of all bytes has
-pub ended : (bytes : List ℕ) (r : ListingReaderState) (failure : Failure LineFault) → HasReadListing bytes r
-    → ((lent : List LogicalLine) → HasLentAll bytes lent r → EndsLines {S = ListingValue} {F = LineFault} fault_of_cutter bytes lent r.state (Err failure)) →
-    EndsListing bytes (Err (line_failure failure))
-ended bytes r (Fault f) has ends =
-    let e = ends has.lent has.has in
-    subst (HasFaultyEnd bytes) (sym e.4)
-    (faulty_rest listing_format listing_faults bytes has.lent e.0 e.1 has.read.classes e.2 has.read.texts
-    (runs_begin has.read.classes r.state (ran has.read.classes r.state has.read.led)) causes.Truncated e.3.2 (e.3.0, e.3.1))
-ended bytes r Memory has ends = absurd (ends has.lent has.has)
+  -- which fault the end of all bytes has
+  pub ended : (failure : Failure LineFault) → HasReadListing bytes r
+      → ((lent : List LogicalLine) → HasLentAll bytes lent r → EndsLines {S = ListingValue} {F = LineFault} fault_of_cutter bytes lent r.state (Err failure)) →
+      EndsListing bytes (Err (line_failure failure))
+  ended (Fault f) has ends =
+      let e = ends has.lent has.has in
+      subst (HasFaultyEnd bytes) (sym e.4)
+      (faulty_rest listing_format listing_faults bytes has.lent e.0 e.1 has.read.classes e.2 has.read.texts
+      (runs_begin has.read.classes (ran has.read.classes r.state has.read.led)) causes.Truncated e.3.2 (e.3.0, e.3.1))
+  ended Memory has ends = absurd (ends has.lent has.has)
 
 -- why edges are not a graph, as a failure of the listing
 abbrev pub graph_failure : Failure GraphFault → Failure ListFault
 graph_failure Memory = Memory
 graph_failure (Fault fault) = Fault (NoGraph fault)
 
--- why the edges listed are not a graph
-pub no_graph : (bytes : List ℕ) (edges : List EdgeValue) (failure : Failure GraphFault) → Lists bytes edges → ForFault (IsGraphFault edges) failure →
-    EndsListing bytes (Err (graph_failure failure))
-no_graph bytes edges (Fault fault) lists is = (edges, lists, is)
-no_graph bytes edges Memory lists is = tt
+module _ (bytes : List ℕ) where
+  -- why the edges listed are not a graph
+  pub no_graph : {edges : List EdgeValue} (failure : Failure GraphFault) → Lists bytes edges → ForFault (IsGraphFault edges) failure →
+      EndsListing bytes (Err (graph_failure failure))
+  no_graph {edges} (Fault fault) lists is = (edges, lists, is)
+  no_graph Memory lists is = tt
 
--- the fault of a whole text, by what reading it or its end returned
-pub stopped : (bytes : List ℕ) (failure : Failure ListFault) (new : ListingReaderState) → FeedsListing bytes (Err failure) new →
-    ForFault (IsListingFault bytes) failure
-stopped bytes Memory new h = tt
-stopped bytes (Fault (AtLine fault)) new h = elim h.1 [ inl line ↦ inl line | inr end ↦ inr end.0 ]
-stopped bytes (Fault (NoGraph fault)) new h = absurd h
+  -- the fault of a whole text, by what reading it or its end returned
+  pub stopped : (failure : Failure ListFault) (new : ListingReaderState) → FeedsListing bytes (Err failure) new →
+      ForFault (IsListingFault bytes) failure
+  stopped Memory new h = tt
+  stopped (Fault (AtLine fault)) new h = elim h.1 [ inl line ↦ inl line | inr end ↦ inr end.0 ]
+  stopped (Fault (NoGraph fault)) new h = absurd h
 
-pub whole_read : (bytes : List ℕ) (result : Result (List EdgeValue) (Failure ListFault)) → EndsListing bytes result
-    → IfOk result (Lists bytes) × IfErr result (ForFault (IsListingFault bytes))
-whole_read bytes (Ok edges) h = (h, tt)
-whole_read bytes (Err Memory) h = (tt, tt)
-whole_read bytes (Err (Fault (AtLine fault))) h = (tt, inr h)
-whole_read bytes (Err (Fault (NoGraph fault))) h = (tt, h)
+  pub whole_read : (result : Result (List EdgeValue) (Failure ListFault)) → EndsListing bytes result
+      → IfOk result (Lists bytes) × IfErr result (ForFault (IsListingFault bytes))
+  whole_read (Ok edges) h = (h, tt)
+  whole_read (Err Memory) h = (tt, tt)
+  whole_read (Err (Fault (AtLine fault))) h = (tt, inr h)
+  whole_read (Err (Fault (NoGraph fault))) h = (tt, h)
 
 -- the failure of a call as a fault of the listing
 pub turned_to : {F : Type 0} (turn : F → ListFault) (all : Failure F → Failure ListFault) → all Memory ≡ Memory →
     ((fault : F) → all (Fault fault) ≡ Fault (turn fault))
-    → (failure : Failure F) (result : Failure ListFault) → Turns (λ fault turned. turned ≡ turn fault) failure result → result ≡ all failure
-turned_to turn all memory faults Memory result is = is ∙ sym memory
-turned_to turn all memory faults (Fault fault) result is = is.2 ∙ ap (λ f. Fault f) is.1 ∙ sym (faults fault)
+    → (failure : Failure F) {result : Failure ListFault} → Turns (λ fault turned. turned ≡ turn fault) failure result → result ≡ all failure
+turned_to turn all memory faults Memory is = is ∙ sym memory
+turned_to turn all memory faults (Fault fault) is = is.2 ∙ ap (λ f. Fault f) is.1 ∙ sym (faults fault)
 
 -- ---- the laws: a line has a class with which a listing continues, or a cause
 
--- the cause of a line, by whether it is longer than the limit
-cause_parts : (classes : List ListingClass) (line : List ℕ) (cause : LineCause) → IsLineCause classes line cause
-    → ((cause ≡ LineTooLong) × (line_limit < length line)) ⊎ ((length line ≤ line_limit) × IsTextCause classes (text_of_line line) (is_comment line) cause)
-cause_parts classes line LineTooLong is = inl (refl, is)
-cause_parts classes line Truncated is = inr is
-cause_parts classes line (Lexical fault) is = inr is
-cause_parts classes line Form is = inr is
-cause_parts classes line (BadPath fault) is = inr is
+module _ (classes : List ListingClass) (line : List ℕ) where
+  -- the cause of a line, by whether it is longer than the limit
+  cause_parts : (cause : LineCause) → IsLineCause classes line cause
+      → ((cause ≡ LineTooLong) × (line_limit < length line)) ⊎ ((length line ≤ line_limit) × IsTextCause classes (text_of_line line) (is_comment line) cause)
+  cause_parts LineTooLong is = inl (refl, is)
+  cause_parts Truncated is = inr is
+  cause_parts (Lexical fault) is = inr is
+  cause_parts Form is = inr is
+  cause_parts (BadPath fault) is = inr is
 
--- the law: a class or a cause
-pub line_or_cause : (classes : List ListingClass) (line : List ℕ) → BeginsListing classes
-    → ((c : ListingClass) × IsOfClass listing_format line c × BeginsListing (classes ++ c ∷ [])) ⊎ ((cause : LineCause) × IsLineCause classes line cause)
-line_or_cause classes line begun = elim (cases_Bool (nat_lt line_limit (length line))) [
-  | inl long ↦ inr (LineTooLong, ltb-true line_limit (length line) long)
-  | inr short ↦
-      let keeps = ltb-false line_limit (length line) short in
-      elim (line_cases classes begun (text_of_line line) (is_comment line)) [
-        | goes_on c is on none ↦ inl (c, (keeps, is), on)
-        | stops_by cause is found ↦ inr (cause, cause_of_text classes line cause keeps is)
+  -- the law: a class or a cause
+  pub line_or_cause : BeginsListing classes
+      → ((c : ListingClass) × IsOfClass listing_format line c × BeginsListing (classes ++ c ∷ [])) ⊎ ((cause : LineCause) × IsLineCause classes line cause)
+  line_or_cause begun = elim (cases_Bool (nat_lt line_limit (length line))) [
+    | inl long ↦ inr (LineTooLong, ltb-true line_limit (length line) long)
+    | inr short ↦
+        let keeps = ltb-false line_limit (length line) short in
+        elim (line_cases classes begun (text_of_line line) (is_comment line)) [
+          | goes_on c is on none ↦ inl (c, (keeps, is), on)
+          | stops_by cause is found ↦ inr (cause, cause_of_text classes line cause keeps is)
+        ]
+  ]
+
+  module _ (cause : LineCause) where
+    -- the law: not both
+    pub cause_is_faulty : BeginsListing classes → IsLineCause classes line cause →
+        IsFaultyAfter listing_format classes line
+    cause_is_faulty begun is = elim (cause_parts cause is) [
+      | inl long ↦ λ c of on. omega arith
+      | inr h ↦ λ c of on. cause_stops classes begun (text_of_line line) (is_comment line) cause h.1 of.1 on
+    ]
+
+    -- the law: at most one cause
+    pub one_cause : (other : LineCause) → IsLineCause classes line cause → IsLineCause classes line other →
+        other ≡ cause
+    one_cause other a b = elim (cause_parts cause a) [
+      | inl x ↦ elim (cause_parts other b) [
+        | inl y ↦ y.0 ∙ sym x.0
+        | inr y ↦ absurd (omega arith)
       ]
-]
+      | inr x ↦ elim (cause_parts other b) [
+        | inl y ↦ absurd (omega arith)
+        | inr y ↦ one_text_cause classes (text_of_line line) (is_comment line) cause other x.1 y.1
+      ]
+    ]
 
--- the law: not both
-pub cause_is_faulty : (classes : List ListingClass) (line : List ℕ) (cause : LineCause) → BeginsListing classes → IsLineCause classes line cause →
-    IsFaultyAfter listing_format classes line
-cause_is_faulty classes line cause begun is = elim (cause_parts classes line cause is) [
-  | inl long ↦ λ c of on. omega arith
-  | inr h ↦ λ c of on. cause_stops classes begun (text_of_line line) (is_comment line) cause c h.1 of.1 on
-]
-
--- the law: at most one cause
-pub one_cause : (classes : List ListingClass) (line : List ℕ) (cause other : LineCause) → IsLineCause classes line cause → IsLineCause classes line other →
-    other ≡ cause
-one_cause classes line cause other a b = elim (cause_parts classes line cause a) [
-  | inl x ↦ elim (cause_parts classes line other b) [
-    | inl y ↦ y.0 ∙ sym x.0
-    | inr y ↦ absurd (omega arith)
-  ]
-  | inr x ↦ elim (cause_parts classes line other b) [
-    | inl y ↦ absurd (omega arith)
-    | inr y ↦ one_text_cause classes (text_of_line line) (is_comment line) cause other x.1 y.1
-  ]
-]
-
--- the law: the only cause that a line with a class can have is its form
-pub line_has_form : (classes : List ListingClass) (line : List ℕ) (cause : LineCause) (c : ListingClass) → IsLineCause classes line cause →
-    IsOfClass listing_format line c → cause ≡ Form
-line_has_form classes line cause c is of = elim (cause_parts classes line cause is) [
-  | inl x ↦ absurd (omega arith)
-  | inr x ↦ class_has_form classes (text_of_line line) (is_comment line) cause c x.1 of.1
-]
+    -- the law: the only cause that a line with a class can have is its form
+    pub line_has_form : (c : ListingClass) → IsLineCause classes line cause →
+        IsOfClass listing_format line c → cause ≡ Form
+    line_has_form c is of = elim (cause_parts cause is) [
+      | inl x ↦ absurd (omega arith)
+      | inr x ↦ class_has_form classes (text_of_line line) (is_comment line) cause c x.1 of.1
+    ]
 
 -- ---- an end
 
@@ -321,7 +297,7 @@ one_end_cause rest other y a b = absurd a
 -- lines with which some listing begins are a whole one, or the bytes after them have a cause
 end_decided : (classes : List ListingClass) (rest : List ℕ) → BeginsListing classes →
     ((rest ≡ []) × (es : List EdgeValue) × IsListing classes es) ⊎ ((cause : LineCause) × IsEndCause rest cause)
-end_decided classes [] begun = let ran = begins_runs classes begun in inl (refl, ran.0.edges, run_is_listing classes ran.0 ran.1)
+end_decided classes [] begun = let ran = begins_runs classes begun in inl (refl, ran.0.edges, run_is_listing classes ran.1)
 end_decided classes (b ∷ rest) begun = elim (cases_lt (length (b ∷ rest)) line_limit) [
   | inl lt ↦ inr (Truncated, (omega arith, lt))
   | inr le ↦ inr (LineTooLong, le)
@@ -349,18 +325,19 @@ decided = record {
   one_end_fault = λ classes rest cause other a b. one_end_cause rest other cause b a;
 }
 
--- the law: at most one list of edges
-pub one_list : (bytes : List ℕ) (es fs : List EdgeValue) → Lists bytes es → Lists bytes fs → fs ≡ es
-one_list bytes es fs a b = lines.one_value listing_format listing_faults decided bytes fs es b a
+module _ (bytes : List ℕ) where
+  -- the law: at most one list of edges
+  pub one_list : (es fs : List EdgeValue) → Lists bytes es → Lists bytes fs → fs ≡ es
+  one_list es fs a b = lines.one_value listing_format listing_faults decided bytes fs es b a
 
--- the law: not both
-pub not_both : (bytes : List ℕ) (es : List EdgeValue) (found : LineFault) → Lists bytes es → HasListingFault bytes found → ⊥
-not_both bytes es found a f = lines.not_both listing_format listing_faults decided bytes es found.line found.cause a f
+  -- the law: not both
+  pub not_both : (es : List EdgeValue) (found : LineFault) → Lists bytes es → HasListingFault bytes found → ⊥
+  not_both es found a f = lines.not_both listing_format listing_faults decided bytes es found.line found.cause a f
 
--- the law: edges or a fault
-pub listing_or_fault : (bytes : List ℕ) → ((edges : List EdgeValue) × Lists bytes edges) ⊎ ((fault : LineFault) × HasListingFault bytes fault)
-listing_or_fault bytes = elim (lines.value_or_fault listing_format listing_faults decided bytes)
-    [ inl all ↦ inl all | inr stop ↦ inr (record { line = stop.0; cause = stop.1 }, stop.2) ]
+  -- the law: edges or a fault
+  pub listing_or_fault : ((edges : List EdgeValue) × Lists bytes edges) ⊎ ((fault : LineFault) × HasListingFault bytes fault)
+  listing_or_fault = elim (lines.value_or_fault listing_format listing_faults decided bytes)
+      [ inl all ↦ inl all | inr stop ↦ inr (record { line = stop.0; cause = stop.1 }, stop.2) ]
 
 -- equal lines with equal causes are one fault
 fault_same : {l m : ℕ} {x y : LineCause} → l ≡ m → x ≡ y → ◌≡◌ {A = LineFault} (record { line = l; cause = x }) (record { line = m; cause = y })

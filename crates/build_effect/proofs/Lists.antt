@@ -1,17 +1,8 @@
 -- Lists: equality, parts, and the first element that an earlier one repeats.
 use Rattle.std.proofs.Common.{◌≡◌, ◌≢◌, ◌⊎◌, ℕ, List, [], ◌∷◌, Option, Some, None, refl, inl, inr, ap, arith, zero, suc, ◌<◌, ◌+◌, length, map, Result, Ok, subst, sym, slice_get}
-use Rattle.ninja_text.specs.Failure.{ForFault, Turns}
-use Rattle.ninja_text.specs.declared.failure.Failure.{Failure}
-use Rattle.ninja_text.specs.declared.failure.Failure.TheVariants.{Memory, Fault}
-use Rattle.std.specs.Prelude.{All}
-use Rattle.std.specs.List.{flat_map}
 use Rattle.std.proofs.lemmas.Option.{slice_get_within, get_or_from_slice_get}
-use Rattle.ninja_text.specs.Firsts.{AllDiffer, IsFirstAt}
+use Rattle.build_effect.specs.Prelude.{All, flat_map, Turns, ForFault, IsFirstAt, AllDiffer, Failure, Fault, Memory, EdgeValue, made_files, StandsBefore, made_by, MadeOnce, IsMadeTwice, NoneMadeTwice}
 use Rattle.ninja_text.proofs.ForCallers.{same_some, in_first, in_second, three_ways, offset, InPart, in_flat_map}
-use Rattle.build_effect.specs.EdgeValue.{EdgeValue}
-use Rattle.build_effect.specs.Faults.{StandsBefore, made_files}
-use Rattle.build_effect.specs.inner.Makers.{IsMadeTwice, NoneMadeTwice}
-use Rattle.build_effect.specs.Graphs.{made_by, MadeOnce}
 
 -- ---- results that are equal, and those that are not
 
@@ -100,13 +91,13 @@ one_part f (x ∷ xs) all zero j zero l y p q =
       | inr rest ↦ elim rest [ inl same ↦ (refl, same) | inr more ↦ absurd (all.differ l j y more there here) ]
     ]
 one_part f (x ∷ xs) all zero j (suc k) l y p q =
-    let here : slice_get (f x) j ≡ Some y = subst (λ w. slice_get (f w) j ≡ Some y) (sym (from_some p.1)) p.2 in
+    let here = subst (λ w. slice_get (f w) j ≡ Some y) (sym (from_some p.1)) p.2 in
     let m = offset f xs k + l in
     let within : j < length (f x) = slice_get_within _ _ _ here in
     absurd (all.differ j (length (f x) + m) y (omega arith) (in_first (f x) (flat_map f xs) j y here)
     (in_second (f x) (flat_map f xs) m y (in_flat_map f xs k l y (q.0, q.1, q.2))))
 one_part f (x ∷ xs) all (suc i) j zero l y p q =
-    let there : slice_get (f x) l ≡ Some y = subst (λ w. slice_get (f w) l ≡ Some y) (sym (from_some q.1)) q.2 in
+    let there = subst (λ w. slice_get (f w) l ≡ Some y) (sym (from_some q.1)) q.2 in
     let m = offset f xs i + j in
     let within : l < length (f x) = slice_get_within _ _ _ there in
     absurd (all.differ l (length (f x) + m) y (omega arith) (in_first (f x) (flat_map f xs) l y there)

@@ -1,22 +1,12 @@
 -- Tables of the edges that make files, and the order of edges that they give.
 use Rattle.std.proofs.Common.{◌≡◌, ℕ, zero, suc, ◌+◌, Bool, true, false, List, [], ◌∷◌, ◌++◌, length, map, take, drop, Option, Some, None, refl, ap, ap₂, subst, sym, ◌∙◌, inl, inr, arith, slice_get, bytes_eq, cond, ◌<◌, get_or, Contains, ⊎_elim, append_assoc}
+use Rattle.build_effect.specs.Prelude.{filter_map, flat_map, bytes_decides, AllZip, Global, Rc, NodeNeeds, NeedsAreNodes, IsSortingOf, Sorting, IsFirstAt, EdgeValue, made_by, inputs_of, MakesAt, MadeOnce, EdgeNeeds, Made, files_of, Table, tables_of, entries_of, maker_in, IsMadeTwice, AreMade, numbered}
 use Rattle.build_effect.proofs.Lists.{from_some}
-use Rattle.std.specs.List.{AllZip, filter_map, flat_map}
-use Rattle.std.specs.declared.alloc.Global.{Global}
-use Rattle.std.specs.declared.rc.Rc.{Rc}
-use Rattle.std.specs.Cmp.Lexicographic.{bytes_decides}
 use Rattle.std.proofs.lemmas.List.{map-append, length-map, get_or_past, append-nil, length-take-le, take-append-drop}
 use Rattle.std.proofs.lemmas.List.Concat.{flat_map-append}
-use Rattle.build_effect.specs.EdgeValue.{EdgeValue}
-use Rattle.build_effect.specs.Graphs.{made_by, MakesAt, inputs_of, MadeOnce, EdgeNeeds}
-use Rattle.build_effect.specs.inner.Makers.{Made, Table, files_of, tables_of, entries_of, maker_in, IsMadeTwice, AreMade, numbered}
-use Rattle.ninja_text.specs.Firsts.{IsFirstAt}
 use Rattle.ninja_text.proofs.ForCallers.{in_append, in_first, in_second, from_take, in_take, take_next, from_map, to_map, from_filter_map, in_filter_map, three_ways}
 use Rattle.std.proofs.lemmas.Option.{slice_get_within, slice_get-get_or, get_or_from_slice_get}
 use Rattle.std.proofs.lemmas.Bool.{cases_lt}
-use Rattle.dep_order.specs.Needs.{NodeNeeds, NeedsAreNodes}
-use Rattle.dep_order.specs.Sortings.{IsSortingOf}
-use Rattle.dep_order.specs.declared.Sorting.{Sorting}
 use Rattle.dep_order.proofs.ForCallers.{sorting_same}
 
 -- ---- the edge that a list has for a file
@@ -43,14 +33,14 @@ has_maker ((f, n) ∷ made) (suc k) file edge at = by (bytes_eq file f) (has_mak
     by false rest = rest
 
 -- the first of two lists is searched first
-first_of : (b : Bool) (edge m : ℕ) (old both : Option ℕ) → cond b (Some m) old ≡ Some edge → (old ≡ Some edge → both ≡ Some edge) →
+first_of : (b : Bool) {edge : ℕ} (m : ℕ) (old both : Option ℕ) → cond b (Some m) old ≡ Some edge → (old ≡ Some edge → both ≡ Some edge) →
     cond b (Some m) both ≡ Some edge
-first_of true edge m old both is rest = is
-first_of false edge m old both is rest = rest is
+first_of true m old both is rest = is
+first_of false m old both is rest = rest is
 
 pub in_one : (xs ys : Made) (file : List ℕ) (edge : ℕ) → maker_in xs file ≡ Some edge → maker_in (xs ++ ys) file ≡ Some edge
 in_one [] ys file edge e = cc
-in_one (x ∷ xs) ys file edge e = first_of (bytes_eq file x.0) edge x.1 (maker_in xs file) (maker_in (xs ++ ys) file) e (in_one xs ys file edge)
+in_one (x ∷ xs) ys file edge e = first_of (bytes_eq file x.0) x.1 (maker_in xs file) (maker_in (xs ++ ys) file) e (in_one xs ys file edge)
 
 rest_of : (b : Bool) (m : ℕ) (old both other : Option ℕ) → cond b (Some m) old ≡ None → (old ≡ None → both ≡ other) → cond b (Some m) both ≡ other
 rest_of true m old both other is rest = cc
@@ -85,9 +75,9 @@ module _ (shared : List (Rc Table Global)) (i : ℕ) (table : Rc Table Global) (
   pub not_yet : maker_in table.value.entries file ≡ None → maker_in (entries_of (tables_of (take (i + 1) shared))) file ≡ None
   not_yet none = one_more ∙ none
 
-  pub found_here : (edge : ℕ) → maker_in table.value.entries file ≡ Some edge → maker_in (entries_of (tables_of shared)) file ≡ Some edge
-  found_here edge is =
-      let parts : entries_of (tables_of shared) ≡ entries_of (tables_of (take (i + 1) shared)) ++ entries_of (tables_of (drop (i + 1) shared)) =
+  pub found_here : {edge : ℕ} → maker_in table.value.entries file ≡ Some edge → maker_in (entries_of (tables_of shared)) file ≡ Some edge
+  found_here {edge} is =
+      let parts =
       ap (λ ts. entries_of (tables_of ts)) (sym (take-append-drop (i + 1) shared)) ∙
       ap entries_of (map-append (λ t. t.value) (take (i + 1) shared) (drop (i + 1) shared))
       ∙ flat_map-append (λ t. t.entries) (tables_of (take (i + 1) shared)) (tables_of (drop (i + 1) shared)) in
@@ -103,11 +93,11 @@ module _ (made new : Made) (i : ℕ) (file : List ℕ) (edge : ℕ) (at : slice_
   here : slice_get (files_of new) i ≡ Some file
   here = to_map (λ m. m.0) new i (file, edge) at
 
-  pub made_twice : (n : ℕ) → maker_in made file ≡ Some n → IsFirstAt (IsMadeTwice made (files_of new)) (files_of new) i file
-  made_twice n is = let there = in_list made file n is in record { here = here; holds = inl (there.0, n, there.1); before = λ k f lt. before k f lt }
+  pub made_twice : {n : ℕ} → maker_in made file ≡ Some n → IsFirstAt (IsMadeTwice made (files_of new)) (files_of new) i file
+  made_twice {n} is = let there = in_list made file n is in record { here = here; holds = inl (there.0, n, there.1); before = λ k f lt. before k f lt }
 
-  pub comes_twice : (n : ℕ) → maker_in (take i new) file ≡ Some n → IsFirstAt (IsMadeTwice made (files_of new)) (files_of new) i file
-  comes_twice n is =
+  pub comes_twice : {n : ℕ} → maker_in (take i new) file ≡ Some n → IsFirstAt (IsMadeTwice made (files_of new)) (files_of new) i file
+  comes_twice {n} is =
       let there = in_list (take i new) file n is in
       let first = from_take i new there.0 (file, n) there.1 in
       record { here = here; holds = inr (there.0, first.0, to_map (λ m. m.0) new there.0 (file, n) first.1); before = λ k f lt. before k f lt }
@@ -142,9 +132,9 @@ module _ {X : Type 0} (files : X → List (List ℕ)) where
       ∙ sym (append_assoc (map (λ file. (file, edge_at 0)) (files y)) (numbered files (λ k. edge_at (suc k)) xs)
       (map (λ file. (file, edge_at (suc (length xs)))) (files x)))
 
-  pub numbered_next : (edge_at : ℕ → ℕ) (xs : List X) (i : ℕ) (x : X) → slice_get xs i ≡ Some x →
+  pub numbered_next : (edge_at : ℕ → ℕ) (xs : List X) (i : ℕ) {x : X} → slice_get xs i ≡ Some x →
       numbered files edge_at (take (i + 1) xs) ≡ numbered files edge_at (take i xs) ++ map (λ file. (file, edge_at i)) (files x)
-  numbered_next edge_at xs i x at =
+  numbered_next edge_at xs i {x} at =
       let within = slice_get_within xs i x at in
       ap (numbered files edge_at) (take_next xs i x at) ∙ numbered_push edge_at (take i xs) x
       ∙ ap (λ n. numbered files edge_at (take i xs) ++ map (λ file. (file, edge_at n)) (files x)) (length-take-le i xs (omega arith))
@@ -168,14 +158,14 @@ module _ {X : Type 0} (files : X → List (List ℕ)) where
         | inr h ↦ let r = from_numbered (λ n. edge_at (suc n)) xs h.0 file edge h.2 in (suc r.0, r.1, r.2, r.3, r.4, r.5)
       ]
 
-  pub in_numbered : (edge_at : ℕ → ℕ) (xs : List X) (i j : ℕ) (x : X) (file : List ℕ) → slice_get xs i ≡ Some x → slice_get (files x) j ≡ Some file →
+  pub in_numbered : (edge_at : ℕ → ℕ) (xs : List X) (i j : ℕ) {x : X} {file : List ℕ} → slice_get xs i ≡ Some x → slice_get (files x) j ≡ Some file →
       (k : ℕ) × (slice_get (numbered files edge_at xs) k ≡ Some (file, edge_at i))
-  in_numbered edge_at [] i j x file at_i at_j = cc
-  in_numbered edge_at (y ∷ xs) zero j x file at_i at_j =
+  in_numbered edge_at [] i j at_i at_j = cc
+  in_numbered edge_at (y ∷ xs) zero j {file} at_i at_j =
       let at = to_map (λ file. (file, edge_at 0)) (files y) j file (ap (λ z. slice_get (files z) j) (from_some at_i) ∙ at_j) in
       (j, in_first _ (numbered files (λ n. edge_at (suc n)) xs) j (file, edge_at 0) at)
-  in_numbered edge_at (y ∷ xs) (suc i) j x file at_i at_j =
-      let r = in_numbered (λ n. edge_at (suc n)) xs i j x file at_i at_j in (
+  in_numbered edge_at (y ∷ xs) (suc i) j {x} {file} at_i at_j =
+      let r = in_numbered (λ n. edge_at (suc n)) xs i j at_i at_j in (
         length (map (λ file. (file, edge_at 0)) (files y)) + r.0,
         in_second (map (λ file. (file, edge_at 0)) (files y)) (numbered files (λ n. edge_at (suc n)) xs) r.0 _ r.1,
       )
@@ -188,7 +178,7 @@ are_made g = record { found = found; all = all }
     found k file i at = let r = from_numbered made_by (λ index. index) g k file i at in (r.2, (r.1, ap (slice_get g) (sym r.4) ∙ r.3, r.5))
 
     all : (i j : ℕ) (file : List ℕ) → MakesAt g i j file → (k : ℕ) × (slice_get (numbered made_by (λ index. index) g) k ≡ Some (file, i))
-    all i j file (e, at, makes) = in_numbered made_by (λ index. index) g i j e file at makes
+    all i j file (e, at, makes) = in_numbered made_by (λ index. index) g i j at makes
 
 -- ---- which edge makes a file
 
@@ -197,8 +187,8 @@ pub record AreMakers (g : List EdgeValue) (maker : List ℕ → Option ℕ) : Ty
   pub found : (file : List ℕ) (i : ℕ) → maker file ≡ Some i → (j : ℕ) × MakesAt g i j file
   pub made : (i j : ℕ) (file : List ℕ) → MakesAt g i j file → (k : ℕ) × (maker file ≡ Some k)
 
-pub are_makers : (g : List EdgeValue) (made : Made) → AreMade g made → AreMakers g (maker_in made)
-are_makers g made are =
+pub are_makers : {g : List EdgeValue} {made : Made} → AreMade g made → AreMakers g (maker_in made)
+are_makers {g} {made} are =
     record {
       found = λ file i is. let k = in_list made file i is in are.found k.0 file i k.1;
       made = λ i j file makes. let k = are.all i j file makes in has_maker made k.0 file i k.1;
@@ -207,9 +197,9 @@ are_makers g made are =
 -- ---- an edge needs another if and only if its row of makers contains it
 
 -- one more row in a loop
-pub mapped_next : {A X Y : Type 0} (g : A → Y) (f : X → Y) (xs : List X) (i : ℕ) (x : X) (now new : List A) (a : A) → slice_get xs i ≡ Some x →
+pub mapped_next : {A X Y : Type 0} (g : A → Y) (f : X → Y) (xs : List X) (i : ℕ) {x : X} (now new : List A) {a : A} → slice_get xs i ≡ Some x →
     map g now ≡ map f (take i xs) → new ≡ now ++ a ∷ [] → g a ≡ f x → map g new ≡ map f (take (i + 1) xs)
-mapped_next g f xs i x now new a at before more same =
+mapped_next g f xs i {x} now new {a} at before more same =
     ap (map g) more ∙ map-append g now (a ∷ []) ∙ ap (λ ys. ys ++ g a ∷ []) before
     ∙ ap (λ y. map f (take i xs) ++ y ∷ []) same ∙ sym (ap (map f) (take_next xs i x at) ∙ map-append f (take i xs) (x ∷ []))
 
@@ -252,9 +242,9 @@ module _ (g : List EdgeValue) (maker : List ℕ → Option ℕ) (once : MadeOnce
       let need = to_needs k needed inside in
       omega (arith, slice_get_within g needed need.5.0 need.5.1, as_many)
 
-  pub sorting_of : (rows : List (List ℕ)) (sorting : Sorting) → rows ≡ graph → IsSortingOf (length rows) (NodeNeeds rows) sorting →
+  pub sorting_of : {rows : List (List ℕ)} (sorting : Sorting) → rows ≡ graph → IsSortingOf (length rows) (NodeNeeds rows) sorting →
       IsSortingOf (length g) (EdgeNeeds g) sorting
-  sorting_of rows sorting same sorted =
+  sorting_of sorting same sorted =
       subst (λ n. IsSortingOf n (EdgeNeeds g) sorting) as_many
       (sorting_same (length graph) (NodeNeeds graph) (EdgeNeeds g) sorting to_needs from_needs
       (subst (λ xs. IsSortingOf (length xs) (NodeNeeds xs) sorting) same sorted))

@@ -2,15 +2,7 @@
 use Rattle.std.proofs.Common.{◌≡◌, ℕ, zero, suc, ◌+◌, ◌<◌, List, [], ◌∷◌, ◌++◌, length, map, take, Some, Result, Ok, refl, ap, sym, subst, ◌∙◌, inl, inr, arith, slice_get, length-append, get_or, drop, drop_at, Bool}
 use Rattle.std.proofs.lemmas.List.{map-append, length-map, drop-map}
 use Rattle.std.proofs.lemmas.Option.{slice_get_within}
-use Rattle.ninja_text.specs.Paths.{path_of}
-use Rattle.ninja_text.specs.declared.fault.PathFault.{PathFault}
-use Rattle.dyndep_file.specs.StatementValue.{StatementValue}
-use Rattle.build_effect.specs.Effect.{ArePaths, IsCanonical, AreCanonical}
-use Rattle.std.specs.Prelude.{slice_range}
-use Rattle.build_effect.specs.Faults.{path_texts, IsNoPath, HasRefused}
-use Rattle.build_effect.specs.inner.Added.{addition_of}
-use Rattle.build_effect.specs.inner.BadPaths.{IsBadText, IsBadTextFrom, IsBadTextOf, IsBadStatement}
-use Rattle.build_effect.specs.declared.fault.EffectFault.{EffectFault}
+use Rattle.build_effect.specs.Prelude.{slice_range, path_of, PathFault, StatementValue, ArePaths, IsCanonical, AreCanonical, path_texts, IsNoPath, HasRefused, addition_of, IsBadText, IsBadTextFrom, IsBadTextOf, IsBadStatement, EffectFault}
 use Rattle.ninja_text.proofs.ForCallers.{from_push, in_take, take_next}
 use Rattle.build_effect.proofs.Effects.{path_at, all_paths}
 use Rattle.build_effect.proofs.StringTexts.{between, range_map}
@@ -24,27 +16,28 @@ NoneRefused texts = (j : ℕ) (text : List ℕ) → slice_get texts j ≡ Some t
 pub none_refused : (texts paths : List (List ℕ)) → ArePaths texts paths → NoneRefused texts
 none_refused texts paths are j text at refused = let p = path_at texts paths j text are at in not_both text p.0 p.1 refused
 
--- one more path in a loop
-pub more_paths : (texts paths : List (List ℕ)) (i : ℕ) (text path : List ℕ) → slice_get texts i ≡ Some text → ArePaths (take i texts) paths →
-    path_of text ≡ Ok path → ArePaths (take (i + 1) texts) (paths ++ path ∷ [])
-more_paths texts paths i text path at are ok =
-    ap (map path_of) (take_next texts i text at) ∙ map-append path_of (take i texts) (text ∷ []) ∙ ap (λ xs. xs ++ path_of text ∷ []) are ∙
-    ap (λ x. map (λ p. Ok p) paths ++ x ∷ []) ok
-    ∙ sym (map-append {B = Result (List ℕ) PathFault} (λ p. Ok p) paths (path ∷ []))
+module _ (texts paths : List (List ℕ)) (i : ℕ) where
+  -- one more path in a loop
+  pub more_paths : {text path : List ℕ} → slice_get texts i ≡ Some text → ArePaths (take i texts) paths →
+      path_of text ≡ Ok path → ArePaths (take (i + 1) texts) (paths ++ path ∷ [])
+  more_paths {text} {path} at are ok =
+      ap (map path_of) (take_next texts i text at) ∙ map-append path_of (take i texts) (text ∷ []) ∙ ap (λ xs. xs ++ path_of text ∷ []) are ∙
+      ap (λ x. map (λ p. Ok p) paths ++ x ∷ []) ok
+      ∙ sym (map-append {B = Result (List ℕ) PathFault} (λ p. Ok p) paths (path ∷ []))
 
--- the first string that is not a valid path
-pub first_bad : (texts paths : List (List ℕ)) (i statement_index from : ℕ) (text : List ℕ) (fault : EffectFault) → slice_get texts i ≡ Some text →
-    ArePaths (take i texts) paths → IsBadText text statement_index (from + i) fault → IsBadTextFrom texts statement_index from fault
-first_bad texts paths i statement_index from text fault at are bad = (
-  i,
-  text,
-  record {
-    here = at;
-    holds = (bad.0, bad.1);
-    before = λ j y less at_y refused. none_refused (take i texts) paths are j y (in_take i texts j y less at_y) refused;
-  },
-  bad,
-)
+  -- the first string that is not a valid path
+  pub first_bad : (statement_index from : ℕ) {text : List ℕ} (fault : EffectFault) → slice_get texts i ≡ Some text →
+      ArePaths (take i texts) paths → IsBadText text statement_index (from + i) fault → IsBadTextFrom texts statement_index from fault
+  first_bad statement_index from {text} fault at are bad = (
+    i,
+    text,
+    record {
+      here = at;
+      holds = (bad.0, bad.1);
+      before = λ j y less at_y refused. none_refused (take i texts) paths are j y (in_take i texts j y less at_y) refused;
+    },
+    bad,
+  )
 
 -- the paths of a statement, by those of all its strings
 module _ (s : StatementValue) (paths : List (List ℕ)) (outputs : ℕ) (are : ArePaths (path_texts s) paths) (end : outputs ≡ 1 + length s.implicit_outputs) where
@@ -63,8 +56,8 @@ module _ (s : StatementValue) (paths : List (List ℕ)) (outputs : ℕ) (are : A
       both : length (path_texts s) ≡ 1 + (length s.implicit_outputs + length s.implicit_inputs)
       both = omega (arith, length-append s.implicit_outputs s.implicit_inputs)
 
-  pub canonical_of : (restat : Bool) → s.restat ≡ restat → IsCanonical s (addition_of paths outputs restat)
-  canonical_of restat same = record {
+  pub canonical_of : {restat : Bool} → s.restat ≡ restat → IsCanonical s (addition_of paths outputs restat)
+  canonical_of {restat} same = record {
     output = first paths are;
     outputs = ap (map path_of) (sym (between {joined = s.output ∷ s.implicit_outputs}
         (s.output ∷ []) s.implicit_outputs s.implicit_inputs refl refl refl (omega (arith, end))))
@@ -75,9 +68,9 @@ module _ (s : StatementValue) (paths : List (List ℕ)) (outputs : ℕ) (are : A
   }
 
 -- one more statement in a loop
-pub more_statements : (ss additions : List StatementValue) (i : ℕ) (s a : StatementValue) → slice_get ss i ≡ Some s → AreCanonical (take i ss) additions →
+pub more_statements : (ss additions : List StatementValue) (i : ℕ) {s a : StatementValue} → slice_get ss i ≡ Some s → AreCanonical (take i ss) additions →
     IsCanonical s a → AreCanonical (take (i + 1) ss) (additions ++ a ∷ [])
-more_statements ss additions i s a at are one =
+more_statements ss additions i {s} {a} at are one =
     subst (λ xs. AreCanonical xs (additions ++ a ∷ [])) (sym (take_next ss i s at)) (record { count = count; each = each })
   where
     count : length (take i ss ++ s ∷ []) ≡ length (additions ++ a ∷ [])
@@ -97,21 +90,21 @@ more_statements ss additions i s a at are one =
         ]
 
 -- an element of one of two lists of the same length has a partner in the other
-beside : {X Y : Type 0} (xs : List X) (ys : List Y) (k : ℕ) (x : X) → length xs ≡ length ys → slice_get xs k ≡ Some x → (y : Y) × (slice_get ys k ≡ Some y)
-beside [] ys k x e at = cc
-beside (z ∷ xs) [] k x e at = absurd (omega arith)
-beside (z ∷ xs) (w ∷ ys) zero x e at = (w, refl)
-beside (z ∷ xs) (w ∷ ys) (suc k) x e at = beside xs ys k x (omega arith) at
+beside : {X Y : Type 0} (xs : List X) (ys : List Y) (k : ℕ) {x : X} → length xs ≡ length ys → slice_get xs k ≡ Some x → (y : Y) × (slice_get ys k ≡ Some y)
+beside [] ys k e at = cc
+beside (z ∷ xs) [] k e at = absurd (omega arith)
+beside (z ∷ xs) (w ∷ ys) zero e at = (w, refl)
+beside (z ∷ xs) (w ∷ ys) (suc k) {x} e at = beside xs ys k (omega arith) at
 
 -- the first statement with a string that is not a valid path
-pub first_bad_statement : (ss additions : List StatementValue) (i : ℕ) (s : StatementValue) (fault : EffectFault) → slice_get ss i ≡ Some s →
+pub first_bad_statement : (ss additions : List StatementValue) {i : ℕ} {s : StatementValue} {fault : EffectFault} → slice_get ss i ≡ Some s →
     AreCanonical (take i ss) additions → IsBadTextOf s i fault → IsBadStatement ss fault
-first_bad_statement ss additions i s fault at are bad =
+first_bad_statement ss additions {i} {s} at are bad =
     (i, s, record { here = at; holds = (bad.0, bad.1, bad.2.here, bad.2.holds); before = before }, bad)
   where
     before : (j : ℕ) (y : StatementValue) → j < i → slice_get ss j ≡ Some y → HasRefused y → ⊥
     before j y less at_y (m, text, there, refused) =
         let here = in_take i ss j y less at_y in
-        let a = beside (take i ss) additions j y are.count here in
+        let a = beside (take i ss) additions j are.count here in
         let p = all_paths y a.0 m text (are.each j y a.0 here a.1) there in
         not_both text p.0 p.1 refused

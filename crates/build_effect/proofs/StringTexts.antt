@@ -1,23 +1,21 @@
 -- The strings of a build line, one after another in one text.
 use Rattle.std.proofs.Common.{◌≡◌, ◌≢◌, ◌∙◌, ℕ, ◌+◌, ◌-◌, ◌≤◌, ◌<◌, suc, get_or, List, [], ◌∷◌, ◌++◌, length, map, take, drop, refl, sym, ap, subst, arith, append_assoc, length-append, length-drop}
-use Rattle.std.specs.Prelude.{slice_range}
 use Rattle.std.proofs.lemmas.List.{append-nil, map-append, take-append-le, drop-append-le, take_all, take_at, drop_at, take-map, drop-map}
 use Rattle.std.proofs.Math.Seq.{drop-cons}
-use Rattle.build_effect.specs.inner.Strings.{text_of, texts_of, IsWithin, AreWithin, AreEnds, edge_texts_of}
-use Rattle.build_effect.specs.declared.listing.rows.ListEnds.{ListEnds}
-use Rattle.build_effect.specs.declared.strings.Span.{Span}
+use Rattle.build_effect.specs.Prelude.{slice_range, text_of, texts_of, IsWithin, AreWithin, AreEnds, edge_texts_of, Span}
 
--- a part of the text stays the same if the text continues after it
-kept : (text more : List ℕ) (span : Span) → IsWithin text span → text_of (text ++ more) span ≡ text_of text span
-kept text more span within =
-    let room : span.end - span.start ≤ length (drop span.start text) = omega (arith, within, length-drop span.start text) in
-    ap (take (span.end - span.start)) (drop-append-le span.start text more (omega (arith, within)))
-    ∙ take-append-le (span.end - span.start) (drop span.start text) more room
+module _ (text more : List ℕ) where
+  -- a part of the text stays the same if the text continues after it
+  kept : {span : Span} → IsWithin text span → text_of (text ++ more) span ≡ text_of text span
+  kept {span} within =
+      let room : span.end - span.start ≤ length (drop span.start text) = omega (arith, within, length-drop span.start text) in
+      ap (take (span.end - span.start)) (drop-append-le span.start text more (omega (arith, within)))
+      ∙ take-append-le (span.end - span.start) (drop span.start text) more room
 
-all_kept : (text more : List ℕ) (spans : List Span) → AreWithin text spans → texts_of (text ++ more) spans ≡ texts_of text spans
-all_kept text more [] within = refl
-all_kept text more (span ∷ spans) within =
-    rw (kept text more span (within 0 span (omega arith)), all_kept text more spans (λ k d lt. within (suc k) d (omega arith))) refl
+  all_kept : (spans : List Span) → AreWithin text spans → texts_of (text ++ more) spans ≡ texts_of text spans
+  all_kept [] within = refl
+  all_kept (span ∷ spans) within =
+      rw (kept (within 0 span (omega arith)), all_kept spans (λ k d lt. within (suc k) d (omega arith))) refl
 
 module _ (text value all : List ℕ) (spans : List Span) (span : Span) (within : AreWithin text spans) (longer : all ≡ text ++ value)
     (start : span.start ≡ length text) (end : span.end ≡ length all) where
@@ -37,8 +35,8 @@ module _ (text value all : List ℕ) (spans : List Span) (span : Span) (within :
           ∙ take_all (span.end - span.start) value (omega (arith, start, end, long))
 
 -- a whole list
-pub whole_range : {X : Type 0} (xs : List X) (to : ℕ) → to ≡ length xs → slice_range xs 0 to ≡ xs
-whole_range xs to end = take_all (to - 0) xs (omega (arith, end))
+pub whole_range : {X : Type 0} (xs : List X) {to : ℕ} → to ≡ length xs → slice_range xs 0 to ≡ xs
+whole_range xs {to} end = take_all (to - 0) xs (omega (arith, end))
 
 -- a part of a mapped list
 pub range_map : {X Y : Type 0} (f : X → Y) (xs : List X) (from to : ℕ) → slice_range (map f xs) from to ≡ map f (slice_range xs from to)
@@ -73,8 +71,8 @@ later : {joined : List (List ℕ)} {from to : ℕ} (before part : List (List ℕ
 later before part both start end = omega (arith, start, end, ap length both, length-append before part)
 
 -- the strings are these five lists, which end there
-pub record AreParts (all o i n m l : List (List ℕ)) (ends : ListEnds) : Type 0 where
-  pub texts : (rule : List ℕ) → edge_texts_of rule all ends ≡ record {
+pub record AreParts (all o i n m l : List (List ℕ)) (a b c d : ℕ) : Type 0 where
+  pub texts : (rule : List ℕ) → edge_texts_of rule all a b c d ≡ record {
     rule = rule;
     outputs = o;
     implicit_outputs = i;
@@ -82,7 +80,7 @@ pub record AreParts (all o i n m l : List (List ℕ)) (ends : ListEnds) : Type 0
     implicit_inputs = m;
     order_only = l;
   }
-  pub sound : o ≢ [] → AreEnds all ends
+  pub sound : o ≢ [] → AreEnds all a b c d
 
 -- how many strings there are after the first list
 pub counted : {s0 s1 : List (List ℕ)} {a : ℕ} (o : List (List ℕ)) → s0 ≡ [] → s1 ≡ s0 ++ o → a ≡ length s1 → a ≡ length o
@@ -91,12 +89,12 @@ counted o none is a = a ∙ ap length (is ∙ ap (λ s. s ++ o) none)
 pub parts_are : {s0 s1 s2 s3 s4 s5 : List (List ℕ)} {a b c d : ℕ} (o i n m l : List (List ℕ)) → s0 ≡ [] → s1 ≡ s0 ++ o → a ≡ length s1 → s2 ≡ s1 ++ i →
     b ≡ length s2
     → s3 ≡ s2 ++ n → c ≡ length s3 → s4 ≡ s3 ++ m → d ≡ length s4 → s5 ≡ s4 ++ l
-    → AreParts s5 o i n m l (record { outputs = a; implicit_outputs = b; inputs = c; implicit_inputs = d })
+    → AreParts s5 o i n m l a b c d
 parts_are {s0} {s1} {s2} {s3} {s4} {s5} o i n m l none e1 a e2 b e3 c e4 d e5 =
     let from_m = longer s3 m l e4 e5 in
     let from_n = longer s2 n (m ++ l) e3 from_m in
     let from_i = longer s1 i (n ++ (m ++ l)) e2 from_n in
-    let first : slice_range s5 0 _ ≡ o = between s0 o (i ++ (n ++ (m ++ l))) e1 from_i (ap length (sym none)) a in
+    let first = between s0 o (i ++ (n ++ (m ++ l))) e1 from_i (ap length (sym none)) a in
     record {
       texts = λ rule. rw (
         first,
@@ -107,9 +105,9 @@ parts_are {s0} {s1} {s2} {s3} {s4} {s5} o i n m l none e1 a e2 b e3 c e4 d e5 =
       ) refl;
       sound = λ some. record {
         some = λ empty. some (sym first ∙ empty);
-        implicit_outputs = later s1 i e2 a b;
-        inputs = later s2 n e3 b c;
-        implicit_inputs = later s3 m e4 c d;
-        order_only = later s4 l e5 d refl;
+        after_outputs = later s1 i e2 a b;
+        after_implicit_outputs = later s2 n e3 b c;
+        after_inputs = later s3 m e4 c d;
+        within = later s4 l e5 d refl;
       };
     }

@@ -1,30 +1,14 @@
 -- The written lines of an edge: each is one line, is not too long, and has its class.
-use Rattle.std.proofs.Common.{inl, inr, ◌≡◌, ◌≢◌, ℕ, ◌+◌, ◌≤◌, ◌==◌, Bool, true, false, List, [], ◌∷◌, ◌++◌, length, map, drop, refl, sym, ap, ◌∙◌, subst, Some, None, arith, length-append}
-use Rattle.std.specs.Prelude.{codes, if◌then◌else◌, option_map, IsTrue}
-use Rattle.std.specs.List.{flat_map, AllByRecursion}
+use Rattle.std.proofs.Common.{if◌then◌else◌, inl, inr, ◌≡◌, ◌≢◌, ℕ, ◌+◌, ◌≤◌, ◌==◌, Bool, true, false, List, [], ◌∷◌, ◌++◌, length, map, drop, refl, sym, ap, ◌∙◌, subst, Some, None, arith, length-append}
 use Rattle.std.proofs.lemmas.List.{append_assoc, append-nil}
 use Rattle.std.proofs.lemmas.Bool.{cases_Bool, or_parts}
 use Rattle.std.proofs.lemmas.List.Elements.{All-from_recursion}
-use Rattle.ninja_text.specs.Units.{units}
-use Rattle.ninja_text.specs.Lines.{line_limit, IsLine, is_comment, text_of_line}
-use Rattle.ninja_text.specs.Lexical.{lexical_fault}
-use Rattle.ninja_text.specs.Tokens.{is_blank, tokens_from, tokens, raw}
-use Rattle.ninja_text.specs.Assignments.{SeenAssignment, after_run, begins_with_equals, tail_units, with_bytes, assignment_of}
-use Rattle.ninja_text.specs.Escapes.{is_unwritable, IsWritable, is_escaped, escaped_byte, escaped}
-use Rattle.ninja_text.specs.Paths.{IsPath, is_empty}
+use Rattle.build_effect.specs.Prelude.{IsTrue, codes, flat_map, option_map, AllByRecursion, after_run, begins_with_equals, tail_units, SeenAssignment, with_bytes, assignment_of, escaped, is_unwritable, IsWritable, is_escaped, escaped_byte, lexical_fault, IsOfClass, line_limit, is_comment, IsLine, text_of_line, is_empty, IsPath, symbols, Symbol, WordSymbol, symbol, begins_at_start, tokens, is_blank, tokens_from, raw, units, spaced, EdgeValue, ArePaths, Build, is_rule_name, IsEdgeLine, BuildRow, DyndepRow, RestatRow, TextIsOfRow, ListingClass, Dyndep, Restat, RowIsOfClass, IsListingLine, listing_format, marked_text, edge_line, dyndep_line, restat_line}
 use Rattle.ninja_text.proofs.ForCallers.{shape, path_writable, path_unit, path_units, value_of_escaped, word_and, word_token, lexical_none, is_line, text_is}
-use Rattle.dyndep_file.specs.Writing.{spaced}
-use Rattle.build_effect.specs.EdgeValue.{EdgeValue}
-use Rattle.build_effect.specs.Effect.{ArePaths}
-use Rattle.ninja_text.specs.LineFormats.{IsOfClass}
-use Rattle.ninja_text.specs.Symbols.{Symbol, WordSymbol, symbol, symbols, begins_at_start}
-use Rattle.build_effect.specs.ListingReading.{listing_format}
-use Rattle.build_effect.specs.ListingLines.{is_rule_name, IsEdgeLine, BuildRow, DyndepRow, RestatRow, TextIsOfRow, ListingClass, Build, Dyndep, Restat, RowIsOfClass, IsListingLine}
-use Rattle.build_effect.specs.ListingWriting.{marked_text, edge_line, dyndep_line, restat_line}
 use Rattle.build_effect.proofs.WrittenSymbols.{Spelled, spelled_none, spelled_space, spelled_path, spelled_name, units_both, escaped_units, HasLine, texts_of, edge_symbols, behind_keyword, line_text, line_written, behind_written, words_of, words_meant, line_is_edge}
 
 -- ---- a text that is put together, by itself and as a line
-module _ {at_word : Bool} (text : List ℕ) (xs : List Symbol) (w : Spelled at_word text xs) where
+module _ {at_word : Bool} {text : List ℕ} {xs : List Symbol} (w : Spelled at_word text xs) where
   spelled_symbols : symbols text ≡ xs
   spelled_symbols = ap (λ t. map (λ k. symbol k.kind (raw t k)) (tokens text)) (sym w.text_is) ∙ w.yields []
 
@@ -100,10 +84,10 @@ module _ (e : EdgeValue) (fit : IsFit e) where
   line_row : TextIsOfRow (line_text e) false (BuildRow (texts_of e))
   line_row = (
     refl,
-    spelled_faultless (line_text e) line_symbols (line_written e has_line),
+    spelled_faultless (line_written e has_line),
     at_start,
     words_of e has_line,
-    subst (λ ss. IsEdgeLine ss (words_of e has_line)) (sym (spelled_symbols (line_text e) line_symbols (line_written e has_line))) (line_is_edge e has_line),
+    subst (λ ss. IsEdgeLine ss (words_of e has_line)) (sym (spelled_symbols (line_written e has_line))) (line_is_edge e has_line),
     words_meant e has_line,
   )
 
@@ -129,12 +113,12 @@ module _ (e : EdgeValue) (fit : IsFit e) where
       (marked_text (codes " |") e.implicit_inputs) (marked_text (codes " ||") e.order_only))
 
   pub edge_is_line : IsLine (edge_line e)
-  edge_is_line = subst IsLine line_is (spelled_is_line (line_text e) line_symbols (line_written e has_line) refl)
+  edge_is_line = subst IsLine line_is (spelled_is_line (line_written e has_line) refl)
 
   pub edge_classed : IsOfClass listing_format (edge_line e) (Build (texts_of e))
   edge_classed =
       subst (λ line. IsOfClass listing_format line (Build (texts_of e))) line_is
-      (spelled_classed (line_text e) line_symbols (line_written e has_line) refl (Build (texts_of e))
+      (spelled_classed (line_written e has_line) refl (Build (texts_of e))
       (subst (λ line. length line ≤ line_limit) (sym line_is) fit.line) (BuildRow (texts_of e), line_row, line_class))
 
 -- ---- the line of a binding `dyndep`
@@ -166,7 +150,7 @@ dyndep_text path = codes "  dyndep = " ++ escaped path
 
 module _ (path : List ℕ) (is : IsPath path) where
   equals_units : units (61 ∷ 32 ∷ escaped path) ≡ units (61 ∷ 32 ∷ []) ++ path_units path
-  equals_units = units_both (61 ∷ 32 ∷ []) (escaped path) refl refl ∙ ap (λ us. units (61 ∷ 32 ∷ []) ++ us) (escaped_units path (path_writable path is))
+  equals_units = units_both (61 ∷ 32 ∷ []) (escaped path) refl refl ∙ ap (λ us. units (61 ∷ 32 ∷ []) ++ us) (escaped_units (path_writable path is))
 
   -- the assignment, by the units from the `=` on
   dyndep_assigns : assignment_of (dyndep_text path) ≡ Some (record { name_start = 2; name = codes "dyndep"; raw_value = escaped path })
@@ -184,23 +168,22 @@ module _ (path : List ℕ) (is : IsPath path) where
   path_symbols = WordSymbol (escaped path) ∷ []
 
   path_written : Spelled true (escaped path) path_symbols
-  path_written = subst (λ t. Spelled true t path_symbols) (append-nil (escaped path)) (spelled_path path [] [] (path_writable path is) spelled_none)
+  path_written = subst (λ t. Spelled true t path_symbols) (append-nil (escaped path)) (spelled_path path (path_writable path is) spelled_none)
 
   equals_written : Spelled true (61 ∷ 32 ∷ escaped path) (WordSymbol (61 ∷ []) ∷ path_symbols)
-  equals_written = spelled_path (61 ∷ []) (32 ∷ escaped path) path_symbols equals_can (spelled_space (escaped path) path_symbols path_written)
+  equals_written = spelled_path (61 ∷ []) equals_can (spelled_space path_written)
 
   abbrev dyndep_symbols : List Symbol
   dyndep_symbols = WordSymbol (codes "dyndep") ∷ WordSymbol (61 ∷ []) ∷ path_symbols
 
   dyndep_written : Spelled false (dyndep_text path) dyndep_symbols
   dyndep_written =
-      spelled_space _ dyndep_symbols (spelled_space _ dyndep_symbols
-      (spelled_name (codes "dyndep") (32 ∷ 61 ∷ 32 ∷ escaped path) (WordSymbol (61 ∷ []) ∷ path_symbols) refl (spelled_space _ _ equals_written)))
+      spelled_space (spelled_space (spelled_name (codes "dyndep") refl (spelled_space equals_written)))
 
   dyndep_row : TextIsOfRow (dyndep_text path) false (DyndepRow path)
   dyndep_row = (
     refl,
-    spelled_faultless (dyndep_text path) dyndep_symbols dyndep_written,
+    spelled_faultless dyndep_written,
     refl,
     2,
     (record { name_start = 2; name = codes "dyndep"; raw_value = escaped path }, dyndep_assigns, refl, refl, value_of_escaped path (path_writable path is)),
@@ -210,10 +193,10 @@ module _ (path : List ℕ) (is : IsPath path) where
   short = omega (arith, escaped_length path, (shape path is).short, length-append (escaped path) (10 ∷ []))
 
   pub dyndep_is_line : IsLine (dyndep_line (Some path))
-  dyndep_is_line = spelled_is_line (dyndep_text path) dyndep_symbols dyndep_written refl
+  dyndep_is_line = spelled_is_line dyndep_written refl
 
   pub dyndep_classed : IsOfClass listing_format (dyndep_line (Some path)) (Dyndep path)
-  dyndep_classed = spelled_classed (dyndep_text path) dyndep_symbols dyndep_written refl (Dyndep path) short (DyndepRow path, dyndep_row, (path, is, refl))
+  dyndep_classed = spelled_classed dyndep_written refl (Dyndep path) short (DyndepRow path, dyndep_row, (path, is, refl))
 
 -- ---- the line of a binding `restat`
 

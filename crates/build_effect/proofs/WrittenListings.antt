@@ -1,26 +1,11 @@
 -- The text of a graph, line by line: how it is written, and that it lists the edges of the graph.
-use Rattle.std.proofs.Common.{◌≡◌, ℕ, ◌+◌, ◌<◌, ◌≤◌, suc, Bool, true, false, List, [], ◌∷◌, ◌++◌, length, drop, get_or, add-one, drop-cons, append_assoc, codes, refl, sym, ap, ◌∙◌, Some, Ok, Err, inl, inr, slice_get, None}
-use Rattle.std.specs.Prelude.{Result, OnOk, if◌then◌else◌, Option, All}
-use Rattle.std.specs.Result.{is_ok}
+use Rattle.std.proofs.Common.{if◌then◌else◌, ◌≡◌, ℕ, ◌+◌, ◌<◌, ◌≤◌, suc, Bool, true, false, List, [], ◌∷◌, ◌++◌, length, drop, get_or, add-one, drop-cons, append_assoc, codes, refl, sym, ap, ◌∙◌, Some, Ok, Err, inl, inr, slice_get, None}
 use Rattle.std.proofs.lemmas.Bool.{lt-ltb, le-ltb, cases_Bool, ltb-false}
-use Rattle.ninja_text.specs.Bytes.{line_feed}
-use Rattle.ninja_text.specs.Escapes.{escaped}
-use Rattle.ninja_text.specs.Lines.{line_limit, IsLine}
-use Rattle.build_effect.specs.EdgeValue.{EdgeValue}
-use Rattle.build_effect.specs.ListingWriting.{edge_line, dyndep_line, restat_line, listing_text, is_too_long, too_long_from, listing_text_unless, listing_text_or_fault, edge_text, first_too_long}
-use Rattle.build_effect.specs.declared.fault.ListingWriteFault.TheVariants.{ListingTooLong}
-use Rattle.std.specs.List.{flat_map, AllByRecursion}
 use Rattle.std.proofs.lemmas.List.{append-nil}
 use Rattle.std.proofs.lemmas.List.Elements.{recursion_from_All, All-from_recursion}
 use Rattle.std.proofs.lemmas.Grind.{flat_map-append}
-use Rattle.ninja_text.specs.Paths.{IsPath}
+use Rattle.build_effect.specs.Prelude.{is_ok, OnOk, All, Option, Result, flat_map, AllByRecursion, line_feed, spaced, escaped, AreOfClasses, line_limit, IsLine, IsPath, EdgeValue, made_by, inputs_of, HasInput, IsGraph, no_more_bindings, dyndep_binding, restat_binding, IsListing, listing_end, listing_build, IsListable, WrittenListing, Build, EdgeTexts, ListingClass, Dyndep, Restat, listing_format, Lists, marked_text, edge_line, dyndep_line, restat_line, edge_text, listing_text, is_too_long, too_long_from, first_too_long, listing_text_unless, listing_text_or_fault, ListingTooLong}
 use Rattle.ninja_text.proofs.ForCallers.{AllByRecursion-append, joined, AreOfClasses-append, some-list}
-use Rattle.build_effect.specs.Graphs.{made_by, inputs_of, HasInput, IsGraph}
-use Rattle.build_effect.specs.ListingLines.{EdgeTexts, ListingClass, Build, Dyndep, Restat}
-use Rattle.build_effect.specs.ListingGrammar.{no_more_bindings, dyndep_binding, restat_binding, IsListing, listing_end, listing_build}
-use Rattle.ninja_text.specs.LineFormats.{AreOfClasses}
-use Rattle.build_effect.specs.ListingReading.{listing_format, Lists}
-use Rattle.build_effect.specs.ListingLaws.{IsListable, WrittenListing}
 use Rattle.build_effect.proofs.Lists.{all_at, none_some}
 use Rattle.build_effect.proofs.WrittenSymbols.{texts_of}
 use Rattle.build_effect.proofs.WrittenLines.{IsFit, edge_is_line, edge_classed, dyndep_is_line, dyndep_classed, restat_is_line, restat_classed}
@@ -28,10 +13,20 @@ use Rattle.dyndep_file.proofs.ForCallers.{both_parts}
 
 -- ---- the text, one part after another
 
--- one more part of a line is appended
-pub grows : {X : Type 0} (f : List X → List ℕ) (start parts now new : List ℕ) (xs ys : List X) → now ≡ start ++ parts → new ≡ now ++ f xs → xs ≡ ys →
-    new ≡ start ++ (parts ++ f ys)
-grows f start parts now new xs ys before more same = more ∙ ap (λ ps. now ++ f ps) same ∙ ap (λ t. t ++ f ys) before ∙ append_assoc start parts (f ys)
+module _ (text : List ℕ) where
+  -- the parts of a build line, appended one after another
+  parts_joined : (k o i c r n m w l : List ℕ) →
+      ((((((((text ++ k) ++ o) ++ i) ++ c) ++ r) ++ n) ++ m) ++ w) ++ l ≡ text ++ ((k ++ o ++ i) ++ c ++ (r ++ n ++ m ++ w) ++ l)
+  parts_joined k o i c r n m w l = simp append_assoc
+
+  pub line_grown : (e : EdgeValue) → {a b c d f g h j : List ℕ} {rule : List ℕ} {os is ns ms ws : List (List ℕ)} → a ≡ text ++ codes "build" →
+      b ≡ a ++ flat_map spaced os → os ≡ e.outputs → c ≡ b ++ marked_text (codes " |") is → is ≡ e.implicit_outputs → d ≡ c ++ codes ": " →
+      f ≡ d ++ rule → rule ≡ e.rule → g ≡ f ++ flat_map spaced ns → ns ≡ e.inputs → h ≡ g ++ marked_text (codes " |") ms → ms ≡ e.implicit_inputs →
+      j ≡ h ++ marked_text (codes " ||") ws → ws ≡ e.order_only → j ++ line_feed ∷ [] ≡ text ++ edge_line e
+  line_grown e p1 p2 outputs p3 implicit_outputs p4 p5 rule p6 inputs p7 implicit_inputs p8 order_only =
+      rw (p8, order_only, p7, implicit_inputs, p6, inputs, p5, rule, p4, p3, implicit_outputs, p2, outputs, p1)
+      (parts_joined (codes "build") (flat_map spaced e.outputs) (marked_text (codes " |") e.implicit_outputs) (codes ": ") e.rule (flat_map spaced e.inputs)
+      (marked_text (codes " |") e.implicit_inputs) (marked_text (codes " ||") e.order_only) (line_feed ∷ []))
 
 -- what an append that succeeds leaves
 pub appended : {T E : Type 0} (r : Result T E) (now new more : List ℕ) → new ≡ if is_ok r then now ++ more else now → OnOk r (new ≡ now ++ more)
@@ -39,40 +34,41 @@ appended (Ok done) now new more h = h
 appended (Err refused) now new more h = tt
 
 -- the current edge is the next one
-pub drop_item : (edges : List EdgeValue) (i : ℕ) (e : EdgeValue) → i < length edges → e ≡ get_or edges i e → drop i edges ≡ e ∷ drop (i + 1) edges
-drop_item edges i e within is = rw add-one (drop-cons edges i e within ∙ ap (λ z. z ∷ drop (suc i) edges) (sym is))
+pub drop_item : (edges : List EdgeValue) (i : ℕ) {e : EdgeValue} → i < length edges → e ≡ get_or edges i e → drop i edges ≡ e ∷ drop (i + 1) edges
+drop_item edges i {e} within is = rw add-one (drop-cons edges i e within ∙ ap (λ z. z ∷ drop (suc i) edges) (sym is))
 
 -- the line of the binding `dyndep`, part by part
-pub dyndep_added : (text name value new path : List ℕ) → name ≡ text ++ codes "  dyndep = " → value ≡ name ++ escaped path → new ≡ value ++ line_feed ∷ [] →
+pub dyndep_added : (text : List ℕ) {name value new : List ℕ} (path : List ℕ) → name ≡ text ++ codes "  dyndep = " → value ≡ name ++ escaped path →
+    new ≡ value ++ line_feed ∷ [] →
     new ≡ text ++ dyndep_line (Some path)
-dyndep_added text name value new path n v l = rw (l, v, n, append_assoc, append_assoc) refl
+dyndep_added text path n v l = rw (l, v, n, append_assoc, append_assoc) refl
 
 -- the text so far, with one more edge's
-pub text_goes_on : (edges : List EdgeValue) (i : ℕ) (e : EdgeValue) (text new : List ℕ) → i < length edges → e ≡ get_or edges i e
+pub text_goes_on : (edges : List EdgeValue) (i : ℕ) {e : EdgeValue} (text new : List ℕ) → i < length edges → e ≡ get_or edges i e
     → new ≡ ((text ++ edge_line e) ++ dyndep_line e.dyndep) ++ restat_line e.restat → text ++ listing_text (drop i edges) ≡ listing_text edges
     → new ++ listing_text (drop (i + 1) edges) ≡ listing_text edges
-text_goes_on edges i e text new within is n so_far =
+text_goes_on edges i {e} text new within is n so_far =
     let rest = listing_text (drop (i + 1) edges) in
     let d = dyndep_line e.dyndep in
     let r = restat_line e.restat in
     let is_new = n ∙ ap (λ y. y ++ r) (append_assoc text (edge_line e) d) ∙ append_assoc text (edge_line e ++ d) r in
-    ap (λ x. x ++ rest) is_new ∙ append_assoc text ((edge_line e ++ d) ++ r) rest ∙ ap (λ xs. text ++ listing_text xs) (sym (drop_item edges i e within is)) ∙
+    ap (λ x. x ++ rest) is_new ∙ append_assoc text ((edge_line e ++ d) ++ r) rest ∙ ap (λ xs. text ++ listing_text xs) (sym (drop_item edges i within is)) ∙
     so_far
 
 -- the current edge, if no build line before it was too long
 module _ (edges : List EdgeValue) (i : ℕ) (e : EdgeValue) (within : i < length edges) (is : e ≡ get_or edges i e)
     (none : too_long_from 0 edges ≡ too_long_from i (drop i edges)) where
-  looked_at : (long : Bool) → is_too_long e ≡ long → too_long_from 0 edges ≡ if long then Some i else too_long_from (i + 1) (drop (i + 1) edges)
-  looked_at long said = none ∙ ap (too_long_from i) (drop_item edges i e within is) ∙
+  looked_at : {long : Bool} → is_too_long e ≡ long → too_long_from 0 edges ≡ if long then Some i else too_long_from (i + 1) (drop (i + 1) edges)
+  looked_at said = none ∙ ap (too_long_from i) (drop_item edges i within is) ∙
       ap (λ b. if b then Some i else too_long_from (i + 1) (drop (i + 1) edges)) said
 
   -- its build line is too long
   pub too_long_here : line_limit < length (edge_line e) → listing_text_or_fault edges ≡ Err (ListingTooLong i)
-  too_long_here more = ap (λ o. listing_text_unless o edges) (looked_at true (lt-ltb line_limit (length (edge_line e)) more))
+  too_long_here more = ap (λ o. listing_text_unless o edges) (looked_at (lt-ltb line_limit (length (edge_line e)) more))
 
   -- it is not
   pub none_so_far : length (edge_line e) ≤ line_limit → too_long_from 0 edges ≡ too_long_from (i + 1) (drop (i + 1) edges)
-  none_so_far most = looked_at false (le-ltb line_limit (length (edge_line e)) most)
+  none_so_far most = looked_at (le-ltb line_limit (length (edge_line e)) most)
 
 -- ---- the lines of an edge, and their classes
 
@@ -134,7 +130,7 @@ are_classed (e ∷ es) each =
 -- ---- the classes are a listing of the edges
 
 -- the lines of one edge, by its parts, before a listing
-one_more : (t : EdgeTexts) (dyndep : Option (List ℕ)) (restat : Bool) (classes : List ListingClass) (es : List EdgeValue) → IsListing classes es
+one_more : (t : EdgeTexts) (dyndep : Option (List ℕ)) (restat : Bool) {classes : List ListingClass} {es : List EdgeValue} → IsListing classes es
     → IsListing (Build t ∷ (binding_classes dyndep restat ++ classes)) (record {
       rule = t.rule;
       outputs = t.outputs;
@@ -145,14 +141,14 @@ one_more : (t : EdgeTexts) (dyndep : Option (List ℕ)) (restat : Bool) (classes
       dyndep = dyndep;
       restat = restat;
     } ∷ es)
-one_more t None false classes es later = listing_build no_more_bindings later
-one_more t None true classes es later = listing_build (restat_binding no_more_bindings) later
-one_more t (Some path) false classes es later = listing_build (dyndep_binding no_more_bindings) later
-one_more t (Some path) true classes es later = listing_build (dyndep_binding (restat_binding no_more_bindings)) later
+one_more t None false later = listing_build no_more_bindings later
+one_more t None true later = listing_build (restat_binding no_more_bindings) later
+one_more t (Some path) false later = listing_build (dyndep_binding no_more_bindings) later
+one_more t (Some path) true later = listing_build (dyndep_binding (restat_binding no_more_bindings)) later
 
 is_listing : (es : List EdgeValue) → IsListing (flat_map classes_of es) es
 is_listing [] = listing_end
-is_listing (e ∷ es) = one_more (texts_of e) e.dyndep e.restat (flat_map classes_of es) es (is_listing es)
+is_listing (e ∷ es) = one_more (texts_of e) e.dyndep e.restat (is_listing es)
 
 -- ---- the lines, one after another, are the text
 
@@ -171,8 +167,8 @@ text_joined (e ∷ es) =
     flat_map-append (λ line. line) (lines_of e) (flat_map lines_of es) ∙ ap (λ t. t ++ joined (flat_map lines_of es)) (edge_joined e) ∙
     ap (λ t. edge_text e ++ t) (text_joined es)
 
-lists : (es : List EdgeValue) → AllByRecursion IsReadBack es → Lists (listing_text es) es
-lists es each = record {
+lists : {es : List EdgeValue} → AllByRecursion IsReadBack es → Lists (listing_text es) es
+lists {es} each = record {
   lines = flat_map lines_of es;
   classes = flat_map classes_of es;
   divided = record { whole = sym (text_joined es) ∙ sym (append-nil (joined (flat_map lines_of es))); each = are_lines es each; partial = refl };
@@ -223,7 +219,7 @@ module _ (g : List EdgeValue) (is : IsGraph g) (listable : All IsListable g) (sh
       }
 
   graph_listed : Lists (listing_text g) g
-  graph_listed = lists g (each_of IsReadBack g edge_back)
+  graph_listed = lists (each_of IsReadBack g edge_back)
 
 pub written_listing : WrittenListing
 written_listing = graph_listed

@@ -1,40 +1,28 @@
 -- The tokens of a written build line, and that they are a build line.
 use Rattle.std.proofs.Common.{inl, inr, ◌≡◌, ◌≢◌, ℕ, ◌+◌, ◌==◌, Bool, true, false, List, [], ◌∷◌, ◌++◌, length, map, refl, sym, ap, ◌∙◌, subst, length-append}
-use Rattle.std.specs.Prelude.{IsTrue, codes}
-use Rattle.std.specs.List.{flat_map, list_all, AllByRecursion}
 use Rattle.std.proofs.lemmas.List.{append-nil, append_assoc}
 use Rattle.std.proofs.lemmas.List.Elements.{All-from_recursion}
 use Rattle.std.proofs.lemmas.List.Folds.{list_all-append}
 use Rattle.std.proofs.lemmas.Bool.{cases_Bool, eqb-true, and_from, and_parts, false≢true, true≢false}
 use Rattle.std.proofs.lemmas.Grind.{flat_map-append}
-use Rattle.ninja_text.specs.declared.token.TokenKind.{TokenKind}
-use Rattle.ninja_text.specs.declared.token.TokenKind.TheVariants.{Bar, DoubleBar, Colon}
-use Rattle.ninja_text.specs.Units.{units}
-use Rattle.ninja_text.specs.Tokens.{is_piece, goes_on, tokens_from, value_of}
-use Rattle.ninja_text.specs.Assignments.{is_identifier_byte}
-use Rattle.ninja_text.specs.Escapes.{is_unwritable, IsWritable, escaped_byte, escaped}
+use Rattle.build_effect.specs.Prelude.{IsTrue, codes, flat_map, AllByRecursion, list_all, is_identifier_byte, escaped, is_unwritable, IsWritable, escaped_byte, is_empty, Symbol, WordSymbol, SignSymbol, symbol, IsPart, is_piece, goes_on, tokens_from, value_of, units, TokenKind, Bar, Colon, DoubleBar, spaced, EdgeValue, EdgeTexts, is_rule_name, IsEdgeLine, meant, marked_text}
 use Rattle.ninja_text.proofs.ForCallers.{is_sound, text_of_units, unit_text, units_read, path_unit, path_units, path_text, path_sound, path_pieces, has_spelling, value_of_escaped, Yields, viewed, no_units, goes_on_piece, space_yields, colon_yields, bar_yields, path_yields, units_are}
-use Rattle.ninja_text.specs.Paths.{is_empty}
-use Rattle.ninja_text.specs.Symbols.{Symbol, WordSymbol, SignSymbol, symbol, IsPart}
-use Rattle.dyndep_file.specs.Writing.{spaced}
-use Rattle.build_effect.specs.EdgeValue.{EdgeValue}
-use Rattle.build_effect.specs.ListingLines.{EdgeTexts, is_rule_name, IsEdgeLine, meant}
-use Rattle.build_effect.specs.ListingWriting.{marked_text}
 
 -- ---- a rule's name needs no escapes
 
--- a byte of a name can be written
-name_apart : (b c : ℕ) → is_identifier_byte b ≡ true → is_identifier_byte c ≡ false → (b == c) ≡ false
-name_apart b c h none = elim (cases_Bool (b == c)) [
-  | inl t ↦ absurd (false≢true (sym none ∙ subst (λ n. is_identifier_byte n ≡ true) (eqb-true b c t) h))
-  | inr f ↦ f
-]
+module _ (b : ℕ) where
+  -- a byte of a name can be written
+  name_apart : (c : ℕ) → is_identifier_byte b ≡ true → is_identifier_byte c ≡ false → (b == c) ≡ false
+  name_apart c h none = elim (cases_Bool (b == c)) [
+    | inl t ↦ absurd (false≢true (sym none ∙ subst (λ n. is_identifier_byte n ≡ true) (eqb-true b c t) h))
+    | inr f ↦ f
+  ]
 
-name_plain : (b : ℕ) → is_identifier_byte b ≡ true → escaped_byte b ≡ b ∷ []
-name_plain b h = rw (name_apart b 36 h refl, name_apart b 32 h refl, name_apart b 58 h refl) refl
+  name_plain : is_identifier_byte b ≡ true → escaped_byte b ≡ b ∷ []
+  name_plain h = rw (name_apart 36 h refl, name_apart 32 h refl, name_apart 58 h refl) refl
 
-name_spelled : (b : ℕ) → is_identifier_byte b ≡ true → is_unwritable b ≡ false
-name_spelled b h = rw (name_apart b 124 h refl, name_apart b 0 h refl, name_apart b 13 h refl, name_apart b 10 h refl) refl
+  name_spelled : is_identifier_byte b ≡ true → is_unwritable b ≡ false
+  name_spelled h = rw (name_apart 124 h refl, name_apart 0 h refl, name_apart 13 h refl, name_apart 10 h refl) refl
 
 names_plain : (name : List ℕ) → list_all is_identifier_byte name ≡ true → escaped name ≡ name
 names_plain [] h = refl
@@ -74,10 +62,11 @@ pub units_both : (front text : List ℕ) → list_all is_sound (units front) ≡
 units_both front text sound is = ap (λ t. units (t ++ text)) (sym is) ∙ units_read (units front) text sound
 
 -- one more text before it
-spelled_more : {at_word now : Bool} (front text : List ℕ) (xs ys : List Symbol) → list_all is_sound (units front) ≡ true → text_of_units (units front) ≡ front →
+spelled_more : {at_word now : Bool} {text : List ℕ} {xs ys : List Symbol} (front : List ℕ) → list_all is_sound (units front) ≡ true → text_of_units
+    (units front) ≡ front →
     Spelled at_word text xs
     → goes_on (units front ++ units text) ≡ now → Yields symbol (units front ++ units text) ys → Spelled now (front ++ text) ys
-spelled_more front text xs ys sound is later begins yields =
+spelled_more {text = text} {ys = ys} front sound is later begins yields =
     let both = units_both front text sound is in
     record {
       sound = ap (list_all is_sound) both ∙ list_all-append is_sound (units front) (units text) ∙ and_from _ _ sound later.sound;
@@ -87,43 +76,42 @@ spelled_more front text xs ys sound is later begins yields =
       yields = subst (λ us. Yields symbol us ys) (sym both) yields;
     }
 
-pub spelled_space : {at_word : Bool} (text : List ℕ) (xs : List Symbol) → Spelled at_word text xs → Spelled false (32 ∷ text) xs
-spelled_space text xs later = spelled_more (32 ∷ []) text xs xs refl refl later refl (space_yields symbol (units text) xs later.yields)
+module _ {at_word : Bool} {text : List ℕ} {xs : List Symbol} (later : Spelled at_word text xs) where
+  pub spelled_space : Spelled false (32 ∷ text) xs
+  spelled_space = spelled_more (32 ∷ []) refl refl later refl (space_yields symbol (units text) xs later.yields)
 
-spelled_colon : {at_word : Bool} (text : List ℕ) (xs : List Symbol) → Spelled at_word text xs → Spelled false (58 ∷ text) (SignSymbol Colon ∷ xs)
-spelled_colon text xs later = spelled_more (58 ∷ []) text xs (SignSymbol Colon ∷ xs) refl refl later refl (colon_yields symbol (units text) xs later.yields)
+  spelled_colon : Spelled false (58 ∷ text) (SignSymbol Colon ∷ xs)
+  spelled_colon = spelled_more (58 ∷ []) refl refl later refl (colon_yields symbol (units text) xs later.yields)
 
--- a `|` and a space
-spelled_bar : {at_word : Bool} (text : List ℕ) (xs : List Symbol) → Spelled at_word text xs → Spelled false (124 ∷ 32 ∷ text) (SignSymbol Bar ∷ xs)
-spelled_bar text xs later =
-    spelled_more (124 ∷ 32 ∷ []) text xs (SignSymbol Bar ∷ xs) refl refl later refl
-    (bar_yields symbol (units text) xs (space_yields symbol (units text) xs later.yields))
+  -- a `|` and a space
+  spelled_bar : Spelled false (124 ∷ 32 ∷ text) (SignSymbol Bar ∷ xs)
+  spelled_bar =
+      spelled_more (124 ∷ 32 ∷ []) refl refl later refl (bar_yields symbol (units text) xs (space_yields symbol (units text) xs later.yields))
 
--- a `||`
-spelled_double_bar : {at_word : Bool} (text : List ℕ) (xs : List Symbol) → Spelled at_word text xs →
-    Spelled false (124 ∷ 124 ∷ text) (SignSymbol DoubleBar ∷ xs)
-spelled_double_bar text xs later =
-    let bars = units (124 ∷ 124 ∷ []) in
-    spelled_more (124 ∷ 124 ∷ []) text xs (SignSymbol DoubleBar ∷ xs) refl refl later refl
-    (λ front. ap (λ ys. SignSymbol DoubleBar ∷ ys)
-    (ap (λ us. map (viewed symbol (text_of_units us)) (tokens_from (length (text_of_units front) + 2) (units text)))
-    (sym (append_assoc front bars (units text)))
-    ∙ ap (λ n. map (viewed symbol (text_of_units ((front ++ bars) ++ units text))) (tokens_from n (units text)))
-    (sym (ap length (flat_map-append unit_text front bars) ∙ length-append (text_of_units front) (text_of_units bars)))
-    ∙ later.yields (front ++ bars)))
+  -- a `||`
+  spelled_double_bar : Spelled false (124 ∷ 124 ∷ text) (SignSymbol DoubleBar ∷ xs)
+  spelled_double_bar =
+      let bars = units (124 ∷ 124 ∷ []) in
+      spelled_more (124 ∷ 124 ∷ []) refl refl later refl
+      (λ front. ap (λ ys. SignSymbol DoubleBar ∷ ys)
+      (ap (λ us. map (viewed symbol (text_of_units us)) (tokens_from (length (text_of_units front) + 2) (units text)))
+      (sym (append_assoc front bars (units text)))
+      ∙ ap (λ n. map (viewed symbol (text_of_units ((front ++ bars) ++ units text))) (tokens_from n (units text)))
+      (sym (ap length (flat_map-append unit_text front bars) ∙ length-append (text_of_units front) (text_of_units bars)))
+      ∙ later.yields (front ++ bars)))
 
 -- the units of a path in its escaped form
-pub escaped_units : (path : List ℕ) → IsWritable path → units (escaped path) ≡ path_units path
-escaped_units path writable = ap units (sym (path_text path)) ∙ units_are (path_units path) (path_sound path (has_spelling path writable))
+pub escaped_units : {path : List ℕ} → IsWritable path → units (escaped path) ≡ path_units path
+escaped_units {path} writable = ap units (sym (path_text path)) ∙ units_are (path_units path) (path_sound path (has_spelling path writable))
 
 -- a path
-pub spelled_path : (path text : List ℕ) (xs : List Symbol) → IsWritable path → Spelled false text xs →
+pub spelled_path : {text : List ℕ} {xs : List Symbol} (path : List ℕ) → IsWritable path → Spelled false text xs →
     Spelled true (escaped path ++ text) (WordSymbol (escaped path) ∷ xs)
-spelled_path [] text xs writable later = absurd (writable.some refl)
-spelled_path (b ∷ path) text xs writable later =
-    let are = escaped_units (b ∷ path) writable in
+spelled_path [] writable later = absurd (writable.some refl)
+spelled_path {text} {xs} (b ∷ path) writable later =
+    let are = escaped_units writable in
     let can = has_spelling (b ∷ path) writable in
-    spelled_more (escaped (b ∷ path)) text xs (WordSymbol (escaped (b ∷ path)) ∷ xs)
+    spelled_more (escaped (b ∷ path))
     (ap (list_all is_sound) are ∙ path_sound (b ∷ path) can) (ap text_of_units are ∙ path_text (b ∷ path)) later
     (ap (λ us. goes_on (us ++ units text)) are ∙
     goes_on_piece (path_unit b) (path_units path ++ units text)
@@ -132,10 +120,10 @@ spelled_path (b ∷ path) text xs writable later =
     (path_yields symbol (b ∷ path) (units text) xs writable later.begins later.yields))
 
 -- a word of the bytes that a rule's name has
-pub spelled_name : (name text : List ℕ) (xs : List Symbol) → IsTrue (is_rule_name name) → Spelled false text xs →
+pub spelled_name : {text : List ℕ} {xs : List Symbol} (name : List ℕ) → IsTrue (is_rule_name name) → Spelled false text xs →
     Spelled true (name ++ text) (WordSymbol name ∷ xs)
-spelled_name name text xs h later =
-    subst (λ r. Spelled true (r ++ text) (WordSymbol r ∷ xs)) (rule_plain name h) (spelled_path name text xs (rule_writable name h) later)
+spelled_name {text} {xs} name h later =
+    subst (λ r. Spelled true (r ++ text) (WordSymbol r ∷ xs)) (rule_plain name h) (spelled_path name (rule_writable name h) later)
 
 -- ---- paths, and a part, before a text
 
@@ -147,29 +135,29 @@ abbrev part_symbols : TokenKind → List (List ℕ) → List Symbol
 part_symbols sign [] = []
 part_symbols sign (path ∷ paths) = SignSymbol sign ∷ words (path ∷ paths)
 
-module _ (text : List ℕ) (xs : List Symbol) (later : Spelled false text xs) where
-  first_path_written : (path : List ℕ) (paths : List (List ℕ)) → IsWritable path → Spelled false (flat_map spaced paths ++ text) (words paths ++ xs)
+module _ {text : List ℕ} {xs : List Symbol} (later : Spelled false text xs) where
+  first_path_written : {path : List ℕ} (paths : List (List ℕ)) → IsWritable path → Spelled false (flat_map spaced paths ++ text) (words paths ++ xs)
       → Spelled true ((escaped path ++ flat_map spaced paths) ++ text) (words (path ∷ paths) ++ xs)
-  first_path_written path paths writable rest =
+  first_path_written {path} paths writable rest =
       subst (λ t. Spelled true t (words (path ∷ paths) ++ xs)) (sym (append_assoc (escaped path) (flat_map spaced paths) text))
-      (spelled_path path (flat_map spaced paths ++ text) (words paths ++ xs) writable rest)
+      (spelled_path path writable rest)
 
   paths_written : (paths : List (List ℕ)) → AllByRecursion IsWritable paths → Spelled false (flat_map spaced paths ++ text) (words paths ++ xs)
   paths_written [] writable = later
   paths_written (path ∷ paths) writable =
-      spelled_space _ (words (path ∷ paths) ++ xs) (first_path_written path paths writable.0 (paths_written paths writable.1))
+      spelled_space (first_path_written paths writable.0 (paths_written paths writable.1))
 
   bar_written : (paths : List (List ℕ)) → AllByRecursion IsWritable paths →
       Spelled false (marked_text (codes " |") paths ++ text) (part_symbols Bar paths ++ xs)
   bar_written [] writable = later
   bar_written (path ∷ paths) writable =
-      spelled_space _ _ (spelled_bar _ (words (path ∷ paths) ++ xs) (first_path_written path paths writable.0 (paths_written paths writable.1)))
+      spelled_space (spelled_bar (first_path_written paths writable.0 (paths_written paths writable.1)))
 
   double_bar_written : (paths : List (List ℕ)) → AllByRecursion IsWritable paths →
       Spelled false (marked_text (codes " ||") paths ++ text) (part_symbols DoubleBar paths ++ xs)
   double_bar_written [] writable = later
   double_bar_written (path ∷ paths) writable =
-      spelled_space _ _ (spelled_double_bar _ (words (path ∷ paths) ++ xs) (paths_written (path ∷ paths) writable))
+      spelled_space (spelled_double_bar (paths_written (path ∷ paths) writable))
 
 -- ---- what such symbols are
 
@@ -244,25 +232,25 @@ module _ (e : EdgeValue) (has : HasLine e) where
   order_written : Spelled false (marked_text (codes " ||") e.order_only) (order_symbols e)
   order_written =
       subst (λ t. Spelled false t (order_symbols e)) (append-nil (marked_text (codes " ||") e.order_only))
-      (double_bar_written [] [] spelled_none e.order_only has.order_only)
+      (double_bar_written spelled_none e.order_only has.order_only)
 
   inputs_written : Spelled false (flat_map spaced e.inputs ++ (marked_text (codes " |") e.implicit_inputs ++ marked_text (codes " ||") e.order_only))
       (input_symbols e)
   inputs_written =
-      paths_written _ (implicit_symbols e) (bar_written _ (order_symbols e) order_written e.implicit_inputs has.implicit_inputs) e.inputs has.inputs
+      paths_written (bar_written order_written e.implicit_inputs has.implicit_inputs) e.inputs has.inputs
 
   right_written : Spelled true (behind_colon e) (WordSymbol e.rule ∷ input_symbols e)
-  right_written = spelled_name e.rule _ (input_symbols e) has.rule inputs_written
+  right_written = spelled_name e.rule has.rule inputs_written
 
   colon_written : Spelled false (58 ∷ 32 ∷ behind_colon e) (colon_symbols e)
-  colon_written = spelled_colon _ _ (spelled_space (behind_colon e) (WordSymbol e.rule ∷ input_symbols e) right_written)
+  colon_written = spelled_colon (spelled_space right_written)
 
   pub behind_written : Spelled false (behind_keyword e) (edge_symbols e)
   behind_written =
-      paths_written _ (implicit_output_symbols e) (bar_written _ (colon_symbols e) colon_written e.implicit_outputs has.implicit_outputs) e.outputs has.outputs
+      paths_written (bar_written colon_written e.implicit_outputs has.implicit_outputs) e.outputs has.outputs
 
   pub line_written : Spelled true (line_text e) (WordSymbol (codes "build") ∷ edge_symbols e)
-  line_written = spelled_name (codes "build") (behind_keyword e) (edge_symbols e) refl behind_written
+  line_written = spelled_name (codes "build") refl behind_written
 
   -- its words in their escaped form, whose values are what the edge has
   abbrev pub words_of : EdgeTexts

@@ -17,3 +17,4 @@ pub mod ListingReading
 pub mod ListingLaws
 pub mod ListingReaders
 pub mod inner
+pub mod Prelude

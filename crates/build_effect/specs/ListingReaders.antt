@@ -16,7 +16,7 @@ use Rattle.build_effect.specs.declared.fault.LineCause.TheVariants.{LineTooLong}
 use Rattle.build_effect.specs.declared.fault.LineFault.{LineFault}
 use Rattle.build_effect.specs.declared.fault.ListFault.{ListFault}
 use Rattle.build_effect.specs.declared.fault.ListFault.TheVariants.{AtLine, NoGraph}
-use Rattle.build_effect.specs.declared.listing.state.Binding.TheVariants.{Closed}
+use Rattle.build_effect.specs.declared.listing.Binding.TheVariants.{Closed}
 
 -- Lines of these classes list the edges so far and lead to this state of the bindings.
 abbrev pub LeadToEdges : List ListingClass → ListingValue → Type 0

@@ -2,8 +2,8 @@
 use Rattle.std.specs.Prelude.{true, false, List, [], ◌∷◌}
 use Rattle.build_effect.specs.EdgeValue.{EdgeValue}
 use Rattle.build_effect.specs.ListingLines.{ListingClass, Comment, Blank, Build, Dyndep, Restat}
-use Rattle.build_effect.specs.declared.listing.state.Binding.{Binding}
-use Rattle.build_effect.specs.declared.listing.state.Binding.TheVariants.{Closed, Open}
+use Rattle.build_effect.specs.declared.listing.Binding.{Binding}
+use Rattle.build_effect.specs.declared.listing.Binding.TheVariants.{Closed, Open}
 
 -- the edges so far, whether the last edge is open for bindings, and which bindings it has
 pub record ListingValue : Type 0 where

@@ -1,21 +1,22 @@
-//! The effect of a dyndep file, and which statement is on which edge.
-ghost use Rattle.std.specs.Prelude.{◌≡◌, ◌≢◌, ◌<◌, [], length, IfOk, IfErr, OnOk, All, MatchBool};
-ghost use Rattle.ninja_text.specs.Failure.{ForFault};
-ghost use Rattle.build_effect.specs.Graphs.{MadeOnce, Names};
-ghost use Rattle.build_effect.specs.Effect.{OnlyEffect, HasNoEffect};
-ghost use Rattle.build_effect.specs.Faults.{IsEffectFault};
-ghost use Rattle.build_effect.specs.inner.Makers.{AreMade};
-ghost use Rattle.build_effect.specs.inner.StatementEdges.{AreEdgesOf, IsFirstUnbound, AreInverse, IsFirstRepeated, HaveStatements, IsFirstUnmentioned};
-ghost use Rattle.build_effect.specs.declared.fault.EffectFault.{EffectFault};
+//! The effect of a dyndep file: which statement is on which edge, and what the statements add.
+ghost use Rattle.std.specs.Prelude.{◌≡◌, ◌<◌, ◌≤◌, ◌≢◌, ◌++◌, ℕ, [], length, IfOk, IfErr, OnOk};
+ghost use Rattle.build_effect.specs.Prelude.{All, MatchBool, Some, ForFault, StatementValue};
+ghost use Rattle.build_effect.specs.Prelude.{ArePaths, AreCanonical, OnlyEffect, HasNoEffect};
+ghost use Rattle.build_effect.specs.Prelude.{added_outputs, IsEffectFault, Names, MadeOnce};
+ghost use Rattle.build_effect.specs.Prelude.{addition_of, added_files, IsFirstAddedTwice};
+ghost use Rattle.build_effect.specs.Prelude.{IsBadTextFrom, IsBadStatement, AreExtended};
+ghost use Rattle.build_effect.specs.Prelude.{NoneMadeTwice, AreMade, AreEdgesOf, IsFirstUnbound};
+ghost use Rattle.build_effect.specs.Prelude.{statement_on, AreInverse, IsFirstRepeated};
+ghost use Rattle.build_effect.specs.Prelude.{HaveStatements, IsFirstUnmentioned, EffectFault};
 
-use crate::addition::{Addition, added_makers, canonical_statements, extended_edges};
 use crate::fault::EffectFault;
-use crate::graph::{Edge, Graph, first_output};
+use crate::graph::{Edge, Graph, MadeFiles, Makers, first_output};
 use crate::laws;
-use crate::makers::Makers;
-use dyndep_file::Dyndep;
+use crate::strings::SharedStrings;
+use dyndep_file::{Dyndep, Statement};
 use ninja_text::{Failure, Path};
-use std::alloc::Global;
+use std::alloc::{AllocError, Global};
+use std::marker::Model;
 
 /// Returns the graph after the effect of the dyndep file `name`, which holds these statements
 /// (Ninja 1.11 manual, "Dynamic dependencies").
@@ -59,6 +60,8 @@ pub fn apply(
     Ok(Graph { edges, makers })
 }
 
+type Checked<T> = Result<T, Failure<EffectFault>>;
+
 /// Returns the edge of each statement, which makes its output and names the file, or E5. No file is
 /// made twice, so only the edge that makes the output can be the one.
 fn edges_of_statements(
@@ -67,7 +70,7 @@ fn edges_of_statements(
     name: &Path,
     makers: &Makers,
     additions: &[Addition],
-) -> Result<Vec<usize>, Failure<EffectFault>>
+) -> Checked<Vec<usize>>
     requires makers { AreMade edges.now makers.now }
     requires made_once { MadeOnce edges.now }
     ensures edges { IfOk result (λ edge_of.
@@ -103,7 +106,7 @@ fn statements_of_edges(
     count: usize,
     edge_of: &[usize],
     additions: &[Addition],
-) -> Result<Vec<Option<usize>>, Failure<EffectFault>>
+) -> Checked<Vec<Option<usize>>>
     requires edges { All (λ edge. edge < count) edge_of.now }
     requires each { length edge_of.now ≡ length additions.now }
     ensures statements { IfOk result (λ statement_of.
@@ -128,7 +131,7 @@ fn check_mentioned(
     edges: &[Edge],
     name: &Path,
     statement_of: &[Option<usize>],
-) -> Result<(), Failure<EffectFault>>
+) -> Checked<()>
     requires outputs { All (λ e. e.outputs ≢ []) edges.now }
     requires each { length statement_of.now ≡ length edges.now }
     ensures ok { OnOk result (HaveStatements edges.now name.now statement_of.now) }
@@ -142,4 +145,136 @@ fn check_mentioned(
         }
     }
     Ok(())
+}
+
+/// A statement of a dyndep file with its paths made canonical.
+#[derive(Drop)]
+struct Addition {
+    /// The output, then the implicit outputs, then the implicit inputs.
+    paths: Vec<Path>,
+    /// How many paths there are up to the end of the implicit outputs.
+    outputs: usize,
+    restat: bool,
+}
+
+impl Model for Addition {
+    ghost Value = { StatementValue };
+
+    ghost view = { λ a. addition_of a.paths.items a.outputs a.restat };
+
+    ghost invariant = { λ a. (1 ≤ a.outputs) × (a.outputs ≤ length a.paths.items) };
+}
+
+impl Addition {
+    fn output(&self) -> &Path
+        ensures { result.now ≡ self.now.output }
+    {
+        &self.paths[0]
+    }
+
+    fn implicit_outputs(&self) -> &[Path]
+        ensures { result.now ≡ self.now.implicit_outputs }
+    {
+        &self.paths[1..self.outputs]
+    }
+
+    fn implicit_inputs(&self) -> &[Path]
+        ensures { result.now ≡ self.now.implicit_inputs }
+    {
+        &self.paths[self.outputs..]
+    }
+}
+
+/// Returns the statements with canonical paths, or E8 for the first string that is not a valid
+/// path. The paths of a statement share one text.
+fn canonical_statements(alloc: Global, statements: &[Statement]) -> Checked<Vec<Addition>>
+    ensures canonical { IfOk result (λ additions. AreCanonical statements.now additions.items) }
+    ensures fault { IfErr result (ForFault (IsBadStatement statements.now)) }
+{
+    let mut additions = Vec::with_capacity(alloc, statements.len())?;
+    for (index, statement) in statements.iter().enumerate() {
+        let strings = SharedStrings::of(alloc, statement)?;
+        let paths = canonical_paths(alloc, &strings, index)?;
+        additions.push(Addition {
+            paths,
+            outputs: 1 + statement.implicit_outputs.len(),
+            restat: statement.restat,
+        })?;
+    }
+    Ok(additions)
+}
+
+/// Returns the canonical paths of the strings of the statement with this index.
+fn canonical_paths(alloc: Global, strings: &SharedStrings, statement: usize) -> Checked<Vec<Path>>
+    ensures paths { IfOk result (λ paths. ArePaths strings.now paths.items) }
+    ensures fault { IfErr result (ForFault (IsBadTextFrom strings.now statement 0)) }
+{
+    let count = strings.len();
+    let mut paths = Vec::with_capacity(alloc, count)?;
+    for path in 0..count {
+        match strings.path(alloc, path) {
+            Ok(canonical) => paths.push(canonical)?,
+            Err(Failure::Memory) => return Err(Failure::Memory),
+            Err(Failure::Fault(fault)) => {
+                return Err(Failure::Fault(EffectFault::BadPath {
+                    statement,
+                    path,
+                    fault,
+                }));
+            }
+        }
+    }
+    Ok(paths)
+}
+
+/// Returns the makers with the added outputs, each on the edge of its statement, or E7 if an edge
+/// makes one already or it was added before.
+fn added_makers(
+    alloc: Global,
+    makers: &Makers,
+    additions: &[Addition],
+    edge_of: &[usize],
+) -> Checked<Makers>
+    requires each { length edge_of.now ≡ length additions.now }
+    ensures makers { IfOk result (λ new.
+        new ≡ makers.now ++ added_files edge_of.now additions.now) }
+    ensures once { OnOk result (NoneMadeTwice makers.now (added_outputs additions.now)) }
+    ensures fault { IfErr result (ForFault (IsFirstAddedTwice makers.now additions.now)) }
+{
+    let mut files = MadeFiles::new(alloc);
+    for (index, addition) in additions.iter().enumerate() {
+        files.push(addition.implicit_outputs(), edge_of[index])?;
+    }
+    match makers.with(alloc, files) {
+        Ok(makers) => Ok(makers),
+        Err(failure) => Err(failure.map(|path| EffectFault::AddedTwice { path })),
+    }
+}
+
+/// Returns the edges, each with what the statement on it adds.
+fn extended_edges(
+    alloc: Global,
+    edges: &[Edge],
+    additions: &[Addition],
+    statement_of: &[Option<usize>],
+) -> Result<Vec<Edge>, AllocError>
+    requires each { length statement_of.now ≡ length edges.now }
+    requires within { (i k : ℕ) → statement_on statement_of.now i ≡ Some k →
+        k < length additions.now }
+    ensures { IfOk result (λ new. AreExtended edges.now additions.now statement_of.now new.items) }
+{
+    let mut new = Vec::with_capacity(alloc, edges.len())?;
+    for (edge_index, edge) in edges.iter().enumerate() {
+        let mut after = edge.clone()?;
+        if let Some(statement_index) = statement_of[edge_index] {
+            let addition = &additions[statement_index];
+            let outputs = &mut after.implicit_outputs;
+            outputs.extend_from_slice(addition.implicit_outputs())?;
+            let inputs = &mut after.implicit_inputs;
+            inputs.extend_from_slice(addition.implicit_inputs())?;
+            after.restat |= addition.restat;
+        }
+        new.push(after)?;
+    }
+    Ok(new)
 }

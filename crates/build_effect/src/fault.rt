@@ -3,8 +3,10 @@
 //! A path need not be UTF-8, so a fault does not print the file that it is about. `path` returns
 //! the file.
 ghost use Rattle.std.specs.Prelude.{◌≡◌, Some, option_copied};
-ghost use Rattle.build_effect.specs.FaultTexts.{graph_fault_text, graph_fault_path, effect_fault_text, effect_fault_path};
-ghost use Rattle.build_effect.specs.ListingFaultTexts.{line_cause_text, listing_line_fault_text, listing_fault_text, listing_write_fault_text};
+ghost use Rattle.build_effect.specs.Prelude.{graph_fault_text, graph_fault_path, effect_fault_text};
+ghost use Rattle.build_effect.specs.Prelude.{effect_fault_path, line_cause_text};
+ghost use Rattle.build_effect.specs.Prelude.{listing_line_fault_text, listing_fault_text};
+ghost use Rattle.build_effect.specs.Prelude.{listing_write_fault_text};
 
 use ninja_text::{LexFault, Path, PathFault};
 use std::fmt;

@@ -1,16 +1,15 @@
 //! Laws of effects and of edge listings. Each law is the contract of a function that does nothing.
-ghost use Rattle.build_effect.specs.Effect.{EffectGives};
-ghost use Rattle.build_effect.specs.Premises.{OneEffect};
-ghost use Rattle.build_effect.specs.Checks.{ChecksSuffice, FaultsExclude};
-ghost use Rattle.build_effect.specs.Files.{AnyOrder, OrdersEndAlike};
-ghost use Rattle.build_effect.specs.Numbering.{FilesOrder, LevelOrders};
-ghost use Rattle.build_effect.specs.ListingReading.{OneListing, ListedIsFaultless, ListingOrFault, OneListingFault, OneClass, LineOrCause, CauseIsFaulty, OneCause, ClassHasForm};
-ghost use Rattle.build_effect.specs.ListingLaws.{WrittenListing, ListingFaultStays};
+ghost use Rattle.build_effect.specs.Prelude.{ChecksSuffice, FaultsExclude, EffectGives, AnyOrder};
+ghost use Rattle.build_effect.specs.Prelude.{OrdersEndAlike, WrittenListing, ListingFaultStays};
+ghost use Rattle.build_effect.specs.Prelude.{OneListing, ListedIsFaultless, ListingOrFault};
+ghost use Rattle.build_effect.specs.Prelude.{OneListingFault, OneClass, LineOrCause, CauseIsFaulty};
+ghost use Rattle.build_effect.specs.Prelude.{OneCause, ClassHasForm, LevelOrders, FilesOrder};
+ghost use Rattle.build_effect.specs.Prelude.{OneEffect};
 
-/// Statements that add no file twice have exactly one effect on every graph that meets three
-/// premises: no file is made twice, exactly the edges of the statements' outputs name the dyndep
-/// file, and no edge makes an added output. The effect is that of the statements with canonical
-/// paths, and these are one list.
+/// Statements that add no file twice have exactly one effect on every graph in which no file is
+/// made twice, exactly the edges of the statements' outputs name the dyndep file, and no edge makes
+/// an added output. The effect is that of the statements with canonical paths, and these are one
+/// list.
 pub fn one_effect()
     ensures one { OneEffect }
     ensures gives { EffectGives }
@@ -30,13 +29,10 @@ pub fn checks()
     ensures exclude { FaultsExclude }
 {}
 
-/// The graph after the effect of a file can be ordered under these premises:
-///
-/// - The premises of [`one_effect`] hold of the file and the graph.
-/// - What the statements add can be ordered.
-/// - The graph with the added outputs alone can be ordered by levels. The edges that name the file
-///   are on one level, and each edge that makes an added input is on a lower level, unless the
-///   input is an added output.
+/// The graph after the effect of a file can be ordered if the premises of [`one_effect`] hold, what
+/// the statements add can be ordered, and the graph with the added outputs alone can be ordered by
+/// levels. The edges that name the file are on one level, and each edge that makes an added input
+/// is on a lower level, unless the input is an added output.
 pub fn level_orders()
     ensures { LevelOrders }
 {}
@@ -81,11 +77,9 @@ pub fn listing_lines()
     ensures form { ClassHasForm }
 {}
 
-/// The text of a graph lists the edges of the graph, and by [`one_listing`] no other edges, if:
-///
-/// - each rule has at least one letter, digit, `_`, `.` or `-`, and nothing else,
-/// - the paths are canonical, as the paths of an [`Edge`](crate::Edge) are, and
-/// - no build line is too long.
+/// The text of a graph lists the edges of the graph, and by [`one_listing`] no other edges, if each
+/// rule has at least one letter, digit, `_`, `.` or `-` and nothing else, the paths are canonical,
+/// as those of an [`Edge`](crate::Edge) are, and no build line is too long.
 pub fn written_listing()
     ensures { WrittenListing }
 {}

@@ -18,35 +18,16 @@
 //!
 //! The view of a graph is the list of its edges, and the view of a path is its canonical string.
 //! Definitions that only private clauses use are in `specs/inner/`.
-//!
-//! # How it works
-//!
-//! - `makers.rt`: a table has the edge that makes each file, so the edge of a statement, the edges
-//!   that produce an input and a file that is made twice are found in one step, and the work is
-//!   linear in the files. [`Graph::new`] finds E1 as it fills the table. [`apply`] shares it and
-//!   fills one more with the added outputs, which finds E7. A table's key is made of exactly the
-//!   files in it (`table_keys`), so nobody can choose paths that collide.
-//! - `ordering.rt`: [`edge_order`] gives `dep_order` the edges that produce each edge's inputs.
-//! - `effect.rt`: [`apply`] makes its checks in the order of their errors: `canonical_statements`
-//!   (E8), `edges_of_statements` (E5), `statements_of_edges` (E4), `check_mentioned` (E6),
-//!   `added_makers` (E7). `extended_edges` then makes the new edges. The law [`laws::checks`],
-//!   which [`apply`] calls, says that they are the effect.
-//! - The law [`laws::files_order`] combines two numberings by `layered` of `dep_order`: the levels
-//!   of the graph with the added outputs alone, and within one level the order of what is added.
 #![tactic(auto)]
 
-mod addition;
 mod effect;
 mod fault;
 mod graph;
 pub mod laws;
 mod listing;
-mod makers;
-mod ordering;
 mod strings;
 
 pub use effect::apply;
 pub use fault::{EffectFault, GraphFault, LineCause, LineFault, ListFault, ListingWriteFault};
-pub use graph::{Edge, Graph};
-pub use listing::{ListingReader, listing_write};
-pub use ordering::edge_order;
+pub use graph::{Edge, Graph, edge_order, listing_write};
+pub use listing::ListingReader;

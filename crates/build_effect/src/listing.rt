@@ -1,19 +1,23 @@
-//! Edge listings: the reader, the rows that its lines have (`rows.rt`), what each row does to the
-//! edges so far (`state.rt`), and the writer (`writing.rt`).
-ghost use Rattle.std.specs.Prelude.{◌≡◌, ◌++◌, [], Some, Err};
-ghost use Rattle.build_effect.specs.ListingReaders.{line_failure};
-
-mod rows;
-mod state;
-mod writing;
+//! Edge listings: the reader, and what each line does to the edges so far.
+ghost use Rattle.std.specs.Prelude.{◌≡◌, ◌≢◌, ◌++◌, [], IfOk, IfErr, All, Err, Ok, Some};
+ghost use Rattle.build_effect.specs.Prelude.{option_map, seen_assignment, Bytes, Gives, ForFault};
+ghost use Rattle.build_effect.specs.Prelude.{seen_line, path_of, symbols_left, Failure, DyndepRow};
+ghost use Rattle.build_effect.specs.Prelude.{ListingReaderState, HasReadListing, FeedsListing};
+ghost use Rattle.build_effect.specs.Prelude.{line_failure, EndsListing, IsListingFault, Lists};
+ghost use Rattle.build_effect.specs.Prelude.{ListingValue, TakesRow, edge_texts, binding_row};
+ghost use Rattle.build_effect.specs.Prelude.{build_row, row_of, with_last_dyndep, with_last_restat};
+ghost use Rattle.build_effect.specs.Prelude.{PassesLine, RefusesLine, fault_of_cutter, LineFault};
 
 use crate::fault::{LineCause, LineFault, ListFault};
-use crate::graph::Graph;
-use crate::listing::state::{Binding, ListingState, take_line};
-use ninja_text::{CutFault, Failure, Line, LineReader, LineState};
+use crate::graph::{Edge, Graph};
+use crate::strings::{edge_of, edge_texts};
+use ninja_text::{
+    Assignment, CutFault, Failure, Line, LineForm, LineReader, LineState, Path, PathFault,
+    TokenKind, Words, line_form,
+};
 use std::alloc::Global;
 use std::marker::Model;
-pub use writing::listing_write;
+use std::rc::RcSlice;
 
 /// Reads an edge listing that comes in pieces: build lines with their bindings `dyndep` and
 /// `restat` (Ninja 1.11 manual, "Build statements"), comments and blank lines.
@@ -27,19 +31,12 @@ pub struct ListingReader {
 }
 
 impl Model for ListingReader {
-    ghost use Rattle.build_effect.specs.ListingReaders.{ListingReaderState};
-
     ghost Value = { ListingReaderState };
 
     ghost view = { λ r. r.lines };
 }
 
 impl ListingReader {
-    ghost use Rattle.ninja_text.specs.Bytes.{Bytes};
-    ghost use Rattle.build_effect.specs.ListingReaders.{HasReadListing, FeedsListing, EndsListing};
-    ghost use Rattle.build_effect.specs.declared.fault.LineFault.{LineFault};
-    ghost use Rattle.ninja_text.specs.declared.failure.Failure.{Failure};
-
     /// Returns a reader that was fed nothing. It allocates nothing yet.
     pub fn new(alloc: Global) -> ListingReader
         ensures { HasReadListing [] result }
@@ -102,19 +99,8 @@ impl ListingReader {
 }
 
 impl Graph {
-    ghost use Rattle.std.specs.Prelude.{IfErr, IfOk};
-    ghost use Rattle.ninja_text.specs.Failure.{ForFault};
-    ghost use Rattle.build_effect.specs.ListingReading.{Lists};
-    ghost use Rattle.build_effect.specs.ListingReaders.{IsListingFault};
-
-    /// Returns the graph of the edges that a text lists. A [`ListingReader`] that is fed the text
-    /// returns the same.
-    ///
-    /// # Errors
-    ///
-    /// - E3: the first faulty line; if there is none, the last line has no end.
-    /// - E1 or E2: otherwise, the edges listed are not a graph, as [`Graph::new`] reports it.
-    /// - `Memory`: an allocation fails.
+    /// Returns the graph of the edges that a text lists, or E3, E1, E2 or `Memory`, as a
+    /// [`ListingReader`] that is fed the text does.
     pub fn of(alloc: Global, text: &[u8]) -> Result<Graph, Failure<ListFault>>
         ensures graph { IfOk result (Lists text.now) }
         ensures fault { IfErr result (ForFault (IsListingFault text.now)) }
@@ -127,8 +113,6 @@ impl Graph {
 
 impl LineState for ListingState {
     type Fault = LineFault;
-
-    ghost use Rattle.build_effect.specs.inner.ReadLines.{PassesLine, RefusesLine, fault_of_cutter};
 
     ghost passes = { PassesLine };
 
@@ -155,5 +139,160 @@ impl LineState for ListingState {
                 cause: LineCause::Truncated,
             },
         }
+    }
+}
+
+/// Which bindings may still come for the last edge.
+#[derive(Clone, Copy)]
+enum Binding {
+    /// No binding: no edge is open.
+    Closed,
+    /// Each binding that the last edge does not have yet.
+    Open { has_dyndep: bool, has_restat: bool },
+}
+
+/// The edges so far, each with an output, and the bindings that may still come.
+#[derive(Drop)]
+struct ListingState {
+    edges: Vec<Edge>,
+    binding: Binding,
+}
+
+impl Model for ListingState {
+    ghost Value = { ListingValue };
+
+    ghost view = { λ s. record { edges = s.edges.items; binding = s.binding } };
+
+    ghost invariant = { λ s. All (λ e. e.outputs ≢ []) s.edges.items };
+}
+
+type Taken = Result<(), Failure<LineCause>>;
+
+/// Takes the next line. Lexical faults are reported first, then the line's form, then its paths.
+fn take_line(alloc: Global, state: &mut ListingState, line: Line<'_>) -> Taken
+    ensures { let view = seen_line line.entry in
+        TakesRow state.old (row_of view.text view.comment) result state.new }
+{
+    match line_form(line) {
+        Err(fault) => Err(Failure::Fault(LineCause::Lexical(fault))),
+        Ok(LineForm::Comment) => Ok(()),
+        Ok(LineForm::Blank) => {
+            state.binding = Binding::Closed;
+            Ok(())
+        }
+        Ok(LineForm::Build(words)) => build_line(alloc, state, line.text().len(), words),
+        Ok(LineForm::Indented(found)) => binding_line(alloc, state, found),
+        Ok(LineForm::Unindented(_)) => Err(Failure::Fault(LineCause::Form)),
+    }
+}
+
+/// A build line, whose strings have at most `bytes` bytes, adds an edge without bindings.
+fn build_line(alloc: Global, state: &mut ListingState, bytes: usize, words: Words<'_>) -> Taken
+    ensures { TakesRow state.old (build_row (edge_texts (symbols_left words.entry)))
+        result state.new }
+{
+    let Some(texts) = edge_texts(alloc, bytes, words)? else {
+        return Err(Failure::Fault(LineCause::Form));
+    };
+    match edge_of(alloc, texts) {
+        Ok(edge) => {
+            state.edges.push(edge)?;
+            state.binding = Binding::Open {
+                has_dyndep: false,
+                has_restat: false,
+            };
+            Ok(())
+        }
+        Err(failure) => Err(failure.map(LineCause::BadPath)),
+    }
+}
+
+/// An indented line sets `dyndep` or `restat` of the last edge, each at most once.
+fn binding_line(alloc: Global, state: &mut ListingState, line: Option<Assignment<'_>>) -> Taken
+    ensures { TakesRow state.old (binding_row (option_map seen_assignment line.entry))
+        result state.new }
+{
+    let Some(found) = line else {
+        return Err(Failure::Fault(LineCause::Form));
+    };
+    if found.name() == b"dyndep".as_slice() {
+        return dyndep_line(alloc, state, found.value(alloc)?);
+    }
+    if found.name() != b"restat".as_slice() {
+        return Err(Failure::Fault(LineCause::Form));
+    }
+    match state.binding {
+        Binding::Open {
+            has_dyndep,
+            has_restat: false,
+        } => {
+            let value = found.value(alloc)?;
+            set_last_restat(&mut state.edges, !value.is_empty());
+            state.binding = Binding::Open {
+                has_dyndep,
+                has_restat: true,
+            };
+            Ok(())
+        }
+        _ => Err(Failure::Fault(LineCause::Form)),
+    }
+}
+
+/// Takes a binding of `dyndep`. An edge has at most one.
+fn dyndep_line(alloc: Global, state: &mut ListingState, text: Vec<u8>) -> Taken
+    ensures { TakesRow state.old (Ok (DyndepRow text.items)) result state.new }
+{
+    let Binding::Open {
+        has_dyndep: false,
+        has_restat,
+    } = state.binding
+    else {
+        return Err(Failure::Fault(LineCause::Form));
+    };
+    match dyndep_path(alloc, &state.edges, text) {
+        Ok(path) => {
+            set_last_dyndep(&mut state.edges, path);
+            state.binding = Binding::Open {
+                has_dyndep: true,
+                has_restat,
+            };
+            Ok(())
+        }
+        Err(failure) => Err(failure.map(LineCause::BadPath)),
+    }
+}
+
+/// Returns the path of a string. Most edges of a target name one dyndep file, so the path shares
+/// that of the edge before the last one if it is the same.
+fn dyndep_path(alloc: Global, edges: &[Edge], text: Vec<u8>) -> Result<Path, Failure<PathFault>>
+    ensures { Gives (λ path. path) result (path_of text.items) }
+{
+    if edges.len() > 1 {
+        let before = &edges[edges.len() - 2];
+        if let Some(path) = &before.dyndep {
+            if path.bytes() == text.as_slice() {
+                return Ok(path.copy(alloc)?);
+            }
+        }
+    }
+    // The path takes the string over if that is canonical.
+    let shared = RcSlice::from_vec(text)?;
+    let end = shared.len();
+    Path::within(alloc, &shared, 0, end)
+}
+
+fn set_last_dyndep(edges: &mut Vec<Edge>, path: Path)
+    ensures { edges.new.items ≡ with_last_dyndep path edges.old.items }
+{
+    if let Some(edge) = edges.last_mut() {
+        edge.dyndep = Some(path);
+    }
+}
+
+fn set_last_restat(edges: &mut Vec<Edge>, flag: bool)
+    ensures { edges.new.items ≡ with_last_restat flag edges.old.items }
+{
+    if let Some(edge) = edges.last_mut() {
+        edge.restat = flag;
     }
 }

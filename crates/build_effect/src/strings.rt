@@ -1,16 +1,15 @@
-//! The strings of a build line or a statement, one after another in one text, and the paths that
-//! share it.
-ghost use Rattle.std.specs.Prelude.{◌≡◌, ◌<◌, ◌≤◌, ◌++◌, ◌∷◌, [], length, get_or, slice_range, IfOk, OnOk};
-ghost use Rattle.dep_order.specs.Rows.{rows};
-ghost use Rattle.ninja_text.specs.Failure.{Gives};
-ghost use Rattle.ninja_text.specs.Paths.{path_of};
-ghost use Rattle.ninja_text.specs.Tokens.{value_of};
-ghost use Rattle.ninja_text.specs.TokenViews.{seen_token};
-ghost use Rattle.build_effect.specs.Faults.{path_texts};
-ghost use Rattle.build_effect.specs.inner.ListingWalk.{paths_of};
+//! The strings of a build line or a statement, one after another in one text, the paths that share
+//! it, and the parts of a build line.
+ghost use Rattle.std.specs.Prelude.{◌≡◌, ◌<◌, ◌≤◌, ◌≢◌, ◌∷◌, ◌++◌, List, [], length, get_or, IfOk};
+ghost use Rattle.build_effect.specs.Prelude.{OnOk, slice_range, rc_slice_items, rows, Text, Gives};
+ghost use Rattle.build_effect.specs.Prelude.{path_of, front_words, past_words, words_of_part};
+ghost use Rattle.build_effect.specs.Prelude.{symbols_past_part, seen_token, symbols_left, value_of};
+ghost use Rattle.build_effect.specs.Prelude.{path_texts, is_rule_name, GivesEdge, edge_texts};
+ghost use Rattle.build_effect.specs.Prelude.{paths_of, edge_paths, texts_of, AreWithin};
 
+use crate::graph::Edge;
 use dyndep_file::Statement;
-use ninja_text::{Failure, Path, PathFault, Token};
+use ninja_text::{Failure, Path, PathFault, Token, TokenKind, Words};
 use std::alloc::{AllocError, Global};
 use std::marker::Model;
 use std::rc::RcSlice;
@@ -31,10 +30,6 @@ pub(crate) struct Span {
 }
 
 impl Model for Strings {
-    ghost use Rattle.std.specs.Prelude.{List};
-    ghost use Rattle.ninja_text.specs.Bytes.{Text};
-    ghost use Rattle.build_effect.specs.inner.Strings.{AreWithin, texts_of};
-
     ghost Value = { List Text };
 
     ghost view = { λ s. texts_of s.text.items s.spans.items };
@@ -114,11 +109,6 @@ pub(crate) struct SharedStrings {
 }
 
 impl Model for SharedStrings {
-    ghost use Rattle.std.specs.Prelude.{List};
-    ghost use Rattle.std.specs.Rc.{rc_slice_items};
-    ghost use Rattle.ninja_text.specs.Bytes.{Text};
-    ghost use Rattle.build_effect.specs.inner.Strings.{AreWithin, texts_of};
-
     ghost Value = { List Text };
 
     ghost view = { λ s. texts_of (rc_slice_items s.text) s.spans.items };
@@ -173,4 +163,125 @@ impl SharedStrings {
         }
         Ok(paths)
     }
+}
+
+/// A build line, with strings in the place of an edge's paths. It has an output.
+#[derive(Drop)]
+pub(crate) struct EdgeTexts {
+    rule: Vec<u8>,
+    /// The strings of all five lists, from left to right.
+    strings: Strings,
+    /// How many strings there are up to the end of each list. The last list, that of the order-only
+    /// inputs, has the rest.
+    outputs: usize,
+    implicit_outputs: usize,
+    inputs: usize,
+    implicit_inputs: usize,
+}
+
+impl Model for EdgeTexts {
+    ghost use Rattle.build_effect.specs.ListingLines.{EdgeTexts};
+    ghost use Rattle.build_effect.specs.inner.Strings.{AreEnds, edge_texts_of};
+
+    ghost Value = { EdgeTexts };
+
+    ghost view = { λ t. edge_texts_of t.rule.items t.strings
+        t.outputs t.implicit_outputs t.inputs t.implicit_inputs };
+
+    ghost invariant = { λ t. AreEnds t.strings
+        t.outputs t.implicit_outputs t.inputs t.implicit_inputs };
+}
+
+/// Returns what a build line says, by its tokens after `build`, or `None` if it is not a build
+/// line. Its strings have at most `bytes` bytes.
+pub(crate) fn edge_texts(
+    alloc: Global,
+    bytes: usize,
+    words: Words<'_>,
+) -> Result<Option<EdgeTexts>, AllocError>
+    ensures { IfOk result (λ texts. texts ≡ edge_texts (symbols_left words.entry)) }
+{
+    let mut tokens = words;
+    let mut strings = Strings::with_capacity(alloc, bytes)?;
+    let outputs = front_words(&mut tokens, &mut strings)?;
+    let implicit_outputs = part(&mut tokens, TokenKind::Bar, &mut strings)?;
+    if !tokens.take_sign(TokenKind::Colon) {
+        return Ok(None);
+    }
+    let Some(rule) = tokens.next_word() else {
+        return Ok(None);
+    };
+    let inputs = front_words(&mut tokens, &mut strings)?;
+    let implicit_inputs = part(&mut tokens, TokenKind::Bar, &mut strings)?;
+    part(&mut tokens, TokenKind::DoubleBar, &mut strings)?;
+    if outputs == 0 || !is_rule_name(rule.raw()) || tokens.next().is_some() {
+        return Ok(None);
+    }
+    Ok(Some(EdgeTexts {
+        rule: Vec::from_slice(alloc, rule.raw())?,
+        strings,
+        outputs,
+        implicit_outputs,
+        inputs,
+        implicit_inputs,
+    }))
+}
+
+/// Takes the words at the front, and appends their values. Returns how many strings there are then.
+fn front_words(tokens: &mut Words<'_>, strings: &mut Strings) -> Result<usize, AllocError>
+    ensures words { OnOk result
+        (strings.new ≡ strings.old ++ front_words (symbols_left tokens.old)) }
+    ensures rest { OnOk result (symbols_left tokens.new ≡ past_words (symbols_left tokens.old)) }
+    ensures count { IfOk result (λ count. count ≡ length strings.new) }
+{
+    while let Some(token) = tokens.next_word() {
+        strings.push_value(token)?;
+    }
+    Ok(strings.len())
+}
+
+/// Takes the part that begins with this sign, and appends its words. If the sign is not at the
+/// front, takes nothing. Returns how many strings there are then.
+fn part(tokens: &mut Words<'_>, sign: TokenKind, strings: &mut Strings) -> Result<usize, AllocError>
+    ensures words { OnOk result
+        (strings.new ≡ strings.old ++ words_of_part sign (symbols_left tokens.old)) }
+    ensures rest { OnOk result
+        (symbols_left tokens.new ≡ symbols_past_part sign (symbols_left tokens.old)) }
+    ensures count { IfOk result (λ count. count ≡ length strings.new) }
+{
+    if tokens.take_sign(sign) {
+        front_words(tokens, strings)
+    } else {
+        Ok(strings.len())
+    }
+}
+
+/// Returns whether a rule may have this name.
+fn is_rule_name(name: &[u8]) -> bool
+    ensures { result ≡ is_rule_name name.now }
+{
+    match name {
+        [] => false,
+        [_, ..] => name.iter().all(|b| b.is_ascii_alphanumeric()
+            || matches!(*b, b'_' | b'.' | b'-')),
+    }
+}
+
+/// Returns the edge of a build line, without bindings, or the error of its first string that is not
+/// a valid path.
+pub(crate) fn edge_of(alloc: Global, texts: EdgeTexts) -> Result<Edge, Failure<PathFault>>
+    ensures edge { GivesEdge result (edge_paths texts) }
+    ensures outputs { IfOk result (λ edge. edge.outputs ≢ []) }
+{
+    let strings = texts.strings.share()?;
+    Ok(Edge {
+        outputs: strings.paths(alloc, 0, texts.outputs)?,
+        implicit_outputs: strings.paths(alloc, texts.outputs, texts.implicit_outputs)?,
+        inputs: strings.paths(alloc, texts.implicit_outputs, texts.inputs)?,
+        implicit_inputs: strings.paths(alloc, texts.inputs, texts.implicit_inputs)?,
+        order_only: strings.paths(alloc, texts.implicit_inputs, strings.len())?,
+        rule: texts.rule,
+        dyndep: None,
+        restat: false,
+    })
 }

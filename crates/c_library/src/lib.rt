@@ -5,18 +5,10 @@
 //! and of the system `malloc`, `realloc` and `free`.
 #![tactic(auto)]
 
-ghost use Rattle.std.specs.Prelude.{◌≡◌, ℕ, [], IsUtf8, Option, ⊤};
-ghost use Rattle.in_memory.specs.CollateCommand.{CollateRun};
-ghost use Rattle.in_memory.specs.Cuts.{IsCut, OfCut};
-ghost use Rattle.in_memory.specs.Effect.{EffectRun};
-ghost use Rattle.in_memory.specs.Locations.{CommandError, IsLineOf, location};
-ghost use Rattle.in_memory.specs.One.{OneRun};
-ghost use Rattle.in_memory.specs.Order.{OrderRun};
-ghost use Rattle.in_memory.specs.ProjectCommand.{ProjectRun};
-ghost use Rattle.in_memory.specs.Replies.{Puts, Replies};
-ghost use Rattle.in_memory.specs.Runs.{Over};
-ghost use Rattle.in_memory.specs.Show.{ShowRun};
-ghost use Rattle.in_memory.specs.Statements.{Tells};
+ghost use Rattle.std.specs.Prelude.{◌≡◌};
+ghost use Rattle.in_memory.specs.Prelude.{ℕ, [], IsUtf8, Option, ⊤, IsCut, OfCut, Over, OneRun};
+ghost use Rattle.in_memory.specs.Prelude.{CollateRun, ProjectRun, EffectRun, OrderRun, ShowRun};
+ghost use Rattle.in_memory.specs.Prelude.{Puts, Replies, Tells, CommandError, IsLineOf, location};
 
 use in_memory::{
     Location, Outcome, collate_into, effect_into, locate, one_into, order_into, project_into,

@@ -2,29 +2,18 @@
 use Rattle.ninja_text.proofs.ForCallers.{element_at, same_some, from_map, to_map, in_append, in_first, in_second, choose}
 use Rattle.std.proofs.Common.{◌≡◌, ◌⊎◌, ℕ, ◌+◌, ◌<◌, List, ◌++◌, length, Some, subst, sym, ◌∙◌, inl, inr, arith, slice_get, Contains, slice_index, zero, suc, [], ◌∷◌, Option, None, get_or, refl, ap}
 use Rattle.std.proofs.lemmas.Option.{slice_get_within, get_or_from_slice_get, slice_get-get_or}
-use Rattle.dep_order.specs.Orders.{IsLeastOrder}
-use Rattle.document_values.specs.Rule.{RuleValue}
-use Rattle.build_effect.specs.EdgeValue.{EdgeValue}
-use Rattle.build_effect.specs.Graphs.{Makes, HasInput, EdgeNeeds, made_by, inputs_of}
-use Rattle.module_table.specs.TableValue.{TableValue}
-use Rattle.module_table.specs.Sound.{IsSound}
-use Rattle.module_table.specs.Added.{required_of, RequiredFiles, AllRequired, OneFile}
-use Rattle.collate_core.specs.Statements.{module_files}
-use Rattle.collate_core.specs.Headline.{Modules, with_modules}
-use Rattle.collate_core.specs.Builds.{IsMaker, IsReader, RequiresFile, ProvidesFile, IsRunOrder, HasNoRace, HasReason, required, listed, HasNoFalseWait, HasSameChains, without_order_only, rebuild_graph, HasNoFalseRebuild, HasNoFalseCycle}
 use Rattle.ninja_text.proofs.ForCallers.{placed as index_of}
 use Rattle.collate_core.proofs.Linked.{contained}
 use Rattle.std.proofs.lemmas.Bool.{cases_lt}
 use Rattle.std.proofs.lemmas.List.{length-map}
-use Rattle.dep_order.specs.Needs.{NodeNeeds, NeedsAreNodes, IsOrderable}
-use Rattle.dep_order.specs.Cycles.{IsCycle}
+use Rattle.collate_core.specs.Prelude.{IsLeastOrder, RuleValue, EdgeValue, Makes, HasInput, EdgeNeeds, made_by, inputs_of, TableValue, IsSound, required_of, RequiredFiles, AllRequired, OneFile, module_files, Modules, with_modules, IsMaker, IsReader, RequiresFile, ProvidesFile, IsRunOrder, HasNoRace, HasReason, required, listed, HasNoFalseWait, HasSameChains, without_order_only, rebuild_graph, HasNoFalseRebuild, HasNoFalseCycle, Text, PathText, Name, Numbers, NodeNeeds, NeedsAreNodes, IsOrderable, IsCycle}
 use Rattle.dep_order.proofs.ForCallers.{Implies, AreWithin, orderable_or_cycle, orderable_same, cycle_same, chain_same}
 use Rattle.collate_core.proofs.Lists.{same_or_not}
 
 -- ---- one edge and what its object adds
 
 -- the files that an edge makes with these modules are its own and theirs
-own_made : (e : EdgeValue) (provided needs : Modules) (file : List ℕ) → Makes e file → Makes (with_modules e provided needs) file
+own_made : (e : EdgeValue) (provided needs : Modules) (file : PathText) → Makes e file → Makes (with_modules e provided needs) file
 own_made e provided needs file h =
     elim (in_append e.outputs e.implicit_outputs h.0 file h.1) [
       | inl out ↦ (h.0, in_first e.outputs (e.implicit_outputs ++ module_files provided) h.0 file out)
@@ -35,25 +24,25 @@ own_made e provided needs file h =
       )
     ]
 
-added_made : (e : EdgeValue) (provided needs : Modules) (k : ℕ) (name file : List ℕ) → slice_get provided k ≡ Some (name, file) →
+added_made : (e : EdgeValue) (provided needs : Modules) (k : ℕ) (name file : Name) → slice_get provided k ≡ Some (name, file) →
     Makes (with_modules e provided needs) file
 added_made e provided needs k name file at =
-    let here : slice_get (module_files provided) k ≡ Some file = to_map (λ (p : List ℕ × List ℕ). p.1) provided k (name, file) at in (
+    let here : slice_get (module_files provided) k ≡ Some file = to_map (λ (p : Name × PathText). p.1) provided k (name, file) at in (
       length e.outputs + (length e.implicit_outputs + k),
       in_second e.outputs (e.implicit_outputs ++ module_files provided) (length e.implicit_outputs + k) file
           (in_second e.implicit_outputs (module_files provided) k file here),
     )
 
 -- a file of these modules, with its index and its name
-abbrev FileOf : Modules → List ℕ → Type 0
-FileOf modules file = (k : ℕ) × (name : List ℕ) × (slice_get modules k ≡ Some (name, file))
+abbrev FileOf : Modules → Text → Type 0
+FileOf modules file = (k : ℕ) × (name : Name) × (slice_get modules k ≡ Some (name, file))
 
-file_at : (modules : Modules) (k : ℕ) (file : List ℕ) → slice_get (module_files modules) k ≡ Some file → FileOf modules file
+file_at : (modules : Modules) (k : ℕ) (file : PathText) → slice_get (module_files modules) k ≡ Some file → FileOf modules file
 file_at modules k file at =
-    let pair = from_map (λ (p : List ℕ × List ℕ). p.1) modules k file at in
-    (k, pair.0.0, subst (λ (f : List ℕ). slice_get modules k ≡ Some (pair.0.0, f)) pair.2 pair.1)
+    let pair = from_map (λ (p : Name × PathText). p.1) modules k file at in
+    (k, pair.0.0, subst (λ (f : PathText). slice_get modules k ≡ Some (pair.0.0, f)) pair.2 pair.1)
 
-made_from : (e : EdgeValue) (provided needs : Modules) (file : List ℕ) → Makes (with_modules e provided needs) file → Makes e file ⊎ FileOf provided file
+made_from : (e : EdgeValue) (provided needs : Modules) (file : PathText) → Makes (with_modules e provided needs) file → Makes e file ⊎ FileOf provided file
 made_from e provided needs file h =
     elim (in_append e.outputs (e.implicit_outputs ++ module_files provided) h.0 file h.1) [
       | inl out ↦ inl (h.0, in_first e.outputs e.implicit_outputs h.0 file out)
@@ -64,9 +53,9 @@ made_from e provided needs file h =
     ]
 
 -- the same of its inputs
-own_read : (e : EdgeValue) (provided needs : Modules) (file : List ℕ) → HasInput e file → HasInput (with_modules e provided needs) file
+own_read : (e : EdgeValue) (provided needs : Modules) (file : PathText) → HasInput e file → HasInput (with_modules e provided needs) file
 own_read e provided needs file h =
-    let implicit : List (List ℕ) = e.implicit_inputs ++ module_files needs in
+    let implicit : List Text = e.implicit_inputs ++ module_files needs in
     elim (in_append e.inputs (e.implicit_inputs ++ e.order_only) h.0 file h.1) [
       | inl input ↦ (h.0, in_first e.inputs (implicit ++ e.order_only) h.0 file input)
       | inr more ↦ elim (in_append e.implicit_inputs e.order_only more.0 file more.2) [
@@ -82,19 +71,19 @@ own_read e provided needs file h =
       ]
     ]
 
-added_read : (e : EdgeValue) (provided needs : Modules) (k : ℕ) (name file : List ℕ) → slice_get needs k ≡ Some (name, file) →
+added_read : (e : EdgeValue) (provided needs : Modules) (k : ℕ) (name file : Name) → slice_get needs k ≡ Some (name, file) →
     HasInput (with_modules e provided needs) file
 added_read e provided needs k name file at =
-    let here : slice_get (module_files needs) k ≡ Some file = to_map (λ (p : List ℕ × List ℕ). p.1) needs k (name, file) at in
-    let implicit : List (List ℕ) = e.implicit_inputs ++ module_files needs in (
+    let here : slice_get (module_files needs) k ≡ Some file = to_map (λ (p : Name × PathText). p.1) needs k (name, file) at in
+    let implicit : List Text = e.implicit_inputs ++ module_files needs in (
       length e.inputs + (length e.implicit_inputs + k),
       in_second e.inputs (implicit ++ e.order_only) (length e.implicit_inputs + k) file
           (in_first implicit e.order_only (length e.implicit_inputs + k) file (in_second e.implicit_inputs (module_files needs) k file here)),
     )
 
-read_from : (e : EdgeValue) (provided needs : Modules) (file : List ℕ) → HasInput (with_modules e provided needs) file → HasInput e file ⊎ FileOf needs file
+read_from : (e : EdgeValue) (provided needs : Modules) (file : PathText) → HasInput (with_modules e provided needs) file → HasInput e file ⊎ FileOf needs file
 read_from e provided needs file h =
-    let implicit : List (List ℕ) = e.implicit_inputs ++ module_files needs in
+    let implicit : List Text = e.implicit_inputs ++ module_files needs in
     elim (in_append e.inputs (implicit ++ e.order_only) h.0 file h.1) [
       | inl input ↦ inl (h.0, in_first e.inputs (e.implicit_inputs ++ e.order_only) h.0 file input)
       | inr more ↦ elim (in_append implicit e.order_only more.0 file more.2) [
@@ -130,12 +119,12 @@ pub record Gained (tables : List TableValue) (g new : List EdgeValue) : Type 0 w
   pub each : (i : ℕ) (e : EdgeValue) → slice_get g i ≡ Some e → (slice_get new i ≡ Some e) ⊎ IsOfObject tables e
 
 -- one edge needs another if it reads a file that the other makes
-needs_by : (g : List EdgeValue) (i maker : ℕ) (file : List ℕ) → IsReader g i file → IsMaker g maker file → EdgeNeeds g i maker
+needs_by : (g : List EdgeValue) (i maker : ℕ) (file : PathText) → IsReader g i file → IsMaker g maker file → EdgeNeeds g i maker
 needs_by g i maker file reader makes = (reader.0, file, makes.0, reader.1, reader.2, makes.1)
 
 module _ (required_files : RequiredFiles) (all_required : AllRequired) (one_file : OneFile) (tables : List TableValue) (g new : List EdgeValue)
     (gained : Gained tables g new) where
-  made : (i : ℕ) (file : List ℕ) → ProvidesFile tables g i file → IsMaker new i file
+  made : (i : ℕ) (file : PathText) → ProvidesFile tables g i file → IsMaker new i file
   made i file (t, o, k, name, inside, edge, provides) =
       let e : EdgeValue = edge.2.1.0 in
       let rule : RuleValue = edge.0 in
@@ -144,7 +133,7 @@ module _ (required_files : RequiredFiles) (all_required : AllRequired) (one_file
       let makes = added_made e rule.provided (required_of t rule) k name file at in
       (makes.0, (with_modules e rule.provided (required_of t rule), gained.objects t o rule i e inside edge.1 edge.2.1.1 (edge.2.0, edge.2.1.2), makes.1))
 
-  reads_required : (i : ℕ) (file : List ℕ) → RequiresFile tables g i file → IsReader new i file
+  reads_required : (i : ℕ) (file : PathText) → RequiresFile tables g i file → IsReader new i file
   reads_required i file (t, o, name, inside, edge, requires, provided) =
       let e : EdgeValue = edge.2.1.0 in
       let rule : RuleValue = edge.0 in
@@ -159,7 +148,7 @@ module _ (required_files : RequiredFiles) (all_required : AllRequired) (one_file
         subst (HasInput (with_modules e rule.provided (required_of t rule))) is_file (added_read e rule.provided (required_of t rule) at.0 name pair.0 at.1),
       )
 
-  keeps_reader : (i : ℕ) (file : List ℕ) → IsReader g i file → IsReader new i file
+  keeps_reader : (i : ℕ) (file : PathText) → IsReader g i file → IsReader new i file
   keeps_reader i file (e, here, reads) =
       elim (gained.each i e here) [
         | inl same ↦ (e, same, reads)
@@ -170,7 +159,7 @@ module _ (required_files : RequiredFiles) (all_required : AllRequired) (one_file
         )
       ]
 
-  keeps_maker : (i : ℕ) (file : List ℕ) → IsMaker g i file → IsMaker new i file
+  keeps_maker : (i : ℕ) (file : PathText) → IsMaker g i file → IsMaker new i file
   keeps_maker i file (j, (e, here, makes_at)) =
       elim (gained.each i e here) [
         | inl same ↦ (j, (e, same, makes_at))
@@ -184,7 +173,7 @@ module _ (required_files : RequiredFiles) (all_required : AllRequired) (one_file
       let within : i < length new = slice_get_within _ _ _ here in
       element_at g i (omega (arith, gained.same_edges))
 
-  reader_from : (i : ℕ) (file : List ℕ) → IsReader new i file → IsReader g i file ⊎ RequiresFile tables g i file
+  reader_from : (i : ℕ) (file : PathText) → IsReader new i file → IsReader g i file ⊎ RequiresFile tables g i file
   reader_from i file (x, there, reads) =
       let old = edge_before i x there in
       let e : EdgeValue = old.0 in
@@ -198,13 +187,13 @@ module _ (required_files : RequiredFiles) (all_required : AllRequired) (one_file
             ]
       ]
     where
-      of_pair : (t : TableValue) (o : ℕ) (rule : RuleValue) (e : EdgeValue) (i : ℕ) (file : List ℕ) → Contains tables t → slice_get t.objects o ≡ Some rule →
+      of_pair : (t : TableValue) (o : ℕ) (rule : RuleValue) (e : EdgeValue) (i : ℕ) (file : PathText) → Contains tables t → slice_get t.objects o ≡ Some rule →
           slice_get g i ≡ Some e → Makes e rule.object → FileOf (required_of t rule) file → RequiresFile tables g i file
       of_pair t o rule e i file inside at here makes (k, name, pair) =
           let known = required_files t rule k name file pair in
           (t, o, name, inside, (rule, at, (makes.0, (e, here, makes.1))), (rule, at, known.0), known.1)
 
-  maker_from : (i : ℕ) (file : List ℕ) → IsMaker new i file → IsMaker g i file ⊎ ProvidesFile tables g i file
+  maker_from : (i : ℕ) (file : PathText) → IsMaker new i file → IsMaker g i file ⊎ ProvidesFile tables g i file
   maker_from i file (j, (x, there, makes_at)) =
       let old = edge_before i x there in
       let e : EdgeValue = old.0 in
@@ -218,7 +207,7 @@ module _ (required_files : RequiredFiles) (all_required : AllRequired) (one_file
             ]
       ]
     where
-      of_pair : (t : TableValue) (o : ℕ) (rule : RuleValue) (e : EdgeValue) (i : ℕ) (file : List ℕ) → Contains tables t → slice_get t.objects o ≡ Some rule →
+      of_pair : (t : TableValue) (o : ℕ) (rule : RuleValue) (e : EdgeValue) (i : ℕ) (file : PathText) → Contains tables t → slice_get t.objects o ≡ Some rule →
           slice_get g i ≡ Some e → Makes e rule.object → FileOf rule.provided file → ProvidesFile tables g i file
       of_pair t o rule e i file inside at here makes (k, name, pair) =
           (t, o, k, name, inside, (rule, at, (makes.0, (e, here, makes.1))), (rule, at, pair))
@@ -234,11 +223,11 @@ module _ (required_files : RequiredFiles) (all_required : AllRequired) (one_file
   pub no_false_wait : HasNoFalseWait tables g new
   no_false_wait i maker = (by_reason, holds)
     where
-      by_maker : (file : List ℕ) → IsReader g i file → IsMaker g maker file ⊎ ProvidesFile tables g maker file → HasReason tables g new i maker
+      by_maker : (file : PathText) → IsReader g i file → IsMaker g maker file ⊎ ProvidesFile tables g maker file → HasReason tables g new i maker
       by_maker file reader (inl old) = inl (needs_by g i maker file reader old)
       by_maker file reader (inr provides) = inr (listed {file = file} reader provides)
 
-      by_reader : (file : List ℕ) → IsMaker new maker file → IsReader g i file ⊎ RequiresFile tables g i file → HasReason tables g new i maker
+      by_reader : (file : PathText) → IsMaker new maker file → IsReader g i file ⊎ RequiresFile tables g i file → HasReason tables g new i maker
       by_reader file makes (inl reader) = by_maker file reader (maker_from maker file makes)
       by_reader file makes (inr requires) = inr (required {file = file} requires makes)
 
@@ -251,7 +240,7 @@ module _ (required_files : RequiredFiles) (all_required : AllRequired) (one_file
       holds (inr (listed {file} reader provides)) = needs_by new i maker file (keeps_reader i file reader) (made maker file provides)
 
 -- the order by smallest numbers is one in which the edges can run
-pub least_order_runs : (g : List EdgeValue) (order : List ℕ) → IsLeastOrder (length g) (EdgeNeeds g) order → IsRunOrder g order
+pub least_order_runs : (g : List EdgeValue) (order : Numbers) → IsLeastOrder (length g) (EdgeNeeds g) order → IsRunOrder g order
 least_order_runs g order least = record {
   as_many = least.as_many;
   all = least.all;
@@ -282,7 +271,7 @@ some_or_none P decide (x ∷ xs) = by (decide x) (some_or_none P decide xs)
         neither zero y at holds = not (subst P (sym (same_some _ _ at)) holds)
         neither (suc k) y at holds = none (k, y, at, holds)
 
-makes_or_not : (d : EdgeValue) (file : List ℕ) → Decided (Makes d file)
+makes_or_not : (d : EdgeValue) (file : PathText) → Decided (Makes d file)
 makes_or_not d file = by (some_or_none (λ other. other ≡ file) (same_or_not file) (made_by d))
   where
     by : Decided (Some_of (λ other. other ≡ file) (made_by d)) → Decided (Makes d file)
@@ -308,25 +297,25 @@ needs_or_not g i j = by (slice_get g i) (slice_get g j) refl refl
 -- ---- without a cycle, needs can be ordered
 
 -- the row has those below n, of which it holds
-abbrev AreThose : (ℕ → Type 0) → ℕ → List ℕ → Type 0
+abbrev AreThose : (ℕ → Type 0) → ℕ → Text → Type 0
 AreThose P n row = ((k : ℕ) → Contains row k → P k × (k < n)) × ((k : ℕ) → P k → k < n → Contains row k)
 
-those : (P : ℕ → Type 0) → ((k : ℕ) → Decided (P k)) → (n : ℕ) → (row : List ℕ) × AreThose P n row
+those : (P : ℕ → Type 0) → ((k : ℕ) → Decided (P k)) → (n : ℕ) → (row : Numbers) × AreThose P n row
 those P decide zero = ([], ((λ k inside. let none = (index_of [] k inside).1 in cc), (λ k p less. absurd (omega (arith, less)))))
 those P decide (suc n) = by (those P decide n) (decide n)
   where
-    from : (row : List ℕ) → P n → AreThose P n row → (k m : ℕ) → slice_get (n ∷ row) m ≡ Some k → P k × (k < suc n)
+    from : (row : Numbers) → P n → AreThose P n row → (k m : ℕ) → slice_get (n ∷ row) m ≡ Some k → P k × (k < suc n)
     from row holds are k zero at = let same : n ≡ k = same_some _ _ at in (subst P same holds, omega (arith, same))
     from row holds are k (suc m) at = let known = are.0 k (contained row m k at) in (known.0, omega (arith, known.1))
 
-    to : (row : List ℕ) → AreThose P n row → (k : ℕ) → P k → k < suc n → Contains (n ∷ row) k
+    to : (row : Numbers) → AreThose P n row → (k : ℕ) → P k → k < suc n → Contains (n ∷ row) k
     to row are k p less =
         elim (cases_lt k n) [
           | inl below ↦ let at = index_of row k (are.1 k p below) in contained (n ∷ row) (suc at.0) k at.1
           | inr above ↦ let same : n ≡ k = omega (arith, less, above) in contained (n ∷ row) 0 k (ap (λ x. Some x) same)
         ]
 
-    by : (row : List ℕ) × AreThose P n row → Decided (P n) → (row : List ℕ) × AreThose P (suc n) row
+    by : (row : Numbers) × AreThose P n row → Decided (P n) → (row : Numbers) × AreThose P (suc n) row
     by (row, are) (inl holds) = (n ∷ row, ((λ k inside. let at = index_of (n ∷ row) k inside in from row holds are k at.0 at.1), to row are))
     by (row, are) (inr not) = (
       row,
@@ -341,21 +330,21 @@ those P decide (suc n) = by (those P decide n) (decide n)
     )
 
 -- a node that needs anything has a row
-row_there : (rows : List (List ℕ)) (i k : ℕ) → k < length (get_or rows i []) → slice_get rows i ≡ Some (get_or rows i [])
+row_there : (rows : List Text) (i k : ℕ) → k < length (get_or rows i []) → slice_get rows i ≡ Some (get_or rows i [])
 row_there [] i k less = absurd (omega (arith, less))
 row_there (row ∷ rows) zero k less = refl
 row_there (row ∷ rows) (suc i) k less = row_there rows i k less
 
-abbrev IsRow : (ℕ → ℕ → Type 0) → ℕ → ℕ → List ℕ → Type 0
+abbrev IsRow : (ℕ → ℕ → Type 0) → ℕ → ℕ → Text → Type 0
 IsRow Needs count i row = AreThose (Needs i) count row
 
 -- if there is no cycle, what can be decided can be ordered
-ordered : (count : ℕ) (Needs : ℕ → ℕ → Type 0) → AreWithin count Needs → ((i j : ℕ) → Decided (Needs i j)) → ((cycle : List ℕ) → IsCycle Needs cycle → ⊥) →
+ordered : (count : ℕ) (Needs : ℕ → ℕ → Type 0) → AreWithin count Needs → ((i j : ℕ) → Decided (Needs i j)) → ((cycle : Numbers) → IsCycle Needs cycle → ⊥) →
     IsOrderable count Needs
 ordered count Needs within decide acyclic =
     by (choose (IsRow Needs count) count (λ i less. those (Needs i) (decide i) count))
   where
-    by : (rows : List (List ℕ)) × (length rows ≡ count) × ((i : ℕ) (row : List ℕ) → slice_get rows i ≡ Some row → IsRow Needs count i row) →
+    by : (rows : List Text) × (length rows ≡ count) × ((i : ℕ) (row : Numbers) → slice_get rows i ≡ Some row → IsRow Needs count i row) →
         IsOrderable count Needs
     by (rows, many, are) =
         elim (orderable_or_cycle rows nodes) [
@@ -398,7 +387,7 @@ module _ (tables : List TableValue) (g new : List EdgeValue) (waits : HasNoFalse
 
 -- ---- without order-only inputs
 
-strip_maker : (g : List EdgeValue) (i : ℕ) (file : List ℕ) → IsMaker g i file → IsMaker (rebuild_graph g) i file
+strip_maker : (g : List EdgeValue) (i : ℕ) (file : PathText) → IsMaker g i file → IsMaker (rebuild_graph g) i file
 strip_maker g i file (j, (e, here, makes)) = (j, (without_order_only e, to_map without_order_only g i e here, makes))
 
 -- what edges gain, they gain without their order-only inputs

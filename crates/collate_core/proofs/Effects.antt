@@ -3,34 +3,12 @@ use Rattle.ninja_text.proofs.ForCallers.{from_map, to_map, same_some, element_at
 use Rattle.std.proofs.Common.{◌≡◌, ℕ, List, [], ◌∷◌, ◌++◌, length, map, Option, Some, refl, ap, subst, sym, ◌∙◌, slice_get, All, zero, suc, zip, ◌<◌, ◌≤◌, inl, inr, arith, Contains}
 use Rattle.std.proofs.lemmas.List.{length-map}
 use Rattle.std.proofs.lemmas.List.Elements.{All-head, All-tail}
-use Rattle.ninja_text.specs.Paths.{IsPath}
-use Rattle.dep_order.specs.Needs.{IsOrderable}
-use Rattle.dyndep_file.specs.StatementValue.{StatementValue}
-use Rattle.dyndep_file.specs.Reading.{StandsForOnly}
-use Rattle.document_values.specs.Rule.{RuleValue}
-use Rattle.build_effect.specs.EdgeValue.{EdgeValue}
-use Rattle.build_effect.specs.Graphs.{Names, EdgeNeeds}
-use Rattle.build_effect.specs.Effect.{IsCanonical, AreCanonical, Extends, extended}
-use Rattle.build_effect.specs.Premises.{AddsAt, AddedOnce, AdditionNeeds, MeetsPremises, OneEffect}
-use Rattle.module_maps.specs.Maps.{Written}
-use Rattle.module_table.specs.TableValue.{TableValue}
-use Rattle.module_table.specs.Modules.{Provides}
-use Rattle.module_table.specs.Sound.{IsSound}
-use Rattle.module_table.specs.Added.{Task, tasks_of, required_of, AddedNeeds, AddedOrderable, FilesOnce, FilesApart, RequiredFiles}
-use Rattle.collate_core.specs.Values.{TargetValue, CollatedValue, ProjectTargetValue}
-use Rattle.collate_core.specs.Documents.{table_of}
-use Rattle.collate_core.specs.Statements.{statement_of, statements_of}
-use Rattle.collate_core.specs.Collation.{HasPaths, Collates}
-use Rattle.collate_core.specs.Headline.{AddsExactly, IsCollatedText, IsHeadline}
 use Rattle.collate_core.proofs.Lists.{all_at, all_front, all_back}
 use Rattle.collate_core.proofs.Parts.{all_images}
-use Rattle.build_effect.specs.Files.{NamedFile, AreFiles, AnyOrder, OrdersEndAlike, FilesMeet, AreFileIndices, Applies, GainsExactly}
-use Rattle.collate_core.specs.Projects.{target_of, CollatesProject, project_tables}
-use Rattle.collate_core.specs.ProjectOrders.{dyndep_files, AllOrders, Sees, ProjectProvides, IsProjectOrdered}
 use Rattle.ninja_text.proofs.ForCallers.{placed as index_of}
 use Rattle.collate_core.proofs.Linked.{collation_at, sound_of, contained}
 use Rattle.std.proofs.lemmas.Option.{slice_get_within, get_or_from_slice_get}
-use Rattle.build_effect.specs.Numbering.{HasOutputsOnly, IsRisingNumbering, IsAboveOthers, AreOrdered, rank_at, FilesOrder}
+use Rattle.collate_core.specs.Prelude.{IsPath, IsOrderable, StatementValue, StandsForOnly, RuleValue, EdgeValue, Names, EdgeNeeds, IsCanonical, AreCanonical, Extends, extended, AddsAt, AddedOnce, AdditionNeeds, MeetsPremises, OneEffect, Written, TableValue, Provides, IsSound, Task, tasks_of, required_of, AddedNeeds, AddedOrderable, FilesOnce, FilesApart, RequiredFiles, TargetValue, CollatedValue, ProjectTargetValue, table_of, statement_of, statements_of, HasPaths, Collates, AddsExactly, IsCollatedText, IsHeadline, NamedFile, AreFiles, AnyOrder, OrdersEndAlike, FilesMeet, AreFileIndices, Applies, GainsExactly, target_of, CollatesProject, project_tables, dyndep_files, AllOrders, Sees, ProjectProvides, IsProjectOrdered, Text, PathText, Name, Numbers, HasOutputsOnly, IsRisingNumbering, IsAboveOthers, AreOrdered, rank_at, FilesOrder}
 use Rattle.collate_core.proofs.NeededLemmas.{task_in}
 
 -- ---- what a table without a fault gives has exactly one effect, which adds exactly what the objects add
@@ -67,11 +45,11 @@ module _ (t : TableValue) (sound : IsSound t) (ordered : AddedOrderable) (once :
       let r = from_map task_of t.objects k x.0 x.1 in
       (r.0, r.1, ap statement_of r.2 ∙ x.2)
 
-  provides_at : (k m : ℕ) (file : List ℕ) → AddsAt statements k m file → (name : List ℕ) × Provides t k m name file
+  provides_at : (k m : ℕ) (file : PathText) → AddsAt statements k m file → (name : Name) × Provides t k m name file
   provides_at k m file h =
       let task = task_at k h.0 h.1 in
-      let p = from_map (λ (q : List ℕ × List ℕ). q.1) task.0.provided m file (ap (λ (a : StatementValue). slice_get a.implicit_outputs m) task.2 ∙ h.2) in
-      (p.0.0, (task.0, task.1, subst (λ (f : List ℕ). slice_get task.0.provided m ≡ Some (p.0.0, f)) p.2 p.1))
+      let p = from_map (λ (q : Name × PathText). q.1) task.0.provided m file (ap (λ (a : StatementValue). slice_get a.implicit_outputs m) task.2 ∙ h.2) in
+      (p.0.0, (task.0, task.1, subst (λ (f : PathText). slice_get task.0.provided m ≡ Some (p.0.0, f)) p.2 p.1))
 
   pub added_once : AddedOnce statements
   added_once k m l n file p q =
@@ -82,9 +60,9 @@ module _ (t : TableValue) (sound : IsSound t) (ordered : AddedOrderable) (once :
   needs : (a b : ℕ) → AdditionNeeds statements a b → AddedNeeds t a b
   needs a b h =
       let task = task_at a h.0 h.5 in
-      let p = from_map (λ (q : List ℕ × List ℕ). q.1) (required_of t task.0) h.3 h.2 (ap (λ (x : StatementValue). slice_get x.implicit_inputs h.3) task.2 ∙ h.7)
+      let p = from_map (λ (q : Name × PathText). q.1) (required_of t task.0) h.3 h.2 (ap (λ (x : StatementValue). slice_get x.implicit_inputs h.3) task.2 ∙ h.7)
       in
-      let r = required t task.0 h.3 p.0.0 h.2 (subst (λ (f : List ℕ). slice_get (required_of t task.0) h.3 ≡ Some (p.0.0, f)) p.2 p.1) in
+      let r = required t task.0 h.3 p.0.0 h.2 (subst (λ (f : PathText). slice_get (required_of t task.0) h.3 ≡ Some (p.0.0, f)) p.2 p.1) in
       let out = provides_at b h.4 h.2 (h.1, h.6, h.8) in
       (h.2, (p.0.0, (task.0, task.1, r.0), r.1), (h.4, out.0, out.1))
 
@@ -95,7 +73,7 @@ module _ (t : TableValue) (sound : IsSound t) (ordered : AddedOrderable) (once :
       let count : length statements ≡ length t.objects = length-map (tasks_of t) statement_of ∙ length-map t.objects task_of in
       (given.0, record { one_each = given.1.one_each ∙ sym count; below = λ a b h. given.1.below a b (needs a b h) })
 
-  object_at : (o : ℕ) (object : List ℕ) → slice_get (map (λ (rule : RuleValue). rule.object) t.objects) o ≡ Some object →
+  object_at : (o : ℕ) (object : PathText) → slice_get (map (λ (rule : RuleValue). rule.object) t.objects) o ≡ Some object →
       (rule : RuleValue) × (slice_get t.objects o ≡ Some rule) × (rule.object ≡ object)
   object_at o object e = from_map (λ (rule : RuleValue). rule.object) t.objects o object e
 
@@ -104,7 +82,7 @@ module _ (t : TableValue) (sound : IsSound t) (ordered : AddedOrderable) (once :
   outputs_of [] = refl
   outputs_of (rule ∷ rules) = ap (λ xs. rule.object ∷ xs) (outputs_of rules)
 
-  pub collated_text : (objects : List (List ℕ)) (text : List ℕ) → objects ≡ map (λ rule. rule.object) t.objects →
+  pub collated_text : (objects : List Text) (text : Text) → objects ≡ map (λ rule. rule.object) t.objects →
       StandsForOnly text statements → All HasPaths statements → IsCollatedText objects text statements
   collated_text objects text same stands canonical =
       record {
@@ -124,7 +102,7 @@ module _ (t : TableValue) (sound : IsSound t) (ordered : AddedOrderable) (once :
       }
 
   -- the effect adds exactly what the objects add
-  pub adds_exactly : (g : List EdgeValue) (name : List ℕ) (new : List EdgeValue) → MeetsPremises g name statements → Extends g name statements new →
+  pub adds_exactly : (g : List EdgeValue) (name : Name) (new : List EdgeValue) → MeetsPremises g name statements → Extends g name statements new →
       AddsExactly t name g new
   unfolding task_of
   adds_exactly g name new meets gives =
@@ -167,7 +145,7 @@ in_zip (x ∷ xs) [] k p e = cc
 in_zip {A} {B} (x ∷ xs) (y ∷ ys) zero p e = let same : (x, y) ≡ p = same_some _ _ e in ap (λ (q : A × B). Some q.1) same
 in_zip (x ∷ xs) (y ∷ ys) (suc k) p e = in_zip xs ys k p e
 
-abbrev pub as_file : List ℕ × TableValue → NamedFile
+abbrev pub as_file : Text × TableValue → NamedFile
 as_file x = record { name = x.0; statements = statements_of x.1; additions = statements_of x.1 }
 
 module _ (ordered : AddedOrderable) (once : FilesOnce) (apart : FilesApart) (required : RequiredFiles) (any : AnyOrder) (alike : OrdersEndAlike)
@@ -184,14 +162,14 @@ module _ (ordered : AddedOrderable) (once : FilesOnce) (apart : FilesApart) (req
         added_once t (sound_of style targets outs project n t at) ordered once apart required,
       )
 
-  file_at : (names : List (List ℕ)) (n : ℕ) (f : NamedFile) → slice_get (dyndep_files names tables) n ≡ Some f →
+  file_at : (names : List Name) (n : ℕ) (f : NamedFile) → slice_get (dyndep_files names tables) n ≡ Some f →
       AreCanonical f.statements f.additions × AddedOnce f.additions
   file_at names n f at =
       let pair = from_map as_file (zip names tables) n f at in
       let known = table_facts n pair.0.1 (in_zip names tables n pair.0 pair.1) in
       subst (λ (x : NamedFile). AreCanonical x.statements x.additions × AddedOnce x.additions) pair.2 known
 
-  are_files : (names : List (List ℕ)) → AreFiles (dyndep_files names tables)
+  are_files : (names : List Name) → AreFiles (dyndep_files names tables)
   are_files names = record { canonical = λ n f at. (file_at names n f at).0; added_once = λ n f at. (file_at names n f at).1 }
 
   pub orders : AllOrders (project_tables targets outs)
@@ -204,18 +182,18 @@ module _ (ordered : AddedOrderable) (once : FilesOnce) (apart : FilesApart) (req
 -- ---- the graph after all targets of a project can be ordered
 
 -- the task of an addition, and the name of one of its inputs
-task_input : (row : List Task) (k i : ℕ) (a : StatementValue) (file : List ℕ) → slice_get (map statement_of row) k ≡ Some a →
-    slice_get a.implicit_inputs i ≡ Some file → (x : Task) × (name : List ℕ) × (slice_get row k ≡ Some x) × Contains x.1 (name, file)
+task_input : (row : List Task) (k i : ℕ) (a : StatementValue) (file : PathText) → slice_get (map statement_of row) k ≡ Some a →
+    slice_get a.implicit_inputs i ≡ Some file → (x : Task) × (name : Name) × (slice_get row k ≡ Some x) × Contains x.1 (name, file)
 task_input row k i a file e input =
     let x = from_map statement_of row k a e in
-    let q = from_map (λ (p : List ℕ × List ℕ). p.1) x.0.1 i file (ap (λ (z : StatementValue). slice_get z.implicit_inputs i) x.2 ∙ input) in
-    (x.0, q.0.0, x.1, contained x.0.1 i (q.0.0, file) (subst (λ (f : List ℕ). slice_get x.0.1 i ≡ Some (q.0.0, f)) q.2 q.1))
+    let q = from_map (λ (p : Name × PathText). p.1) x.0.1 i file (ap (λ (z : StatementValue). slice_get z.implicit_inputs i) x.2 ∙ input) in
+    (x.0, q.0.0, x.1, contained x.0.1 i (q.0.0, file) (subst (λ (f : PathText). slice_get x.0.1 i ≡ Some (q.0.0, f)) q.2 q.1))
 
 module _ (files_order : FilesOrder) (required : RequiredFiles) (style : Option Written) (targets : List ProjectTargetValue) (outs : List CollatedValue)
     (project : CollatesProject style targets outs) (orders : AllOrders (project_tables targets outs))
     (ordered : IsProjectOrdered targets (project_tables targets outs))
     (single : (n : ℕ) (t : TableValue) → slice_get (project_tables targets outs) n ≡ Some t → AddedOnce (statements_of t))
-    (g : List EdgeValue) (names : List (List ℕ)) (count : length names ≡ length (project_tables targets outs))
+    (g : List EdgeValue) (names : List Name) (count : length names ≡ length (project_tables targets outs))
     (meets : FilesMeet g (dyndep_files names (project_tables targets outs))) where
   abbrev files : List NamedFile
   files = dyndep_files names (project_tables targets outs)
@@ -230,14 +208,14 @@ module _ (files_order : FilesOrder) (required : RequiredFiles) (style : Option W
       (f : NamedFile) × (slice_get files n ≡ Some f) × (f.additions ≡ statements_of row)
   to_file n row at =
       let within : n < length (project_tables targets outs) = slice_get_within _ _ _ at in
-      let name : (x : List ℕ) × (slice_get names n ≡ Some x) = element_at names n (omega (arith, count)) in (
+      let name : (x : Text) × (slice_get names n ≡ Some x) = element_at names n (omega (arith, count)) in (
         as_file (name.0, row),
         to_map as_file (zip names (project_tables targets outs)) n (name.0, row) (to_zip names (project_tables targets outs) n name.0 row name.1 at),
         refl,
       )
 
   -- who provides the file in the project adds it
-  adds_at : (n m p : ℕ) (name : List ℕ) (file : List ℕ) → ProjectProvides targets (project_tables targets outs) n m p name file →
+  adds_at : (n m p : ℕ) (name : Name) (file : PathText) → ProjectProvides targets (project_tables targets outs) n m p name file →
       (f : NamedFile) × (j : ℕ) × (slice_get files m ≡ Some f) × AddsAt f.additions p j file × AddedOnce f.additions
   adds_at n m p name file (u, j, sees, at_u, provides) =
       let f = to_file m u at_u in
@@ -245,7 +223,7 @@ module _ (files_order : FilesOrder) (required : RequiredFiles) (style : Option W
       let adds : AddsAt (statements_of u) p j file = (
         statement_of x,
         to_map statement_of (tasks_of u) p x (to_map (task_in u) u.objects p provides.0 provides.1),
-        to_map (λ (q : List ℕ × List ℕ). q.1) provides.0.provided j (name, file) provides.2,
+        to_map (λ (q : Name × PathText). q.1) provides.0.provided j (name, file) provides.2,
       ) in
       (f.0, j, f.1, subst (λ xs. AddsAt xs p j file) (sym f.2) adds, subst AddedOnce (sym f.2) (single m u at_u))
 
@@ -258,9 +236,9 @@ module _ (files_order : FilesOrder) (required : RequiredFiles) (style : Option W
       omega arith
 
   -- the provider of an added input
-  provider : (n k i : ℕ) (f : NamedFile) (a : StatementValue) (file : List ℕ) → slice_get files n ≡ Some f → slice_get f.additions k ≡ Some a →
+  provider : (n k i : ℕ) (f : NamedFile) (a : StatementValue) (file : PathText) → slice_get files n ≡ Some f → slice_get f.additions k ≡ Some a →
       slice_get a.implicit_inputs i ≡ Some file →
-      (name : List ℕ) × (m : ℕ) × (p : ℕ) × ProjectProvides targets (project_tables targets outs) n m p name file ×
+      (name : Name) × (m : ℕ) × (p : ℕ) × ProjectProvides targets (project_tables targets outs) n m p name file ×
       (rank_at ordered.ranks m p < rank_at ordered.ranks n k)
   provider n k i f a file at here input =
       let t = from_file n f at in
@@ -288,13 +266,13 @@ module _ (files_order : FilesOrder) (required : RequiredFiles) (style : Option W
         );
   }
 
-  all_added : (h : List EdgeValue) (ranks : List ℕ) → IsAboveOthers files g h ranks
+  all_added : (h : List EdgeValue) (ranks : Numbers) → IsAboveOthers files g h ranks
   all_added h ranks n k m i j l f a e file at here input none makes edge names =
       let by = provider n k m f a file at here input in
       let there = adds_at n by.1 by.2 by.0 file by.3 in
       absurd (none by.1 by.2 there.1 there.0 there.2 there.3)
 
-  pub end_orderable : (order : List ℕ) (h : List EdgeValue) (ranks : List ℕ) (new : List EdgeValue) → HasOutputsOnly files g h →
+  pub end_orderable : (order : Numbers) (h : List EdgeValue) (ranks : Numbers) (new : List EdgeValue) → HasOutputsOnly files g h →
       IsRisingNumbering files g h ranks →
       ((n : ℕ) → n < length (project_tables targets outs) → Contains order n) → AreFileIndices files order → Applies files g order new →
       IsOrderable (length new) (EdgeNeeds new)

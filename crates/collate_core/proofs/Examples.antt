@@ -2,13 +2,7 @@
 use Rattle.ninja_text.proofs.ForCallers.{same_some}
 use Rattle.std.proofs.Common.{◌≡◌, ℕ, zero, suc, ◌<◌, List, [], ◌∷◌, Some, None, codes, refl, ap, subst, sym, ◌∙◌, inl, inr, arith, slice_get, Contains, bytes_eq, false, true≢false}
 use Rattle.std.proofs.lemmas.Slice.Eq.{bytes_eq-Decides}
-use Rattle.document_values.specs.Rule.{RuleValue}
-use Rattle.build_effect.specs.EdgeValue.{EdgeValue}
-use Rattle.build_effect.specs.Graphs.{Makes, HasInput, EdgeNeeds, made_by}
-use Rattle.module_table.specs.TableValue.{TableValue}
-use Rattle.module_table.specs.Modules.{Provides, Requires}
-use Rattle.module_table.specs.declared.fault.Maker.TheVariants.{Object}
-use Rattle.collate_core.specs.Builds.{IsMaker, IsReader, IsEdgeOf, RequiresFile, ProvidesFile, ComesAfter, IsRunOrder, HasNoRace, HasReason, required, listed, HasNoFalseWait, HasNoFalseCycle}
+use Rattle.collate_core.specs.Prelude.{Text, PathText, Name, Modules, RuleValue, EdgeValue, Makes, HasInput, EdgeNeeds, made_by, TableValue, Provides, Requires, Object, IsMaker, IsReader, IsEdgeOf, RequiresFile, ProvidesFile, ComesAfter, IsRunOrder, HasNoRace, HasReason, required, listed, HasNoFalseWait, HasNoFalseCycle}
 use Rattle.ninja_text.proofs.ForCallers.{placed as index_of}
 use Rattle.collate_core.proofs.Linked.{contained}
 
@@ -24,7 +18,7 @@ two_objects = record {
 abbrev tables : List TableValue
 tables = two_objects ∷ []
 
-abbrev edge : List ℕ → List (List ℕ) → List ℕ → List (List ℕ) → EdgeValue
+abbrev edge : Text → List Text → Text → List Text → EdgeValue
 edge output implicit_outputs input implicit_inputs = record {
   rule = codes "r";
   outputs = output ∷ [];
@@ -41,7 +35,7 @@ abbrev before : List EdgeValue
 before = edge (codes "a.o") [] (codes "a.cpp") [] ∷ edge (codes "b.o") [] (codes "b.cpp") [] ∷ edge (codes "copy") [] (codes "B.bmi") [] ∷ []
 
 -- the edges after the effect, with these added inputs
-abbrev with_inputs : List (List ℕ) → List (List ℕ) → List EdgeValue
+abbrev with_inputs : List Text → List Text → List EdgeValue
 with_inputs of_a of_b =
     edge (codes "a.o") (codes "A.bmi" ∷ []) (codes "a.cpp") of_a ∷ edge (codes "b.o") (codes "B.bmi" ∷ []) (codes "b.cpp") of_b ∷ edge (codes "copy")
     [] (codes "B.bmi") [] ∷ []
@@ -74,7 +68,7 @@ copy_for_b : HasReason tables before after 2 1
 copy_for_b = inr (listed {file = codes "B.bmi"} (_, refl, (0, refl)) b_provides)
 
 -- two texts that differ are not both one file
-differ : (x y file : List ℕ) → bytes_eq x y ≡ false → x ≡ file → y ≡ file → ⊥
+differ : (x y file : Text) → bytes_eq x y ≡ false → x ≡ file → y ≡ file → ⊥
 differ x y file unequal a b = absurd (true≢false (sym ((bytes_eq-Decides x y).1 (a ∙ sym b)) ∙ unequal))
 
 nothing : {X : Type 0} (x : X) → None ≡ Some x → ⊥
@@ -87,22 +81,22 @@ one_of : {X : Type 0} (x y : X) (k : ℕ) → slice_get (x ∷ []) k ≡ Some y 
 one_of x y zero e = same_some _ _ e
 one_of x y (suc k) e = cc
 
-reads_of : (g : List EdgeValue) (i : ℕ) (e : EdgeValue) (file : List ℕ) → slice_get g i ≡ Some e → IsReader g i file → HasInput e file
+reads_of : (g : List EdgeValue) (i : ℕ) (e : EdgeValue) (file : PathText) → slice_get g i ≡ Some e → IsReader g i file → HasInput e file
 reads_of g i e file here reader = subst (λ (d : EdgeValue). HasInput d file) (same_some _ _ (sym reader.1 ∙ here)) reader.2
 
-makes_of : (g : List EdgeValue) (i : ℕ) (e : EdgeValue) (file : List ℕ) → slice_get g i ≡ Some e → IsMaker g i file → Makes e file
+makes_of : (g : List EdgeValue) (i : ℕ) (e : EdgeValue) (file : PathText) → slice_get g i ≡ Some e → IsMaker g i file → Makes e file
 makes_of g i e file here maker =
     (maker.0, subst (λ (d : EdgeValue). slice_get (made_by d) maker.0 ≡ Some file) (same_some _ _ (sym maker.1.1 ∙ here)) maker.1.2)
 
-b_reads : (file : List ℕ) → IsReader before 1 file → codes "b.cpp" ≡ file
+b_reads : (file : PathText) → IsReader before 1 file → codes "b.cpp" ≡ file
 b_reads file reader = let reads : HasInput (edge (codes "b.o") [] (codes "b.cpp") []) file = reads_of before 1 _ file refl reader in
     one_of (codes "b.cpp") file reads.0 reads.1
 
-a_makes : (file : List ℕ) → IsMaker before 0 file → codes "a.o" ≡ file
+a_makes : (file : PathText) → IsMaker before 0 file → codes "a.o" ≡ file
 a_makes file maker = let makes : Makes (edge (codes "a.o") [] (codes "a.cpp") []) file = makes_of before 0 _ file refl maker in
     one_of (codes "a.o") file makes.0 makes.1
 
-b_makes : (file : List ℕ) → IsMaker before 1 file → codes "b.o" ≡ file
+b_makes : (file : PathText) → IsMaker before 1 file → codes "b.o" ≡ file
 b_makes file maker = let makes : Makes (edge (codes "b.o") [] (codes "b.cpp") []) file = makes_of before 1 _ file refl maker in
     one_of (codes "b.o") file makes.0 makes.1
 
@@ -120,7 +114,7 @@ b_not_for_a new (inr (required {file} (t, o, name, inside, is_edge, requires, pr
     at (suc zero) edge_at requires same =
         let mine : Requires two_objects 1 name = subst (λ (u : TableValue). Requires u 1 name) (sym same) requires in
         let none : [] ≡ mine.0.required = ap (λ (r : RuleValue). r.required) (same_some _ _ mine.1) in
-        let found = index_of [] name (subst (λ (names : List (List ℕ)). Contains names name) (sym none) mine.2) in
+        let found = index_of [] name (subst (λ (names : List Name). Contains names name) (sym none) mine.2) in
         nothing name found.1
     at (suc (suc o)) edge_at requires same =
         let mine : IsEdgeOf before 1 two_objects (suc (suc o)) = subst (λ (u : TableValue). IsEdgeOf before 1 u (suc (suc o))) (sym same) edge_at in
@@ -133,8 +127,8 @@ b_not_for_a new (inr (listed {file} reader (t, o, k, name, inside, is_edge, prov
         let mine : Provides two_objects 0 k name file = subst (λ (u : TableValue). Provides u 0 k name file) (sym same) provides in
         let rule : (codes "A", codes "A.bmi") ∷ [] ≡ mine.0.provided = ap (λ (r : RuleValue). r.provided) (same_some _ _ mine.1) in
         let pair : (codes "A", codes "A.bmi") ≡ (name, file) =
-        one_of _ _ k (subst (λ (ps : List (List ℕ × List ℕ)). slice_get ps k ≡ Some (name, file)) (sym rule) mine.2) in
-        differ (codes "A.bmi") (codes "b.cpp") file refl (ap (λ (p : List ℕ × List ℕ). p.1) pair) (b_reads file reader)
+        one_of _ _ k (subst (λ (ps : Modules). slice_get ps k ≡ Some (name, file)) (sym rule) mine.2) in
+        differ (codes "A.bmi") (codes "b.cpp") file refl (ap (λ (p : Name × PathText). p.1) pair) (b_reads file reader)
     at (suc zero) edge_at provides same =
         let mine : IsEdgeOf before 0 two_objects 1 = subst (λ (u : TableValue). IsEdgeOf before 0 u 1) (sym same) edge_at in
         differ (codes "b.o") (codes "a.o") mine.0.object refl (ap (λ (r : RuleValue). r.object) (same_some _ _ mine.1)) (a_makes mine.0.object mine.2)
@@ -154,7 +148,7 @@ false_cycle h = b_not_for_a _
     (h.steps (0 ∷ 1 ∷ []) ((_, codes "B.bmi", 1, refl, (1, refl), (_, refl, refl)), (_, codes "A.bmi", 1, refl, (1, refl), (_, refl, refl)))).1
 
 -- and one too few leaves `a.o` without a wait that it has a reason for
-a_reads : (file : List ℕ) → IsReader (with_inputs [] []) 0 file → codes "a.cpp" ≡ file
+a_reads : (file : PathText) → IsReader (with_inputs [] []) 0 file → codes "a.cpp" ≡ file
 a_reads file reader = let reads : HasInput (edge (codes "a.o") (codes "A.bmi" ∷ []) (codes "a.cpp") []) file =
     reads_of (with_inputs [] []) 0 _ file refl reader in one_of (codes "a.cpp") file reads.0 reads.1
 
@@ -200,20 +194,20 @@ abbrev two_after : List EdgeValue
 two_after = first_after ∷ second_after ∷ []
 
 -- no source is made
-abbrev IsNoSource : List ℕ → Type 0
-IsNoSource file = (x : List ℕ) × (bytes_eq x (codes "a.cpp") ≡ false) × (bytes_eq x (codes "b.cpp") ≡ false) × (x ≡ file)
+abbrev IsNoSource : Text → Type 0
+IsNoSource file = (x : Text) × (bytes_eq x (codes "a.cpp") ≡ false) × (bytes_eq x (codes "b.cpp") ≡ false) × (x ≡ file)
 
-first_makes : (file : List ℕ) → Makes first_after file → IsNoSource file
+first_makes : (file : PathText) → Makes first_after file → IsNoSource file
 first_makes file (zero, made) = (codes "a.o", refl, refl, same_some _ _ made)
 first_makes file (suc zero, made) = (codes "A.bmi", refl, refl, same_some _ _ made)
 first_makes file (suc (suc j), made) = absurd (nothing file made)
 
-second_makes : (file : List ℕ) → Makes second_after file → IsNoSource file
+second_makes : (file : PathText) → Makes second_after file → IsNoSource file
 second_makes file (zero, made) = (codes "b.o", refl, refl, same_some _ _ made)
 second_makes file (suc zero, made) = (codes "B.bmi", refl, refl, same_some _ _ made)
 second_makes file (suc (suc j), made) = absurd (nothing file made)
 
-made_file : (maker : ℕ) (file : List ℕ) → IsMaker two_after maker file → IsNoSource file
+made_file : (maker : ℕ) (file : PathText) → IsMaker two_after maker file → IsNoSource file
 made_file zero file maker = first_makes file (makes_of two_after 0 first_after file refl maker)
 made_file (suc zero) file maker = second_makes file (makes_of two_after 1 second_after file refl maker)
 made_file (suc (suc m)) file maker = absurd (nothing maker.1.0 maker.1.1)

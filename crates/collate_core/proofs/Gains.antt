@@ -1,46 +1,28 @@
 -- What the edges of objects gain, after a target and after targets of a project.
 use Rattle.ninja_text.proofs.ForCallers.{same_some, from_map, to_map, element_at, to_zip}
 use Rattle.std.proofs.Common.{◌≡◌, ◌≢◌, ◌⊎◌, ℕ, zero, suc, List, [], ◌∷◌, map, Option, Some, None, refl, ap, subst, sym, ◌∙◌, inl, inr, slice_get, Contains, ◌<◌, length, arith, zip, filter_map}
-use Rattle.dyndep_file.specs.StatementValue.{StatementValue}
-use Rattle.document_values.specs.Rule.{RuleValue}
-use Rattle.build_effect.specs.EdgeValue.{EdgeValue}
-use Rattle.build_effect.specs.Graphs.{Names, Makes}
-use Rattle.build_effect.specs.Effect.{Effect, extended}
-use Rattle.build_effect.specs.Premises.{MeetsPremises}
-use Rattle.module_table.specs.TableValue.{TableValue}
-use Rattle.module_table.specs.Sound.{IsSound}
-use Rattle.module_table.specs.Added.{Task, tasks_of, required_of}
-use Rattle.collate_core.specs.Values.{TargetValue, CollatedValue, ProjectTargetValue}
-use Rattle.collate_core.specs.Documents.{table_of}
-use Rattle.collate_core.specs.Statements.{statement_of, statements_of}
-use Rattle.collate_core.specs.Headline.{with_modules, AddsExactly}
-use Rattle.collate_core.specs.Builds.{IsMaker, RequiresFile, HasNoRace}
-use Rattle.collate_core.specs.BuildLaws.{HasLinked, IsAfterTarget, IsAfterProject, tables_of}
 use Rattle.collate_core.proofs.Lists.{same_or_not}
 use Rattle.ninja_text.proofs.ForCallers.{placed as index_of}
 use Rattle.collate_core.proofs.Linked.{contained, sound_of}
 use Rattle.collate_core.proofs.NeededLemmas.{task_in}
 use Rattle.collate_core.proofs.BuildLemmas.{IsOfObject, Gained}
-use Rattle.std.specs.List.{cons_option}
 use Rattle.std.proofs.lemmas.Option.{slice_get_within}
-use Rattle.build_effect.specs.Files.{NamedFile, GainsExactly}
-use Rattle.collate_core.specs.Projects.{project_tables}
-use Rattle.collate_core.specs.ProjectOrders.{dyndep_files, AllOrders, IsProjectOrdered}
+use Rattle.collate_core.specs.Prelude.{StatementValue, RuleValue, EdgeValue, Names, Makes, Effect, extended, MeetsPremises, TableValue, IsSound, Task, tasks_of, required_of, TargetValue, CollatedValue, ProjectTargetValue, table_of, statement_of, statements_of, with_modules, AddsExactly, IsMaker, RequiresFile, HasNoRace, HasLinked, IsAfterTarget, IsAfterProject, tables_of, cons_option, Text, PathText, Name, Numbers, NamedFile, GainsExactly, project_tables, dyndep_files, AllOrders, IsProjectOrdered}
 use Rattle.collate_core.proofs.Effects.{in_zip, as_file}
 
 -- an edge names the file, or it does not
-pub names_or_not : (e : EdgeValue) (name : List ℕ) → Names name e ⊎ (e.dyndep ≢ Some name)
+pub names_or_not : (e : EdgeValue) (name : Name) → Names name e ⊎ (e.dyndep ≢ Some name)
 names_or_not e name = by e.dyndep
   where
-    by : (d : Option (List ℕ)) → (d ≡ Some name) ⊎ (d ≢ Some name)
+    by : (d : Option Text) → (d ≡ Some name) ⊎ (d ≢ Some name)
     by None = inr (λ same. cc)
     by (Some other) = elim (same_or_not name other) [
-      | inl same ↦ inl (ap (λ (x : List ℕ). Some x) same)
+      | inl same ↦ inl (ap (λ (x : Text). Some x) same)
       | inr not ↦ inr (λ same. not (same_some _ _ same))
     ]
 
 -- the rule of an object of the statements
-rule_at : (t : TableValue) (o : ℕ) (object : List ℕ) → slice_get (map (λ (a : StatementValue). a.output) (statements_of t)) o ≡ Some object →
+rule_at : (t : TableValue) (o : ℕ) (object : PathText) → slice_get (map (λ (a : StatementValue). a.output) (statements_of t)) o ≡ Some object →
     (rule : RuleValue) × (slice_get t.objects o ≡ Some rule) × (rule.object ≡ object)
 rule_at t o object at =
     let a = from_map (λ (a : StatementValue). a.output) (statements_of t) o object at in
@@ -49,7 +31,7 @@ rule_at t o object at =
     (rule.0, rule.1, ap (λ (z : Task). z.0.object) rule.2 ∙ ap (λ (s : StatementValue). s.output) x.2 ∙ a.2)
 
 -- an edge that names the file of a table makes one of its objects
-pub of_named : (tables : List TableValue) (t : TableValue) → Contains tables t → (g : List EdgeValue) (name : List ℕ) → MeetsPremises g name (statements_of t) →
+pub of_named : (tables : List TableValue) (t : TableValue) → Contains tables t → (g : List EdgeValue) (name : Name) → MeetsPremises g name (statements_of t) →
     (i : ℕ) (e : EdgeValue) → slice_get g i ≡ Some e → Names name e → IsOfObject tables e
 of_named tables t inside g name meets i e here names =
     let o = meets.names.one_object i e here names in
@@ -57,7 +39,7 @@ of_named tables t inside g name meets i e here names =
     (t, o.0, rule.0, inside, rule.1, (o.3.0, o.3.1 ∙ ap Some (sym rule.2)))
 
 -- each object of the statements has an edge
-pub edge_of : (t : TableValue) (g : List EdgeValue) (name : List ℕ) → MeetsPremises g name (statements_of t) → (o : ℕ) (rule : RuleValue) →
+pub edge_of : (t : TableValue) (g : List EdgeValue) (name : Name) → MeetsPremises g name (statements_of t) → (o : ℕ) (rule : RuleValue) →
     slice_get t.objects o ≡ Some rule → (i : ℕ) × IsMaker g i rule.object
 edge_of t g name meets o rule there =
     let at : slice_get (statements_of t) o ≡ Some (statement_of (rule, required_of t rule)) =
@@ -74,7 +56,7 @@ only_one t u inside = by (index_of (t ∷ []) u inside)
     by (zero, at) = sym (same_some _ _ at)
     by (suc k, at) = cc
 
-gained_exactly : (t : TableValue) → IsSound t → (g new : List EdgeValue) (name : List ℕ) → MeetsPremises g name (statements_of t) → AddsExactly t name g new →
+gained_exactly : (t : TableValue) → IsSound t → (g new : List EdgeValue) (name : Name) → MeetsPremises g name (statements_of t) → AddsExactly t name g new →
     Gained (t ∷ []) g new
 gained_exactly t sound g new name meets adds = record {
   same_edges = adds.same_edges;
@@ -106,13 +88,13 @@ gained_after_target target g new after =
 -- ---- the tables at some indexes
 
 -- one of the tables is at one of the indexes
-abbrev AtIndex : List TableValue → List ℕ → TableValue → Type 0
+abbrev AtIndex : List TableValue → Text → TableValue → Type 0
 AtIndex tables applied t = (p : ℕ) × (n : ℕ) × (slice_get applied p ≡ Some n) × (slice_get tables n ≡ Some t)
 
-one_later : (tables : List TableValue) (m : ℕ) (applied : List ℕ) (t : TableValue) → AtIndex tables applied t → AtIndex tables (m ∷ applied) t
+one_later : (tables : List TableValue) (m : ℕ) (applied : Numbers) (t : TableValue) → AtIndex tables applied t → AtIndex tables (m ∷ applied) t
 one_later tables m applied t (p, n, at, there) = (suc p, n, at, there)
 
-from_tables : (tables : List TableValue) (applied : List ℕ) (k : ℕ) (t : TableValue) → slice_get (filter_map (λ n. slice_get tables n) applied) k ≡ Some t →
+from_tables : (tables : List TableValue) (applied : Numbers) (k : ℕ) (t : TableValue) → slice_get (filter_map (λ n. slice_get tables n) applied) k ≡ Some t →
     AtIndex tables applied t
 from_tables tables [] k t e = cc
 from_tables tables (n ∷ applied) k t e = by (slice_get tables n) refl (λ j at. one_later tables n applied t (from_tables tables applied j t at)) k e
@@ -124,7 +106,7 @@ from_tables tables (n ∷ applied) k t e = by (slice_get tables n) refl (λ j at
     by (Some u) there later zero at = (0, n, refl, there ∙ at)
     by (Some u) there later (suc k) at = later k at
 
-to_tables : (tables : List TableValue) (applied : List ℕ) (p n : ℕ) (t : TableValue) → slice_get applied p ≡ Some n → slice_get tables n ≡ Some t →
+to_tables : (tables : List TableValue) (applied : Numbers) (p n : ℕ) (t : TableValue) → slice_get applied p ≡ Some n → slice_get tables n ≡ Some t →
     (k : ℕ) × (slice_get (filter_map (λ n. slice_get tables n) applied) k ≡ Some t)
 to_tables tables [] p n t at there = cc
 to_tables tables (m ∷ applied) zero n t at there =
@@ -140,14 +122,14 @@ to_tables tables (m ∷ applied) (suc p) n t at there = by (slice_get tables m) 
 -- ---- after the files of these tables
 
 -- the edge names one of the files at these indexes
-abbrev NamesOne : List NamedFile → List ℕ → EdgeValue → Type 0
+abbrev NamesOne : List NamedFile → Text → EdgeValue → Type 0
 NamesOne files applied e = (p : ℕ) × (n : ℕ) × (f : NamedFile) × (slice_get applied p ≡ Some n) × (slice_get files n ≡ Some f) × Names f.name e
 
 -- or none of them
-abbrev NamesNone : List NamedFile → List ℕ → EdgeValue → Type 0
+abbrev NamesNone : List NamedFile → Text → EdgeValue → Type 0
 NamesNone files applied e = (p n : ℕ) (f : NamedFile) → slice_get applied p ≡ Some n → slice_get files n ≡ Some f → e.dyndep ≢ Some f.name
 
-one_or_none : (files : List NamedFile) (applied : List ℕ) (e : EdgeValue) → NamesOne files applied e ⊎ NamesNone files applied e
+one_or_none : (files : List NamedFile) (applied : Numbers) (e : EdgeValue) → NamesOne files applied e ⊎ NamesNone files applied e
 one_or_none files [] e = inr (λ p n f at. cc)
 one_or_none files (m ∷ applied) e = by (slice_get files m) refl (one_or_none files applied e)
   where
@@ -165,7 +147,7 @@ one_or_none files (m ∷ applied) e = by (slice_get files m) refl (one_or_none f
           | inr not ↦ inr (none_of_all rest (λ f there same. not (same ∙ ap (λ (x : NamedFile). Some x.name) (same_some _ _ (sym there ∙ is)))))
         ]
 
-module _ (targets : List ProjectTargetValue) (outs : List CollatedValue) (orders : AllOrders (project_tables targets outs)) (applied : List ℕ)
+module _ (targets : List ProjectTargetValue) (outs : List CollatedValue) (orders : AllOrders (project_tables targets outs)) (applied : Numbers)
     (g new : List EdgeValue) (after : IsAfterProject targets outs applied g new) where
   abbrev tables : List TableValue
   tables = project_tables targets outs
@@ -182,10 +164,10 @@ module _ (targets : List ProjectTargetValue) (outs : List CollatedValue) (orders
       subst (λ x. GainsExactly files g applied x) same gained.2
 
   -- the dyndep file of a table
-  file_of : (n : ℕ) (t : TableValue) → slice_get tables n ≡ Some t → (name : List ℕ) × (slice_get files n ≡ Some (as_file (name, t)))
+  file_of : (n : ℕ) (t : TableValue) → slice_get tables n ≡ Some t → (name : Name) × (slice_get files n ≡ Some (as_file (name, t)))
   file_of n t at =
       let within : n < length tables = slice_get_within _ _ _ at in
-      let name : (x : List ℕ) × (slice_get after.names n ≡ Some x) = element_at after.names n (omega (arith, after.count)) in
+      let name : (x : Text) × (slice_get after.names n ≡ Some x) = element_at after.names n (omega (arith, after.count)) in
       (name.0, to_map as_file (zip after.names tables) n (name.0, t) (to_zip after.names tables n name.0 t name.1 at))
 
   objects_of : (p n : ℕ) (t : TableValue) → slice_get applied p ≡ Some n → slice_get tables n ≡ Some t → (o : ℕ) (rule : RuleValue) (i : ℕ) (e : EdgeValue) →
@@ -240,7 +222,7 @@ module _ (targets : List ProjectTargetValue) (outs : List CollatedValue) (orders
   -- after the files of targets and of those that they link, each file that an object requires is made
   module _ (ordered : IsProjectOrdered targets (project_tables targets outs)) (race : HasNoRace (tables_of targets outs applied) g new)
       (closed : HasLinked targets applied) where
-    pub all_made : (i : ℕ) (file : List ℕ) → RequiresFile (tables_of targets outs applied) g i file → (maker : ℕ) × IsMaker new maker file
+    pub all_made : (i : ℕ) (file : PathText) → RequiresFile (tables_of targets outs applied) g i file → (maker : ℕ) × IsMaker new maker file
     all_made i file (t, o, name, inside, edge, requires, provided) =
         let at = at_index t inside in
         let by = ordered.below at.1 o t name file at.3 requires provided in

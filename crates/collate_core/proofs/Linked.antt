@@ -1,31 +1,11 @@
 -- The info files that the targets of a project link.
 use Rattle.ninja_text.proofs.ForCallers.{element_at, placed as index_of, from_map, to_map, same_some}
 use Rattle.std.proofs.Common.{◌≡◌, ℕ, ◌<◌, List, [], length, map, Option, Some, refl, ap, subst, sym, ◌∙◌, arith, slice_get, Contains, suc, ◌∷◌, None, get_or, ap₂, All, IfSome, option_map, option_copied, Bor}
-use Rattle.std.specs.Option.{option_map_or}
 use Rattle.std.proofs.lemmas.List.Elements.{All-cons}
 use Rattle.std.proofs.lemmas.Option.{slice_get_within, get_or_from_slice_get}
-use Rattle.scan_docs.specs.Info.{IsInfo}
-use Rattle.document_values.specs.Info.{InfoValue, ModuleValue}
-use Rattle.scan_docs.specs.InfoChecks.{info_checks}
-use Rattle.scan_docs.specs.Document.{IsAccepted}
-use Rattle.module_maps.specs.Maps.{Written}
-use Rattle.module_table.specs.TableValue.{TableValue, table_with}
-use Rattle.module_table.specs.Sound.{IsSound}
+use Rattle.collate_core.specs.Prelude.{option_map_or, Text, PathText, Name, Numbers, IsInfo, InfoValue, ModuleValue, info_checks, IsAccepted, Written, TableValue, table_with, IsSound, info_of, CollatedValue, ProjectTargetValue, TargetValue, table_of, IsInfoAccepted, AreScansAccepted, all_rules, info_of_table, Collates, target_of, linked_infos, project_tables, CollatesProject, IsRuleText, IsText, RuleValue, IsInfoText, IsModuleText, HasModule, IsPartOf, KeepsRequired, IsEnough, AreLinked, IsReadAs, AreReadAs, AreKnown, IsEnoughFor}
 use Rattle.module_table.proofs.ForCallers.{known_there}
-use Rattle.scan_docs.specs.Values.{info_of}
-use Rattle.collate_core.specs.Values.{CollatedValue, ProjectTargetValue, TargetValue}
-use Rattle.collate_core.specs.Documents.{table_of, IsInfoAccepted, AreScansAccepted, all_rules}
-use Rattle.collate_core.specs.Infos.{info_of_table}
-use Rattle.collate_core.specs.Collation.{Collates}
-use Rattle.collate_core.specs.Projects.{target_of, linked_infos, project_tables, CollatesProject}
 use Rattle.collate_core.proofs.Lists.{all_at}
-use Rattle.scan_docs.specs.Scan.{IsRuleText, IsText}
-use Rattle.document_values.specs.Rule.{RuleValue}
-use Rattle.scan_docs.specs.InfoText.{IsInfoText, IsModuleText}
-use Rattle.module_table.specs.Parts.{HasModule, IsPartOf, KeepsRequired, IsEnough}
-use Rattle.module_table.specs.Pool.{AreLinked}
-use Rattle.collate_core.specs.inner.ReadInfos.{IsReadAs, AreReadAs, AreKnown}
-use Rattle.collate_core.specs.inner.PartTables.{IsEnoughFor}
 
 -- ---- what the info files of a project's tables are
 
@@ -34,11 +14,11 @@ contained xs k x e = (k, slice_get_within _ _ _ e, get_or_from_slice_get xs k x 
 
 -- an accepted info is that of the function of its bytes
 abbrev pub InfoIs : Type 0
-InfoIs = (bytes : List ℕ) (info : InfoValue) → IsAccepted info_checks IsInfo bytes info → info ≡ info_of bytes
+InfoIs = (bytes : Text) (info : InfoValue) → IsAccepted info_checks IsInfo bytes info → info ≡ info_of bytes
 
 -- the info is that of target k, which is earlier than target n
 abbrev pub IsInfoOf : List TableValue → ℕ → ℕ → InfoValue → Type 0
-IsInfoOf tables n k info = (u : TableValue) × (name : List ℕ) × (kept : List (List ℕ)) × (k < n) × (slice_get tables k ≡ Some u) ×
+IsInfoOf tables n k info = (u : TableValue) × (name : Name) × (kept : List Name) × (k < n) × (slice_get tables k ≡ Some u) ×
     (info_of_table name kept u ≡ info)
 
 module _ (style : Option Written) (targets : List ProjectTargetValue) (outs : List CollatedValue) (project : CollatesProject style targets outs) where
@@ -61,7 +41,7 @@ module _ (style : Option Written) (targets : List ProjectTargetValue) (outs : Li
   sound_of n t at = let all = collation_at n t at in subst IsSound all.5 all.4.resolved.sound
 
   -- the bytes that target k wrote
-  abbrev bytes_of : ℕ → List ℕ
+  abbrev bytes_of : ℕ → Text
   bytes_of k = option_map_or (λ (c : CollatedValue). c.info) (slice_get outs k) []
 
   -- each info of a table is that of the linked target at its index
@@ -70,7 +50,7 @@ module _ (style : Option Written) (targets : List ProjectTargetValue) (outs : Li
   info_at info_is n t i info at here =
       let all = collation_at n t at in
       let p : ProjectTargetValue = all.0 in
-      let infos : List (List ℕ) = linked_infos outs p.linked in
+      let infos : List Text = linked_infos outs p.linked in
       let read : slice_get (map info_of infos) i ≡ Some info = subst (λ (v : TableValue). slice_get v.infos i ≡ Some info) (sym all.5) here in
       let text = from_map info_of infos i info read in
       let accepted : IsInfoAccepted text.0 = all_at IsInfoAccepted infos i text.0 all.4.resolved.documents.infos text.1 in
@@ -98,7 +78,7 @@ module _ (style : Option Written) (targets : List ProjectTargetValue) (outs : Li
       let all = collation_at n t at in
       let is_p : p ≡ all.0 = same_some _ _ (sym target ∙ all.2) in
       let there : slice_get all.0.linked i ≡ Some k = subst (λ (z : ProjectTargetValue). slice_get z.linked i ≡ Some k) is_p link in
-      let infos : List (List ℕ) = linked_infos outs all.0.linked in
+      let infos : List Text = linked_infos outs all.0.linked in
       let text : slice_get infos i ≡ Some (bytes_of k) = to_map bytes_of all.0.linked i k there in
       let info : InfoValue = info_of (bytes_of k) in
       let here : slice_get t.infos i ≡ Some info =
@@ -118,10 +98,10 @@ module _ (outs : List CollatedValue) (known : List (Option InfoValue)) (are : Ar
       IsReadAs (option_map_or (λ (c : CollatedValue). c.info) (slice_get outs k) []) info
   linked_one k info within at =
       let out = element_at outs k within in
-      subst (λ (d : List ℕ). IsReadAs d info) (ap (λ (o : Option CollatedValue). option_map_or (λ (c : CollatedValue). c.info) o []) (sym out.1))
+      subst (λ (d : Numbers). IsReadAs d info) (ap (λ (o : Option CollatedValue). option_map_or (λ (c : CollatedValue). c.info) o []) (sym out.1))
       (are.each k out.0 info out.1 (known_there known k info at))
 
-  linked_read : (linked : List ℕ) (infos : List InfoValue) → AreLinked known linked infos → All (λ k. k < length outs) linked →
+  linked_read : (linked : Numbers) (infos : List InfoValue) → AreLinked known linked infos → All (λ k. k < length outs) linked →
       AreReadAs (linked_infos outs linked) infos
   linked_read [] [] e all = record { accepted = λ k d lt. absurd (omega (arith, lt)); values = refl; text = λ k d lt. absurd (omega (arith, lt)) }
   linked_read [] (info ∷ infos) e all = cc
@@ -145,9 +125,9 @@ module _ (part infos : List InfoValue) (is : IsPartOf part infos) (text : All Is
       let whole : IsModuleText w.1 = all_at IsModuleText w.2.0.modules w.0 w.1 (all_at IsInfoText infos i w.2.0 text w.2.1) w.2.2 in
       record {
         file = subst IsText (sym w.3.file) whole.file;
-        required = all_from (λ (pair : List ℕ × List ℕ). IsText pair.1) m.required (λ k pair at.
+        required = all_from (λ (pair : Name × PathText). IsText pair.1) m.required (λ k pair at.
             let there = index_of w.1.required pair (w.3.fewer pair.0 pair.1 (contained m.required k pair at)) in
-            all_at (λ (pair : List ℕ × List ℕ). IsText pair.1) w.1.required there.0 pair whole.required there.1);
+            all_at (λ (pair : Name × PathText). IsText pair.1) w.1.required there.0 pair whole.required there.1);
       }
 
   part_text : All IsInfoText part
@@ -156,7 +136,7 @@ module _ (part infos : List InfoValue) (is : IsPartOf part infos) (text : All Is
 -- the table of a target's objects and of a part that is enough of the known info files that it
 -- links
 pub enough_for_target :
-    (style : Option Written) (target : TargetValue) (outs : List CollatedValue) (known : List (Option InfoValue)) (linked : List ℕ) (objects : List RuleValue)
+    (style : Option Written) (target : TargetValue) (outs : List CollatedValue) (known : List (Option InfoValue)) (linked : Numbers) (objects : List RuleValue)
     (part infos : List InfoValue) → AreKnown outs known → All (λ k. k < length outs) linked →
     target.infos ≡ linked_infos outs linked → AreScansAccepted target.setting target.scans → objects ≡ all_rules target.setting target.scans →
     All IsRuleText objects →
@@ -164,7 +144,7 @@ pub enough_for_target :
     IsEnoughFor target style (table_with objects part)
 enough_for_target style target outs known linked objects part infos are earlier documents scans same text links enough keeps =
     let read : AreReadAs target.infos infos =
-    subst (λ (ds : List (List ℕ)). AreReadAs ds infos) (sym documents) (linked_read outs known are linked infos links earlier) in
+    subst (λ (ds : List Text). AreReadAs ds infos) (sym documents) (linked_read outs known are linked infos links earlier) in
     record {
       accepted = record { scans = scans; infos = read.accepted };
       objects = same;

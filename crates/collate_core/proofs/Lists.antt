@@ -1,18 +1,12 @@
 -- Lemmas on lists: of any elements, of numbers, of what info files are read as, and of the names of private modules.
 use Rattle.std.proofs.Common.{◌≢◌, true≢false, ◌≡◌, ℕ, zero, suc, ◌<◌, ◌≤◌, List, [], ◌∷◌, ◌++◌, map, take, Some, refl, ap, ap₂, subst, ◌∙◌, arith, append-nil, slice_get, All, flat_map, ◌+◌, ◌*◌, ◌⊎◌, inl, inr, length, Option, None, IfSome, MatchOption, sym, length-append, ◌||◌, Bool, true, false, cond, bytes_eq}
-use Rattle.std.specs.List.{AllByRecursion, list_any}
 use Rattle.std.proofs.lemmas.List.Elements.{All-get_or, All-nil, All-cons, All-head, All-tail, All-append}
 use Rattle.std.proofs.lemmas.Grind.{flat_map-append}
 use Rattle.std.proofs.lemmas.Option.{slice_get_within, get_or_from_slice_get}
 use Rattle.ninja_text.proofs.ForCallers.{same_some, from_push, take_next}
 use Rattle.std.proofs.Math.Nat.{mul-le-mul_right}
-use Rattle.document_values.specs.Info.{InfoValue, ModuleValue}
-use Rattle.collate_core.specs.Values.{CollatedValue}
-use Rattle.module_table.specs.Pool.{IsAdded}
-use Rattle.collate_core.specs.inner.ReadInfos.{IsReadAs, AreKnown}
 use Rattle.std.proofs.lemmas.Slice.Eq.{bytes_eq-Decides}
-use Rattle.indexmap.specs.IndexSet.{insert_key}
-use Rattle.collate_core.specs.Infos.{is_private_name, module_of}
+use Rattle.collate_core.specs.Prelude.{AllByRecursion, list_any, InfoValue, ModuleValue, CollatedValue, IsAdded, IsReadAs, AreKnown, Text, PathText, Name, Numbers, Modules, insert_key, is_private_name, module_of}
 
 -- ---- lists of any elements
 
@@ -64,7 +58,7 @@ take_less (suc i) (suc j) [] le = refl
 take_less (suc i) (suc j) (x ∷ xs) le = ap (λ ys. x ∷ ys) (take_less i j xs (omega arith))
 
 -- two files are one, or they are not
-pub same_or_not : (file other : List ℕ) → (other ≡ file) ⊎ (other ≢ file)
+pub same_or_not : (file other : PathText) → (other ≡ file) ⊎ (other ≢ file)
 same_or_not file other = by (bytes_eq other file) refl
   where
     by : (equal : Bool) → bytes_eq other file ≡ equal → (other ≡ file) ⊎ (other ≢ file)
@@ -73,12 +67,12 @@ same_or_not file other = by (bytes_eq other file) refl
 
 -- ---- numbers of two levels
 
-below_of : (y : ℕ) (xs : List ℕ) (n : ℕ) → ((k x : ℕ) → slice_get xs k ≡ Some x → x < n) → (k x : ℕ) → slice_get (y ∷ xs) k ≡ Some x → x < suc y + n
+below_of : (y : ℕ) (xs : Numbers) (n : ℕ) → ((k x : ℕ) → slice_get xs k ≡ Some x → x < n) → (k x : ℕ) → slice_get (y ∷ xs) k ≡ Some x → x < suc y + n
 below_of y xs n rest zero x e = let same : y ≡ x = same_some _ _ e in omega arith
 below_of y xs n rest (suc k) x e = let less : x < n = rest k x e in omega arith
 
 -- a number above all of a list
-pub above : (xs : List ℕ) → (n : ℕ) × ((k x : ℕ) → slice_get xs k ≡ Some x → x < n)
+pub above : (xs : Numbers) → (n : ℕ) × ((k x : ℕ) → slice_get xs k ≡ Some x → x < n)
 above [] = (0, λ k x e. cc)
 above (y ∷ xs) = let rest = above xs in (suc y + rest.0, below_of y xs rest.0 rest.1)
 
@@ -123,7 +117,7 @@ or_false true = refl
 or_false false = refl
 
 -- one more name
-any_last : (test : List ℕ → Bool) (names : List (List ℕ)) (last : List ℕ) → list_any test (names ++ last ∷ []) ≡ (list_any test names || test last)
+any_last : (test : Text → Bool) (names : List Name) (last : Numbers) → list_any test (names ++ last ∷ []) ≡ (list_any test names || test last)
 any_last test [] last = or_false (test last)
 any_last test (x ∷ xs) last = ap (λ t. test x || t) (any_last test xs last) ∙ sym (or_assoc (test x) (list_any test xs) (test last))
 
@@ -133,7 +127,7 @@ absorbed false true from = from refl
 absorbed false false from = refl
 
 -- a name that is inserted is one of the set, and no other comes or goes
-inserted : (keys : List (List ℕ)) (key name : List ℕ) → is_private_name (insert_key bytes_eq keys key) name ≡ (is_private_name keys name || bytes_eq name key)
+inserted : (keys : List Text) (key name : Name) → is_private_name (insert_key bytes_eq keys key) name ≡ (is_private_name keys name || bytes_eq name key)
 inserted keys key name = by (list_any (bytes_eq key) keys) refl
   where
     by : (t : Bool) → list_any (bytes_eq key) keys ≡ t →
@@ -142,16 +136,16 @@ inserted keys key name = by (list_any (bytes_eq key) keys) refl
         (λ same. ap (λ n. list_any (bytes_eq n) keys) ((bytes_eq-Decides name key).0 same) ∙ there)
     by false absent = any_last (bytes_eq name) keys key
 
-pub one_more_name : (names keys : List (List ℕ)) (k : ℕ) (key : List ℕ) → slice_get names k ≡ Some key →
-    ((name : List ℕ) → is_private_name keys name ≡ is_private_name (take k names) name)
-    → (name : List ℕ) → is_private_name (insert_key bytes_eq keys key) name ≡ is_private_name (take (k + 1) names) name
+pub one_more_name : (names keys : List Name) (k : ℕ) (key : Name) → slice_get names k ≡ Some key →
+    ((name : Name) → is_private_name keys name ≡ is_private_name (take k names) name)
+    → (name : Name) → is_private_name (insert_key bytes_eq keys key) name ≡ is_private_name (take (k + 1) names) name
 one_more_name names keys k key here so_far name =
     inserted keys key name ∙ ap (λ t. t || bytes_eq name key) (so_far name) ∙ sym (any_last (bytes_eq name) (take k names) key) ∙
     ap (λ xs. is_private_name xs name) (sym (take_next names k key here))
 
 -- lists that have the same names make the same modules
-pub modules_same : (kept other : List (List ℕ)) → ((name : List ℕ) → is_private_name kept name ≡ is_private_name other name) →
-    (required pairs : List (List ℕ × List ℕ)) → map (module_of kept required) pairs ≡ map (module_of other required) pairs
+pub modules_same : (kept other : List Name) → ((name : Name) → is_private_name kept name ≡ is_private_name other name) →
+    (required pairs : Modules) → map (module_of kept required) pairs ≡ map (module_of other required) pairs
 modules_same kept other same required [] = refl
 modules_same kept other same required (pair ∷ pairs) =
     ap₂ (λ (b : Bool) (ms : List ModuleValue). record { name = pair.0; file = pair.1; required = required; is_private = b } ∷ ms) (same pair.0)

@@ -1,26 +1,7 @@
 -- What an object needs in the table of its target is what it needs in the project.
 use Rattle.ninja_text.proofs.ForCallers.{from_map, to_map, same_some, offset, in_flat_map, from_flat_map}
 use Rattle.std.proofs.Common.{◌≡◌, ℕ, ◌+◌, ◌⊎◌, List, [], ◌∷◌, ◌++◌, Option, Some, Result, refl, ap, subst, sym, ◌∙◌, inl, inr, slice_get, Contains, ◌↔◌, flat_map}
-use Rattle.document_values.specs.Rule.{RuleValue}
-use Rattle.document_values.specs.Info.{InfoValue, ModuleValue}
-use Rattle.build_effect.specs.Premises.{AddsAt}
-use Rattle.module_maps.specs.Values.{ModuleMapValue}
-use Rattle.module_maps.specs.Maps.{Written, AreEntriesOf, AreStyleLaws}
-use Rattle.module_maps.specs.declared.fault.MapFault.{MapFault}
-use Rattle.module_maps.specs.declared.module_map.MapEntry.{MapEntry}
-use Rattle.module_table.specs.TableValue.{TableValue}
-use Rattle.module_table.specs.Modules.{Provides, Requires, InfoProvides, IsProvided, IsProvidedBy}
-use Rattle.module_table.specs.Sound.{IsSound}
-use Rattle.module_table.specs.Needed.{LeadsTo, Leads, IsNeeded, ArePairs}
-use Rattle.module_table.specs.Added.{Task, tasks_of, required_of, RequiredFiles, AllRequired, OneFile, FilesOnce}
-use Rattle.module_table.specs.declared.fault.Maker.{Maker}
-use Rattle.module_table.specs.declared.fault.Maker.TheVariants.{Object, Info}
-use Rattle.collate_core.specs.Values.{CollatedValue, ProjectTargetValue}
-use Rattle.collate_core.specs.Statements.{statement_of, statements_of}
-use Rattle.collate_core.specs.Infos.{info_of_table, module_of, modules_of}
-use Rattle.collate_core.specs.Projects.{CollatesProject, project_tables}
-use Rattle.collate_core.specs.ProjectOrders.{ProjectProvides}
-use Rattle.collate_core.specs.ProjectNeeds.{IsProjectNeeded, direct, onward, AddedApart, MapsReadBack}
+use Rattle.collate_core.specs.Prelude.{Text, PathText, Name, Numbers, Modules, RuleValue, InfoValue, ModuleValue, AddsAt, ModuleMapValue, Written, AreEntriesOf, AreStyleLaws, MapFault, MapEntry, TableValue, Provides, Requires, InfoProvides, IsProvided, IsProvidedBy, IsSound, LeadsTo, Leads, IsNeeded, ArePairs, Task, tasks_of, required_of, RequiredFiles, AllRequired, OneFile, FilesOnce, Maker, Object, Info, CollatedValue, ProjectTargetValue, statement_of, statements_of, info_of_table, module_of, modules_of, CollatesProject, project_tables, ProjectProvides, IsProjectNeeded, direct, onward, AddedApart, MapsReadBack}
 use Rattle.ninja_text.proofs.ForCallers.{placed as index_of}
 use Rattle.collate_core.proofs.Linked.{InfoIs, contained, collation_at, sound_of, info_at, info_of_link}
 
@@ -33,15 +14,15 @@ module _ (required : RequiredFiles) (all_required : AllRequired) (one_file : One
   tables = project_tables targets outs
 
   -- object p of target m requires the name
-  abbrev RequiresIn : ℕ → ℕ → List ℕ → Type 0
+  abbrev RequiresIn : ℕ → ℕ → Text → Type 0
   RequiresIn m p name = (t : TableValue) × (slice_get tables m ≡ Some t) × Requires t p name
 
-  abbrev Gives : ℕ → ℕ → ℕ → List ℕ → List ℕ → Type 0
+  abbrev Gives : ℕ → ℕ → ℕ → Text → Text → Type 0
   Gives n m p name file = ProjectProvides targets tables n m p name file
 
   -- object p of target m is of target n, or provides a module that target n sees
   abbrev Reached : ℕ → ℕ → ℕ → Type 0
-  Reached n m p = (n ≡ m) ⊎ ((name : List ℕ) × (file : List ℕ) × Gives n m p name file)
+  Reached n m p = (n ≡ m) ⊎ ((name : Name) × (file : PathText) × Gives n m p name file)
 
   sound_at : (n : ℕ) (t : TableValue) → slice_get tables n ≡ Some t → IsSound t
   sound_at n t at = sound_of style targets outs project n t at
@@ -49,11 +30,11 @@ module _ (required : RequiredFiles) (all_required : AllRequired) (one_file : One
   same_table : (n : ℕ) (t u : TableValue) → slice_get tables n ≡ Some t → slice_get tables n ≡ Some u → t ≡ u
   same_table n t u a b = same_some _ _ (sym a ∙ b)
 
-  to_requires : (n o : ℕ) (t : TableValue) (name : List ℕ) → slice_get tables n ≡ Some t → RequiresIn n o name → Requires t o name
+  to_requires : (n o : ℕ) (t : TableValue) (name : Name) → slice_get tables n ≡ Some t → RequiresIn n o name → Requires t o name
   to_requires n o t name at requires = subst (λ (v : TableValue). Requires v o name) (same_table n requires.0 t requires.1 at) requires.2
 
   -- module j of the info of target k is that of a pair of one of its objects
-  from_module : (k : ℕ) (u : TableValue) (name : List ℕ) (kept : List (List ℕ)) (info : InfoValue) → info_of_table name kept u ≡ info →
+  from_module : (k : ℕ) (u : TableValue) (name : Name) (kept : List Name) (info : InfoValue) → info_of_table name kept u ≡ info →
       (j : ℕ) (m : ModuleValue) → slice_get info.modules j ≡ Some m →
       (q : ℕ) × (l : ℕ) × (rule : RuleValue) × (slice_get u.objects q ≡ Some rule) × (slice_get rule.provided l ≡ Some (m.name, m.file)) ×
       (m.required ≡ required_of u rule)
@@ -73,8 +54,8 @@ module _ (required : RequiredFiles) (all_required : AllRequired) (one_file : One
       )
 
   -- a pair of an object of target k is a module of its info
-  to_module : (k : ℕ) (u : TableValue) (name : List ℕ) (kept : List (List ℕ)) (info : InfoValue) → info_of_table name kept u ≡ info →
-      (q j : ℕ) (x : Task) (pair : List ℕ × List ℕ) → slice_get (tasks_of u) q ≡ Some x → slice_get x.0.provided j ≡ Some pair →
+  to_module : (k : ℕ) (u : TableValue) (name : Name) (kept : List Name) (info : InfoValue) → info_of_table name kept u ≡ info →
+      (q j : ℕ) (x : Task) (pair : Name × PathText) → slice_get (tasks_of u) q ≡ Some x → slice_get x.0.provided j ≡ Some pair →
       (l : ℕ) × (slice_get info.modules l ≡ Some (module_of kept x.1 pair))
   to_module k u name kept info is q j x pair at here =
       let found = in_flat_map (modules_of kept) (tasks_of u) q j (module_of kept x.1 pair) (x, at, to_map (module_of kept x.1) x.0.provided j pair here) in (
@@ -101,7 +82,7 @@ module _ (required : RequiredFiles) (all_required : AllRequired) (one_file : One
       )
 
   -- who provides a name in a table provides it in the project
-  pub provided_from : (n : ℕ) (t : TableValue) (name : List ℕ) (file : List ℕ) → slice_get tables n ≡ Some t → (maker : Maker) →
+  pub provided_from : (n : ℕ) (t : TableValue) (name : Name) (file : PathText) → slice_get tables n ≡ Some t → (maker : Maker) →
       IsProvidedBy t maker name file → (m : ℕ) × (p : ℕ) × Gives n m p name file
   provided_from n t name file at (Object p) by = (n, p, (t, by.0, inl refl, at, by.1))
   provided_from n t name file at (Info i) by =
@@ -109,15 +90,15 @@ module _ (required : RequiredFiles) (all_required : AllRequired) (one_file : One
       (found.0, found.2, subst (λ v. Gives n found.0 found.2 v file) by.3 (subst (λ v. Gives n found.0 found.2 by.1.name v) by.4 found.6))
 
   -- who provides a name in the project provides it in the table
-  pub same_provides : (n m p j : ℕ) (t u : TableValue) (name : List ℕ) (file : List ℕ) → slice_get tables n ≡ Some t → n ≡ m → slice_get tables m ≡ Some u →
+  pub same_provides : (n m p j : ℕ) (t u : TableValue) (name : Name) (file : PathText) → slice_get tables n ≡ Some t → n ≡ m → slice_get tables m ≡ Some u →
       Provides u p j name file → Provides t p j name file
   same_provides n m p j t u name file at same at_u provides =
       subst (λ (v : TableValue). Provides v p j name file) (same_table n u t (subst (λ k. slice_get tables k ≡ Some u) (sym same) at_u) at) provides
 
-  linked_provides : (n m p j : ℕ) (t u : TableValue) (name : List ℕ) (file : List ℕ) → slice_get tables n ≡ Some t → (target : ProjectTargetValue) →
+  linked_provides : (n m p j : ℕ) (t u : TableValue) (name : Name) (file : PathText) → slice_get tables n ≡ Some t → (target : ProjectTargetValue) →
       slice_get targets n ≡ Some target → Contains target.linked m →
       slice_get tables m ≡ Some u → (provides : Provides u p j name file) →
-      (i : ℕ) × (l : ℕ) × (kept : List (List ℕ)) × InfoProvides t i l (module_of kept (required_of u provides.0) (name, file))
+      (i : ℕ) × (l : ℕ) × (kept : List Name) × InfoProvides t i l (module_of kept (required_of u provides.0) (name, file))
   linked_provides n m p j t u name file at target at_target links at_u provides =
       let i = index_of target.linked m links in
       let info = info_of_link style targets outs project info_is n t target i.0 m at at_target i.1 in
@@ -129,22 +110,22 @@ module _ (required : RequiredFiles) (all_required : AllRequired) (one_file : One
       let found = to_module m of.0 of.1 of.2 info.0 of.5 p j x (name, file) row provides.2 in
       (i.0, found.0, of.2, (info.0, info.1, found.1))
 
-  provides_by : (n m p : ℕ) (t : TableValue) (name : List ℕ) (file : List ℕ) → slice_get tables n ≡ Some t → Gives n m p name file → IsProvided t name file
+  provides_by : (n m p : ℕ) (t : TableValue) (name : Name) (file : PathText) → slice_get tables n ≡ Some t → Gives n m p name file → IsProvided t name file
   provides_by n m p t name file at (u, j, inl same, at_u, provides) = (Object p, (j, same_provides n m p j t u name file at same at_u provides))
   provides_by n m p t name file at (u, j, inr link, at_u, provides) =
       let info = linked_provides n m p j t u name file at link.0 link.1 link.2 at_u provides in
       (Info info.0, (info.1, module_of info.2 (required_of u provides.0) (name, file), info.3, refl, refl))
 
   -- the pair of a name that an object requires
-  pair_for : (m p : ℕ) (u : TableValue) (rule : RuleValue) (name : List ℕ) → slice_get tables m ≡ Some u → slice_get u.objects p ≡ Some rule →
-      RequiresIn m p name → (file : List ℕ) × Contains (required_of u rule) (name, file)
+  pair_for : (m p : ℕ) (u : TableValue) (rule : RuleValue) (name : Name) → slice_get tables m ≡ Some u → slice_get u.objects p ≡ Some rule →
+      RequiresIn m p name → (file : PathText) × Contains (required_of u rule) (name, file)
   pair_for m p u rule name at here requires =
       let needs = to_requires m p u name at requires in
       let same : needs.0 ≡ rule = same_some _ _ (sym needs.1 ∙ here) in
       all_required u (sound_at m u at) p rule name here (subst (λ (r : RuleValue). Contains r.required name) same needs.2)
 
   -- an object leads from a name that it provides to one that it requires
-  leads_to : (n m p : ℕ) (t : TableValue) (name second : List ℕ) (file : List ℕ) → slice_get tables n ≡ Some t → Gives n m p name file → RequiresIn m p second →
+  leads_to : (n m p : ℕ) (t : TableValue) (name second : Name) (file : PathText) → slice_get tables n ≡ Some t → Gives n m p name file → RequiresIn m p second →
       LeadsTo t name second
   leads_to n m p t name second file at (u, j, inl same, at_u, provides) requires =
       inl (
@@ -159,7 +140,7 @@ module _ (required : RequiredFiles) (all_required : AllRequired) (one_file : One
       let pair = pair_for m p u provides.0 second at_u provides.1 requires in
       inr (info.0, info.1, module_of info.2 (required_of u provides.0) (name, file), pair.0, refl, (info.3, pair.1))
 
-  requires_pair : (m p : ℕ) (u : TableValue) (rule : RuleValue) (name : List ℕ) (file : List ℕ) → slice_get tables m ≡ Some u →
+  requires_pair : (m p : ℕ) (u : TableValue) (rule : RuleValue) (name : Name) (file : PathText) → slice_get tables m ≡ Some u →
       slice_get u.objects p ≡ Some rule → Contains (required_of u rule) (name, file) → RequiresIn m p name × IsProvided u name file
   requires_pair m p u rule name file at here holds =
       let index = index_of (required_of u rule) (name, file) holds in
@@ -167,8 +148,8 @@ module _ (required : RequiredFiles) (all_required : AllRequired) (one_file : One
       ((u, at, (rule, here, known.0)), known.1)
 
   -- a step from a name to another is one of an object that provides the first and requires the second
-  leads_from : (n : ℕ) (t : TableValue) (name second : List ℕ) → slice_get tables n ≡ Some t → LeadsTo t name second →
-      (m : ℕ) × (p : ℕ) × (file : List ℕ) × Gives n m p name file × RequiresIn m p second
+  leads_from : (n : ℕ) (t : TableValue) (name second : Name) → slice_get tables n ≡ Some t → LeadsTo t name second →
+      (m : ℕ) × (p : ℕ) × (file : PathText) × Gives n m p name file × RequiresIn m p second
   leads_from n t name second at (inl (o, j, file, provides, needs)) = (n, o, file, (t, j, inl refl, at, provides), (t, at, needs))
   leads_from n t name second at (inr (i, j, m, file, is, needs)) =
       let found = from_info n i j t m at needs.0 in
@@ -182,22 +163,22 @@ module _ (required : RequiredFiles) (all_required : AllRequired) (one_file : One
 
   module _ (apart : AddedApart tables) where
     -- objects that provide one file are one
-    adds_at : (p j : ℕ) (u : TableValue) (name : List ℕ) (file : List ℕ) → Provides u p j name file → AddsAt (statements_of u) p j file
+    adds_at : (p j : ℕ) (u : TableValue) (name : Name) (file : PathText) → Provides u p j name file → AddsAt (statements_of u) p j file
     adds_at p j u name file provides =
         let x : Task = task_in u provides.0 in (
           statement_of x,
           to_map statement_of (tasks_of u) p x (to_map (task_in u) u.objects p provides.0 provides.1),
-          to_map (λ (q : List ℕ × List ℕ). q.1) provides.0.provided j (name, file) provides.2,
+          to_map (λ (q : Name × PathText). q.1) provides.0.provided j (name, file) provides.2,
         )
 
-    same_provider : (n l m p k q : ℕ) (name other : List ℕ) (file : List ℕ) → Gives n m p name file → Gives l k q other file → (m ≡ k) × (p ≡ q)
+    same_provider : (n l m p k q : ℕ) (name other : Name) (file : PathText) → Gives n m p name file → Gives l k q other file → (m ≡ k) × (p ≡ q)
     same_provider n l m p k q name other file (u, i, sees, at_u, provides) (v, j, sees_v, at_v, others) =
         let target : m ≡ k = apart m k p q i j u v file at_u at_v (adds_at p i u name file provides) (adds_at q j v other file others) in
         let theirs : Provides u q j other file = same_provides m k q j u v other file at_u target at_v others in
         (target, (once u (sound_at m u at_u) p q i j name other file provides theirs).0)
 
     -- one target sees one provider of a name, with one file
-    one_provider : (n : ℕ) (t : TableValue) (m p k q : ℕ) (name : List ℕ) (file other : List ℕ) → slice_get tables n ≡ Some t → Gives n m p name file →
+    one_provider : (n : ℕ) (t : TableValue) (m p k q : ℕ) (name : Name) (file other : PathText) → slice_get tables n ≡ Some t → Gives n m p name file →
         Gives n k q name other → (m ≡ k) × (p ≡ q) × (file ≡ other)
     one_provider n t m p k q name file other at a b =
         let same : file ≡ other = one_file t (sound_at n t at) name file other (provides_by n m p t name file at a) (provides_by n k q t name other at b) in
@@ -205,17 +186,17 @@ module _ (required : RequiredFiles) (all_required : AllRequired) (one_file : One
         (both.0, both.1, same)
 
     -- two targets see one provider of a name
-    abbrev BothSee : ℕ → ℕ → List ℕ → Type 0
-    BothSee n m name = (l : ℕ) × (q : ℕ) × (file : List ℕ) × Gives n l q name file × Gives m l q name file
+    abbrev BothSee : ℕ → ℕ → Text → Type 0
+    BothSee n m name = (l : ℕ) × (q : ℕ) × (file : PathText) × Gives n l q name file × Gives m l q name file
 
-    same_view : (n p : ℕ) (name : List ℕ) → RequiresIn n p name → BothSee n n name
+    same_view : (n p : ℕ) (name : Name) → RequiresIn n p name → BothSee n n name
     same_view n p name (t, at, needs) =
         let known = (sound_at n t at).known p name needs in
         let found = provided_from n t name known.0 at known.1.0 known.1.1 in
         (found.0, found.1, known.0, found.2, found.2)
 
     -- what an object requires that provides a module of a linked target is the same from there and from its target
-    linked_view : (n m p j : ℕ) (t u : TableValue) (first : List ℕ) (between : List ℕ) (name : List ℕ) → slice_get tables n ≡ Some t →
+    linked_view : (n m p j : ℕ) (t u : TableValue) (first : Numbers) (between : Numbers) (name : Name) → slice_get tables n ≡ Some t →
         (target : ProjectTargetValue) → slice_get targets n ≡ Some target → Contains target.linked m →
         slice_get tables m ≡ Some u → Provides u p j first between → RequiresIn m p name → BothSee n m name
     linked_view n m p j t u first between name at target at_target links at_u provides requires =
@@ -228,7 +209,7 @@ module _ (required : RequiredFiles) (all_required : AllRequired) (one_file : One
         let same = same_provider m n near.0 near.1 far.0 far.1 name name pair.0 near.2 far.2 in
         (far.0, far.1, pair.0, far.2, subst (λ k. Gives m k far.1 name pair.0) same.0 (subst (λ q. Gives m near.0 q name pair.0) same.1 near.2))
 
-    view : (n m p : ℕ) (t : TableValue) (name : List ℕ) → slice_get tables n ≡ Some t → Reached n m p → RequiresIn m p name → BothSee n m name
+    view : (n m p : ℕ) (t : TableValue) (name : Name) → slice_get tables n ≡ Some t → Reached n m p → RequiresIn m p name → BothSee n m name
     view n m p t name at (inl same) requires = subst (λ k. BothSee n k name) same (same_view n p name (subst (λ k. RequiresIn k p name) (sym same) requires))
     view n m p t name at (inr (first, between, (u, j, inl same, at_u, provides))) requires =
         subst (λ k. BothSee n k name) same (same_view n p name (subst (λ k. RequiresIn k p name) (sym same) requires))
@@ -236,8 +217,8 @@ module _ (required : RequiredFiles) (all_required : AllRequired) (one_file : One
         linked_view n m p j t u first between name at link.0 link.1 link.2 at_u provides requires
 
     -- a list of names that lead on in the table of target n is a chain in the project
-    forward : (n : ℕ) (t : TableValue) → slice_get tables n ≡ Some t → (name : List ℕ) (file : List ℕ) → IsProvided t name file →
-        (names : List (List ℕ)) (first : List ℕ) (m p : ℕ) → Reached n m p → RequiresIn m p first → Leads t first names name →
+    forward : (n : ℕ) (t : TableValue) → slice_get tables n ≡ Some t → (name : Name) (file : PathText) → IsProvided t name file →
+        (names : List Name) (first : Numbers) (m p : ℕ) → Reached n m p → RequiresIn m p first → Leads t first names name →
         IsProjectNeeded targets tables m p name file
     forward n t at name file provided [] first m p reached requires is =
         let v = view n m p t first at reached requires in
@@ -253,11 +234,11 @@ module _ (required : RequiredFiles) (all_required : AllRequired) (one_file : One
         onward requires.1 requires.2 v.4 (forward n t at name file provided names second v.0 v.1 (inr (first, v.2, v.3)) next leads.1)
 
     -- a list of names that lead on from one that the object requires
-    abbrev Comes : TableValue → ℕ → ℕ → List ℕ → List ℕ → Type 0
-    Comes t m p name file = (first : List ℕ) × (names : List (List ℕ)) × RequiresIn m p first × Leads t first names name × IsProvided t name file
+    abbrev Comes : TableValue → ℕ → ℕ → Text → Text → Type 0
+    Comes t m p name file = (first : Numbers) × (names : List Name) × RequiresIn m p first × Leads t first names name × IsProvided t name file
 
     -- a chain in the project is a list of names that lead on in the table of target n
-    backward : (n : ℕ) (t : TableValue) → slice_get tables n ≡ Some t → (m p : ℕ) (name : List ℕ) (file : List ℕ) →
+    backward : (n : ℕ) (t : TableValue) → slice_get tables n ≡ Some t → (m p : ℕ) (name : Name) (file : PathText) →
         IsProjectNeeded targets tables m p name file → Reached n m p → Comes t m p name file
     backward n t at m p name file (direct {m = k} {p = q} {t = u} at_u needs given) reached =
         let v = view n m p t name at reached (u, at_u, needs) in
@@ -270,7 +251,7 @@ module _ (required : RequiredFiles) (all_required : AllRequired) (one_file : One
         let more = backward n t at k q name file rest (inr (first, v.2, from_n)) in
         (first, more.0 ∷ more.1, (u, at_u, needs), (leads_to n k q t first more.0 v.2 at from_n more.2, more.3), more.4)
 
-    pub needs_same : (n o : ℕ) (t : TableValue) (name : List ℕ) (file : List ℕ) → slice_get tables n ≡ Some t →
+    pub needs_same : (n o : ℕ) (t : TableValue) (name : Name) (file : PathText) → slice_get tables n ≡ Some t →
         IsNeeded t o name file ↔ IsProjectNeeded targets tables n o name file
     needs_same n o t name file at = (
       λ h. forward n t at name file h.4 h.1 h.0 n o (inl refl) (t, at, h.2) h.3,
@@ -278,11 +259,11 @@ module _ (required : RequiredFiles) (all_required : AllRequired) (one_file : One
     )
 
 module _ (required : RequiredFiles) (all_required : AllRequired) (one_file : OneFile) (once : FilesOnce) (info_is : InfoIs)
-    (written : Written) (kept : ModuleMapValue → List MapEntry) (entries : List ℕ → Result (List MapEntry) MapFault) (laws : AreStyleLaws written kept entries)
+    (written : Written) (kept : ModuleMapValue → List MapEntry) (entries : Text → Result (List MapEntry) MapFault) (laws : AreStyleLaws written kept entries)
     (targets : List ProjectTargetValue) (outs : List CollatedValue) (project : CollatesProject (Some written) targets outs) where
   -- the pairs of a table's map are those of the project
   needed_pairs : (apart : AddedApart (project_tables targets outs)) (n o : ℕ) (t : TableValue) → slice_get (project_tables targets outs) n ≡ Some t →
-      (pairs : List (List ℕ × List ℕ)) → ArePairs (IsNeeded t o) pairs → ArePairs (IsProjectNeeded targets (project_tables targets outs) n o) pairs
+      (pairs : Modules) → ArePairs (IsNeeded t o) pairs → ArePairs (IsProjectNeeded targets (project_tables targets outs) n o) pairs
   needed_pairs apart n o t at pairs are = record {
     each = λ name file.
         let same = needs_same required all_required one_file once info_is (Some written) targets outs project apart n o t name file at in

@@ -4,43 +4,12 @@ use Rattle.std.proofs.Common.{◌≡◌, ℕ, ◌+◌, ◌<◌, List, ◌++◌, 
 use Rattle.std.proofs.lemmas.List.Folds.{length-flat_map-take}
 use Rattle.std.proofs.lemmas.Option.{slice_get_within, get_or_from_slice_get}
 use Rattle.dyndep_file.specs.declared.fault.WriteFault.TheVariants as write
-use Rattle.scan_docs.specs.Document.{HasOneAnswer, IsRefused}
-use Rattle.scan_docs.specs.Scan.{SettingValue, AreRules}
-use Rattle.document_values.specs.Rule.{RuleValue}
-use Rattle.scan_docs.specs.ScanChecks.{scan_checks}
-use Rattle.scan_docs.specs.Info.{IsInfo}
-use Rattle.scan_docs.specs.InfoChecks.{info_checks}
-use Rattle.scan_docs.specs.declared.fault.DocFault.{DocFault}
-use Rattle.module_table.specs.TableValue.{TableValue}
-use Rattle.module_table.specs.Needed.{IsNeeded}
 use Rattle.module_table.proofs.ForCallers.{one_list_of_pairs}
-use Rattle.module_maps.specs.Values.{ModuleMapValue}
-use Rattle.module_maps.specs.Maps.{Written, AreStyleLaws, map_fault}
-use Rattle.module_maps.specs.declared.fault.MapFault.{MapFault}
-use Rattle.module_maps.specs.declared.fault.UnwritableMap.{UnwritableMap}
-use Rattle.module_maps.specs.declared.fault.UnwritableMap.TheVariants.{MapPath, TwoProvided}
-use Rattle.scan_docs.specs.Values.{rules_of, info_of}
-use Rattle.collate_core.specs.Documents.{all_rules, table_of, IsScanAccepted, IsInfoAccepted, AreScansAccepted, rule_limit}
-use Rattle.collate_core.specs.Statements.{statements_of}
-use Rattle.collate_core.specs.Maps.{IsMapOf}
-use Rattle.collate_core.specs.Collation.{AreMaps, Collates}
-use Rattle.collate_core.specs.Refusals.{IsScanFault, IsScanRefusal, IsInfoRefusal, IsMapFault, IsMapWritten, IsMapRefusal, IsRefusal}
-use Rattle.collate_core.specs.Laws.{CollatedIsNotRefused, OneRefusal, IsSameRefusal, same_refusal, same_fault, ProjectMaps, OneProjectRefusal}
-use Rattle.collate_core.specs.declared.fault.Refusal.TheVariants.{Scan, Info, Table, StatementTooLong, Map, LinkedLater}
+use Rattle.collate_core.specs.declared.fault.Refusal.TheVariants.{Info}
 use Rattle.collate_core.proofs.Lists.{all_at, flat_map_last, in_take, take_less}
 use Rattle.collate_core.proofs.Parts.{no_fault}
-use Rattle.scan_docs.specs.declared.fault.DocFault.TheVariants.{TooLarge}
-use Rattle.scan_docs.specs.declared.fault.Place.TheVariants.{Document}
-use Rattle.module_table.specs.Outcomes.{OneTableFault}
-use Rattle.collate_core.specs.Values.{TargetValue, CollatedValue, ProjectTargetValue}
-use Rattle.collate_core.specs.declared.fault.Refusal.{Refusal}
-use Rattle.std.specs.Option.{option_map_or}
-use Rattle.module_maps.specs.declared.module_map.MapEntry.{MapEntry}
-use Rattle.collate_core.specs.Projects.{target_of, linked_infos, CollatesProject, project_tables, IsLinkedRefusal, IsProjectRefusal}
-use Rattle.collate_core.specs.ProjectNeeds.{MapsReadBack}
 use Rattle.std.proofs.lemmas.List.{map-append, length-take-le}
-use Rattle.scan_docs.specs.InfoText.{info_text}
-use Rattle.collate_core.specs.Infos.{info_of_table}
+use Rattle.collate_core.specs.Prelude.{HasOneAnswer, IsRefused, SettingValue, AreRules, RuleValue, scan_checks, IsInfo, info_checks, DocFault, TableValue, IsNeeded, ModuleMapValue, Written, AreStyleLaws, map_fault, MapFault, UnwritableMap, MapPath, TwoProvided, rules_of, info_of, all_rules, table_of, IsScanAccepted, IsInfoAccepted, AreScansAccepted, rule_limit, statements_of, IsMapOf, AreMaps, Collates, IsScanFault, IsScanRefusal, IsInfoRefusal, IsMapFault, IsMapWritten, IsMapRefusal, IsRefusal, CollatedIsNotRefused, OneRefusal, IsSameRefusal, same_refusal, same_fault, ProjectMaps, OneProjectRefusal, Scan, Table, StatementTooLong, Map, LinkedLater, TooLarge, Document, OneTableFault, TargetValue, CollatedValue, ProjectTargetValue, Refusal, option_map_or, MapEntry, target_of, linked_infos, CollatesProject, project_tables, IsLinkedRefusal, IsProjectRefusal, MapsReadBack, Text, Numbers, info_text, info_of_table}
 
 -- ---- a target that collates has no rejection
 
@@ -51,12 +20,12 @@ one_map t o rule m n p q =
 
 -- documents have one answer at most
 pub record OneAnswer : Type 0 where
-  pub scan : (s : SettingValue) (bytes : List ℕ) → HasOneAnswer (scan_checks s) (AreRules s) bytes
-  pub info : (bytes : List ℕ) → HasOneAnswer info_checks IsInfo bytes
+  pub scan : (s : SettingValue) (bytes : Text) → HasOneAnswer (scan_checks s) (AreRules s) bytes
+  pub info : (bytes : Text) → HasOneAnswer info_checks IsInfo bytes
 
 module _ (answers : OneAnswer) where
   -- accepted scan documents have no rejection
-  pub no_scan : (s : SettingValue) (scans : List (List ℕ)) (i : ℕ) (fault : DocFault) → AreScansAccepted s scans → (r : IsScanRefusal s scans i fault) →
+  pub no_scan : (s : SettingValue) (scans : List Text) (i : ℕ) (fault : DocFault) → AreScansAccepted s scans → (r : IsScanRefusal s scans i fault) →
       IsScanFault s scans i r.scan fault → ⊥
   no_scan s scans i fault all r (inl refused) =
       (answers.scan s r.scan).not_both (rules_of s r.scan) fault (all_at (IsScanAccepted s) scans i r.scan all.each r.here) refused
@@ -71,7 +40,7 @@ module _ (answers : OneAnswer) where
       length-append (all_rules s (take i scans)) (rules_of s r.scan) in
       omega (arith, past, all.limit, part, same, longer)
 
-  pub no_info : (infos : List (List ℕ)) (i : ℕ) (fault : DocFault) → All IsInfoAccepted infos → IsInfoRefusal infos i fault → ⊥
+  pub no_info : (infos : List Text) (i : ℕ) (fault : DocFault) → All IsInfoAccepted infos → IsInfoRefusal infos i fault → ⊥
   no_info infos i fault all r = (answers.info r.info).not_both (info_of r.info) fault (all_at IsInfoAccepted infos i r.info all r.here) r.faulty
 
   -- a map that is written is not rejected
@@ -81,11 +50,11 @@ module _ (answers : OneAnswer) where
       let both : Ok good.0 ≡ Err (map_fault fault) = sym good.1.2 ∙ ap written (one_map t o rule good.1.0 bad.0 good.1.1 bad.1) ∙ bad.2 in
       cc
 
-  no_map : (t : TableValue) (written : Written) (texts : List (List ℕ)) (o : ℕ) (fault : UnwritableMap) → AreMaps t (Some written) texts →
+  no_map : (t : TableValue) (written : Written) (texts : List Text) (o : ℕ) (fault : UnwritableMap) → AreMaps t (Some written) texts →
       IsMapRefusal t written o fault → ⊥
   no_map t written texts o fault maps r =
       let within : o < length t.objects = slice_get_within _ _ _ r.here in
-      let text : (x : List ℕ) × (slice_get texts o ≡ Some x) = element_at texts o (omega (arith, maps.0, within)) in
+      let text : (x : Text) × (slice_get texts o ≡ Some x) = element_at texts o (omega (arith, maps.0, within)) in
       no_map_fault t written o r.rule fault (text.0, maps.1 o r.rule text.0 r.here text.1) r.faulty
 
   pub not_refused : CollatedIsNotRefused
@@ -115,31 +84,31 @@ module _ (answers : OneAnswer) (one_fault : OneTableFault) where
   -- ---- scan documents
 
   -- the first faulty scan document is so among those before a later one
-  scan_before : (s : SettingValue) (scans : List (List ℕ)) (i j : ℕ) (fault : DocFault) → i < j → IsScanRefusal s scans i fault →
+  scan_before : (s : SettingValue) (scans : List Text) (i j : ℕ) (fault : DocFault) → i < j → IsScanRefusal s scans i fault →
       IsScanRefusal s (take j scans) i fault
   scan_before s scans i j fault less r = record {
     before = subst (AreScansAccepted s) (sym (take_less i j scans (omega arith))) r.before;
     scan = r.scan;
     here = in_take scans j i r.scan r.here less;
-    faulty = subst (λ (xs : List (List ℕ)). IsRefused (scan_checks s) r.scan fault ⊎
+    faulty = subst (λ (xs : List Numbers). IsRefused (scan_checks s) r.scan fault ⊎
         (IsScanAccepted s r.scan × (rule_limit < length (all_rules s xs)) × (fault ≡ TooLarge Document)))
         (sym (take_less (i + 1) j scans (omega (arith, less)))) r.faulty;
   }
 
-  scan_later : (s : SettingValue) (scans : List (List ℕ)) (i j : ℕ) (fault other : DocFault) → i < j → IsScanRefusal s scans i fault →
+  scan_later : (s : SettingValue) (scans : List Text) (i j : ℕ) (fault other : DocFault) → i < j → IsScanRefusal s scans i fault →
       IsScanRefusal s scans j other → ⊥
   scan_later s scans i j fault other less r q =
       let first = scan_before s scans i j fault less r in
       no_scan answers s (take j scans) i fault q.before first first.faulty
 
-  scan_faults : (s : SettingValue) (scans : List (List ℕ)) (i : ℕ) (scan : List ℕ) (fault other : DocFault) → IsScanFault s scans i scan fault →
+  scan_faults : (s : SettingValue) (scans : List Text) (i : ℕ) (scan : Text) (fault other : DocFault) → IsScanFault s scans i scan fault →
       IsScanFault s scans i scan other → fault ≡ other
   scan_faults s scans i scan fault other (inl a) (inl b) = (answers.scan s scan).one_fault fault other a b
   scan_faults s scans i scan fault other (inl a) (inr b) = absurd ((answers.scan s scan).not_both (rules_of s scan) fault b.0 a)
   scan_faults s scans i scan fault other (inr a) (inl b) = absurd ((answers.scan s scan).not_both (rules_of s scan) other a.0 b)
   scan_faults s scans i scan fault other (inr a) (inr b) = a.2 ∙ sym b.2
 
-  one_scan : (s : SettingValue) (scans : List (List ℕ)) (i j : ℕ) (fault other : DocFault) → IsScanRefusal s scans i fault → IsScanRefusal s scans j other →
+  one_scan : (s : SettingValue) (scans : List Text) (i j : ℕ) (fault other : DocFault) → IsScanRefusal s scans i fault → IsScanRefusal s scans j other →
       Scan i fault ≡ Scan j other
   one_scan s scans i j fault other r q = elim (three_ways i j) [
     | inl less ↦ absurd (scan_later s scans i j fault other less r q)
@@ -155,7 +124,7 @@ module _ (answers : OneAnswer) (one_fault : OneTableFault) where
 
   -- ---- info files
 
-  info_later : (infos : List (List ℕ)) (i j : ℕ) (fault other : DocFault) → i < j → IsInfoRefusal infos i fault → IsInfoRefusal infos j other → ⊥
+  info_later : (infos : List Text) (i j : ℕ) (fault other : DocFault) → i < j → IsInfoRefusal infos i fault → IsInfoRefusal infos j other → ⊥
   info_later infos i j fault other less r q =
       no_info answers (take j infos) i fault q.before (record {
         before = subst (All IsInfoAccepted) (sym (take_less i j infos (omega arith))) r.before;
@@ -164,7 +133,7 @@ module _ (answers : OneAnswer) (one_fault : OneTableFault) where
         faulty = r.faulty;
       })
 
-  one_info : (infos : List (List ℕ)) (i j : ℕ) (fault other : DocFault) → IsInfoRefusal infos i fault → IsInfoRefusal infos j other →
+  one_info : (infos : List Text) (i j : ℕ) (fault other : DocFault) → IsInfoRefusal infos i fault → IsInfoRefusal infos j other →
       Info i fault ≡ Info j other
   one_info infos i j fault other r q = elim (three_ways i j) [
     | inl less ↦ absurd (info_later infos i j fault other less r q)
@@ -260,7 +229,7 @@ at_last : {X : Type 0} (xs : List X) (x : X) (k : ℕ) (y : X) → k ≡ length 
 at_last xs x k y is e = elim (from_push xs x k y e)
     [ inl h ↦ absurd (let within : k < length xs = slice_get_within _ _ _ h in omega (arith, is)) | inr h ↦ h.1 ]
 
-abbrev pub bytes_at : List CollatedValue → ℕ → List ℕ
+abbrev pub bytes_at : List CollatedValue → ℕ → Text
 bytes_at outs k = option_map_or (λ (c : CollatedValue). c.info) (slice_get outs k) []
 
 -- what a target wrote stays if more targets follow
@@ -269,7 +238,7 @@ same_bytes outs more k within =
     let c : (x : CollatedValue) × (slice_get outs k ≡ Some x) = element_at outs k within in
     ap (λ (z : Option CollatedValue). option_map_or (λ (c : CollatedValue). c.info) z []) (in_first outs more k c.0 c.1 ∙ sym c.1)
 
-same_infos : (outs more : List CollatedValue) (linked : List ℕ) → All (λ k. k < length outs) linked →
+same_infos : (outs more : List CollatedValue) (linked : Numbers) → All (λ k. k < length outs) linked →
     linked_infos (outs ++ more) linked ≡ linked_infos outs linked
 same_infos outs more [] all = refl
 same_infos outs more (k ∷ ks) all =
@@ -282,7 +251,7 @@ pub same_target : (outs more : List CollatedValue) (p : ProjectTargetValue) → 
 same_target outs more p all =
     ap (λ infos. record { name = p.name; setting = p.setting; scans = p.scans; infos = infos; kept = p.kept }) (sym (same_infos outs more p.linked all))
 
-pub lower : (a b : ℕ) (linked : List ℕ) → a ≤ b → All (λ k. k < a) linked → All (λ k. k < b) linked
+pub lower : (a b : ℕ) (linked : Numbers) → a ≤ b → All (λ k. k < a) linked → All (λ k. k < b) linked
 lower a b linked le all i d within = let less : get_or linked i d < a = all i d within in omega arith
 
 module _ (style : Option Written) (targets : List ProjectTargetValue) (outs : List CollatedValue) (project : CollatesProject style targets outs)
@@ -314,7 +283,7 @@ module _ (style : Option Written) (targets : List ProjectTargetValue) (outs : Li
 
 -- a style, if one is given, reads the maps back
 pub maps_of_style : {S : Type 0} (o : Option S) (written : S → Written) (kept : S → ModuleMapValue → List MapEntry)
-    (entries : S → List ℕ → Result (List MapEntry) MapFault) →
+    (entries : S → Text → Result (List MapEntry) MapFault) →
     ((s : S) → AreStyleLaws (written s) (kept s) (entries s)) → ProjectMaps → (targets : List ProjectTargetValue) (outs : List CollatedValue) →
     CollatesProject (option_map written o) targets outs →
     IfSome o (λ s. MapsReadBack (entries s) targets (project_tables targets outs) outs)
@@ -336,7 +305,7 @@ refused_here style targets n outs p project at refusal h =
 -- ---- a project whose targets all collate has no rejection
 
 -- the info files are the same if the linked targets wrote the same
-infos_agree : (outs others : List CollatedValue) (bound : ℕ) → ((k : ℕ) → k < bound → bytes_at outs k ≡ bytes_at others k) → (linked : List ℕ) →
+infos_agree : (outs others : List CollatedValue) (bound : ℕ) → ((k : ℕ) → k < bound → bytes_at outs k ≡ bytes_at others k) → (linked : Numbers) →
     All (λ k. k < bound) linked → linked_infos outs linked ≡ linked_infos others linked
 infos_agree outs others bound same [] all = refl
 infos_agree outs others bound same (k ∷ ks) all =

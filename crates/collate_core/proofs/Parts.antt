@@ -1,47 +1,11 @@
 -- From what the parts of collating promise to what a target collates to, and to its rejection.
 use Rattle.std.proofs.Common.{◌≡◌, Result, Ok, Err, subst, sym, IfOk, MatchResult, IsErrAnd, ℕ, List, ◌++◌, [], ◌∷◌, map, Option, Some, None, length, refl, All, zero, suc, ◌+◌, ◌<◌, ap, ◌∙◌, inl, inr, arith, slice_get, Vec, OnOk, IfSome, flat_map, IfErr}
-use Rattle.ninja_text.specs.Failure.{ForFault, Turns}
-use Rattle.ninja_text.specs.declared.failure.Failure.{Failure}
-use Rattle.ninja_text.specs.declared.failure.Failure.TheVariants.{Memory, Fault}
-use Rattle.dyndep_file.specs.Reading.{HasReadFault, StandsForOnly}
-use Rattle.dyndep_file.specs.Reader.{IsReadFailureIn, IsReadFaultOf}
-use Rattle.dyndep_file.specs.Laws.{FaultStays, FirstFault}
-use Rattle.dyndep_file.specs.declared.fault.ReadFault.{ReadFault}
-use Rattle.dyndep_file.specs.declared.fault.ReadFault.TheVariants.{AtLine, Io}
-use Rattle.std.specs.List.{AllByRecursion}
 use Rattle.std.proofs.lemmas.List.Elements.{All-weaker, recursion_from_All, All-append, All-cons}
-use Rattle.ninja_text.specs.Paths.{IsPath, path_of}
-use Rattle.dyndep_file.specs.StatementValue.{StatementValue}
-use Rattle.dyndep_file.specs.WriteFaults.{paths_of, text_unless, text_or_fault, statement_fault, write_fault}
-use Rattle.dyndep_file.specs.declared.fault.WriteFault.{WriteFault}
 use Rattle.dyndep_file.specs.declared.fault.WriteFault.TheVariants as write
-use Rattle.collate_core.specs.Collation.{HasPaths, IsMapText, Collates, AreMaps}
-use Rattle.collate_core.specs.inner.Parts.{IsSpelled, HasSpelled, IsLineRefusal, IsWriteRefusal, IsMapsRefusal, IsObjectRefusal, IsTextsRefusal, IsWrittenOf}
-use Rattle.collate_core.specs.declared.fault.Refusal.{Refusal}
-use Rattle.collate_core.specs.declared.fault.Refusal.TheVariants.{Scan, Info, Table, StatementTooLong, Map, LinkedLater}
+use Rattle.collate_core.specs.declared.fault.Refusal.TheVariants.{Info}
 use Rattle.ninja_text.proofs.ForCallers.{element_at, in_append, same_some}
-use Rattle.std.specs.declared.alloc.Global.{Global}
 use Rattle.std.proofs.lemmas.List.{map_push, length-map}
-use Rattle.document_values.specs.Rule.{RuleValue}
-use Rattle.module_table.specs.TableValue.{TableValue, table_with}
-use Rattle.module_table.specs.Faults.{IsFault}
-use Rattle.module_table.specs.Sound.{IsSound, PrivateAreProvided}
-use Rattle.module_table.specs.declared.fault.TableFault.{TableFault}
-use Rattle.module_maps.specs.Maps.{Written}
-use Rattle.collate_core.specs.Values.{TargetValue, CollatedValue}
-use Rattle.collate_core.specs.Documents.{table_of, AreAccepted, IsResolved}
-use Rattle.collate_core.specs.Statements.{statements_of, statement_of}
-use Rattle.collate_core.specs.Refusals.{IsRefusal, IsMapRefusal, WasRead}
-use Rattle.collate_core.specs.declared.fault.RefusedTarget.{RefusedTarget}
-use Rattle.document_values.specs.Info.{InfoValue}
-use Rattle.scan_docs.specs.InfoText.{info_text, ReadsBack}
-use Rattle.module_table.specs.Outcomes.{SoundHasNoFault}
-use Rattle.module_table.specs.Added.{Task, tasks_of}
-use Rattle.module_table.specs.Needed.{ArePairs, IsNeeded}
-use Rattle.module_table.specs.EnoughParts.{PartIsSound, PartHasTasks, PartIsNeeded}
-use Rattle.module_table.specs.Parts.{IsEnough, KeepsRequired}
-use Rattle.collate_core.specs.Infos.{modules_of}
-use Rattle.collate_core.specs.inner.PartTables.{IsEnoughFor}
+use Rattle.collate_core.specs.Prelude.{ForFault, Turns, Failure, Memory, Fault, HasReadFault, StandsForOnly, IsReadFailureIn, IsReadFaultOf, FaultStays, FirstFault, ReadFault, AtLine, Io, AllByRecursion, IsPath, path_of, StatementValue, paths_of, text_unless, text_or_fault, statement_fault, write_fault, WriteFault, HasPaths, IsMapText, Collates, AreMaps, IsSpelled, HasSpelled, IsLineRefusal, IsWriteRefusal, IsMapsRefusal, IsObjectRefusal, IsTextsRefusal, IsWrittenOf, Refusal, Scan, Table, StatementTooLong, Map, LinkedLater, Global, Text, PathText, Numbers, Modules, RuleValue, TableValue, table_with, IsFault, IsSound, PrivateAreProvided, TableFault, Written, TargetValue, CollatedValue, table_of, AreAccepted, IsResolved, statements_of, statement_of, IsRefusal, IsMapRefusal, WasRead, RefusedTarget, InfoValue, info_text, ReadsBack, SoundHasNoFault, Task, tasks_of, ArePairs, IsNeeded, PartIsSound, PartHasTasks, PartIsNeeded, IsEnough, KeepsRequired, modules_of, IsEnoughFor}
 
 -- ---- failures and errors that are turned into others
 
@@ -77,7 +41,7 @@ without_fault P result found value is same h = subst (λ r. IfOk r P) (subst (λ
 
 -- ---- what a reader of dyndep files reports of the bytes so far is what it reports of the whole text
 
-pub reported : FaultStays → (bytes more text : List ℕ) (failure : Failure ReadFault) → text ≡ bytes ++ more → IsReadFailureIn bytes failure →
+pub reported : FaultStays → (bytes more text : Text) (failure : Failure ReadFault) → text ≡ bytes ++ more → IsReadFailureIn bytes failure →
     ForFault (IsReadFaultOf text) failure
 reported stays bytes more text Memory same h = tt
 reported stays bytes more text (Fault (AtLine line fault)) same h =
@@ -87,27 +51,27 @@ reported stays bytes more text (Fault Io) same h = h
 -- ---- the paths of statements
 
 -- the paths of an escaped statement
-pub all_spelled : (output : List ℕ) (outputs inputs : List (List ℕ)) → IsSpelled output → All IsSpelled outputs → All IsSpelled inputs →
+pub all_spelled : (output : PathText) (outputs inputs : List Text) → IsSpelled output → All IsSpelled outputs → All IsSpelled inputs →
     All IsSpelled (output ∷ (outputs ++ inputs))
 all_spelled output outputs inputs a b c = All-cons IsSpelled output (outputs ++ inputs) a (All-append IsSpelled outputs inputs b c)
 
 pub has_paths : (ss : List StatementValue) → All HasSpelled ss → All HasPaths ss
 has_paths ss all = All-weaker HasSpelled HasPaths (λ s h. All-weaker IsSpelled IsPath (λ path p. p.canonical) (paths_of s) h) ss all
 
-images : (xs : List (List ℕ)) → AllByRecursion IsPath xs → map path_of xs ≡ map (λ p. Ok p) xs
+images : (xs : List Numbers) → AllByRecursion IsPath xs → map path_of xs ≡ map (λ p. Ok p) xs
 images [] h = refl
 images (x ∷ xs) h = rw (h.0, images xs h.1) refl
 
 -- canonical texts are those of themselves
-pub all_images : (xs : List (List ℕ)) → All IsPath xs → map path_of xs ≡ map (λ p. Ok p) xs
+pub all_images : (xs : List Numbers) → All IsPath xs → map path_of xs ≡ map (λ p. Ok p) xs
 all_images xs h = images xs (recursion_from_All IsPath xs h)
 
-unless_ok : (o : Option WriteFault) (ss : List StatementValue) (text : List ℕ) → text_unless o ss ≡ Ok text → o ≡ None
+unless_ok : (o : Option WriteFault) (ss : List StatementValue) (text : Text) → text_unless o ss ≡ Ok text → o ≡ None
 unless_ok None ss text h = refl
 unless_ok (Some fault) ss text h = absurd (cc)
 
 -- statements that have a text have no fault
-pub no_fault : (ss : List StatementValue) (text : List ℕ) → text_or_fault ss ≡ Ok text → write_fault ss ≡ None
+pub no_fault : (ss : List StatementValue) (text : Text) → text_or_fault ss ≡ Ok text → write_fault ss ≡ None
 no_fault ss text h = unless_ok (write_fault ss) ss text h
 
 line_refusal : FirstFault → (before : List StatementValue) (s : StatementValue) (after : List StatementValue) (count : ℕ) (refusal : Refusal) →
@@ -219,13 +183,13 @@ was_read target (StatementTooLong k) read same = tt
 was_read target LinkedLater read same = tt
 
 -- each text is that of its object's map
-abbrev pub EachMap : TableValue → Written → List (List ℕ) → Type 0
-EachMap t written texts = (o : ℕ) (rule : RuleValue) (text : List ℕ) → slice_get t.objects o ≡ Some rule → slice_get texts o ≡ Some text →
+abbrev pub EachMap : TableValue → Written → List Text → Type 0
+EachMap t written texts = (o : ℕ) (rule : RuleValue) (text : Text) → slice_get t.objects o ≡ Some rule → slice_get texts o ≡ Some text →
     IsMapText t written o rule text
 
-last_map : (t : TableValue) (written : Written) (object : ℕ) (text : List ℕ) →
+last_map : (t : TableValue) (written : Written) (object : ℕ) (text : Text) →
     ((rule : RuleValue) → slice_get t.objects object ≡ Some rule → IsMapText t written object rule text) →
-    (o m : ℕ) (rule : RuleValue) (other : List ℕ) → o ≡ object + m → slice_get (text ∷ []) m ≡ Some other → slice_get t.objects o ≡ Some rule →
+    (o m : ℕ) (rule : RuleValue) (other : Text) → o ≡ object + m → slice_get (text ∷ []) m ≡ Some other → slice_get t.objects o ≡ Some rule →
     IsMapText t written o rule other
 last_map t written object text is o zero rule other index at here =
     let same_index : o ≡ object = omega (arith, index) in
@@ -248,9 +212,9 @@ more_maps t written texts object text count each is o rule other here at =
 
 pub map_before : (t : TableValue) (written : Written) (texts : List (Vec ℕ Global)) (object : ℕ) → length texts ≡ object →
     EachMap t written (map (λ m. m.items) texts) →
-    (p : ℕ) (earlier : RuleValue) → p < object → slice_get t.objects p ≡ Some earlier → (text : List ℕ) × IsMapText t written p earlier text
+    (p : ℕ) (earlier : RuleValue) → p < object → slice_get t.objects p ≡ Some earlier → (text : Text) × IsMapText t written p earlier text
 map_before t written texts object count each p earlier less here =
-    let x : (text : List ℕ) ×
+    let x : (text : Text) ×
     (slice_get (map (λ (m : Vec ℕ Global). m.items) texts) p ≡ Some text) =
     element_at (map (λ (m : Vec ℕ Global). m.items) texts) p (omega (arith, less, count, length-map texts (λ (m : Vec ℕ Global). m.items))) in
     (x.0, each p earlier x.0 here x.1)
@@ -305,7 +269,7 @@ module _ (target : TargetValue) (part : List InfoValue) where
     part_resolved : AreAccepted target → PrivateAreProvided u target.kept → IsResolved target
     part_resolved accepted kept = record { documents = accepted; no_fault = laws.no_fault t target.kept whole kept; sound = whole; kept = kept }
 
-    same_pairs : KeepsRequired part t.infos → (o : ℕ) (pairs : List (List ℕ × List ℕ)) → ArePairs (IsNeeded u o) pairs → ArePairs (IsNeeded t o) pairs
+    same_pairs : KeepsRequired part t.infos → (o : ℕ) (pairs : Modules) → ArePairs (IsNeeded u o) pairs → ArePairs (IsNeeded t o) pairs
     same_pairs keeps o pairs are = record {
       each = λ name file.
           let needs = laws.needed t.objects part t.infos is keeps sound o name file in
@@ -313,11 +277,11 @@ module _ (target : TargetValue) (part : List InfoValue) where
       rising = are.rising;
     }
 
-    same_map : KeepsRequired part t.infos → (written : Written) (o : ℕ) (rule : RuleValue) (text : List ℕ) → IsMapText u written o rule text →
+    same_map : KeepsRequired part t.infos → (written : Written) (o : ℕ) (rule : RuleValue) (text : Text) → IsMapText u written o rule text →
         IsMapText t written o rule text
     same_map keeps written o rule text h = (h.0, record { is_map = h.1.is_map; provided = h.1.provided; needed = same_pairs keeps o _ h.1.needed }, h.2)
 
-    same_maps : (style : Option Written) (texts : List (List ℕ)) → IfSome style (λ _. KeepsRequired part t.infos) → AreMaps u style texts →
+    same_maps : (style : Option Written) (texts : List Text) → IfSome style (λ _. KeepsRequired part t.infos) → AreMaps u style texts →
         AreMaps t style texts
     same_maps None texts keeps h = h
     same_maps (Some written) texts keeps h = (h.0, λ o rule text at_rule at_text. same_map keeps written o rule text (h.1 o rule text at_rule at_text))

@@ -1,32 +1,12 @@
 -- What is read of the targets of a project, and what their tables hold.
 use Rattle.ninja_text.proofs.ForCallers.{from_push, from_map, to_map, in_take, same_some, take_next}
 use Rattle.std.proofs.Common.{◌≡◌, ℕ, ◌+◌, ◌<◌, zero, suc, List, [], ◌∷◌, ◌++◌, length, map, take, get_or, Option, Some, None, All, Contains, IfSome, ap, refl, sym, subst, ◌∙◌, append_assoc, append-nil, slice_get, ⊎_elim, arith, Vec, Global, drop, Bool, true, IsTrue, is_some}
-use Rattle.std.specs.List.{flat_map}
-use Rattle.std.specs.Option.{option_to_list}
 use Rattle.std.proofs.lemmas.List.{drop-drop, nil_from_length}
 use Rattle.std.proofs.lemmas.Option.{slice_get_within}
 use Rattle.std.proofs.lemmas.Grind.{flat_map-append}
 use Rattle.std.proofs.lemmas.List.Elements.{All-append, All-cons, All-head, All-tail, All-contains_itself}
-use Rattle.table_keys.specs.Entries.{TableEntries}
-use Rattle.table_keys.specs.Keys.{Covers, IsKeyOf}
-use Rattle.table_keys.specs.declared.TableKey.{TableKey}
-use Rattle.document_values.specs.Rule.{RuleValue}
-use Rattle.document_values.specs.Info.{InfoValue, ModuleValue}
-use Rattle.module_table.specs.Parts.{HasModule, IsPartOf}
-use Rattle.scan_docs.specs.InfoText.{ReadsBack}
-use Rattle.module_table.specs.Pool.{PoolValue, pool_entries, AreLinked, IsAdded}
+use Rattle.collate_core.specs.Prelude.{flat_map, option_to_list, Text, PathText, Name, Numbers, Modules, TableEntries, Covers, IsKeyOf, TableKey, RuleValue, InfoValue, ModuleValue, HasModule, IsPartOf, ReadsBack, PoolValue, pool_entries, AreLinked, IsAdded, TableValue, table_with, required_of, object_entries, info_entries, table_entries, CollatedValue, ProjectTargetValue, all_rules, table_of, Collates, target_of, Written, module_of, modules_of, info_of_table, IsReadAs, target_entries, project_entries, AreRulesOf, AreRulesOfEach, AreHeld, AreInfosHeld, CoversLinked}
 use Rattle.module_table.proofs.ForCallers.{known_there}
-use Rattle.module_table.specs.TableValue.{TableValue, table_with}
-use Rattle.module_table.specs.Added.{required_of}
-use Rattle.module_table.specs.Entries.{object_entries, info_entries, table_entries}
-use Rattle.collate_core.specs.Values.{CollatedValue, ProjectTargetValue}
-use Rattle.collate_core.specs.Documents.{all_rules, table_of}
-use Rattle.collate_core.specs.Collation.{Collates}
-use Rattle.collate_core.specs.Projects.{target_of}
-use Rattle.module_maps.specs.Maps.{Written}
-use Rattle.collate_core.specs.Infos.{module_of, modules_of, info_of_table}
-use Rattle.collate_core.specs.inner.ReadInfos.{IsReadAs}
-use Rattle.collate_core.specs.inner.ReadTargets.{target_entries, project_entries, AreRulesOf, AreRulesOfEach, AreHeld, AreInfosHeld, CoversLinked}
 use Rattle.collate_core.proofs.Linked.{InfoIs}
 use Rattle.collate_core.proofs.Lists.{all_front, all_back}
 
@@ -37,7 +17,7 @@ pub one_more_target : (targets : List ProjectTargetValue) (n : ℕ) (p : Project
 one_more_target targets n p rules at same =
     append_assoc (project_entries (take n targets)) (p.name ∷ []) (flat_map object_entries rules)
     ∙ ap (λ (rs : List RuleValue). project_entries (take n targets) ++ (p.name ∷ flat_map object_entries rs)) same
-    ∙ ap (λ (es : List (List ℕ)). project_entries (take n targets) ++ es) (sym (append-nil (target_entries p)))
+    ∙ ap (λ (es : List Text). project_entries (take n targets) ++ es) (sym (append-nil (target_entries p)))
     ∙ sym (ap project_entries (take_next targets n p at) ∙ flat_map-append target_entries (take n targets) (p ∷ []))
 
 pub rules_of_one_more :
@@ -71,7 +51,7 @@ all_of_part P f (y ∷ xs) (suc k) x at h = all_of_part P f xs k x at (all_back 
 abbrev entries_of_module : ModuleValue → TableEntries
 entries_of_module m = m.name ∷ m.file ∷ []
 
-module _ (known : List (Option InfoValue)) (linked : List ℕ) (part infos : List InfoValue) (links : AreLinked known linked infos) (is : IsPartOf part infos)
+module _ (known : List (Option InfoValue)) (linked : Numbers) (part infos : List InfoValue) (links : AreLinked known linked infos) (is : IsPartOf part infos)
     (all : TableEntries) (held : AreInfosHeld all known) where
   -- of a linked info file
   held_info : (i : ℕ) (w : InfoValue) → slice_get infos i ≡ Some w → AreHeld all (info_entries w)
@@ -87,20 +67,20 @@ module _ (known : List (Option InfoValue)) (linked : List ℕ) (part infos : Lis
       let whole = held_info i w.2.0 w.2.1 in
       let one = all_of_part (Contains all) entries_of_module w.2.0.modules w.0 w.1 w.2.2
       (All-tail (Contains all) w.2.0.target (flat_map entries_of_module w.2.0.modules) whole) in
-      subst (λ (name : List ℕ). AreHeld all (name ∷ m.file ∷ [])) (sym w.3.name)
-      (subst (λ (file : List ℕ). AreHeld all (w.1.name ∷ file ∷ [])) (sym w.3.file) one)
+      subst (λ (name : Name). AreHeld all (name ∷ m.file ∷ [])) (sym w.3.name)
+      (subst (λ (file : PathText). AreHeld all (w.1.name ∷ file ∷ [])) (sym w.3.file) one)
 
   held_part : AreHeld all (flat_map info_entries part)
   held_part = all_of_parts (Contains all) info_entries part (λ i v at.
       let there : slice_get (map (λ (w : InfoValue). w.target) infos) i ≡ Some v.target =
-      subst (λ (ts : List (List ℕ)). slice_get ts i ≡ Some v.target) is.targets (to_map (λ (w : InfoValue). w.target) part i v at) in
+      subst (λ (ts : List Text). slice_get ts i ≡ Some v.target) is.targets (to_map (λ (w : InfoValue). w.target) part i v at) in
       let w = from_map (λ (w : InfoValue). w.target) infos i v.target there in
       All-cons (Contains all) v.target (flat_map entries_of_module v.modules)
       (subst (Contains all) w.2 (All-head (Contains all) w.0.target (flat_map entries_of_module w.0.modules) (held_info i w.0 w.1)))
       (all_of_parts (Contains all) entries_of_module v.modules (λ j m here. held_module i j m (v, at, here))))
 
 -- the key of the project covers the table of a part
-pub covers_part : (pool : PoolValue) (linked : List ℕ) (objects : List RuleValue) (part infos : List InfoValue) → CoversLinked pool objects →
+pub covers_part : (pool : PoolValue) (linked : Numbers) (objects : List RuleValue) (part infos : List InfoValue) → CoversLinked pool objects →
     AreLinked pool.infos linked infos → IsPartOf part infos → Covers pool.key (table_entries (table_with objects part))
 covers_part pool linked objects part infos covers links is = (
   covers.all,
@@ -111,12 +91,12 @@ covers_part pool linked objects part infos covers links is = (
 
 -- ---- what a table holds of a target's info file is among what it holds of the target
 
-modules_of_pairs : (kept : List (List ℕ)) (required : List (List ℕ × List ℕ)) (pairs : List (List ℕ × List ℕ)) →
+modules_of_pairs : (kept : List Name) (required : Modules) (pairs : Modules) →
     flat_map entries_of_module (map (module_of kept required) pairs) ≡ flat_map (λ pair. pair.0 ∷ pair.1 ∷ []) pairs
 modules_of_pairs kept required [] = refl
 modules_of_pairs kept required (p ∷ ps) = ap (λ (es : TableEntries). p.0 ∷ p.1 ∷ es) (modules_of_pairs kept required ps)
 
-held_modules : (P : List ℕ → Type 0) (kept : List (List ℕ)) (required : RuleValue → List (List ℕ × List ℕ)) (rules : List RuleValue) →
+held_modules : (P : Text → Type 0) (kept : List Name) (required : RuleValue → Modules) (rules : List RuleValue) →
     All P (flat_map object_entries rules) → All P (flat_map entries_of_module (flat_map (modules_of kept) (map (λ rule. (rule, required rule)) rules)))
 held_modules P kept required [] h = all_none P
 held_modules P kept required (r ∷ rs) h =
@@ -128,7 +108,7 @@ held_modules P kept required (r ∷ rs) h =
     (held_modules P kept required rs (all_back P (object_entries r) (flat_map object_entries rs) h)))
 
 -- what the info file of a target is read as
-pub held_read : (all : TableEntries) (name : List ℕ) (kept : List (List ℕ)) (t : TableValue) (document : List ℕ) (info : InfoValue) → InfoIs →
+pub held_read : (all : TableEntries) (name : Name) (kept : List Name) (t : TableValue) (document : Text) (info : InfoValue) → InfoIs →
     ReadsBack (info_of_table name kept t) document → IsReadAs document info → AreHeld all (name ∷ flat_map object_entries t.objects) →
     AreHeld all (info_entries info)
 held_read all name kept t document info info_is back read held =
@@ -214,7 +194,7 @@ pub may_be_added : (key : TableKey) (all : TableEntries) → IsKeyOf key all →
 may_be_added key all made None held = tt
 may_be_added key all made (Some i) held = (all, made, All-tail (Contains all) i.target (pool_entries i) held)
 
-pub known_read : (is_read : Bool) (document : List ℕ) (info : Option InfoValue) → IfSome info (λ i. IsTrue is_read × IsReadAs document i) →
+pub known_read : (is_read : Bool) (document : Text) (info : Option InfoValue) → IfSome info (λ i. IsTrue is_read × IsReadAs document i) →
     IfSome info (IsReadAs document)
 known_read is_read document None h = tt
 known_read is_read document (Some i) h = h.1

@@ -15,3 +15,4 @@ pub mod Laws
 pub mod Builds
 pub mod BuildLaws
 pub mod inner
+pub mod Prelude

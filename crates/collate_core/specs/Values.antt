@@ -3,7 +3,7 @@ use Rattle.std.specs.Prelude.{List, map}
 use Rattle.ninja_text.specs.Bytes.{Text, PathText, Name}
 use Rattle.dep_order.specs.Numbers.{Numbers}
 use Rattle.scan_docs.specs.Scan.{SettingValue}
-use Rattle.collate_core.specs.declared.collated.CollatedParts.{CollatedParts}
+use Rattle.collate_core.specs.declared.collating.CollatedParts.{CollatedParts}
 
 -- a target: its name, its directories and extension, its scan documents, the info files of the
 -- targets that it links, and the names of its private modules

@@ -1,31 +1,25 @@
-//! Collating a target.
-ghost use Rattle.std.specs.Prelude.{◌≡◌, map, None, Ok, IfOk, IfErr};
-ghost use Rattle.std.specs.Option.{option_copied, option_map};
-ghost use Rattle.ninja_text.specs.Failure.{ForFault};
-ghost use Rattle.module_table.specs.Sound.{IsSound};
-ghost use Rattle.collate_core.specs.Documents.{table_of};
-ghost use Rattle.collate_core.specs.Collation.{Collates};
-ghost use Rattle.collate_core.specs.Headline.{IsHeadline, IsDyndepOf};
-ghost use Rattle.collate_core.specs.Refusals.{IsRefusal, HasReadOf};
-ghost use Rattle.collate_core.specs.inner.Parts.{IsTableText, IsTextsRefusal, IsWrittenOf};
+//! Collating a target: its documents make a table, and the objects of the table what is written.
+ghost use Rattle.std.specs.Prelude.{◌≡◌, map, option_copied, option_map, All, IfErr, IfOk, None};
+ghost use Rattle.collate_core.specs.Prelude.{all_rules, collated_of, table_of, AreReadAs};
+ghost use Rattle.collate_core.specs.Prelude.{AreScansAccepted, Collates, ForFault, ForInfo};
+ghost use Rattle.collate_core.specs.Prelude.{ForScan, HasReadOf, HasStatements, IsDyndepOf};
+ghost use Rattle.collate_core.specs.Prelude.{IsHeadline, IsInfoRefusal, IsOfTable, IsRefusal};
+ghost use Rattle.collate_core.specs.Prelude.{IsResolved, IsRuleText, IsScanRefusal, IsSound};
+ghost use Rattle.collate_core.specs.Prelude.{IsTableText, IsTextsRefusal, IsWrittenOf, Ok, OnOk};
+ghost use Rattle.collate_core.specs.Prelude.{Option, Turns, Written};
 
-use crate::collated::{Collated, CollatedParts};
 use crate::fault::{Refusal, RefusedTarget, nothing_read, refusal_alone};
-use crate::info::lent_info;
-use crate::object_maps::maps_of;
-use crate::statements::dyndep_text;
-use crate::table::table_of;
-use document_values::{Name, TargetName};
+use crate::texts::{dyndep_text, lent_info, maps_of};
+use document_values::{Info, Name, Rule, TargetName};
 use module_maps::MapStyle;
-use module_table::Table;
+use module_table::{RefusedTable, Table};
 use ninja_text::{Failure, Path};
-use scan_docs::{Setting, lent_info_write};
+use scan_docs::{DocFault, Place, ReducedSetting, Setting, info_read, lent_info_write, scan_with};
 use std::alloc::{AllocError, Global};
 use std::marker::Model;
 
 /// A target to collate: what its target document names (`scan_docs::TargetSpec`), with its
-/// documents as bytes. It borrows all its parts, because the info files may be those of other
-/// targets.
+/// documents as bytes. It borrows all its parts, since other targets may have the same info files.
 #[derive(Drop)]
 pub struct Target<'a> {
     pub name: &'a TargetName,
@@ -55,16 +49,12 @@ impl<'a> Model for Target<'a> {
 
 /// Collates a target: its documents make a table, and the objects of the table make the dyndep
 /// file, the info file and, with a style, a map for each object (P1689R5 for the scan documents,
-/// the Ninja 1.11 manual, "Dynamic dependencies", for the dyndep file).
+/// the Ninja 1.11 manual, "Dynamic dependencies", for the dyndep file). In every build that names
+/// the dyndep file on exactly the objects, the file adds to each object's edge exactly what the
+/// object provides and requires: the headline.
 ///
-/// The result has the headline: in every build that names the dyndep file on exactly the objects,
-/// the file adds to each object's edge exactly what the object provides and requires.
-///
-/// # Errors
-///
-/// Returns the first [`Refusal`] of the target, in the order of that type. Unless an allocation
-/// fails, the call succeeds if and only if the target has none
-/// ([`one_outcome`](crate::laws::one_outcome)).
+/// Otherwise returns the first [`Refusal`] of the target, in the order of that type. Unless an
+/// allocation fails, there is a result if and only if there is none ([`laws`](crate::laws)).
 pub fn collate<M: MapStyle>(
     alloc: Global,
     target: &Target<'_>,
@@ -128,20 +118,17 @@ pub(crate) fn written_of<M: MapStyle>(
     let info = lent_info(alloc, target.name, target.kept, table)?;
     let info = lent_info_write(alloc, &info)?;
     let objects = objects_of(alloc, table)?;
-    Ok(Collated::new(CollatedParts {
+    let parts = CollatedParts {
         dyndep: text,
         info,
         objects,
         maps,
-    }))
+    };
+    Ok(Collated { parts })
 }
 
-/// Collates a target to its dyndep text alone: the text that [`collate`] without a style returns.
-/// It writes no info file, so it takes less time and less memory.
-///
-/// # Errors
-///
-/// Returns an error if and only if [`collate`] does, and the same [`Refusal`].
+/// Collates a target to its dyndep text alone: the text that [`collate`] without a style returns,
+/// or its [`Refusal`]. It writes no info file, so it takes less time and less memory.
 pub fn collate_dyndep(alloc: Global, target: &Target<'_>) -> Result<Vec<u8>, Failure<Refusal>>
     ensures dyndep { IfOk result (λ text. IsDyndepOf target.now text.items) }
     ensures refused { IfErr result (ForFault (IsRefusal target.now None)) }
@@ -149,8 +136,7 @@ pub fn collate_dyndep(alloc: Global, target: &Target<'_>) -> Result<Vec<u8>, Fai
     collate_dyndep_or_refused(alloc, target).map_err(refusal_alone)
 }
 
-/// Does the same as [`collate_dyndep`], and returns what was read of the target with an error, as
-/// [`collate_or_refused`] does.
+/// Does the same as [`collate_dyndep`], and returns what [`collate_or_refused`] does with an error.
 pub fn collate_dyndep_or_refused(
     alloc: Global,
     target: &Target<'_>,
@@ -182,4 +168,171 @@ fn objects_of(alloc: Global, table: &Table) -> Result<Vec<Path>, AllocError>
         objects.push(rule.object.copy(alloc)?)?;
     }
     Ok(objects)
+}
+
+/// What a target collates to, with a dyndep text that has the headline. Only
+/// [`collate`](crate::collate) and [`project`](crate::project) make one.
+#[derive(Drop)]
+pub struct Collated {
+    parts: CollatedParts,
+}
+
+/// The parts of a [`Collated`] by value, so that the texts are written without a copy.
+#[derive(Drop)]
+pub struct CollatedParts {
+    /// The text of the dyndep file.
+    pub dyndep: Vec<u8>,
+    /// The text of the info file.
+    pub info: Vec<u8>,
+    /// The objects, by index.
+    pub objects: Vec<Path>,
+    /// The text of each object's map. Without a style the list is empty.
+    pub maps: Vec<Vec<u8>>,
+}
+
+impl Model for Collated {
+    ghost use Rattle.collate_core.specs.Values.{CollatedValue, collated_of};
+    ghost use Rattle.collate_core.specs.Headline.{HasStatements};
+
+    ghost Value = { CollatedValue };
+
+    ghost view = { λ c. collated_of c.parts };
+
+    ghost invariant = { λ c. HasStatements (collated_of c.parts) };
+}
+
+impl Collated {
+    /// Returns the text of the dyndep file.
+    pub fn dyndep(&self) -> &[u8]
+        ensures bytes { result.now ≡ self.now.dyndep }
+        ensures statements { HasStatements self.now }
+    {
+        &self.parts.dyndep
+    }
+
+    /// The text of the info file.
+    pub fn info(&self) -> &[u8]
+        ensures { result.now ≡ self.now.info }
+    {
+        &self.parts.info
+    }
+
+    /// Returns the objects, by index.
+    pub fn objects(&self) -> &[Path]
+        ensures { result.now ≡ self.now.objects }
+    {
+        &self.parts.objects
+    }
+
+    /// The text of each object's map. Without a style the list is empty.
+    pub fn maps(&self) -> &[Vec<u8>]
+        ensures { map (λ m. m.items) result.now ≡ self.now.maps }
+    {
+        &self.parts.maps
+    }
+
+    /// Consumes the value and returns its parts.
+    pub fn into_parts(self) -> CollatedParts
+        ensures dyndep { result.dyndep.items ≡ self.dyndep }
+        ensures info { result.info.items ≡ self.info }
+        ensures objects { result.objects.items ≡ self.objects }
+        ensures maps { map (λ m. m.items) result.maps.items ≡ self.maps }
+    {
+        let Collated { parts } = self;
+        parts
+    }
+}
+
+/// The maximum number of rules of a target.
+pub const RULE_LIMIT: usize = 65536;
+
+/// Returns the table of the target's documents, or the fault of the first document that has one, or
+/// of the table.
+pub(crate) fn table_of(alloc: Global, target: &Target<'_>) -> Result<Table, Failure<RefusedTarget>>
+    ensures table { IfOk result (λ table. table ≡ table_of target.now) }
+    ensures resolved { OnOk result (IsResolved target.now) }
+    ensures text { IfOk result IsTableText }
+    // whatever the style, since maps come later
+    ensures refused { IfErr result (ForFault (λ refused.
+        (style : Option Written) → IsRefusal target.now style refused.refusal)) }
+    ensures read { IfErr result (ForFault (HasReadOf target.now)) }
+{
+    let objects = match rules_of_all(alloc, target.setting, target.scans) {
+        Ok(objects) => objects,
+        Err(failure) => return Err(nothing_read(alloc, failure)),
+    };
+    let infos = match infos_of_all(alloc, target.infos) {
+        Ok(infos) => infos,
+        Err(failure) => return Err(nothing_read(alloc, failure)),
+    };
+    Table::build_or_refused(alloc, objects, infos, target.kept, None).map_err(of_table)
+}
+
+/// Returns the failure of a target whose table has a fault.
+fn of_table(failure: Failure<RefusedTable>) -> Failure<RefusedTarget>
+    ensures { Turns IsOfTable failure result }
+{
+    failure.map(|refused| RefusedTarget {
+        refusal: Refusal::Table {
+            fault: refused.fault,
+        },
+        objects: refused.objects,
+        infos: refused.infos,
+    })
+}
+
+/// Returns the rules of all scan documents, one document after another.
+pub(crate) fn rules_of_all(
+    alloc: Global,
+    setting: &Setting,
+    scans: &[&[u8]],
+) -> Result<Vec<Rule>, Failure<Refusal>>
+    ensures accepted { OnOk result
+        (AreScansAccepted setting.now (map (λ scan. scan.now) scans.now)) }
+    ensures rules { IfOk result (λ rules.
+        rules.items ≡ all_rules setting.now (map (λ scan. scan.now) scans.now)) }
+    ensures text { IfOk result (λ rules. All IsRuleText rules.items) }
+    ensures refused { IfErr result (ForFault (ForScan
+        (IsScanRefusal setting.now (map (λ scan. scan.now) scans.now)))) }
+{
+    let reduced = ReducedSetting::of(alloc, setting)?;
+    let mut rules = Vec::new(alloc);
+    for (index, document) in scans.iter().enumerate() {
+        match scan_with(alloc, document, &reduced) {
+            Ok(found) => {
+                let mut more = found;
+                if more.len() > RULE_LIMIT - rules.len() {
+                    let place = Place::Document;
+                    let fault = DocFault::TooLarge { place };
+                    return Err(Failure::Fault(Refusal::Scan { index, fault }));
+                }
+                rules.append(&mut more)?;
+            }
+            Err(Failure::Memory) => return Err(Failure::Memory),
+            Err(Failure::Fault(fault)) => {
+                return Err(Failure::Fault(Refusal::Scan { index, fault }));
+            }
+        }
+    }
+    Ok(rules)
+}
+
+/// Returns the info files of all info documents.
+fn infos_of_all(alloc: Global, documents: &[&[u8]]) -> Result<Vec<Info>, Failure<Refusal>>
+    ensures read { IfOk result
+        (λ infos. AreReadAs (map (λ info. info.now) documents.now) infos.items) }
+    ensures refused { IfErr result
+        (ForFault (ForInfo (IsInfoRefusal (map (λ info. info.now) documents.now)))) }
+{
+    let mut infos = Vec::new(alloc);
+    for (index, document) in documents.iter().enumerate() {
+        match info_read(alloc, document) {
+            Ok(info) => infos.push(info)?,
+            Err(Failure::Memory) => return Err(Failure::Memory),
+            Err(Failure::Fault(fault)) => {
+                return Err(Failure::Fault(Refusal::Info { index, fault }));
+            }
+        }
+    }
+    Ok(infos)
 }

@@ -1,6 +1,6 @@
 //! Why a target does not collate, and why a dyndep text has no effect on a graph.
-ghost use Rattle.std.specs.Prelude.{◌≡◌, Ok, IfOk, IfSome};
-ghost use Rattle.ninja_text.specs.Failure.{Turns};
+ghost use Rattle.std.specs.Prelude.{◌≡◌, IfOk, IfSome, Ok};
+ghost use Rattle.collate_core.specs.Prelude.{Turns};
 
 use build_effect::EffectFault;
 use document_values::{Info, Rule};
@@ -16,8 +16,7 @@ use thiserror::Error;
 /// one with the lowest index if they are of one kind.
 #[derive(Debug, Drop, Error)]
 pub enum Refusal {
-    /// The scan document of this index has a fault (S1 to S8), or the target has too many rules
-    /// with it (S8).
+    /// The scan document of this index has a fault, or too many rules with those before (S1 to S8).
     #[error("scan {index}: {fault}")]
     Scan { index: usize, fault: DocFault },
     /// The info document of this index has a fault (S1 to S8).
@@ -37,8 +36,7 @@ pub enum Refusal {
     LinkedLater,
 }
 
-/// Why a target does not collate, and what was read of it. A rejection has objects and info files
-/// by their indexes in these lists.
+/// Why a target does not collate, and what was read of it. A rejection has indexes of these lists.
 #[derive(Drop)]
 pub struct RefusedTarget {
     pub refusal: Refusal,

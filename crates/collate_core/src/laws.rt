@@ -1,7 +1,13 @@
-//! Laws of collated targets and projects, and of the builds that they are part of: each is the
-//! contract of a call that does nothing, or only calls other laws.
-ghost use Rattle.collate_core.specs.BuildLaws.{TargetHasNoRace, ProjectHasNoRace, ProjectMakesAll, LeastOrderRuns, TargetHasNoFalseWait, ProjectHasNoFalseWait, TargetHasNoFalseRebuild, ProjectHasNoFalseRebuild, TargetHasNoFalseCycle, ProjectHasNoFalseCycle};
-ghost use Rattle.collate_core.specs.Laws.{HeadlineHolds, CollatedIsNotRefused, OneRefusal, ProjectIsNotRefused, OneProjectRefusal, ProjectOrders, ProjectNumbered, ProjectEndOrderable, ProjectNeeds, ProjectMaps};
+//! Laws of targets, projects and their builds: each is the contract of a call that does nothing.
+ghost use Rattle.collate_core.specs.BuildLaws.{TargetHasNoRace, ProjectHasNoRace, ProjectMakesAll};
+ghost use Rattle.collate_core.specs.BuildLaws.{LeastOrderRuns, TargetHasNoFalseWait};
+ghost use Rattle.collate_core.specs.BuildLaws.{ProjectHasNoFalseWait, TargetHasNoFalseRebuild};
+ghost use Rattle.collate_core.specs.BuildLaws.{ProjectHasNoFalseRebuild, TargetHasNoFalseCycle};
+ghost use Rattle.collate_core.specs.BuildLaws.{ProjectHasNoFalseCycle};
+ghost use Rattle.collate_core.specs.Laws.{HeadlineHolds, CollatedIsNotRefused, OneRefusal};
+ghost use Rattle.collate_core.specs.Laws.{ProjectIsNotRefused, OneProjectRefusal, ProjectOrders};
+ghost use Rattle.collate_core.specs.Laws.{ProjectNumbered, ProjectEndOrderable, ProjectNeeds};
+ghost use Rattle.collate_core.specs.Laws.{ProjectMaps};
 
 /// Whatever a target collates to has the headline.
 pub fn headline()
@@ -54,8 +60,7 @@ pub fn one_outcome()
 /// that the object provides. This holds after the dyndep file of a target that has the headline,
 /// and after the files of any targets of a project, under the premises of the headline and of
 /// [`project_orders`]. After the files of targets and of those that they link, an edge makes each
-/// file that an object of these targets requires. [`edge_order`](build_effect::edge_order) returns
-/// such an order.
+/// file that an object of these targets requires. `build_effect::edge_order` returns such an order.
 pub fn no_race()
     ensures target { TargetHasNoRace }
     ensures project { ProjectHasNoRace }
@@ -81,11 +86,9 @@ pub fn no_false_wait()
 /// No false rebuild, under the same premises. After the effect a chain of needs leads from one edge
 /// to another if and only if a chain of earlier needs and of imports does. The same holds without
 /// order-only inputs, which do not count when Ninja decides what to run again. So after a change
-/// Ninja runs what it ran before, and what imports it, directly or through others.
-///
-/// An edge imports from another edge if its object requires a module whose BMI the other produces,
-/// or if it lists such a file as an input of its own, and the object of the other provides the
-/// module.
+/// Ninja runs what it ran before, and what imports it, directly or through others. An edge imports
+/// from another edge if its object requires a module whose BMI the other produces, or if it lists
+/// such a file as an input of its own, and the object of the other provides the module.
 pub fn no_false_rebuild()
     ensures target { TargetHasNoFalseRebuild }
     ensures project { ProjectHasNoFalseRebuild }

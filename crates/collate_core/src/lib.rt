@@ -19,55 +19,34 @@
 //!   needs over the whole project (`ProjectNeeds.antt`).
 //! - The laws [`laws::no_race`], [`laws::no_false_wait`], [`laws::no_false_rebuild`] and
 //!   [`laws::no_false_cycle`] say what these files mean for a build (`specs/Builds.antt`,
-//!   `specs/BuildLaws.antt`). In every order in which the edges can run, the edge of an object comes
+//!   `specs/BuildLaws.antt`). In every order in which the edges can run, an edge of an object comes
 //!   after the producers of the BMIs that the object requires. An edge needs what it needed before
 //!   and what it imports, and nothing else, directly, in a chain or in a cycle.
 //!
 //! The definitions speak of one table, which is a function of the documents' bytes
 //! (`specs/Documents.antt`, `table_of`). A target of a project is collated by the table of a part
-//! of what it links, if that is enough (`src/linking.rt`). Definitions that only private clauses
+//! of what it links, if that is enough (`src/projects.rt`). Definitions that only private clauses
 //! use are in `specs/inner/`.
 //!
-//! The styles of maps are those of `module_maps`, which this crate offers by its own name also.
-//!
-//! It uses `scan_docs` for documents, `module_table` for modules by name, `module_maps` for their
-//! maps, `dyndep_file` for the texts, `build_effect` and `dep_order` for builds, `ninja_text` for
-//! paths, `indexmap` and `table_keys` for the set of the names of private modules, and `thiserror`
-//! for its rejections.
-//!
 //! A target has five types, by what is known of it: `TargetSpec` of `scan_docs` is what its target
-//! document says, with the names of its files; a [`Target`] has the files' bytes, and is what
-//! [`collate`] takes; a [`ProjectTarget`] links earlier targets of its project in place of info
-//! files, and is what [`project`] takes; a [`Collated`] is what either returns, and
-//! [`CollatedParts`] are its texts, to be written.
-//!
-//! `must-fail/` has a wrong body of each public function, except for the laws, for the methods of
-//! [`Collated`], which return fields, and for the calls that only pass on what another returns,
-//! with its clauses: [`collate`], [`collate_dyndep`] and [`project`] return what their
-//! `_or_refused` calls do, without what was read. `required_module_left_out` changes the text that
-//! both [`collate`] and [`collate_dyndep`] return. The README lists the edits of other crates that
-//! cover a clause here.
+//! document says, with the names of its files; a [`Target`] has the files' bytes; a
+//! [`ProjectTarget`] links earlier targets of its project in place of info files; a [`Collated`] is
+//! what either collates to, and [`CollatedParts`] are its texts, to be written. The styles of maps
+//! are those of `module_maps`, which this crate offers by its own name also.
 #![tactic(auto)]
 
-mod collated;
 mod collating;
 mod fault;
-mod info;
 pub mod laws;
-mod linking;
-mod object_maps;
 mod projects;
-mod reading;
 mod rehearsal;
-mod statements;
-mod table;
+mod texts;
 
-pub use collated::{Collated, CollatedParts};
 pub use collating::{
-    Target, collate, collate_dyndep, collate_dyndep_or_refused, collate_or_refused,
+    Collated, CollatedParts, RULE_LIMIT, Target, collate, collate_dyndep,
+    collate_dyndep_or_refused, collate_or_refused,
 };
 pub use fault::{Refusal, RefusedTarget, RehearseFault};
 pub use module_maps::{Clang, Gcc, MapEntry, MapFault, MapStyle, ModuleMap, UnwritableMap};
 pub use projects::{ProjectOut, ProjectTarget, project, project_or_refused};
 pub use rehearsal::{check_edges, rehearse};
-pub use table::RULE_LIMIT;

@@ -1,14 +1,10 @@
 //! What a dyndep text does to a graph.
-ghost use Rattle.std.specs.Prelude.{List, length, IfOk, IfErr};
-ghost use Rattle.ninja_text.specs.Failure.{ForFault};
-ghost use Rattle.dep_order.specs.Sortings.{IsSortingOf};
-ghost use Rattle.dyndep_file.specs.Reader.{IsReadFaultOf};
-ghost use Rattle.dyndep_file.specs.Reading.{StandsFor};
-ghost use Rattle.build_effect.specs.EdgeValue.{EdgeValue};
-ghost use Rattle.build_effect.specs.Graphs.{EdgeNeeds};
-ghost use Rattle.collate_core.specs.Rehearsal.{HasEffect, IsRehearseFault, LacksEffect, IsOrderedAt};
+ghost use Rattle.collate_core.specs.Prelude.{length, EdgeNeeds, EdgeValue, ForFault, HasEffect};
+ghost use Rattle.collate_core.specs.Prelude.{IfErr, IfOk, IsOrderedAt, IsReadFaultOf};
+ghost use Rattle.collate_core.specs.Prelude.{IsRehearseFault, IsSortingOf, LacksEffect, List};
+ghost use Rattle.collate_core.specs.Prelude.{StandsFor};
 
-use crate::collated::Collated;
+use crate::collating::Collated;
 use crate::fault::RehearseFault;
 use build_effect::{EffectFault, Graph, apply, edge_order};
 use dep_order::Sorting;
@@ -18,10 +14,9 @@ use std::alloc::Global;
 
 /// Feeds a text to the reader of dyndep files in pieces of these lengths, and applies what it reads
 /// to a graph as the dyndep file of that name (Ninja 1.11 manual, "Dynamic dependencies"). A length
-/// may be zero, one past the end means the rest, and what remains is the last piece.
-///
-/// The result is the same for all lengths: the reader's fault if and only if the text stands for no
-/// statements, and otherwise what [`apply`](build_effect::apply) returns for its statements.
+/// may be zero, one past the end means the rest, and what remains is the last piece. The result is
+/// the same for all lengths: the reader's fault if and only if the text stands for no statements,
+/// and otherwise what [`apply`](build_effect::apply) returns for its statements.
 pub fn rehearse(
     alloc: Global,
     text: &[u8],
@@ -44,15 +39,11 @@ pub fn rehearse(
 }
 
 /// Applies the dyndep file of a collated target, which has that name, to the graph. Returns an
-/// order of the edges after the effect, or the least cycle.
+/// order of the edges after the effect, or the least cycle, or why the file has no effect.
 ///
 /// The result is an order if the graph meets the headline's premises and can be numbered, with the
 /// added outputs alone, so that each needed edge has a smaller number than its user, the edges of
 /// all objects have one number, and each edge that makes a linked file has a smaller one.
-///
-/// # Errors
-///
-/// Returns the reason why the file has no effect on the graph.
 pub fn check_edges(
     alloc: Global,
     collated: &Collated,

@@ -3,8 +3,8 @@ use Rattle.std.specs.Prelude.{◌≡◌, ◌==◌, Bool, false, List, [], ◌∷
 use Rattle.std.specs.Prelude.{Option, Some, None, option_map, option_and_then, if◌then◌else◌, codes}
 use Rattle.std.specs.Str.{bytes_eq}
 use Rattle.command_line.specs.Arguments.{Argument, dash}
-use Rattle.command_line.specs.declared.arguments.Task.{Task}
-use Rattle.command_line.specs.declared.arguments.Task.TheVariants as task
+use Rattle.command_line.specs.declared.Task.{Task}
+use Rattle.command_line.specs.declared.Task.TheVariants as task
 
 -- a task with its operands
 pub data TaskValue : Type 0 where

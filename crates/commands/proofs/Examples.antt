@@ -1,14 +1,9 @@
 -- The definitions on examples whose results are known.
 use Rattle.std.proofs.Common.{◌≡◌, ℕ, List, [], ◌∷◌, Some, None, true, false, length, codes, refl, Ok, Err}
-use Rattle.std.specs.declared.io.Error.{Error}
+use Rattle.commands.specs.Prelude.{Error, error_kind, FilesOf, TargetFilesValue, FileCall, FileRead, reading, up_to, ListingRead, IsListingRead, ReadsAll, goes_on, stops, failed, document_most}
 use Rattle.scan_docs.specs.Target as document
-use Rattle.std.specs.IoError.{error_kind}
 use Rattle.std.specs.declared.io.ErrorKind.TheVariants.{OutOfMemory}
 use Rattle.ninja_text.specs.declared.failure.Failure.TheVariants.{Fault}
-use Rattle.commands.specs.Files.{FilesOf, TargetFilesValue}
-use Rattle.commands.specs.Folder.{FileCall, FileRead, reading, up_to}
-use Rattle.commands.specs.Listings.{ListingRead, IsListingRead}
-use Rattle.commands.specs.Outcomes.{ReadsAll, goes_on, stops, failed, document_most}
 use Rattle.commands.proofs.Outcomes.{document_call, read_more}
 
 -- a target document that names a scan document, an info file and a listing of edges

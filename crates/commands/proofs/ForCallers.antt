@@ -3,11 +3,9 @@
 use Rattle.std.proofs.Common.{◌≡◌, ℕ, List, ◌++◌, length, false, refl, arith}
 use Rattle.std.proofs.lemmas.Bool.{ltb-false}
 use Rattle.std.proofs.lemmas.List.{length-append}
-use Rattle.scan_docs.specs.Document.{IsRefused, large}
+use Rattle.commands.specs.Prelude.{IsRefused, large, up_to, document_most}
 use Rattle.scan_docs.specs.declared.fault.DocFault.TheVariants.{TooLarge}
 use Rattle.scan_docs.specs.declared.fault.Place.TheVariants.{Document}
-use Rattle.commands.specs.Folder.{up_to}
-use Rattle.commands.specs.Outcomes.{document_most}
 
 pub unread : (checks : _) (bytes more : List ℕ) → (up_to document_most bytes).ended ≡ false → IsRefused checks (bytes ++ more) (TooLarge Document)
 unread checks bytes more e = large (let more_than = ltb-false (length bytes) document_most e in omega (arith, more_than, length-append bytes more)) refl

@@ -1,23 +1,9 @@
 -- What reading an edge list or a dyndep file leads to.
 use Rattle.std.proofs.Common.{◌≡◌, true, false, refl, Some, Result, Ok, Err, inl, inr, IfOk, IfErr, Bool}
-use Rattle.std.specs.Result.{is_ok}
-use Rattle.ninja_text.specs.Bytes.{Bytes}
-use Rattle.ninja_text.specs.Failure.{ForFault}
-use Rattle.ninja_text.specs.declared.failure.Failure.{Failure}
+use Rattle.commands.specs.Prelude.{is_ok, Bytes, ForFault, Failure, DyndepReaderState, HasReadDyndep, FeedsDyndep, EndsDyndepFile, IsReadFaultIn, IsReadFaultOf, StandsForOnly, ReadFault, IsGraph, ListingReaderState, HasReadListing, FeedsListing, EndsListing, IsListingFault, IsListingFaultIn, line_failure, Lists, ListFault, LineFault, DyndepRead, IsDyndepRead, FileRead, HasFailed, ReadsOn, WasGiven, whole, ListingRead, IsListingRead}
 use Rattle.ninja_text.specs.declared.failure.Failure.TheVariants.{Memory, Fault}
-use Rattle.dyndep_file.specs.Reader.{DyndepReaderState, HasReadDyndep, FeedsDyndep, EndsDyndepFile, IsReadFaultIn, IsReadFaultOf}
-use Rattle.dyndep_file.specs.Reading.{StandsForOnly}
-use Rattle.dyndep_file.specs.declared.fault.ReadFault.{ReadFault}
 use Rattle.dyndep_file.specs.declared.fault.ReadFault.TheVariants.{AtLine, Io}
-use Rattle.build_effect.specs.Graphs.{IsGraph}
-use Rattle.build_effect.specs.ListingReaders.{ListingReaderState, HasReadListing, FeedsListing, EndsListing, IsListingFault, IsListingFaultIn, line_failure}
-use Rattle.build_effect.specs.ListingReading.{Lists}
-use Rattle.build_effect.specs.declared.fault.ListFault.{ListFault}
-use Rattle.build_effect.specs.declared.fault.LineFault.{LineFault}
 use Rattle.build_effect.specs.declared.fault.ListFault.TheVariants as list
-use Rattle.commands.specs.Dyndeps.{DyndepRead, IsDyndepRead}
-use Rattle.commands.specs.Folder.{FileRead, HasFailed, ReadsOn, WasGiven, whole}
-use Rattle.commands.specs.Listings.{ListingRead, IsListingRead}
 
 -- ---- what a whole text is read as
 

@@ -1,17 +1,10 @@
 -- What the parts of a run have led to, the calls that they make, and what their loops make.
 use Rattle.std.proofs.Common.{◌-◌, arith, codes, length-drop, ◌≡◌, ◌∙◌, ℕ, ◌+◌, ◌<◌, List, [], ◌∷◌, ◌++◌, drop, length, get_or, suc, Option, Some, None, Result, Ok, Err, refl, ap, ap₂, sym, append_assoc, append-nil, add-one, drop-cons, ◌≤◌, map, take, slice_get, option_map, Vec, IfOk, IsErr, IsErrAnd, MatchResult, Global}
-use Rattle.commands.specs.Folder.{FileCall, Adds, MakesCalls, reading, up_to}
-use Rattle.std.specs.declared.alloc.AllocError.{AllocError}
-use Rattle.std.specs.List.{flat_map}
+use Rattle.commands.specs.Prelude.{FileCall, Adds, MakesCalls, reading, up_to, AllocError, flat_map, Bytes, Text, ForFault, Gives, Failure, LineValue, Outcome, Part, InTurn, goes_on, stops, Done, Each, Returns, ReadsNext, Reports, Runs, ValueOf, document_most, failed, refusal, seen, IsStoppedWith, ReportsPrinted}
 use Rattle.std.proofs.lemmas.List.{drop_all, flat_map_more, map_push, take_all, take_more}
 use Rattle.std.proofs.lemmas.Option.{slice_get_within, get_or_from_slice_get, slice_get-get_or, slice_get-map}
 use Rattle.ninja_text.proofs.ForCallers.{take_next}
-use Rattle.ninja_text.specs.Bytes.{Bytes, Text}
-use Rattle.ninja_text.specs.Failure.{ForFault, Gives}
-use Rattle.ninja_text.specs.declared.failure.Failure.{Failure}
 use Rattle.ninja_text.specs.declared.failure.Failure.TheVariants.{Memory, Fault}
-use Rattle.commands.specs.Outcomes.{LineValue, Outcome, Part, InTurn, goes_on, stops, Done, Each, Returns, ReadsNext, Reports, Runs, ValueOf, document_most, failed, refusal, seen}
-use Rattle.commands.specs.inner.Stops.{IsStoppedWith, ReportsPrinted}
 
 -- the calls that were made so far, if they are known, and why a run stops
 abbrev pub Known : Type 0
@@ -217,23 +210,23 @@ leads_end old mid new Left Whole outcome (before, so_far, leads) (calls, after, 
 -- The same of parts for the elements of a list, of which those from an index on are left.
 module _ {V X : Type 0} (Next : V → X → Part V) (xs : List X) (Whole : Part V) (old : Known) where
   -- at the next element
-  pub each_next : (i : ℕ) (x : X) (value next : V) (mid new : Known) → slice_get xs i ≡ Some x →
+  pub each_next : (i : ℕ) {x : X} {value next : V} {mid new : Known} → slice_get xs i ≡ Some x →
       Leads old mid (Each Next value (drop i xs)) Whole → Runs mid new (Next value x) (Ok next) → Leads old new (Each Next next (drop (i + 1) xs)) Whole
-  each_next i x value next mid new here leads ran =
+  each_next i {x} {value} {next} {mid} {new} here leads ran =
       leads_on old mid new (Each Next value (drop i xs)) (Each Next next (drop (i + 1) xs)) Whole (λ calls. Next value x calls (Ok next)) leads ran
       (λ calls more s own rest. rw (drop_next xs i x here) (goes_on next calls more refl own rest))
 
   -- it stopped the run
-  pub each_last : (i : ℕ) (x : X) (value : V) (mid new : Known) (stop : Stop) → slice_get xs i ≡ Some x →
+  pub each_last : (i : ℕ) {x : X} {value : V} {mid new : Known} {stop : Stop} → slice_get xs i ≡ Some x →
       Leads old mid (Each Next value (drop i xs)) Whole → Runs mid new (Next value x) (Err stop) → Runs old new Whole (Err stop)
-  each_last i x value mid new stop here leads (calls, made, own) =
+  each_last i {x} {value} {mid} {new} {stop} here leads (calls, made, own) =
       leads_end old mid new (Each Next value (drop i xs)) Whole (Err stop) leads
       (calls, made, rw (drop_next xs i x here) (stops stop own refl))
 
   -- after the last
-  pub each_done : (i : ℕ) (value : V) (new : Known) → length xs ≤ i → Leads old new (Each Next value (drop i xs)) Whole →
+  pub each_done : (i : ℕ) {value : V} {new : Known} → length xs ≤ i → Leads old new (Each Next value (drop i xs)) Whole →
       Runs old new Whole (Ok value)
-  each_done i value new past leads =
+  each_done i {value} {new} past leads =
       leads_end old new new (Each Next value (drop i xs)) Whole (Ok value) leads
       ([], none_made new, rw (drop_all i xs past) (refl, refl))
 

@@ -1,42 +1,17 @@
 -- What the targets of a run collate to, and how a rejected one is reported.
 use Rattle.std.proofs.Common.{◌≡◌, ◌∙◌, ℕ, suc, List, [], ◌∷◌, ◌++◌, map, zip, Bool, Option, Result, Ok, Err, refl, ap, sym, arith, zero, ◌<◌, inl, inr, true, false, cond, length, Some, None, ap₂, bytes_eq, ◌+◌, take, get_or, append-nil, All, IsUtf8, Vec, OnOk, slice_get, option_map, Global}
-use Rattle.std.specs.List.{AllZip}
+use Rattle.commands.specs.Prelude.{AllZip, SettingValue, IsRule, RuleValue, rules_of, info_of, Written, TargetValue, CollatedValue, ProjectTargetValue, all_rules, table_of, IsScanAccepted, Collates, file_value, map_name, output_file, map_files, files_of, FileValue, LineValue, Outcome, Reports, Part, seen, ForFault, Failure, InfoValue, TableValue, table_with, IsRefusal, WasRead, Refusal, RefusedTarget, map_text, refusal_by_names, refusal_text, fault_text, TargetOf, refusal_line, refused_line, ReadTargetValue, index_or_head, last_with, LinksTo, At, IsTargetOutcome, IsTargetStop, project_target, names_at, all_files, LinkEarlier, IsReportable, option_map_or, target_of, CollatesProject, IsProjectRefusal, WasReadAt}
 use Rattle.std.proofs.lemmas.List.{map-append, take_more, length-map, map_push}
 use Rattle.std.proofs.lemmas.List.Elements.{All-nil, All-cons, All-append, All-map}
-use Rattle.scan_docs.specs.Scan.{SettingValue, IsRule}
-use Rattle.document_values.specs.Rule.{RuleValue}
-use Rattle.scan_docs.specs.Values.{rules_of, info_of}
-use Rattle.module_maps.specs.Maps.{Written}
-use Rattle.collate_core.specs.Values.{TargetValue, CollatedValue, ProjectTargetValue}
-use Rattle.collate_core.specs.Documents.{all_rules, table_of, IsScanAccepted}
-use Rattle.collate_core.specs.Collation.{Collates}
-use Rattle.commands.specs.Answers.{file_value}
-use Rattle.commands.specs.CollateCommand.{map_name, output_file, map_files, files_of}
-use Rattle.commands.specs.Outcomes.{FileValue, LineValue, Outcome, Reports, Part, seen}
 use Rattle.commands.specs.declared.stop.OutputFile.{OutputFile}
-use Rattle.ninja_text.specs.Failure.{ForFault}
-use Rattle.ninja_text.specs.declared.failure.Failure.{Failure}
 use Rattle.ninja_text.specs.declared.failure.Failure.TheVariants.{Memory, Fault}
-use Rattle.document_values.specs.Info.{InfoValue}
-use Rattle.module_table.specs.TableValue.{TableValue, table_with}
-use Rattle.collate_core.specs.Refusals.{IsRefusal, WasRead}
-use Rattle.collate_core.specs.declared.fault.Refusal.{Refusal}
-use Rattle.collate_core.specs.declared.fault.RefusedTarget.{RefusedTarget}
 use Rattle.collate_core.specs.declared.fault.Refusal.TheVariants.{Scan, Info, Table, StatementTooLong, Map, LinkedLater}
-use Rattle.commands.specs.RefusalTexts.{map_text, refusal_by_names, refusal_text}
-use Rattle.commands.specs.TableFaults.{fault_text}
-use Rattle.commands.specs.Targets.{TargetOf}
-use Rattle.commands.specs.inner.Refusals.{refusal_line, refused_line}
 use Rattle.ninja_text.proofs.ForCallers.{element_at, from_map, from_push, take_next}
 use Rattle.commands.specs.Outcomes as outcomes
 use Rattle.std.proofs.lemmas.Option.{same_Some, slice_get_within, slice_get-get_or, slice_get-map}
-use Rattle.commands.specs.ProjectCommand.{ReadTargetValue, index_or_head, last_with, LinksTo, At, IsTargetOutcome, IsTargetStop, project_target, names_at, all_files}
-use Rattle.commands.specs.inner.ProjectTargets.{LinkEarlier, IsReportable}
-use Rattle.std.specs.Option.{option_map_or}
 use Rattle.std.proofs.lemmas.Grind.{flat_map-append}
 use Rattle.std.proofs.lemmas.Simd.{map-map}
 use Rattle.std.proofs.lemmas.Slice.Zip.{get_or-zip, length-zip}
-use Rattle.collate_core.specs.Projects.{target_of, CollatesProject, IsProjectRefusal, WasReadAt}
 
 -- ---- objects are text
 

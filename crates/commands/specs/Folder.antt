@@ -1,6 +1,5 @@
 -- The calls by which files are read, compared and written.
-use Rattle.std.specs.Prelude.{◌≡◌, ◌⊎◌, ℕ, nat_lt, List, ◌∷◌, [], ◌++◌, length, Bool, true, false, Option, Some, option_map, Result, Ok, Err, Vec}
-use Rattle.std.specs.Global.{Global}
+use Rattle.std.specs.Prelude.{◌≡◌, ◌⊎◌, ℕ, nat_lt, List, ◌∷◌, [], ◌++◌, length, Bool, true, false, Option, Some, option_map, Result, Ok, Err}
 use Rattle.std.specs.declared.io.Error.{Error}
 use Rattle.ninja_text.specs.Bytes.{Bytes, PathText}
 use Rattle.ninja_text.specs.Failure.{ForFault}
@@ -27,10 +26,10 @@ pub data FileCall : Type 0 where
 abbrev pub up_to : ℕ → Bytes → FileRead
 up_to most bytes = record { bytes = bytes; ended = nat_lt (length bytes) most }
 
--- what a call read of at most this many bytes, or its error
-abbrev pub answer_of : ℕ → Result (Vec ℕ Global) Error → Result FileRead Error
-answer_of most (Ok bytes) = Ok (up_to most bytes.items)
-answer_of most (Err error) = Err error
+-- what a call read of at most this many bytes, which the value that it returns has, or its error
+abbrev pub answer_of : {D : Type 0} → (D → Bytes) → ℕ → Result D Error → Result FileRead Error
+answer_of bytes_in most (Ok document) = Ok (up_to most (bytes_in document))
+answer_of bytes_in most (Err error) = Err error
 
 -- these calls were made, in this order, and no other, if it is known which were made before
 abbrev pub Adds : Option (List FileCall) → Option (List FileCall) → List FileCall → Type 0

@@ -10,6 +10,7 @@ pub mod Listings
 pub mod One
 pub mod Order
 pub mod Outcomes
+pub mod Prelude
 pub mod Printing
 pub mod Program
 pub mod ProjectCommand

@@ -1,9 +1,7 @@
 //! What a run returns as a value, and how that is written to two writers.
 
 ghost use Rattle.std.specs.Prelude.{◌≡◌, ◌⊎◌, ◌++◌, ◌∷◌, [], map, OnOk};
-ghost use Rattle.ninja_text.specs.Bytes.{line_feed};
-ghost use Rattle.commands.specs.Answers.{visible, IsAnswered};
-ghost use Rattle.commands.specs.Printing.{IsPrinted, IsUnprinted};
+ghost use Rattle.commands.specs.Prelude.{line_feed, visible, IsAnswered, IsPrinted, IsUnprinted};
 
 use crate::stop::{Output, OutputFile, Stop};
 use ninja_text::{Counted, Failure, WriteCall};
@@ -20,8 +18,7 @@ pub struct Answer {
 }
 
 impl Answer {
-    /// Returns the answer of a run with this outcome. A message becomes one line on
-    /// standard error.
+    /// Returns the answer of a run with this outcome. A message becomes a line on standard error.
     pub fn of(alloc: Global, outcome: Result<Output, Stop>) -> Result<Answer, AllocError>
         ensures { IsAnswered outcome result }
     {
@@ -65,8 +62,8 @@ pub(crate) fn push_line(text: &mut Vec<u8>, line: &[u8]) -> Result<(), AllocErro
 }
 
 /// Writes the texts of a run's answer, and returns the exit status. If memory ran out or standard
-/// output can't be written, a line on standard error says so and the status is 3. A call
-/// of standard error that fails changes nothing: there is nothing left that would report it.
+/// output can't be written, a line on standard error says so and the status is 3. A call of
+/// standard error that fails changes nothing: there is nothing left that would report it.
 pub fn print<O: WriteCall, E: WriteCall>(
     answer: &Result<Answer, AllocError>,
     out: &mut Counted<O>,

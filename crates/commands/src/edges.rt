@@ -1,41 +1,51 @@
-//! Edge lists: how they are read, the commands `effect` and `order`, and the check of the edges
-//! that a target document names.
+//! Dyndep files and edge lists: how they are read, the commands `show`, `effect` and `order`, and
+//! the check of the edges that a target document names.
 
-ghost use Rattle.std.specs.Prelude.{[]};
-ghost use Rattle.commands.specs.EdgeChecks.{EdgesPass};
-ghost use Rattle.commands.specs.Effect.{EffectOf, EffectOfRead, EffectRun, ListingTextOf, NameOf};
-ghost use Rattle.commands.specs.Listings.{ListingOf};
-ghost use Rattle.commands.specs.Order.{OrderOfRead, OrderRun};
-ghost use Rattle.commands.specs.Outcomes.{seen};
-ghost use Rattle.commands.specs.inner.Parts.{bytes_of};
+ghost use Rattle.commands.specs.Prelude.{[], seen, bytes_of, HasFailed, HasReadDyndep};
+ghost use Rattle.commands.specs.Prelude.{IsReadFaultIn, IsDyndepRead, DyndepOf, ShowOfRead};
+ghost use Rattle.commands.specs.Prelude.{ShowRun, HasReadListing, IsListingFaultIn, IsListingRead};
+ghost use Rattle.commands.specs.Prelude.{ListingOf, NameOf, EffectOf, ListingTextOf, EffectOfRead};
+ghost use Rattle.commands.specs.Prelude.{EffectRun, OrderOfRead, OrderRun, EdgesPass};
 
 use crate::answer::push_line;
-use crate::dyndeps::{DyndepRead, statements_of};
-use crate::folder::PieceReader;
-use crate::reading::FileReader;
+use crate::folder::{FileReader, PieceReader};
 use crate::refusal::{cycle_text, first_output, joined};
 use crate::stop::{self, Output, Stop};
 use build_effect::{Graph, ListFault, ListingReader, ListingWriteFault, apply, edge_order};
 use collate_core::{Collated, check_edges};
 use dep_order::Sorting;
-use dyndep_file::Dyndep;
+use dyndep_file::{Dyndep, DyndepReader, ReadFault};
 use ninja_text::{Failure, Path};
 use std::alloc::Global;
+
+/// Runs `show DYNDEP` on the bytes of the dyndep file.
+pub fn show(alloc: Global, text: &[u8]) -> Result<Output, Stop>
+    ensures { ShowRun text.now [] result }
+{
+    show_of_read(alloc, Dyndep::of(alloc, text))
+}
+
+/// Runs `show` on a dyndep file that was read, of which a line can be too long to be written.
+pub(crate) fn show_of_read(alloc: Global, dyndep: DyndepRead) -> Result<Output, Stop>
+    ensures { ShowOfRead dyndep [] result }
+{
+    let dyndep = statements_of(alloc, dyndep)?;
+    match dyndep.to_text(alloc) {
+        Ok(text) => Ok(Output::text(alloc, text)),
+        Err(failure) => Err(stop::of_fault(alloc, "", failure)),
+    }
+}
 
 /// Runs `effect NAME EDGES DYNDEP` on the name and the bytes of the two files.
 pub fn effect(alloc: Global, name: &str, edges: &[u8], dyndep: &[u8]) -> Result<Output, Stop>
     ensures { EffectRun name.now edges.now dyndep.now [] result }
 {
-    effect_of_read(
-        alloc,
-        name,
-        Graph::of(alloc, edges),
-        Dyndep::of(alloc, dyndep),
-    )
+    let listing = Graph::of(alloc, edges);
+    let dyndep = Dyndep::of(alloc, dyndep);
+    effect_of_read(alloc, name, listing, dyndep)
 }
 
-/// Runs `effect NAME EDGES DYNDEP` on the name and the two files, once they were read. The name is
-/// checked first, then the edge list, and then the dyndep file.
+/// Runs `effect` once its files were read. The name is checked first, and the dyndep file last.
 pub(crate) fn effect_of_read(
     alloc: Global,
     name: &str,
@@ -72,8 +82,7 @@ fn graph_after(alloc: Global, old: &Graph, name: &Path, dyndep: &Dyndep) -> Resu
     }
 }
 
-/// Returns the edge list of a graph. An edge whose build line is too long is named by its first
-/// output.
+/// Returns the edge list of a graph. An edge whose line is too long is named by its first output.
 fn listing_text(alloc: Global, graph: &Graph) -> Result<Vec<u8>, Stop>
     ensures { ListingTextOf graph.now [] (seen bytes_of result) }
 {
@@ -112,8 +121,7 @@ pub(crate) fn order_of_read(alloc: Global, listing: ListingRead) -> Result<Outpu
     }
 }
 
-/// Checks that the edges of an edge list that was read, if there is one, can be put in order after
-/// the effect of a collated target's dyndep file, which has that name.
+/// Checks that the edges, if there is a list, have an order after the effect of a dyndep file.
 pub(crate) fn pass_edges(
     alloc: Global,
     listing: &Option<ListingRead>,
@@ -138,25 +146,50 @@ pub(crate) fn pass_edges(
     }
 }
 
-/// The result of reading an edge list.
-pub(crate) type ListingRead = Result<Graph, Failure<ListFault>>;
+/// The result of reading a dyndep file.
+pub(crate) type DyndepRead = Result<Dyndep, Failure<ReadFault>>;
 
-impl PieceReader for ListingReader {
-    ghost use Rattle.build_effect.specs.ListingReaders.{HasReadListing, IsListingFaultIn};
-    ghost use Rattle.commands.specs.Folder.{HasFailed};
+impl PieceReader for DyndepReader {
+    ghost has_read = { HasReadDyndep };
 
-    ghost has_read = { HasReadListing };
-
-    ghost has_failed = { HasFailed IsListingFaultIn };
+    ghost has_failed = { HasFailed IsReadFaultIn };
 
     fn read_piece(&mut self, piece: &[u8]) -> bool {
         self.feed(piece).is_ok()
     }
 }
 
-impl FileReader for ListingReader {
-    ghost use Rattle.commands.specs.Listings.{IsListingRead};
+impl FileReader for DyndepReader {
+    type Read = DyndepRead;
 
+    ghost follows = { IsDyndepRead };
+
+    fn read(self) -> DyndepRead {
+        self.finish()
+    }
+}
+
+/// Returns the statements of a dyndep file that was read.
+pub(crate) fn statements_of(alloc: Global, dyndep: DyndepRead) -> Result<Dyndep, Stop>
+    ensures { DyndepOf dyndep [] result }
+{
+    dyndep.map_err(|f| stop::of_fault(alloc, "", f))
+}
+
+/// The result of reading an edge list.
+pub(crate) type ListingRead = Result<Graph, Failure<ListFault>>;
+
+impl PieceReader for ListingReader {
+    ghost has_read = { HasReadListing };
+
+    ghost has_failed = { HasFailed IsListingFaultIn };
+
+    fn read_piece(&mut self, lines: &[u8]) -> bool {
+        self.feed(lines).is_ok()
+    }
+}
+
+impl FileReader for ListingReader {
     type Read = ListingRead;
 
     ghost follows = { IsListingRead };

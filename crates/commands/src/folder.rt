@@ -1,36 +1,38 @@
-//! What files are read from and written to.
-ghost use Rattle.std.specs.Prelude.{List, Option, [], ◌++◌, ◌∷◌};
-ghost use Rattle.ninja_text.specs.Bytes.{Bytes};
-ghost use Rattle.commands.specs.Folder.{FileCall, reading, comparing, writing, answer_of, Adds, GivesPieces, ReadsOn};
+//! What files are read from and written to, and how a run reads them: each when its turn comes, and
+//! none after one that can't be read.
 
+ghost use Rattle.std.specs.Prelude.{◌≡◌, ◌∷◌, ◌++◌, [], List, Option, map, IfOk, OnOk};
+ghost use Rattle.commands.specs.Prelude.{string_bytes, cow_slice_items, Bytes, FileCall, FileRead};
+ghost use Rattle.commands.specs.Prelude.{reading, comparing, writing, answer_of, Adds, ReadsOn};
+ghost use Rattle.commands.specs.Prelude.{WasGiven, GivesPieces, Runs, ReadsDocument, ReadsAs};
+ghost use Rattle.commands.specs.Prelude.{ReadsAll, seen, contents};
+
+use crate::stop::{self, Stop};
+use scan_docs::DOCUMENT_LIMIT;
+use std::alloc::{AllocError, Global};
+use std::borrow::CowSlice;
 use std::io;
 
-/// What has files that can be read and written by name.
+/// What has files that can be read and written by name. Bytes that it has in memory are borrowed.
 ///
 /// What a function does to a `Folder` is said of every `Folder`, by the calls that it makes: which,
 /// in what order, and with which results. The system's files are a `Folder` of which nothing is
 /// known. A `Folder` of which more is known can say so.
-pub trait Folder {
+pub trait Folder<'f> {
     // the calls that were made so far, in order, if they are known
     ghost calls: { Self → Option (List FileCall) };
 
     /// Returns the bytes of the file of this name, or at least the first `most` of them if there
     /// are more.
-    fn read(&mut self, name: &str, most: usize) -> io::Result<Vec<u8>>
+    fn read(&mut self, name: &str, most: usize) -> io::Result<CowSlice<'f, u8>>
         ensures { Adds (calls self.old) (calls self.new)
-            (reading name.now (answer_of most result) ∷ []) };
+            (reading name.now (answer_of cow_slice_items most result) ∷ []) };
 
     /// Gives the bytes of the file of this name to a new reader, in pieces, as they are read: all
-    /// of them, or those up to the first piece at which the reader has failed. If a `Folder` has
-    /// the bytes in memory, all of them are one piece.
+    /// of them, or those up to the first piece at which the reader has failed.
     fn feed<R: PieceReader>(&mut self, name: &str, reader: &mut R) -> io::Result<()>
         ensures { R.has_read [] reader.old → GivesPieces R.has_read R.has_failed name.now
-            (calls self.old) (calls self.new) result reader.new }
-    {
-        let file = self.read(name, usize::MAX)?;
-        let _ = reader.read_piece(&file);
-        Ok(())
-    }
+            (calls self.old) (calls self.new) result reader.new };
 
     /// Returns whether the file of this name has exactly these bytes already; `false` if it can't
     /// be read.
@@ -57,4 +59,87 @@ pub trait PieceReader {
         // Whatever bytes it was given before this piece.
         ensures { (bytes : Bytes) → has_read bytes self.old →
             ReadsOn has_read has_failed (bytes ++ piece.now) result self.new };
+}
+
+/// What reads a file of lines: its pieces, and then what they are.
+pub(crate) trait FileReader: PieceReader + Drop {
+    /// What a file is, or why it is rejected.
+    type Read;
+
+    // it follows from what was read of the file
+    ghost follows: { FileRead → Self.Read → Type 0 };
+
+    /// Returns what the pieces are that it was given.
+    fn read(self) -> Self::Read
+        ensures { (file : FileRead) → WasGiven Self.has_read Self.has_failed file self →
+            follows file result };
+}
+
+/// Reads the file of this name with a new reader, up to its end or to its first rejected line.
+pub(crate) fn read_file<'f, R: FileReader, F: Folder<'f>>(
+    alloc: Global,
+    name: &str,
+    reader: R,
+    folder: &mut F,
+) -> Result<R::Read, Stop>
+    requires { R.has_read [] reader }
+    ensures { Runs (F.calls folder.old) (F.calls folder.new) (ReadsAs R.follows name.now) result }
+{
+    let mut reader = reader;
+    match folder.feed(name, &mut reader) {
+        Ok(()) => Ok(reader.read()),
+        Err(error) => Err(stop::of_unread(alloc, name, error)),
+    }
+}
+
+/// How many bytes of a document are read at most: with one more than it may have it is rejected.
+const DOCUMENT_MOST: usize = DOCUMENT_LIMIT + 1;
+
+/// Reads the document of this name.
+pub(crate) fn read<'f, F: Folder<'f>>(
+    alloc: Global,
+    name: &str,
+    folder: &mut F,
+) -> Result<CowSlice<'f, u8>, Stop>
+    ensures { Runs (F.calls folder.old) (F.calls folder.new) (ReadsDocument name.now)
+        (seen cow_slice_items result) }
+{
+    match folder.read(name, DOCUMENT_MOST) {
+        Ok(file) => Ok(file),
+        Err(error) => Err(stop::of_unread(alloc, name, error)),
+    }
+}
+
+/// Reads the documents of these names, one after another.
+pub(crate) fn read_all<'f, F: Folder<'f>>(
+    alloc: Global,
+    names: &[String],
+    folder: &mut F,
+) -> Result<Vec<CowSlice<'f, u8>>, Stop>
+    ensures { Runs (F.calls folder.old) (F.calls folder.new)
+        (ReadsAll (map string_bytes names.now)) (seen (contents cow_slice_items) result) }
+{
+    let mut files = Vec::new(alloc);
+    for name in names {
+        let file = read(alloc, name.as_str(), folder)?;
+        files = pushed(files, file)?;
+    }
+    Ok(files)
+}
+
+/// Returns the list with one more item. A loop that calls it has no list to drop after an error.
+pub(crate) fn pushed<T: Drop>(list: Vec<T>, item: T) -> Result<Vec<T>, AllocError>
+    ensures { IfOk result (λ longer. longer.items ≡ list.items ++ item ∷ []) }
+{
+    let mut list = list;
+    list.push(item)?;
+    Ok(list)
+}
+
+/// Appends an item to the list. If an allocation fails, it is dropped here, for all types at once.
+pub(crate) fn add<T: Drop>(list: &mut Vec<T>, item: T) -> Result<(), AllocError>
+    ensures { OnOk result (list.new.items ≡ list.old.items ++ item ∷ []) }
+{
+    list.push(item)?;
+    Ok(())
 }

@@ -1,22 +1,19 @@
 //! The command `project`: the targets of a project, as their documents and the files that these
 //! name are read, and the files that they leave.
 
-ghost use Rattle.std.specs.Prelude.{◌≡◌, ◌<◌, ◌++◌, ◌∷◌, [], All, IsUtf8, length, map, zip, string_bytes, IfOk, IfErr};
-ghost use Rattle.ninja_text.specs.Failure.{ForFault};
-ghost use Rattle.module_table.specs.TableValue.{table_with};
-ghost use Rattle.collate_core.specs.Projects.{CollatesProject, IsProjectRefusal, WasReadAt};
-ghost use Rattle.commands.specs.CollateCommand.{style_of};
-ghost use Rattle.commands.specs.Outcomes.{Runs, Writes, seen};
-ghost use Rattle.commands.specs.ProjectCommand.{project_target, form_of, all_files, AllEdgesPass, FormOf, LinksOf, ProjectOf, ProjectRun, ReadsTargets, TargetAfter};
-ghost use Rattle.commands.specs.inner.Parts.{bytes_of};
-ghost use Rattle.commands.specs.inner.ProjectTargets.{LinkEarlier, linked_files, IsReportable, LinksAndFiles, ReportsAt};
+ghost use Rattle.std.specs.Prelude.{◌≡◌, ◌<◌, ◌∷◌, ◌++◌, [], All, length, map, zip, IfOk, IfErr};
+ghost use Rattle.commands.specs.Prelude.{IsUtf8, string_bytes, ForFault, table_with};
+ghost use Rattle.commands.specs.Prelude.{CollatesProject, IsProjectRefusal, WasReadAt, Runs};
+ghost use Rattle.commands.specs.Prelude.{Writes, seen, bytes_of, style_of, FormOf, LinksOf};
+ghost use Rattle.commands.specs.Prelude.{TargetAfter, ReadsTargets, project_target, form_of};
+ghost use Rattle.commands.specs.Prelude.{ProjectOf, AllEdgesPass, all_files, ProjectRun};
+ghost use Rattle.commands.specs.Prelude.{LinkEarlier, IsReportable, ReportsAt};
 
 use crate::edges::pass_edges;
-use crate::folder::Folder;
-use crate::reading::{TargetFiles, pushed, read, slices};
+use crate::folder::{Folder, pushed, read};
 use crate::refusal::refusal_line;
 use crate::stop::{self, Output, Stop};
-use crate::target::{append_files, read_spec};
+use crate::target::{TargetFiles, append_files, read_spec, slices};
 use collate_core::{Collated, ProjectOut, ProjectTarget, RefusedTarget, project_or_refused};
 use module_maps::{Clang, Gcc};
 use ninja_text::Failure;
@@ -32,7 +29,11 @@ use std::marker::Model;
 ///
 /// The output has the files of `collate`, target by target; info files that targets link are not
 /// read, since the project writes them.
-pub fn project<F: Folder>(alloc: Global, document: &[u8], folder: &mut F) -> Result<Output, Stop>
+pub fn project<'f, F: Folder<'f>>(
+    alloc: Global,
+    document: &[u8],
+    folder: &mut F,
+) -> Result<Output, Stop>
     ensures { Runs (F.calls folder.old) (F.calls folder.new) (ProjectRun document.now) result }
 {
     // By hand, as in `read_spec`.
@@ -48,7 +49,11 @@ pub fn project<F: Folder>(alloc: Global, document: &[u8], folder: &mut F) -> Res
 }
 
 /// Reads the targets of the documents of these names, one after another.
-fn read_targets<F: Folder>(alloc: Global, names: &[String], folder: &mut F) -> Result<Targets, Stop>
+fn read_targets<'f, F: Folder<'f>>(
+    alloc: Global,
+    names: &[String],
+    folder: &mut F,
+) -> Result<Targets<'f>, Stop>
     ensures { Runs (F.calls folder.old) (F.calls folder.new)
         (ReadsTargets (map string_bytes names.now)) result }
 {
@@ -193,15 +198,15 @@ fn write_all(alloc: Global, targets: &[ReadTarget], outs: Vec<Collated>) -> Resu
 
 /// A target that was read.
 #[derive(Drop)]
-pub(crate) struct ReadTarget {
+pub(crate) struct ReadTarget<'f> {
     pub spec: TargetSpec,
     /// The indexes of the targets that it links.
     pub linked: Vec<usize>,
     /// Its files, without info files.
-    pub files: TargetFiles,
+    pub files: TargetFiles<'f>,
 }
 
-impl Model for ReadTarget {
+impl<'f> Model for ReadTarget<'f> {
     ghost use Rattle.commands.specs.ProjectCommand.{ReadTargetValue, read_target};
 
     ghost Value = { ReadTargetValue };
@@ -212,12 +217,12 @@ impl Model for ReadTarget {
 /// The targets of a project that were read so far, and for each info file that they write the index
 /// of the last one that does.
 #[derive(Drop)]
-pub(crate) struct Targets {
-    pub list: Vec<ReadTarget>,
+pub(crate) struct Targets<'f> {
+    pub list: Vec<ReadTarget<'f>>,
     writers: BTreeMap<String, usize>,
 }
 
-impl Model for Targets {
+impl<'f> Model for Targets<'f> {
     ghost use Rattle.ninja_text.specs.Bytes.{PathText};
     ghost use Rattle.std.specs.Prelude.{◌≡◌, List, ℕ};
     ghost use Rattle.commands.specs.ProjectCommand.{ReadTargetValue, last_with};
@@ -231,9 +236,9 @@ impl Model for Targets {
         writer_of t.writers info ≡ last_with t.list.items info) };
 }
 
-impl Targets {
+impl<'f> Targets<'f> {
     /// Returns no targets.
-    fn new(alloc: Global) -> Targets
+    fn new(alloc: Global) -> Targets<'f>
         ensures { result ≡ [] }
     {
         Targets {
@@ -243,9 +248,9 @@ impl Targets {
     }
 
     /// Returns these targets and one more, which links some of these.
-    fn with(self, alloc: Global, target: ReadTarget) -> Result<Targets, AllocError>
+    fn with(self, alloc: Global, target: ReadTarget<'f>) -> Result<Targets<'f>, AllocError>
         requires { All (λ k. k < length self) target.linked }
-        ensures { IfOk result (λ targets. targets ≡ self ++ target ∷ []) }
+        ensures { IfOk result (λ targets. targets ≡ self.entry ++ target.entry ∷ []) }
     {
         let Targets { list, mut writers } = self;
         let index = list.len();
@@ -257,44 +262,27 @@ impl Targets {
 }
 
 /// Reads the target of the document of this name, after earlier ones.
-fn read_target<F: Folder>(
+fn read_target<'f, F: Folder<'f>>(
     alloc: Global,
     earlier: &Targets,
     name: &str,
     folder: &mut F,
-) -> Result<ReadTarget, Stop>
+) -> Result<ReadTarget<'f>, Stop>
     ensures read { Runs (F.calls folder.old) (F.calls folder.new)
         (TargetAfter earlier.now name.now) result }
     ensures links { IfOk result (λ target. All (λ k. k < length earlier.now) target.linked) }
 {
     let document = read(alloc, name, folder)?;
-    let spec = stop::at_target(alloc, earlier.list.len(), read_spec(alloc, &document))?;
-    let (linked, files) = links_and_files(alloc, earlier, &spec, folder)?;
+    let index = earlier.list.len();
+    let spec = stop::at_target(alloc, index, read_spec(alloc, &document))?;
+    stop::at_target(alloc, index, pass_form(alloc, earlier, &spec))?;
+    let linked = stop::at_target(alloc, index, links_of(alloc, earlier, &spec.linked))?;
+    let files = TargetFiles::read(alloc, &spec, &[], folder)?;
     Ok(ReadTarget {
         spec,
         linked,
         files,
     })
-}
-
-/// Returns the indexes of the targets that a target document links, and the files that it names.
-/// Apart from `read_target`, which would drop the document at each `?`: this saves the prover 20
-/// seconds.
-fn links_and_files<F: Folder>(
-    alloc: Global,
-    earlier: &Targets,
-    spec: &TargetSpec,
-    folder: &mut F,
-) -> Result<(Vec<usize>, TargetFiles), Stop>
-    ensures read { Runs (F.calls folder.old) (F.calls folder.new)
-        (LinksAndFiles earlier.now spec.now) (seen linked_files result) }
-    ensures links { IfOk result (λ read. All (λ k. k < length earlier.now) read.0.items) }
-{
-    let index = earlier.list.len();
-    stop::at_target(alloc, index, pass_form(alloc, earlier, spec))?;
-    let linked = stop::at_target(alloc, index, links_of(alloc, earlier, &spec.linked))?;
-    let files = TargetFiles::read_with(alloc, spec, &[], folder)?;
-    Ok((linked, files))
 }
 
 /// Checks that the maps of a target have the form of those of the first one.

@@ -1,12 +1,11 @@
 //! How it is reported that a target is rejected, and what is wrong with edges.
 
-ghost use Rattle.std.specs.Prelude.{◌≡◌, ◌++◌, map, IfOk, OnOk, codes};
-ghost use Rattle.std.specs.List.{flat_map};
-ghost use Rattle.commands.specs.EdgeFaults.{first_output, edges_fault_text, effect_text, cycle_text};
-ghost use Rattle.commands.specs.TableFaults.{object_path, target_name, maker_text, made_twice_text, ring_text, fault_subject};
-ghost use Rattle.commands.specs.inner.Refusals.{refusal_line, refused_line};
+ghost use Rattle.std.specs.Prelude.{◌≡◌, ◌++◌, map, flat_map, IfOk, OnOk, codes};
+ghost use Rattle.commands.specs.Prelude.{first_output, edges_fault_text, effect_text, cycle_text};
+ghost use Rattle.commands.specs.Prelude.{fault_subject, object_path, target_name, maker_text};
+ghost use Rattle.commands.specs.Prelude.{made_twice_text, ring_text, refusal_line, refused_line};
 
-use crate::reading::pushed;
+use crate::folder::pushed;
 use build_effect::{Edge, EffectFault, ListFault};
 use collate_core::{Refusal, RefusedTarget};
 use document_values::{Name, Rule, TargetName};
@@ -26,8 +25,7 @@ pub(crate) fn refused_text(alloc: Global, refused: &RefusedTarget) -> Result<Vec
     refusal_line(alloc, &refused.refusal, &refused.objects, &names)
 }
 
-/// Returns what is reported if a target with these objects, which links targets of these names, is
-/// rejected.
+/// Returns what is reported of a rejected target that has these objects and links these targets.
 pub(crate) fn refusal_line(
     alloc: Global,
     refusal: &Refusal,
@@ -71,8 +69,7 @@ struct Makers<'t> {
     names: &'t [&'t TargetName],
 }
 
-/// Returns what a fault of the table of these objects and info files is about. Objects are named by
-/// their paths, and info files by their targets.
+/// Returns what a fault is about: objects are named by their paths, info files by their targets.
 fn fault_subject(alloc: Global, fault: &TableFault, makers: Makers) -> Result<Vec<u8>, AllocError>
     ensures { IfOk result (λ text. text.items ≡ fault_subject
         makers.entry.objects.now (map (λ n. n.now) makers.entry.names.now) fault.now) }

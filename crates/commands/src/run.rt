@@ -1,19 +1,13 @@
 //! The whole program, except for the calls of the system: the task of its arguments, the run, and
 //! the writing and printing of what it leaves.
 
-ghost use Rattle.command_line.specs.Tasks.{task_value};
-ghost use Rattle.commands.specs.Answers.{file_value};
-ghost use Rattle.commands.specs.Files.{WritesFile, WritesFiles};
-ghost use Rattle.commands.specs.Outcomes.{Runs};
-ghost use Rattle.commands.specs.Program.{ArgumentsRun, IsProgramRun, words_of};
-ghost use Rattle.commands.specs.Runs.{TaskRun};
+ghost use Rattle.commands.specs.Prelude.{Runs, task_value, words_of, ArgumentsRun, IsProgramRun};
+ghost use Rattle.commands.specs.Prelude.{TaskRun, file_value, WritesFile, WritesFiles};
 
 use crate::answer::{Answer, print};
-use crate::dyndeps::show_of_read;
-use crate::edges::{effect_of_read, order_of_read};
-use crate::folder::Folder;
+use crate::edges::{effect_of_read, order_of_read, show_of_read};
+use crate::folder::{Folder, read, read_file};
 use crate::projects::project;
-use crate::reading::{read, read_file};
 use crate::stop::{self, Output, OutputFile, Stop};
 use crate::target::{collate, one};
 use build_effect::ListingReader;
@@ -27,7 +21,7 @@ use std::io::ErrorKind;
 /// Runs the program on its arguments, the program's own name the first of them: runs their task,
 /// writes its files to the `Folder` and its texts to the two writers, and returns the exit status.
 /// Arguments that could not be got are not a valid command line, unless memory ran out.
-pub fn program_run<F: Folder, O: WriteCall, E: WriteCall>(
+pub fn program_run<'f, F: Folder<'f>, O: WriteCall, E: WriteCall>(
     alloc: Global,
     arguments: &io::Result<Vec<String>>,
     folder: &mut F,
@@ -43,7 +37,7 @@ pub fn program_run<F: Folder, O: WriteCall, E: WriteCall>(
 }
 
 /// Runs the task of the arguments, and writes its files.
-fn arguments_run<F: Folder>(
+fn arguments_run<'f, F: Folder<'f>>(
     alloc: Global,
     arguments: &io::Result<Vec<String>>,
     folder: &mut F,
@@ -64,9 +58,12 @@ fn arguments_run<F: Folder>(
     Ok(output)
 }
 
-/// Runs a task. The files that it names are read, each when its turn comes; none is
-/// written.
-pub fn task_run<F: Folder>(alloc: Global, task: &Task, folder: &mut F) -> Result<Output, Stop>
+/// Runs a task. The files that it names are read, each when its turn comes; none is written.
+pub fn task_run<'f, F: Folder<'f>>(
+    alloc: Global,
+    task: &Task,
+    folder: &mut F,
+) -> Result<Output, Stop>
     ensures { Runs (F.calls folder.old) (F.calls folder.new) (TaskRun (task_value task.now))
         result }
 {
@@ -106,7 +103,11 @@ pub fn task_run<F: Folder>(alloc: Global, task: &Task, folder: &mut F) -> Result
 /// Writes the files of an output, in order, up to the first that can't be written. The run stops
 /// with the name of that file; the files before it stay. A file that has its bytes is left alone if
 /// the output says so.
-pub fn write_files<F: Folder>(alloc: Global, output: &Output, folder: &mut F) -> Result<(), Stop>
+pub fn write_files<'f, F: Folder<'f>>(
+    alloc: Global,
+    output: &Output,
+    folder: &mut F,
+) -> Result<(), Stop>
     ensures { Runs (F.calls folder.old) (F.calls folder.new) (WritesFiles output.now.files) result }
 {
     for file in &output.files {
@@ -116,7 +117,11 @@ pub fn write_files<F: Folder>(alloc: Global, output: &Output, folder: &mut F) ->
 }
 
 /// Writes a file, or leaves it alone if it may be left alone and has its bytes.
-fn write_file<F: Folder>(alloc: Global, file: &OutputFile, folder: &mut F) -> Result<(), Stop>
+fn write_file<'f, F: Folder<'f>>(
+    alloc: Global,
+    file: &OutputFile,
+    folder: &mut F,
+) -> Result<(), Stop>
     ensures { Runs (F.calls folder.old) (F.calls folder.new) (WritesFile (file_value file.now))
         result }
 {

@@ -1,13 +1,10 @@
 //! What a run leaves that succeeds, and why a run stops.
 
 ghost use Rattle.std.specs.Prelude.{◌≡◌, ◌∷◌, [], Err, map, IfOk};
-ghost use Rattle.commands.specs.Answers.{file_value};
-ghost use Rattle.commands.specs.EdgeFaults.{edges_fault_text, effect_text};
-ghost use Rattle.commands.specs.Folder.{reading};
-ghost use Rattle.commands.specs.Outcomes.{printed, written, IsUnread, Reports};
-ghost use Rattle.commands.specs.ProjectCommand.{IsTargetOutcome, target_text};
-ghost use Rattle.commands.specs.inner.Refusals.{refused_line};
-ghost use Rattle.commands.specs.inner.Stops.{IsStoppedWith, IsFailedCall, ReportsPrinted};
+ghost use Rattle.commands.specs.Prelude.{file_value, reading, printed, written, IsUnread, Reports};
+ghost use Rattle.commands.specs.Prelude.{IsTargetOutcome, target_text, edges_fault_text};
+ghost use Rattle.commands.specs.Prelude.{effect_text, refused_line, IsStoppedWith, IsFailedCall};
+ghost use Rattle.commands.specs.Prelude.{ReportsPrinted};
 
 use crate::refusal::{edges_fault_text, effect_text, refused_text};
 use build_effect::{EffectFault, ListFault};
@@ -157,8 +154,7 @@ pub(crate) fn of_target(alloc: Global, failure: Failure<RefusedTarget>) -> Stop
     stopped(1, message)
 }
 
-/// Returns the outcome of a part about the target of this index, by its outcome for that target
-/// alone: a message gets the index.
+/// Returns the outcome of a part about the target of this index: a message gets the index.
 pub(crate) fn at_target<T>(alloc: Global, index: usize, outcome: Result<T, Stop>) -> Result<T, Stop>
     ensures { IsTargetOutcome index outcome result }
 {

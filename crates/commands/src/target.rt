@@ -1,22 +1,16 @@
 //! The commands `collate`, which leaves the files of a target, and `one`, which prints the dyndep
-//! text of one scan document.
+//! text of one scan document; and the files of a target, as they are read.
 
-ghost use Rattle.std.specs.Prelude.{◌≡◌, [], ◌++◌, map, All, IsUtf8, IfErr, IfOk, OnOk};
-ghost use Rattle.ninja_text.specs.Failure.{ForFault};
-ghost use Rattle.module_table.specs.TableValue.{table_with};
-ghost use Rattle.collate_core.specs.Collation.{Collates};
-ghost use Rattle.collate_core.specs.Refusals.{IsRefusal, WasRead};
-ghost use Rattle.commands.specs.Answers.{file_value};
-ghost use Rattle.commands.specs.CollateCommand.{style_of, map_files, files_of, target_with, SpecOf, CollateRun};
-ghost use Rattle.commands.specs.One.{OneRun};
-ghost use Rattle.commands.specs.Outcomes.{Runs};
-ghost use Rattle.commands.specs.Targets.{TargetOf};
-ghost use Rattle.commands.specs.inner.TargetRuns.{TargetRun};
+ghost use Rattle.std.specs.Prelude.{◌≡◌, ◌++◌, [], map, All, IsUtf8, IfErr, IfOk, OnOk};
+ghost use Rattle.commands.specs.Prelude.{ForFault, string_bytes, cow_slice_items, table_with};
+ghost use Rattle.commands.specs.Prelude.{Collates, Runs, IsRefusal, WasRead, file_value, FilesOf};
+ghost use Rattle.commands.specs.Prelude.{TargetOf, SpecOf, style_of, target_with, map_files};
+ghost use Rattle.commands.specs.Prelude.{files_of, TargetRun, CollateRun, OneRun};
 
-use crate::edges::pass_edges;
-use crate::folder::Folder;
-use crate::reading::{TargetFiles, add, slices};
+use crate::edges::{ListingRead, pass_edges};
+use crate::folder::{Folder, add, pushed, read_all, read_file};
 use crate::stop::{self, Output, OutputFile, Stop};
+use build_effect::ListingReader;
 use collate_core::{
     Collated, CollatedParts, RefusedTarget, Target, collate_dyndep_or_refused, collate_or_refused,
 };
@@ -25,13 +19,19 @@ use module_maps::{Clang, Gcc};
 use ninja_text::{Failure, Path};
 use scan_docs::{MapForm, Setting, TargetSpec, spec_read};
 use std::alloc::{AllocError, Global};
+use std::borrow::CowSlice;
+use std::marker::Model;
 
 /// Runs `collate TARGETFILE` on the bytes of the target document. The files that it names are read
 /// from the `Folder`: scan documents, info files, and the edge list last. The output has the
 /// map of each object, if the document asks for maps, then the info file, and last the dyndep file.
 /// If the document names an edge list, its edges must have an order after the effect of that
 /// dyndep file. No file of a rejected document is read.
-pub fn collate<F: Folder>(alloc: Global, document: &[u8], folder: &mut F) -> Result<Output, Stop>
+pub fn collate<'f, F: Folder<'f>>(
+    alloc: Global,
+    document: &[u8],
+    folder: &mut F,
+) -> Result<Output, Stop>
     ensures { Runs (F.calls folder.old) (F.calls folder.new) (CollateRun document.now) result }
 {
     let spec = read_spec(alloc, document)?;
@@ -40,15 +40,98 @@ pub fn collate<F: Folder>(alloc: Global, document: &[u8], folder: &mut F) -> Res
 
 /// Reads the files of a target document, and collates its target. Apart from `collate`, which
 /// would drop the document at each `?`: this saves the prover 85 seconds.
-fn target_run<F: Folder>(alloc: Global, spec: &TargetSpec, folder: &mut F) -> Result<Output, Stop>
+fn target_run<'f, F: Folder<'f>>(
+    alloc: Global,
+    spec: &TargetSpec,
+    folder: &mut F,
+) -> Result<Output, Stop>
     ensures { Runs (F.calls folder.old) (F.calls folder.new) (TargetRun spec.now) result }
 {
-    let files = TargetFiles::read(alloc, spec, folder)?;
+    let files = TargetFiles::read(alloc, spec, &spec.linked, folder)?;
     let collated = collated_of(alloc, spec, &files)?;
     pass_edges(alloc, &files.listing, &spec.dyndep_path, &collated)?;
     let mut written = Vec::new(alloc);
     append_files(alloc, collated, spec, &mut written)?;
     Ok(Output::files(alloc, written))
+}
+
+/// The files of a target.
+pub(crate) struct TargetFiles<'f> {
+    /// The bytes of the scan documents.
+    pub scans: Vec<CowSlice<'f, u8>>,
+    /// The bytes of the info files of targets that it links.
+    pub infos: Vec<CowSlice<'f, u8>>,
+    /// The result of reading the edge list, if its document names one.
+    pub listing: Option<ListingRead>,
+}
+
+// Not derived: a derived drop is written out, field by field, wherever a value goes.
+impl<'f> Drop for TargetFiles<'f> {
+    fn drop(self) {
+        let TargetFiles {
+            scans: _,
+            infos: _,
+            listing: _,
+        } = self;
+    }
+}
+
+impl<'f> Model for TargetFiles<'f> {
+    ghost use Rattle.commands.specs.Files.{TargetFilesValue};
+    ghost use Rattle.commands.specs.inner.Parts.{contents};
+    ghost use Rattle.std.specs.Cow.{cow_slice_items};
+
+    ghost Value = { TargetFilesValue };
+
+    ghost view = { λ f. record {
+      scans = contents cow_slice_items f.scans;
+      infos = contents cow_slice_items f.infos;
+      listing = f.listing;
+    } };
+}
+
+impl<'f> TargetFiles<'f> {
+    /// Reads the files that a target document names: its scan documents, info files of these names,
+    /// and the edge list, in this order.
+    pub(crate) fn read<F: Folder<'f>>(
+        alloc: Global,
+        spec: &TargetSpec,
+        infos: &[String],
+        folder: &mut F,
+    ) -> Result<TargetFiles<'f>, Stop>
+        ensures { Runs (F.calls folder.old) (F.calls folder.new)
+            (FilesOf spec.now (map string_bytes infos.now)) result }
+    {
+        let scans = read_all(alloc, &spec.scans, folder)?;
+        let infos = read_all(alloc, infos, folder)?;
+        let listing = match &spec.edges {
+            Some(name) => {
+                let reader = ListingReader::new(alloc);
+                Some(read_file(alloc, name.as_str(), reader, folder)?)
+            }
+            None => None,
+        };
+        Ok(TargetFiles {
+            scans,
+            infos,
+            listing,
+        })
+    }
+}
+
+/// Borrows the bytes of files.
+pub(crate) fn slices<'t>(
+    alloc: Global,
+    files: &'t [CowSlice<u8>],
+) -> Result<Vec<&'t [u8]>, AllocError>
+    ensures { IfOk result (λ slices. map (λ s. s.now) slices.items
+        ≡ map cow_slice_items files.now) }
+{
+    let mut slices = Vec::with_capacity(alloc, files.len())?;
+    for file in files {
+        slices = pushed(slices, file.as_slice())?;
+    }
+    Ok(slices)
 }
 
 /// Reads a target document.
@@ -84,7 +167,7 @@ fn collated_of(alloc: Global, spec: &TargetSpec, files: &TargetFiles) -> Result<
 /// Collates a target, with maps of this form if there is one.
 fn collate_as(
     alloc: Global,
-    target: &Target<'_>,
+    target: &Target,
     form: Option<MapForm>,
 ) -> Result<Collated, Failure<RefusedTarget>>
     ensures collated { IfOk result (Collates target.now (style_of form)) }
@@ -118,18 +201,12 @@ pub(crate) fn append_files(
         maps,
     } = collated.into_parts();
     append_maps(alloc, &objects, maps, spec.restat, files)?;
-    let info = OutputFile {
-        name: String::from_str(alloc, &spec.info)?,
-        bytes: info_text,
-        keeps: spec.restat,
-    };
-    add(files, info)?;
-    let dyndep = OutputFile {
-        name: String::from_str(alloc, &spec.dyndep)?,
-        bytes: dyndep_text,
-        keeps: false,
-    };
-    add(files, dyndep)
+    let name = String::from_str(alloc, &spec.info)?;
+    let (bytes, keeps) = (info_text, spec.restat);
+    add(files, OutputFile { name, bytes, keeps })?;
+    let name = String::from_str(alloc, &spec.dyndep)?;
+    let (bytes, keeps) = (dyndep_text, false);
+    add(files, OutputFile { name, bytes, keeps })
 }
 
 /// Appends the map files of these objects, if there are maps.

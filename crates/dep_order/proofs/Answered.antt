@@ -1,21 +1,13 @@
 -- What the public functions return, from what their steps leave.
 use Rattle.std.proofs.lemmas.Grind.{common_steps}
-use Rattle.std.proofs.Common.{◌≡◌, ◌≢◌, ℕ, ◌+◌, ◌<◌, ◌≤◌, [], ◌∷◌, ◌++◌, length, get_or, None, ◌∙◌, ap, subst, inl, inr, ◌⊎◌, ⊎_elim, arith, zero, suc}
-use Rattle.std.specs.List.{Contains, All}
-use Rattle.std.proofs.lemmas.Bool.{cases_eq, cases_lt, false_from_ne_true}
+use Rattle.std.proofs.Common.{◌≡◌, ◌≢◌, ℕ, ◌+◌, ◌<◌, ◌≤◌, [], ◌∷◌, ◌++◌, length, get_or, None, ◌∙◌, subst, inl, inr, ◌⊎◌, ⊎_elim, arith, zero, suc}
+use Rattle.std.proofs.lemmas.Bool.{cases_lt, false_from_ne_true}
 use Rattle.std.proofs.lemmas.Cmp.{nat_eq_equiv}
 use Rattle.std.proofs.lemmas.List.{length_push, get_or_default}
-use Rattle.std.proofs.lemmas.List.Elements.{All-get_or, Contains-push_cases, Contains-get_or}
+use Rattle.std.proofs.lemmas.List.Elements.{Contains-push_cases, Contains-get_or}
 use Rattle.std.proofs.lemmas.Map.Keys.{IsDistinct-push}
 use Rattle.std.proofs.lemmas.Map.Steps.{length-le_from_distinct_below, le-length_from_below}
-use Rattle.dep_order.specs.Needs.{needs_of, NodeNeeds, NeedsAreNodes, IsOrderable, IsChain}
-use Rattle.dep_order.specs.Orders.{IsLeastOrder}
-use Rattle.dep_order.specs.Cycles.{IsCycle, IsLeastCycle, first_of}
-use Rattle.dep_order.specs.inner.Ordering.{AreOrdered}
-use Rattle.dep_order.specs.inner.Users.{AreUsers}
-use Rattle.dep_order.specs.inner.Steps.{AreSteps, LeadsBack, IsFewest}
-use Rattle.dep_order.specs.inner.CyclesFrom.{HasCycle, IsLeastFrom, NoneFrom}
-use Rattle.dep_order.specs.inner.Marks.{mark_of}
+use Rattle.dep_order.specs.Prelude.{Contains, All, needs_of, NodeNeeds, NeedsAreNodes, IsOrderable, IsChain, IsLeastOrder, IsCycle, IsLeastCycle, first_of, AreOrdered, AreUsers, AreSteps, LeadsBack, IsFewest, HasCycle, IsLeastFrom, NoneFrom}
 use Rattle.dep_order.proofs.Orders.{has_none, has_or_not, has_from_any, any_from_has, count_from_has, has_from_count, rotated, AreWithin, orderable, next_on_cycle}
 use Rattle.dep_order.proofs.Orderings.{differ, not_more, ordered_below}
 use Rattle.dep_order.proofs.Stuck.{IsStuck, not_orderable, has_cycle}
@@ -29,15 +21,14 @@ within graph nodes thing needed need = grind (arith, common_steps)
 
 -- users and needs are the same read backwards
 pub uses : (needs users : Graph) → AreUsers needs users → (node user : ℕ) → NodeNeeds users node user → NodeNeeds needs user node
-uses needs users u node user h = has_from_count node (needs_of needs user) (omega (arith, count_from_has user (needs_of users node) h, u.counts node user))
+uses needs users u node user h = grind (arith, common_steps, has_from_count, count_from_has)
 
-pub used : {needs users : Graph} → AreUsers needs users → (node user : ℕ) → NodeNeeds needs user node → NodeNeeds users node user
-used {needs} {users} u node user h = has_from_count user (needs_of users node) (omega (arith, count_from_has node (needs_of needs user) h, u.counts node user))
+pub used : {needs users : Graph} {node user : ℕ} → AreUsers needs users → NodeNeeds needs user node → NodeNeeds users node user
+used {needs} {users} {node} {user} u h = grind (arith, common_steps, has_from_count, count_from_has)
 
 pub users_are_nodes : {needs users : Graph} → AreUsers needs users → NeedsAreNodes needs → NeedsAreNodes users
 users_are_nodes {needs} {users} u nodes k d lt i e lt' =
-    let row : get_or users k d ≡ needs_of users k = get_or_default users k d [] lt in
-    let has : NodeNeeds users k (get_or (get_or users k d) i e) = rw (← row) (Contains-get_or (get_or users k d) i e lt') in
+    let has : NodeNeeds users k (get_or (get_or users k d) i e) = rw (← (get_or_default users k d [] lt)) (Contains-get_or (get_or users k d) i e lt') in
     omega (arith, (within needs nodes (get_or (get_or users k d) i e) k (uses needs users u k (get_or (get_or users k d) i e) has)).0)
 
 -- all are ordered
@@ -55,19 +46,19 @@ all_ordered {needs} {ordered} nodes e h =
           arith,
           length_push ordered thing,
           length-le_from_distinct_below (ordered ++ thing ∷ []) (length needs)
-              (IsDistinct-push nat_eq_equiv ordered thing (differ (length needs) (NodeNeeds needs) ordered h.each)
-              (false_from_ne_true _ (λ a. lacks (has_from_any ordered thing a))))
-              (λ q a. ⊎_elim (λ m. ordered_below (length needs) (NodeNeeds needs) ordered h.each q m) (λ last. rw (← last) lt)
-              (Contains-push_cases ordered thing q (has_from_any (ordered ++ thing ∷ []) q a))),
+              (IsDistinct-push nat_eq_equiv ordered thing (differ h.each)
+              (false_from_ne_true _ (λ a. lacks (has_from_any ordered a))))
+              (λ q a. ⊎_elim (λ m. ordered_below h.each m) (λ last. rw (← last) lt)
+              (Contains-push_cases ordered thing q (has_from_any (ordered ++ thing ∷ []) a))),
         )))
-        (has_or_not ordered thing)
+        (has_or_not ordered)
 
 -- the nodes that are left
 abbrev pub IsLeft : Graph → Numbers → ℕ → Type 0
 IsLeft needs ordered node = (node < length needs) × (¬ Contains ordered node)
 
-stuck : (needs : Graph) (ordered : Numbers) → NeedsAreNodes needs → AreOrdered needs ordered → IsStuck (IsLeft needs ordered) (NodeNeeds needs)
-stuck needs ordered nodes h thing left =
+stuck : {needs : Graph} {ordered : Numbers} → NeedsAreNodes needs → AreOrdered needs ordered → IsStuck (IsLeft needs ordered) (NodeNeeds needs)
+stuck {needs} nodes h thing left =
     let next = h.no_more_ready thing left.0 left.1 in
     (next.0, next.1, ((within needs nodes thing next.0 next.1).1, next.2))
 
@@ -81,7 +72,7 @@ some_left needs ordered (suc k) le =
     (λ all. ⊎_elim
     (λ has. inr (λ node lt. ⊎_elim (λ below. all node below) (λ ge. let e : k ≡ node = omega arith in subst (Contains ordered) e has) (cases_lt node k)))
     (λ lacks. inl (k, (omega arith, lacks)))
-    (has_or_not ordered k))
+    (has_or_not ordered))
     (some_left needs ordered k (omega arith))
 
 -- if not all are ordered, some node is left
@@ -92,8 +83,8 @@ one_left {needs} {ordered} ne h =
     (λ all. absurd (ne (let e : length ordered ≡ length needs =
     omega (
       arith,
-      not_more (length needs) (NodeNeeds needs) ordered h.each,
-      le-length_from_below ordered (length needs) (λ q lt. any_from_has ordered q (all q lt)),
+      not_more h.each,
+      le-length_from_below ordered (length needs) (λ q lt. any_from_has ordered (all q lt)),
     ) in e)))
     (some_left needs ordered (length needs) (omega arith))
 
@@ -102,8 +93,8 @@ pub not_all_ordered : {needs : Graph} {ordered : Numbers} → NeedsAreNodes need
     (¬ IsOrderable (length needs) (NodeNeeds needs)) × HasCycle (NodeNeeds needs)
 not_all_ordered {needs} {ordered} nodes ne h =
     let left = one_left ne h in (
-      not_orderable (length needs) (IsLeft needs ordered) (NodeNeeds needs) left.0 (stuck needs ordered nodes h) left.1,
-      has_cycle (length needs) (IsLeft needs ordered) (NodeNeeds needs) left.0 (λ x l. l.0) (stuck needs ordered nodes h) left.1,
+      not_orderable (stuck nodes h) left.1,
+      has_cycle (length needs) (IsLeft needs ordered) (λ x l. l.0) (stuck nodes h) left.1,
     )
 
 -- steps along users are steps back along needs
@@ -114,17 +105,17 @@ steps_back {needs} {users} u s = record {
   start = s.start;
   only_start = s.only_start;
   behind = λ node fewer e. let b = s.behind node fewer e in (b.0, b.1, uses needs users u b.0 node b.2);
-  nearest = λ before node k e leads. s.nearest before node k e (used u before node leads);
+  nearest = λ before node k e leads. s.nearest before node k e (used u leads);
 }
 
 -- no cycle begins with a thing that steps never lead back to
 pub no_way_back : {count : ℕ} (graph : Graph) {first : ℕ} {steps : Marks} → AreSteps count (LeadsBack (NodeNeeds graph)) first steps →
     IsFewest (needs_of graph first) steps None → NoneFrom (NodeNeeds graph) first
 no_way_back graph s f [] h e = h
-no_way_back graph {first} {steps} s f (x ∷ []) h e = none_is_no_some (mark_of steps first) 0 (f first (rw (← e) h)) s.start
+no_way_back graph {first} {steps} s f (x ∷ []) h e = none_is_no_some (f first (rw (← e) h)) s.start
 no_way_back {count} graph {first} {steps} s f (x ∷ next ∷ others) h e =
-    let c = chain_steps (NodeNeeds graph) s next others (rw (← e) h.1) in
-    none_is_no_some (mark_of steps next) c.0 (f next (rw (← e) h.0)) c.1
+    let c = chain_steps s next others (rw (← e) h.1) in
+    none_is_no_some (f next (rw (← e) h.0)) c.1
 
 -- the least cycle from the least thing on any is the least
 pub least_of_all : {Needs : Relation} {first : ℕ} {cycle : Numbers} → ((other : Numbers) → IsCycle Needs other → first ≤ first_of other) →
@@ -132,44 +123,39 @@ pub least_of_all : {Needs : Relation} {first : ℕ} {cycle : Numbers} → ((othe
 least_of_all {Needs} {cycle} below h = record {
   is_cycle = h.is_cycle;
   least_first = λ other c k d lt.
-      let turned = rotated Needs other (get_or other k d) c (Contains-get_or other k d lt) in
+      let turned = rotated other c (Contains-get_or other k d lt) in
       omega (arith, below (get_or other k d ∷ turned.0) turned.1);
   shortest = λ other c has.
-      let turned = rotated Needs other (first_of cycle) c has in
+      let turned = rotated other c has in
       omega (arith, h.shortest (first_of cycle ∷ turned.0) turned.1 h.begins_with);
   least_list = λ other c begins long. h.least_list other c (begins ∙ h.begins_with) long;
 }
 
 -- what a node needs is below the number of nodes
 pub row_nodes : (graph : Graph) (node n : ℕ) → n ≡ length graph → node < length graph → NeedsAreNodes graph → All (λ needed. needed < n) (needs_of graph node)
-row_nodes graph node n e lt nodes = rw e (All-get_or (λ row. All (λ needed. needed < length graph) row) graph node [] lt nodes)
+row_nodes graph node n e lt nodes = grind (arith, common_steps)
 
 -- the first thing of a cycle is a node
 pub first_in_range : (graph : Graph) (cycle : Numbers) → NeedsAreNodes graph → IsCycle (NodeNeeds graph) cycle → first_of cycle < length graph
 first_in_range graph [] nodes h = absurd h
-first_in_range graph (first ∷ others) nodes h = let next = next_on_cycle (NodeNeeds graph) first others h in (within graph nodes first next.0 next.1).0
+first_in_range graph (first ∷ others) nodes h = let next = next_on_cycle (NodeNeeds graph) others h in (within graph nodes first next.0 next.1).0
 
 -- no cycle begins with the node
-pub none_from : (Needs : Relation) (first : ℕ) → NoneFrom Needs first → ((cycle : Numbers) → IsCycle Needs cycle → first ≤ first_of cycle) → (cycle : Numbers) →
-    IsCycle Needs cycle → first + 1 ≤ first_of cycle
-none_from Needs first none below cycle h =
-    ⊎_elim (λ same. absurd (none cycle h same)) (λ ne. omega (arith, below cycle h)) (cases_eq (first_of cycle) first)
+pub none_from : {Needs : Relation} {first : ℕ} → NoneFrom Needs first → ((cycle : Numbers) → IsCycle Needs cycle → first ≤ first_of cycle) →
+    (cycle : Numbers) → IsCycle Needs cycle → first + 1 ≤ first_of cycle
+none_from {first} none below cycle h = grind (arith, common_steps, first_of)
 
 -- no cycle begins with what needs nothing
-pub none_without_needs : (graph : Graph) (node : ℕ) → needs_of graph node ≡ [] → NoneFrom (NodeNeeds graph) node
-none_without_needs graph node e [] h begins = h
-none_without_needs graph node e (first ∷ others) h begins =
-    let next = next_on_cycle (NodeNeeds graph) first others h in
-    has_none next.0 (subst (λ xs. Contains xs next.0) (ap (needs_of graph) begins ∙ e) next.1)
+pub none_without_needs : {node : ℕ} (graph : Graph) → needs_of graph node ≡ [] → NoneFrom (NodeNeeds graph) node
+none_without_needs graph e [] h begins = h
+none_without_needs graph e (first ∷ others) h begins = grind (arith, common_steps, next_on_cycle, has_none)
 
 -- the last thing of a chain needs its end
-last_of_chain : (Needs : Relation) (x : ℕ) (xs : Numbers) (end : ℕ) → IsChain Needs (x ∷ xs) end → (last : ℕ) × Needs last end
-last_of_chain Needs x [] end h = (x, h)
-last_of_chain Needs x (next ∷ xs) end h = last_of_chain Needs next xs end h.1
+last_of_chain : {end : ℕ} (Needs : Relation) (x : ℕ) (xs : Numbers) → IsChain Needs (x ∷ xs) end → (last : ℕ) × Needs last end
+last_of_chain Needs x [] h = (x, h)
+last_of_chain {end} Needs x (next ∷ xs) h = last_of_chain Needs next xs h.1
 
 -- no cycle begins with what nothing needs
-pub none_without_users : {needs users : Graph} (node : ℕ) → AreUsers needs users → needs_of users node ≡ [] → NoneFrom (NodeNeeds needs) node
-none_without_users node u e [] h begins = h
-none_without_users {needs} {users} node u e (first ∷ others) h begins =
-    let last = last_of_chain (NodeNeeds needs) first others first h in
-    has_none last.0 (subst (λ xs. Contains xs last.0) (ap (needs_of users) begins ∙ e) (used u first last.0 last.1))
+pub none_without_users : {needs users : Graph} {node : ℕ} → AreUsers needs users → needs_of users node ≡ [] → NoneFrom (NodeNeeds needs) node
+none_without_users u e [] h begins = h
+none_without_users {needs} {users} u e (first ∷ others) h begins = grind (arith, common_steps, last_of_chain, has_none, used)

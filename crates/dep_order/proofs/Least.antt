@@ -1,21 +1,15 @@
 -- What a finite digraph has: a least cycle that is short, and an order or a cycle.
 use Rattle.std.proofs.lemmas.Grind.{common_steps}
-use Rattle.std.proofs.Common.{◌≡◌, ℕ, zero, suc, ◌<◌, ◌≤◌, ◌⊎◌, false, [], ◌∷◌, ◌++◌, length, eqb, refl, sym, ◌∙◌, ap, subst, inl, inr, ⊎_elim, arith, length-append}
-use Rattle.std.specs.Ordering.{nat_cmp}
-use Rattle.std.specs.declared.cmp.Ordering.TheVariants.{Equal, Greater}
-use Rattle.std.specs.Cmp.Lexicographic.{slice_cmp}
-use Rattle.std.specs.List.{Contains, AllByRecursion, IsDistinct}
+use Rattle.std.proofs.Common.{◌≡◌, ℕ, zero, suc, ◌<◌, ◌≤◌, ◌⊎◌, false, [], ◌∷◌, ◌++◌, length, eqb, refl, ◌∙◌, ap, subst, inl, inr, ⊎_elim, arith, length-append}
+use Rattle.std.specs.List.{IsDistinct}
 use Rattle.std.proofs.lemmas.Bool.{cases_lt}
 use Rattle.std.proofs.lemmas.Map.Keys.{IsDistinct-cons}
 use Rattle.std.proofs.lemmas.Map.Steps.{length-le_from_distinct_below, le-length_from_below}
-use Rattle.dep_order.specs.Cycles.{IsCycle, IsLeastCycle, first_of}
 use Rattle.dep_order.proofs.Orders.{has_or_not, has_head, has_tail, has_from_any, other_number, chain_append, chain_split, split_at, rotated, AreWithin, next_on_cycle, has_first, any_from_has, all_or_missing, orderable}
 use Rattle.dep_order.proofs.Answered.{least_of_all, within, IsLeft, some_left}
 use Rattle.std.proofs.lemmas.List.{length_push}
-use Rattle.dep_order.specs.Needs.{needs_of, NodeNeeds, NeedsAreNodes, IsOrderable}
-use Rattle.dep_order.specs.Orders.{IsReady, IsSmallestReady, EachSmallest}
+use Rattle.dep_order.specs.Prelude.{nat_cmp, Greater, slice_cmp, Contains, AllByRecursion, IsCycle, IsLeastCycle, first_of, needs_of, NodeNeeds, NeedsAreNodes, IsOrderable, IsReady, IsSmallestReady, EachSmallest, HasCycle}
 use Rattle.dep_order.proofs.Orderings.{each_push, not_more}
-use Rattle.dep_order.specs.inner.CyclesFrom.{HasCycle}
 use Rattle.dep_order.proofs.Stuck.{has_cycle}
 use Rattle.dep_order.proofs.Words.{Graph, Numbers, Relation}
 
@@ -41,7 +35,7 @@ lists_all : (k : ℕ) (P : Numbers → Type 0) →
 lists_all zero P step [] e = step [] refl none
   where
     none : (ys : Numbers) → length ys ≡ 0 → slice_cmp nat_cmp [] ys ≡ Greater → P ys
-    none [] e greater = let both : Equal ≡ Greater = greater in cc
+    none [] e greater = let both = greater in cc
     none (y ∷ ys) e greater = absurd (omega arith)
 lists_all zero P step (x ∷ xs) e = absurd (omega arith)
 lists_all (suc k) P step [] e = absurd (omega arith)
@@ -54,19 +48,14 @@ lists_all (suc k) P step (x ∷ xs) e =
         ((us : Numbers) → length us ≡ k → slice_cmp nat_cmp ts us ≡ Greater → P (n ∷ us)) → (ys : Numbers) → length ys ≡ suc k →
         slice_cmp nat_cmp (n ∷ ts) ys ≡ Greater → P ys
     next n ts lower lesser [] long greater = absurd (omega arith)
-    next n ts lower lesser (m ∷ us) long greater =
-        let rest : length us ≡ k = omega arith in
-        ⊎_elim
-        (λ lt. lower m lt us rest)
-        (λ same. rw (← same.0) (lesser us rest same.1))
-        (lower_first n m ts us greater)
+    next n ts lower lesser (m ∷ us) long greater = grind (arith, common_steps, lower_first)
 
 -- ---- a cycle in which something is twice is not the shortest
 
-none_alike : (x : ℕ) (xs : Numbers) → ¬ Contains xs x → AllByRecursion (λ y. eqb x y ≡ false) xs
-none_alike x [] lacks = tt
-none_alike x (y ∷ ys) lacks =
-    (other_number x y (λ e. lacks (rw (← e) (has_head x ys))), none_alike x ys (λ h. lacks (has_tail y x ys h)))
+none_alike : {x : ℕ} (xs : Numbers) → ¬ Contains xs x → AllByRecursion (λ y. eqb x y ≡ false) xs
+none_alike [] lacks = tt
+none_alike {x} (y ∷ ys) lacks =
+    (other_number x y (λ e. lacks (rw (← e) (has_head ys))), none_alike ys (λ h. lacks (has_tail y ys h)))
 
 -- something is in the list twice
 record IsTwice (xs : Numbers) : Type 0 where
@@ -81,12 +70,12 @@ unfolding IsDistinct
 distinct_or_twice [] = inl tt
 distinct_or_twice (x ∷ xs) =
     ⊎_elim
-    (λ has. let parts = split_at xs x has in inr (record { front = []; thing = x; between = parts.0; behind = parts.1; is = ap (λ ys. x ∷ ys) parts.2 }))
+    (λ has. let parts = split_at has in inr (record { front = []; thing = x; between = parts.0; behind = parts.1; is = ap (λ ys. x ∷ ys) parts.2 }))
     (λ lacks. ⊎_elim
-    (λ distinct. inl (IsDistinct-cons eqb x xs (none_alike x xs lacks) distinct))
+    (λ distinct. inl (IsDistinct-cons eqb x xs (none_alike xs lacks) distinct))
     (λ t. inr (record { front = x ∷ t.front; thing = t.thing; between = t.between; behind = t.behind; is = ap (λ ys. x ∷ ys) t.is }))
     (distinct_or_twice xs))
-    (has_or_not xs x)
+    (has_or_not xs)
 
 module _ (Needs : Relation) where
   -- the cycle without what is between
@@ -99,32 +88,20 @@ module _ (Needs : Relation) where
       (chain_append Needs (first ∷ front) x behind first parts.0 rest.1, refl)
 
   shorter_twice : {cycle : Numbers} → IsLeastCycle Needs cycle → IsTwice cycle → ⊥
-  shorter_twice {cycle} least t =
-      let whole = t.front ++ t.thing ∷ (t.between ++ t.thing ∷ t.behind) in
-      let less = t.front ++ t.thing ∷ t.behind in
-      let c = cut t.front t.thing t.between t.behind (subst (IsCycle Needs) t.is least.is_cycle) in
-      let first : first_of less ≡ first_of cycle = c.1 ∙ ap first_of (sym t.is) in
-      let long = least.shortest less c.0 (subst (Contains less) first (has_first Needs less c.0)) in
-      absurd (omega (
-        arith,
-        ap length t.is,
-        length-append t.front (t.thing ∷ (t.between ++ t.thing ∷ t.behind)),
-        length-append t.between (t.thing ∷ t.behind),
-        length-append t.front (t.thing ∷ t.behind),
-      ))
+  shorter_twice {cycle} least t = grind (arith, common_steps, cut, first_of, has_first, length-append)
 
   module _ (count : ℕ) (within : AreWithin count Needs) where
-    on_cycle : (cycle : Numbers) → IsCycle Needs cycle → (x : ℕ) → Contains cycle x → x < count
-    on_cycle cycle h x has =
-        let turned = rotated Needs cycle x h has in
-        let next = next_on_cycle Needs x turned.0 turned.1 in
+    on_cycle : {x : ℕ} (cycle : Numbers) → IsCycle Needs cycle → Contains cycle x → x < count
+    on_cycle {x} cycle h has =
+        let turned = rotated cycle h has in
+        let next = next_on_cycle Needs turned.0 turned.1 in
         (within x next.0 next.1).0
 
     -- the least cycle has no more things than there are
     pub least_is_short : (cycle : Numbers) → IsLeastCycle Needs cycle → length cycle ≤ count
     least_is_short cycle least =
         ⊎_elim
-        (λ distinct. length-le_from_distinct_below cycle count distinct (λ q e. on_cycle cycle least.is_cycle q (has_from_any cycle q e)))
+        (λ distinct. length-le_from_distinct_below cycle count distinct (λ q e. on_cycle cycle least.is_cycle (has_from_any cycle e)))
         (λ twice. absurd (shorter_twice least twice))
         (distinct_or_twice cycle)
 
@@ -167,10 +144,10 @@ module _ (Needs : Relation) where
 abbrev NoneReady : Graph → Numbers → ℕ → Type 0
 NoneReady graph ordered k = (other : ℕ) → other < k → ¬ Contains ordered other → ¬ IsReady (NodeNeeds graph) ordered other
 
-first_ready : (graph : Graph) (ordered : Numbers) (k : ℕ) → k ≤ length graph →
+first_ready : {ordered : Numbers} (graph : Graph) (k : ℕ) → k ≤ length graph →
     ((node : ℕ) × IsSmallestReady (length graph) (NodeNeeds graph) ordered node) ⊎ NoneReady graph ordered k
-first_ready graph ordered zero le = inr (λ other lt. absurd (omega arith))
-first_ready graph ordered (suc k) le =
+first_ready graph zero le = inr (λ other lt. absurd (omega arith))
+first_ready {ordered} graph (suc k) le =
     ⊎_elim
     (λ found. inl found)
     (λ none. ⊎_elim
@@ -192,8 +169,8 @@ first_ready graph ordered (suc k) le =
     (λ ge. let e : other ≡ k = omega arith in some.2 (ready some.0 (rw (← (let f : k ≡ other = omega arith in f)) some.1)))
     (cases_lt other k)))
     (all_or_missing (needs_of graph k) ordered))
-    (has_or_not ordered k))
-    (first_ready graph ordered k (omega arith))
+    (has_or_not ordered))
+    (first_ready graph k (omega arith))
 
 -- this many nodes are in order
 record AreFirstOrdered (graph : Graph) (steps : ℕ) : Type 0 where
@@ -207,21 +184,21 @@ record Ended (graph : Graph) : Type 0 where
   each : EachSmallest (length graph) (NodeNeeds graph) ordered
   none_ready : NoneReady graph ordered (length graph)
 
-run : (graph : Graph) (steps : ℕ) → AreFirstOrdered graph steps ⊎ Ended graph
-run graph zero = inl (record { ordered = []; each = λ index lt. absurd (omega arith); as_many = refl })
-run graph (suc steps) =
+run : {graph : Graph} (steps : ℕ) → AreFirstOrdered graph steps ⊎ Ended graph
+run zero = inl (record { ordered = []; each = λ index lt. absurd (omega arith); as_many = refl })
+run {graph} (suc steps) =
     ⊎_elim
     (λ p. ⊎_elim
     (λ next. inl (record { ordered = p.ordered ++ next.0 ∷ []; each = each_push p.each next.1; as_many = omega (arith, length_push p.ordered next.0) }))
     (λ none. inr (record { ordered = p.ordered; each = p.each; none_ready = none }))
-    (first_ready graph p.ordered (length graph) (omega arith)))
+    (first_ready graph (length graph) (omega arith)))
     (λ e. inr e)
-    (run graph steps)
+    (run steps)
 
 ended : {graph : Graph} → NeedsAreNodes graph → Ended graph → IsOrderable (length graph) (NodeNeeds graph) ⊎ HasCycle (NodeNeeds graph)
 ended {graph} nodes e =
     ⊎_elim
-    (λ left. inr (has_cycle (length graph) (IsLeft graph e.ordered) (NodeNeeds graph) left.0 (λ x l. l.0)
+    (λ left. inr (has_cycle (length graph) (IsLeft graph e.ordered) (λ x l. l.0)
     (λ thing l. ⊎_elim
     (λ all. absurd (e.none_ready thing l.0 l.1 all))
     (λ some. (some.0, some.1, ((within graph nodes thing some.0 some.1).1, some.2)))
@@ -231,8 +208,8 @@ ended {graph} nodes e =
       as_many = let n : length e.ordered ≡ length graph =
           omega (
             arith,
-            not_more (length graph) (NodeNeeds graph) e.ordered e.each,
-            le-length_from_below e.ordered (length graph) (λ q lt. any_from_has e.ordered q (all q lt)),
+            not_more e.each,
+            le-length_from_below e.ordered (length graph) (λ q lt. any_from_has e.ordered (all q lt)),
           ) in n;
       all = all;
       each = e.each;
@@ -243,6 +220,6 @@ ended {graph} nodes e =
 pub orderable_or_cycle : (graph : Graph) → NeedsAreNodes graph → IsOrderable (length graph) (NodeNeeds graph) ⊎ HasCycle (NodeNeeds graph)
 orderable_or_cycle graph nodes =
     ⊎_elim
-    (λ p. absurd (omega (arith, not_more (length graph) (NodeNeeds graph) p.ordered p.each)))
+    (λ p. absurd (omega (arith, not_more p.each)))
     (λ e. ended nodes e)
-    (run graph (suc (length graph)))
+    (run (suc (length graph)))

@@ -1,29 +1,19 @@
 -- Chains, orders and cycles of any needs, that there is at most one, and the same under equal needs.
+use Rattle.std.proofs.lemmas.Grind.{common_steps}
 use Rattle.std.proofs.Common.{◌≡◌, ℕ, ◌+◌, ◌<◌, [], ◌∷◌, ◌++◌, length, take, drop, slice_index, sym, ◌∙◌, ap, subst, arith, length-append, ◌≢◌, true, eqb, refl, inl, inr, ◌⊎◌, ⊎_elim, suc, ◌≤◌, get_or, map, zero, Ordering, ◌*◌, sum}
-use Rattle.std.specs.List.{Contains, list_any, position_or_len, range_with_len}
 use Rattle.std.proofs.lemmas.List.{take-append-drop, drop_more, get_or-take, length-take-le, take_more, take_all}
-use Rattle.dep_order.specs.Needs.{IsChain, IsNumbering, IsOrderable, Reaches}
-use Rattle.dep_order.specs.Cycles.{IsCycle, IsLeastCycle, first_of}
-use Rattle.dep_order.specs.inner.Users.{one_if, count_of}
-use Rattle.std.proofs.lemmas.Bool.{cases_Bool, cases_eq, false≢true, cases_lt}
+use Rattle.std.proofs.lemmas.Bool.{cases_Bool, cases_eq, false≢true}
 use Rattle.std.proofs.lemmas.Cmp.{nat_eq_equiv, nat_list_cmp_total}
 use Rattle.std.proofs.lemmas.Map.Views.{Contains-from_any, list_any-from_Contains}
-use Rattle.std.proofs.lemmas.Map.Made.{Contains-tail}
 use Rattle.std.proofs.lemmas.List.Sums.{sum_by-cons, sum_by_push, passes_at_first, fails_before_first, get_or-le-sum_by}
 use Rattle.std.proofs.lemmas.List.FromFn.{length-map-range_with_len, get_or-map-range_with_len}
-use Rattle.dep_order.specs.Orders.{EachSmallest, IsLeastOrder, IsSmallestReady}
-use Rattle.std.specs.Ordering.{nat_cmp, ordering_reverse}
-use Rattle.std.specs.declared.cmp.Ordering.TheVariants.{Less, Equal, Greater}
-use Rattle.std.specs.Cmp.Lexicographic.{slice_cmp}
 use Rattle.std.proofs.lemmas.Map.Lookups.{exact_bytes}
 use native.Mathlib.Numerals.{unary_clauses}
 use Rattle.std.proofs.Math.Nat.{mul-le-mul_right}
-use Rattle.dep_order.specs.Sortings.{IsSortingOf}
-use Rattle.dep_order.specs.declared.Sorting.{Sorting}
-use Rattle.dep_order.specs.declared.Sorting.TheVariants.{Order, Cycle}
 use Rattle.dep_order.proofs.Words.{Numbers, Relation}
 -- equal by the test is equal, and what differs differs by the test
 pub use Rattle.std.proofs.Common.{eqb-true as same, ne_eqb as other_number}
+use Rattle.dep_order.specs.Prelude.{Contains, list_any, position_or_len, range_with_len, IsChain, IsNumbering, IsOrderable, Reaches, IsCycle, IsLeastCycle, first_of, one_if, count_of, EachSmallest, IsLeastOrder, IsSmallestReady, nat_cmp, ordering_reverse, Less, Equal, Greater, slice_cmp, IsSortingOf, Sorting, Order, Cycle}
 
 -- ---- chains of needs joined and cut, cycles begun at another of their things, and what a numbering rules out
 
@@ -42,8 +32,8 @@ chain_split Needs (x ∷ []) y ys end h = (h.0, h.1)
 chain_split Needs (x ∷ next ∷ xs) y ys end h = let rest = chain_split Needs (next ∷ xs) y ys end h.1 in ((h.0, rest.0), rest.1)
 
 -- a list that has a thing is what is before it, the thing, and what is after it
-pub split_at : (xs : Numbers) (x : ℕ) → Contains xs x → (before : Numbers) × (behind : Numbers) × (xs ≡ before ++ x ∷ behind)
-split_at xs x h = (
+pub split_at : {xs : Numbers} {x : ℕ} → Contains xs x → (before : Numbers) × (behind : Numbers) × (xs ≡ before ++ x ∷ behind)
+split_at {xs} {x} h = (
   take h.0 xs,
   drop (h.0 + 1) xs,
   sym (take-append-drop h.0 xs) ∙
@@ -51,16 +41,16 @@ split_at xs x h = (
 )
 
 -- a cycle begun at another of its things
-pub rotated : (Needs : Relation) (cycle : Numbers) (x : ℕ) → IsCycle Needs cycle → Contains cycle x →
+pub rotated : {Needs : Relation} {x : ℕ} (cycle : Numbers) → IsCycle Needs cycle → Contains cycle x →
     (others : Numbers) × IsCycle Needs (x ∷ others) × (length (x ∷ others) ≡ length cycle)
-rotated Needs cycle x h has =
-    let parts = split_at cycle x has in
-    from_parts Needs parts.0 x parts.1 (subst (IsCycle Needs) parts.2 h) (ap length parts.2)
+rotated {Needs} {x} cycle h has =
+    let parts = split_at has in
+    from_parts parts.0 x parts.1 (subst (IsCycle Needs) parts.2 h) (ap length parts.2)
   where
-    from_parts : (Needs : Relation) (before : Numbers) (x : ℕ) (behind : Numbers) → IsCycle Needs (before ++ x ∷ behind) →
+    from_parts : {Needs : Relation} (before : Numbers) (x : ℕ) (behind : Numbers) → IsCycle Needs (before ++ x ∷ behind) →
         length cycle ≡ length (before ++ x ∷ behind) → (others : Numbers) × IsCycle Needs (x ∷ others) × (length (x ∷ others) ≡ length cycle)
-    from_parts Needs [] x behind c e = (behind, c, sym e)
-    from_parts Needs (first ∷ before) x behind c e =
+    from_parts [] x behind c e = (behind, c, sym e)
+    from_parts {Needs} (first ∷ before) x behind c e =
         let cut = chain_split Needs (first ∷ before) x behind first c in (
           behind ++ first ∷ before,
           chain_append Needs (x ∷ behind) first before x cut.1 cut.0,
@@ -85,46 +75,45 @@ pub same_itself : (x : ℕ) → eqb x x ≡ true
 same_itself x = nat_eq_equiv.refl x
 
 -- a list has a number if the search says so
-pub has_from_any : (xs : Numbers) (x : ℕ) → list_any (eqb x) xs ≡ true → Contains xs x
-has_from_any xs x h = Contains-from_any same x xs h
+pub has_from_any : {x : ℕ} (xs : Numbers) → list_any (eqb x) xs ≡ true → Contains xs x
+has_from_any {x} xs h = Contains-from_any same x xs h
 
 -- if a list has a number, the search says so
-pub any_from_has : (xs : Numbers) (x : ℕ) → Contains xs x → list_any (eqb x) xs ≡ true
-any_from_has xs x h = list_any-from_Contains nat_eq_equiv x xs h
+pub any_from_has : {x : ℕ} (xs : Numbers) → Contains xs x → list_any (eqb x) xs ≡ true
+any_from_has {x} xs h = list_any-from_Contains nat_eq_equiv x xs h
 
 -- a list has a number or not
-pub has_or_not : (xs : Numbers) (x : ℕ) → Contains xs x ⊎ ¬ Contains xs x
-has_or_not xs x =
-    ⊎_elim (λ h. inl (has_from_any xs x h)) (λ h. inr (λ c. false≢true (sym h ∙ any_from_has xs x c))) (cases_Bool (list_any (eqb x) xs))
+pub has_or_not : {x : ℕ} (xs : Numbers) → Contains xs x ⊎ ¬ Contains xs x
+has_or_not {x} xs =
+    ⊎_elim (λ h. inl (has_from_any xs h)) (λ h. inr (λ c. false≢true (sym h ∙ any_from_has xs c))) (cases_Bool (list_any (eqb x) xs))
 
 -- a list has its first number
-pub has_head : (x : ℕ) (xs : Numbers) → Contains (x ∷ xs) x
-has_head x xs = (0, omega arith, refl)
+pub has_head : {x : ℕ} (xs : Numbers) → Contains (x ∷ xs) x
+has_head xs = (0, omega arith, refl)
 
 -- a list has what its rest has
-pub has_tail : (x y : ℕ) (xs : Numbers) → Contains xs y → Contains (x ∷ xs) y
-has_tail x y xs h = (suc h.0, omega arith, h.2)
+pub has_tail : {y : ℕ} (x : ℕ) (xs : Numbers) → Contains xs y → Contains (x ∷ xs) y
+has_tail x xs h = (suc h.0, omega arith, h.2)
 
 -- the empty list has no number
-pub has_none : (x : ℕ) → Contains [] x → ⊥
-has_none x h = absurd (omega arith)
+pub has_none : {x : ℕ} → Contains [] x → ⊥
+has_none h = absurd (omega arith)
 
 -- what a list has is its first number or in its rest
-pub has_cons_cases : (x y : ℕ) (xs : Numbers) → Contains (x ∷ xs) y → (x ≡ y) ⊎ Contains xs y
-has_cons_cases x y xs h =
-    ⊎_elim (λ e. inl e) (λ ne. inr (Contains-tail x xs y ne h)) (cases_eq x y)
+pub has_cons_cases : {y : ℕ} (x : ℕ) (xs : Numbers) → Contains (x ∷ xs) y → (x ≡ y) ⊎ Contains xs y
+has_cons_cases {y} x xs h = grind (arith, common_steps)
 
 -- each of the first is one of the second, or some is not
 pub all_or_missing : (xs ys : Numbers) → ((x : ℕ) → Contains xs x → Contains ys x) ⊎ ((x : ℕ) × Contains xs x × (¬ Contains ys x))
-all_or_missing [] ys = inl (λ x h. absurd (has_none x h))
+all_or_missing [] ys = inl (λ x h. absurd (has_none h))
 all_or_missing (x ∷ xs) ys =
     ⊎_elim
     (λ here. ⊎_elim
-    (λ rest. inl (λ z h. ⊎_elim (λ e. subst (Contains ys) e here) (λ t. rest z t) (has_cons_cases x z xs h)))
-    (λ some. inr (some.0, has_tail x some.0 xs some.1, some.2))
+    (λ rest. inl (λ z h. ⊎_elim (λ e. subst (Contains ys) e here) (λ t. rest z t) (has_cons_cases x xs h)))
+    (λ some. inr (some.0, has_tail x xs some.1, some.2))
     (all_or_missing xs ys))
-    (λ none. inr (x, has_head x xs, none))
-    (has_or_not ys x)
+    (λ none. inr (x, has_head xs, none))
+    (has_or_not ys)
 
 -- counted with one more in front
 pub count-cons : (x y : ℕ) (xs : Numbers) → count_of x (y ∷ xs) ≡ one_if (eqb x y) + count_of x xs
@@ -135,22 +124,18 @@ pub count_push : (x y : ℕ) (xs : Numbers) → count_of x (xs ++ y ∷ []) ≡ 
 count_push x y xs = sum_by_push (λ z. one_if (eqb x z)) xs y
 
 -- what is counted is there
-pub has_from_count : (x : ℕ) (xs : Numbers) → 0 < count_of x xs → Contains xs x
-has_from_count x [] h = absurd (omega arith)
-has_from_count x (y ∷ xs) h =
+pub has_from_count : {x : ℕ} (xs : Numbers) → 0 < count_of x xs → Contains xs x
+has_from_count [] h = absurd (omega arith)
+has_from_count {x} (y ∷ xs) h =
     ⊎_elim
-    (λ e. rw (← e) (has_head x xs))
-    (λ ne. let k : 0 < count_of x xs = omega (arith, count-cons x y xs, ap one_if (other_number x y ne)) in has_tail y x xs (has_from_count x xs k))
+    (λ e. rw (← e) (has_head xs))
+    (λ ne. let k : 0 < count_of x xs = omega (arith, count-cons x y xs, ap one_if (other_number x y ne)) in has_tail y xs (has_from_count xs k))
     (cases_eq x y)
 
 -- what is there is counted
-pub count_from_has : (x : ℕ) (xs : Numbers) → Contains xs x → 0 < count_of x xs
-count_from_has x [] h = absurd (has_none x h)
-count_from_has x (y ∷ xs) h =
-    ⊎_elim
-    (λ e. let one : one_if (eqb x y) ≡ 1 = rw e (ap one_if (same_itself x)) in omega (arith, count-cons x y xs))
-    (λ t. omega (arith, count-cons x y xs, count_from_has x xs t))
-    (has_cons_cases y x xs h)
+pub count_from_has : {x : ℕ} (xs : Numbers) → Contains xs x → 0 < count_of x xs
+count_from_has {x} [] h = absurd (has_none h)
+count_from_has {x} (y ∷ xs) h = grind (arith, common_steps, same_itself, count-cons, has_cons_cases)
 
 -- ---- what an order by smallest numbers gives: a numbering
 
@@ -164,32 +149,17 @@ first_index order thing = position_or_len (eqb thing) order
 
 -- the first index of a thing is at most any at which it is
 pub first_index-le : (order : Numbers) (thing index : ℕ) → get_or order index thing ≡ thing → index < length order → first_index order thing ≤ index
-first_index-le order thing index at in' =
-    ⊎_elim
-    (λ before. absurd (false≢true (sym (fails_before_first (eqb thing) order index thing before) ∙ ap (eqb thing) at ∙ same_itself thing)))
-    (λ le. le)
-    (cases_lt index (first_index order thing))
+first_index-le order thing index at in' = grind (arith, common_steps, false≢true, fails_before_first, same_itself)
 
 -- what an order has is at its first index
-pub at_first_index : (order : Numbers) (thing : ℕ) → Contains order thing →
+pub at_first_index : {thing : ℕ} (order : Numbers) → Contains order thing →
     (first_index order thing < length order) × (get_or order (first_index order thing) 0 ≡ thing)
-at_first_index order thing has =
-    let le : first_index order thing ≤ has.0 = first_index-le order thing has.0 has.2 has.1 in
-    let lt : first_index order thing < length order = omega arith in
-    (lt, sym (same thing (get_or order (first_index order thing) 0) (passes_at_first (eqb thing) order 0 lt)))
+at_first_index {thing} order has = grind (arith, common_steps, first_index-le, same, passes_at_first)
 
 -- each need of what is in the order is before it
-pub needed_before : (count : ℕ) (Needs : Relation) (order : Numbers) (thing needed : ℕ) → EachSmallest count Needs order → Contains order thing →
+pub needed_before : {count thing needed : ℕ} {Needs : Relation} {order : Numbers} → EachSmallest count Needs order → Contains order thing →
     Needs thing needed → Contains order needed × (first_index order needed < first_index order thing)
-needed_before count Needs order thing needed each has need =
-    let at = at_first_index order thing has in
-    let here = each (first_index order thing) at.0 in
-    let before = here.ready needed (rw at.1 need) in
-    let short : length (take (first_index order thing) order) ≡ first_index order thing = length-take-le (first_index order thing) order (omega arith) in
-    let lt : before.0 < first_index order thing = omega arith in
-    let there : get_or order before.0 needed ≡ needed = sym (get_or-take (first_index order thing) order before.0 needed lt) ∙ before.2 in
-    let in' : before.0 < length order = omega arith in
-    ((before.0, in', there), omega (arith, first_index-le order needed before.0 there in'))
+needed_before {thing} {needed} {order} each has need = grind (arith, common_steps, at_first_index, length-take-le, get_or-take, first_index-le)
 
 -- the first indexes are a numbering
 pub orderable : (count : ℕ) (Needs : Relation) (order : Numbers) → AreWithin count Needs → IsLeastOrder count Needs order → IsOrderable count Needs
@@ -199,33 +169,32 @@ orderable count Needs order within least = (
     one_each = length-map-range_with_len (first_index order) 0 count;
     below = λ thing needed need.
         let w = within thing needed need in
-        let here : get_or (map (first_index order) (range_with_len 0 count)) thing 0 ≡ first_index order thing =
+        let here =
         get_or-map-range_with_len (first_index order) 0 count thing thing 0 w.0 (omega arith) in
-        let there : get_or (map (first_index order) (range_with_len 0 count)) needed 0 ≡ first_index order needed =
+        let there =
         get_or-map-range_with_len (first_index order) 0 count needed needed 0 w.1 (omega arith) in
-        let lt = needed_before count Needs order thing needed least.each (least.all thing w.0) need in
-        omega arith;
+        omega (arith, needed_before least.each (least.all thing w.0) need);
   },
 )
 
 -- what lies on a cycle needs something on a cycle
-pub next_on_cycle : (Needs : Relation) (x : ℕ) (others : Numbers) → IsCycle Needs (x ∷ others) → (y : ℕ) × Needs x y × Contains (x ∷ others) y
-next_on_cycle Needs x [] h = (x, h, (0, omega arith, refl))
-next_on_cycle Needs x (next ∷ others) h = (next, h.0, (1, omega arith, refl))
+pub next_on_cycle : {x : ℕ} (Needs : Relation) (others : Numbers) → IsCycle Needs (x ∷ others) → (y : ℕ) × Needs x y × Contains (x ∷ others) y
+next_on_cycle {x} Needs [] h = (x, h, (0, omega arith, refl))
+next_on_cycle Needs (next ∷ others) h = (next, h.0, (1, omega arith, refl))
 
 -- ---- at most one list is the order by smallest numbers, and at most one is the least cycle
 
 smallest_one : {count : ℕ} {Needs : Relation} {before : Numbers} {a b : ℕ} → IsSmallestReady count Needs before a → IsSmallestReady count Needs before b → a ≡ b
 smallest_one {a} {b} p q = omega (arith, p.smallest b q.in_range q.fresh q.ready, q.smallest a p.in_range p.fresh p.ready)
 
-same_so_far : (count : ℕ) (Needs : Relation) (a b : Numbers) → EachSmallest count Needs a → EachSmallest count Needs b → length a ≡ length b → (k : ℕ) →
+same_so_far : {count : ℕ} {Needs : Relation} {a b : Numbers} → EachSmallest count Needs a → EachSmallest count Needs b → length a ≡ length b → (k : ℕ) →
     k ≤ length a → take k a ≡ take k b
-same_so_far count Needs a b p q e zero le = refl
-same_so_far count Needs a b p q e (suc k) le =
+same_so_far p q e zero le = refl
+same_so_far {count} {Needs} {a} {b} p q e (suc k) le =
     let la : k < length a = omega arith in
     let lb : k < length b = omega arith in
-    let front : take k a ≡ take k b = same_so_far count Needs a b p q e k (omega arith) in
-    let here : get_or a k 0 ≡ get_or b k 0 = smallest_one (rw (← front) (p k la)) (q k lb) in
+    let front = same_so_far p q e k (omega arith) in
+    let here = smallest_one (rw (← front) (p k la)) (q k lb) in
     let ma : take (suc k) a ≡ take k a ++ get_or a k 0 ∷ [] = simp unary_clauses at (take_more a k 0 la) in
     let mb : take (suc k) b ≡ take k b ++ get_or b k 0 ∷ [] = simp unary_clauses at (take_more b k 0 lb) in
     ma ∙ ap (λ xs. xs ++ get_or a k 0 ∷ []) front ∙ ap (λ x. take k b ++ x ∷ []) here ∙ sym mb
@@ -234,34 +203,34 @@ same_so_far count Needs a b p q e (suc k) le =
 pub one_order : (count : ℕ) (Needs : Relation) (a b : Numbers) → IsLeastOrder count Needs a → IsLeastOrder count Needs b → a ≡ b
 one_order count Needs a b p q =
     let e : length a ≡ length b = omega arith in
-    sym (take_all (length a) a (omega arith)) ∙ same_so_far count Needs a b p.each q.each e (length a) (omega arith) ∙ take_all (length a) b (omega arith)
+    sym (take_all (length a) a (omega arith)) ∙ same_so_far p.each q.each e (length a) (omega arith) ∙ take_all (length a) b (omega arith)
 
 -- a cycle has its first thing
 pub has_first : (Needs : Relation) (cycle : Numbers) → IsCycle Needs cycle → Contains cycle (first_of cycle)
 has_first Needs [] h = absurd h
 has_first Needs (first ∷ others) h = (0, omega arith, refl)
 
-level : (o u : Ordering) → u ≡ ordering_reverse o → o ≢ Greater → u ≢ Greater → o ≡ Equal
-level Less u e p q = absurd (q e)
-level Equal u e p q = refl
-level Greater u e p q = absurd (p refl)
+level : {u : Ordering} (o : Ordering) → u ≡ ordering_reverse o → o ≢ Greater → u ≢ Greater → o ≡ Equal
+level Less e p q = absurd (q e)
+level Equal e p q = refl
+level Greater e p q = absurd (p refl)
 
-least_lists : (a b : Numbers) → slice_cmp nat_cmp a b ≢ Greater → slice_cmp nat_cmp b a ≢ Greater → a ≡ b
-least_lists a b p q = exact_bytes a b (level (slice_cmp nat_cmp a b) (slice_cmp nat_cmp b a) (nat_list_cmp_total.antisymm b a) p q)
+least_lists : {a b : Numbers} → slice_cmp nat_cmp a b ≢ Greater → slice_cmp nat_cmp b a ≢ Greater → a ≡ b
+least_lists {a} {b} p q = exact_bytes a b (level (slice_cmp nat_cmp a b) (nat_list_cmp_total.antisymm b a) p q)
 
 -- at most one list is the least cycle
 pub one_cycle : (Needs : Relation) (a b : Numbers) → IsLeastCycle Needs a → IsLeastCycle Needs b → a ≡ b
 one_cycle Needs a b p q =
-    let le : first_of a ≤ first_of b = least_first_le p q in
-    let ge : first_of b ≤ first_of a = least_first_le q p in
+    let le = least_first_le p q in
+    let ge = least_first_le q p in
     let e : first_of a ≡ first_of b = omega arith in
-    let short : length a ≤ length b = p.shortest b q.is_cycle (rw e (has_first Needs b q.is_cycle)) in
-    let long : length b ≤ length a = q.shortest a p.is_cycle (subst (Contains a) e (has_first Needs a p.is_cycle)) in
+    let short = p.shortest b q.is_cycle (rw e (has_first Needs b q.is_cycle)) in
+    let long = q.shortest a p.is_cycle (subst (Contains a) e (has_first Needs a p.is_cycle)) in
     let l : length a ≡ length b = omega arith in
-    least_lists a b (p.least_list b q.is_cycle (sym e) (sym l)) (q.least_list a p.is_cycle e l)
+    least_lists (p.least_list b q.is_cycle (sym e) (sym l)) (q.least_list a p.is_cycle e l)
   where
     least_first_le : {a b : Numbers} → IsLeastCycle Needs a → IsLeastCycle Needs b → first_of a ≤ first_of b
-    least_first_le {b} p q = let h = has_first Needs b q.is_cycle in rw (← h.2) (p.least_first b q.is_cycle h.0 (first_of b) h.1)
+    least_first_le {b} p q = grind (arith, common_steps, has_first, first_of)
 
 -- ---- the same under needs that hold of the same things, and numberings one over another
 
@@ -282,7 +251,7 @@ cycle_same Needs Other to (first ∷ others) h = chain_same Needs Other to (firs
 
 -- the same reach
 pub reaches_same : (Needs Other : Relation) → Implies Needs Other → (from end : ℕ) → Reaches Needs from end → Reaches Other from end
-reaches_same Needs Other to from end h = ⊎_elim (λ e. inl e) (λ c. inr (c.0, chain_same Needs Other to (from ∷ c.0) end c.1)) h
+reaches_same Needs Other to from end h = grind (arith, common_steps, chain_same)
 
 -- orderable by needs that hold of no more things
 pub orderable_same : (count : ℕ) (Needs Other : Relation) → Implies Other Needs → IsOrderable count Needs → IsOrderable count Other
@@ -332,18 +301,16 @@ layered count Needs outer inner within long h =
         one_each = length-map-range_with_len both 0 count;
         below = λ thing needed need.
             let w = within thing needed need in
-            let here : get_or (map both (range_with_len 0 count)) thing 0 ≡ both thing =
+            let here =
             get_or-map-range_with_len both 0 count thing thing 0 w.0 (omega arith) in
-            let there : get_or (map both (range_with_len 0 count)) needed 0 ≡ both needed =
+            let there =
             get_or-map-range_with_len both 0 count needed needed 0 w.1 (omega arith) in
-            let small : slice_index inner needed ≤ sum inner = get_or-le-sum_by (λ x. x) inner needed 0 (omega arith) in
+            let small = get_or-le-sum_by (λ x. x) inner needed 0 (omega arith) in
             ⊎_elim
             (λ lt.
-            let step : suc (slice_index outer needed) * suc (sum inner) ≤ slice_index outer thing * suc (sum inner) = mul-le-mul_right (suc (sum inner)) lt in
-            omega arith)
+            omega (arith, mul-le-mul_right (suc (sum inner)) lt))
             (λ level.
-            let e : slice_index outer needed * suc (sum inner) ≡ slice_index outer thing * suc (sum inner) = ap (λ n. n * suc (sum inner)) level.0 in
-            omega (arith, level.1))
+            omega (arith, ap (λ n. n * suc (sum inner)) level.0, level.1))
             (h thing needed need);
       },
     )

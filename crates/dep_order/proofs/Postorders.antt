@@ -1,19 +1,16 @@
 -- A search in depth, from node to node, and what its order says of chains of needs.
 use Rattle.std.proofs.lemmas.Grind.{common_steps}
-use Rattle.std.proofs.Common.{◌≡◌, ℕ, ◌+◌, ◌<◌, ◌≤◌, Bool, true, false, List, [], ◌∷◌, ◌++◌, length, get_or, set, slice_index, eqb, refl, sym, ◌∙◌, ap, subst, inl, inr, ◌⊎◌, ⊎_elim, arith, zero, suc, length-set, Option}
-use Rattle.std.specs.List.{Contains, All}
+use Rattle.std.proofs.Common.{◌≡◌, ℕ, ◌+◌, ◌<◌, ◌≤◌, Bool, true, false, List, [], ◌∷◌, ◌++◌, length, get_or, set, slice_index, refl, sym, ◌∙◌, ap, subst, inl, inr, ◌⊎◌, ⊎_elim, arith, zero, suc, length-set, Option}
 use Rattle.std.proofs.lemmas.Bool.{cases_Bool, cases_eq, cases_lt, false≢true}
 use Rattle.std.proofs.lemmas.List.{get_or-set_same, get_or-set_other, get_or_past, get_or_append_left, get_or_push, length_push, get_or_default}
 use Rattle.std.proofs.lemmas.List.Elements.{Contains-append_left, Contains-push_cases, Contains-get_or, All-head, All-tail}
-use Rattle.dep_order.specs.Needs.{needs_of, NodeNeeds, IsChain, Reaches}
-use Rattle.dep_order.specs.inner.Users.{one_if, count_of}
-use Rattle.dep_order.specs.inner.Postorders.{is_seen, IsBeforeOrLeads, IsPostorder, IsWalk, IsInDepth, SeesMore, IsFirstUnseen}
+use Rattle.dep_order.specs.Prelude.{Contains, All, needs_of, NodeNeeds, IsChain, Reaches, one_if, count_of, is_seen, IsBeforeOrLeads, IsOnPathAndLeads, IsPostorder, IsWalk, IsInDepth, SeesMore, IsFirstUnseen}
 use Rattle.dep_order.proofs.Orders.{has_none, has_cons_cases, count-cons, count_push, count_from_has, has_from_count, same_itself, chain_append}
 use Rattle.dep_order.proofs.Words.{Graph, Numbers, Relation}
 
 -- chains of needs lead on
-pub reaches_on : (Needs : Relation) (x y z : ℕ) → Reaches Needs x y → Reaches Needs y z → Reaches Needs x z
-reaches_on Needs x y z p q =
+pub reaches_on : {x z : ℕ} (Needs : Relation) (y : ℕ) → Reaches Needs x y → Reaches Needs y z → Reaches Needs x z
+reaches_on {x} {z} Needs y p q =
     ⊎_elim
     (λ e. subst (λ w. Reaches Needs w z) (sym e) q)
     (λ c. ⊎_elim
@@ -23,10 +20,10 @@ reaches_on Needs x y z p q =
     p
 
 -- a walk with one thing more, and one less
-pub walk_push : (Needs : Relation) (xs : Numbers) (y z : ℕ) → IsWalk Needs (xs ++ y ∷ []) → Needs y z → IsWalk Needs ((xs ++ y ∷ []) ++ z ∷ [])
-walk_push Needs [] y z w need = (need, tt)
-walk_push Needs (x ∷ []) y z w need = (w.0, (need, tt))
-walk_push Needs (x ∷ next ∷ xs) y z w need = (w.0, walk_push Needs (next ∷ xs) y z w.1 need)
+pub walk_push : {y z : ℕ} (Needs : Relation) (xs : Numbers) → IsWalk Needs (xs ++ y ∷ []) → Needs y z → IsWalk Needs ((xs ++ y ∷ []) ++ z ∷ [])
+walk_push Needs [] w need = (need, tt)
+walk_push Needs (x ∷ []) w need = (w.0, (need, tt))
+walk_push {y} {z} Needs (x ∷ next ∷ xs) w need = (w.0, walk_push Needs (next ∷ xs) w.1 need)
 
 -- a walk without its last thing
 pub walk_pop : (Needs : Relation) (xs : Numbers) (y : ℕ) → IsWalk Needs (xs ++ y ∷ []) → IsWalk Needs xs
@@ -35,56 +32,52 @@ walk_pop Needs (x ∷ []) y w = tt
 walk_pop Needs (x ∷ next ∷ xs) y w = (w.0, walk_pop Needs (next ∷ xs) y w.1)
 
 -- the first thing of a walk leads to its last
-walk_first : (Needs : Relation) (x : ℕ) (xs : Numbers) (y : ℕ) → IsWalk Needs ((x ∷ xs) ++ y ∷ []) → Reaches Needs x y
-walk_first Needs x [] y w = inr ([], w.0)
-walk_first Needs x (next ∷ xs) y w = reaches_on Needs x next y (inr ([], w.0)) (walk_first Needs next xs y w.1)
+walk_first : {x y : ℕ} (Needs : Relation) (xs : Numbers) → IsWalk Needs ((x ∷ xs) ++ y ∷ []) → Reaches Needs x y
+walk_first Needs [] w = inr ([], w.0)
+walk_first {x} {y} Needs (next ∷ xs) w = reaches_on Needs next (inr ([], w.0)) (walk_first Needs xs w.1)
 
 -- each thing of a walk leads to its last
-pub walk_reaches : (Needs : Relation) (xs : Numbers) (y x : ℕ) → IsWalk Needs (xs ++ y ∷ []) → Contains xs x → Reaches Needs x y
-walk_reaches Needs [] y x w has = absurd (has_none x has)
-walk_reaches Needs (first ∷ []) y x w has = ⊎_elim (λ e. subst (λ z. Reaches Needs z y) e (walk_first Needs first [] y w)) (λ t. absurd (has_none x t))
-    (has_cons_cases first x [] has)
-walk_reaches Needs (first ∷ next ∷ xs) y x w has =
+pub walk_reaches : {y x : ℕ} (Needs : Relation) (xs : Numbers) → IsWalk Needs (xs ++ y ∷ []) → Contains xs x → Reaches Needs x y
+walk_reaches {x} Needs [] w has = absurd (has_none has)
+walk_reaches {y} {x} Needs (first ∷ []) w has = grind (arith, common_steps, walk_first, has_none, has_cons_cases)
+walk_reaches {y} {x} Needs (first ∷ next ∷ xs) w has =
     ⊎_elim
-    (λ e. subst (λ z. Reaches Needs z y) e (walk_first Needs first (next ∷ xs) y w))
-    (λ t. walk_reaches Needs (next ∷ xs) y x w.1 t)
-    (has_cons_cases first x (next ∷ xs) has)
+    (λ e. subst (λ z. Reaches Needs z y) e (walk_first Needs (next ∷ xs) w))
+    (λ t. walk_reaches Needs (next ∷ xs) w.1 t)
+    (has_cons_cases first (next ∷ xs) has)
 
-twice : (xs : Numbers) (y x j : ℕ) → count_of x (y ∷ xs) ≤ 1 → j < length xs → y ≡ x → slice_index xs j ≡ x → ⊥
-twice xs y x j few q e f =
-    let here : one_if (eqb x y) ≡ 1 = ap one_if (subst (λ z. eqb x z ≡ true) (sym e) (same_itself x)) in
-    absurd (omega (arith, count-cons x y xs, count_from_has x xs (j, q, get_or_default xs j x 0 q ∙ f)))
+twice : {y x : ℕ} (xs : Numbers) (j : ℕ) → count_of x (y ∷ xs) ≤ 1 → j < length xs → y ≡ x → slice_index xs j ≡ x → ⊥
+twice {y} {x} xs j few q e f = grind (arith, common_steps, same_itself, count-cons, count_from_has, get_or_default)
 
 -- what is once in a list has one index there
-pub one_index : (xs : Numbers) (x i j : ℕ) → count_of x xs ≤ 1 → i < length xs → j < length xs → slice_index xs i ≡ x → slice_index xs j ≡ x → i ≡ j
-one_index [] x i j few p q e f = absurd (omega arith)
-one_index (y ∷ xs) x zero zero few p q e f = refl
-one_index (y ∷ xs) x zero (suc j) few p q e f = absurd (twice xs y x j few (omega arith) e f)
-one_index (y ∷ xs) x (suc i) zero few p q e f = absurd (twice xs y x i few (omega arith) f e)
-one_index (y ∷ xs) x (suc i) (suc j) few p q e f = ap (λ n. suc n) (one_index xs x i j (omega (arith, count-cons x y xs)) (omega arith) (omega arith) e f)
+pub one_index : {x : ℕ} (xs : Numbers) (i j : ℕ) → count_of x xs ≤ 1 → i < length xs → j < length xs → slice_index xs i ≡ x → slice_index xs j ≡ x → i ≡ j
+one_index [] i j few p q e f = absurd (omega arith)
+one_index (y ∷ xs) zero zero few p q e f = refl
+one_index {x} (y ∷ xs) zero (suc j) few p q e f = absurd (twice xs j few (omega arith) e f)
+one_index {x} (y ∷ xs) (suc i) zero few p q e f = absurd (twice xs i few (omega arith) f e)
+one_index {x} (y ∷ xs) (suc i) (suc j) few p q e f = ap (λ n. suc n) (one_index xs i j (omega (arith, count-cons x y xs)) (omega arith) (omega arith) e f)
 
 -- what is seen is a node
 pub seen_in_range : (seen : List Bool) (node : ℕ) → is_seen seen node ≡ true → node < length seen
-seen_in_range seen node e = ⊎_elim (λ lt. lt) (λ ge. absurd (false≢true (sym (get_or_past seen node false ge) ∙ e))) (cases_lt node (length seen))
+seen_in_range seen node e = grind (arith, common_steps, false≢true, get_or_past)
 
 -- one more is seen
 pub sees_more : (seen : List Bool) (next : ℕ) → next < length seen → SeesMore seen (set seen next true)
 sees_more seen next lt node e = grind (arith, common_steps)
 
 -- what is on the path is seen
-pub path_seen : {needs : Graph} {seen : List Bool} {scanned path left : Numbers} (node : ℕ) → IsInDepth needs seen scanned path left → Contains path node →
+pub path_seen : {needs : Graph} {seen : List Bool} {scanned path left : Numbers} {node : ℕ} → IsInDepth needs seen scanned path left → Contains path node →
     is_seen seen node ≡ true
-path_seen {seen} {path} node h has =
-    ⊎_elim (λ e. e) (λ e. absurd (omega (arith, h.counted node, count_from_has node path has, ap one_if e))) (cases_Bool (is_seen seen node))
+path_seen {seen} {path} {node} h has = grind (arith, common_steps, count_from_has, cases_Bool)
 
 -- what is seen is left or on the path
-pub seen_where : {needs : Graph} {seen : List Bool} {scanned path left : Numbers} (node : ℕ) → IsInDepth needs seen scanned path left →
+pub seen_where : {needs : Graph} {seen : List Bool} {scanned path left : Numbers} {node : ℕ} → IsInDepth needs seen scanned path left →
     is_seen seen node ≡ true → Contains left node ⊎ Contains path node
-seen_where {path} {left} node h e =
-    let one : count_of node left + count_of node path ≡ 1 = h.counted node ∙ ap one_if e in
+seen_where {path} {left} {node} h e =
+    let one = h.counted node ∙ ap one_if e in
     ⊎_elim
-    (λ some. inl (has_from_count node left some))
-    (λ none. inr (has_from_count node path (omega arith)))
+    (λ some. inl (has_from_count left some))
+    (λ none. inr (has_from_count path (omega arith)))
     (cases_lt 0 (count_of node left))
 
 -- a node is counted when it comes onto the path
@@ -94,15 +87,15 @@ counted_push : (seen : List Bool) (path left : Numbers) (next : ℕ) → next < 
 counted_push seen path left next lt unseen h node = grind (arith, common_steps)
 
 -- the search begins at a root
-pub begun : {needs : Graph} {seen : List Bool} {scanned : Numbers} (path : Numbers) {left : Numbers} (root : ℕ) → path ≡ root ∷ [] → root < length needs →
+pub begun : {needs : Graph} {seen : List Bool} {scanned path left : Numbers} (root : ℕ) → path ≡ root ∷ [] → root < length needs →
     is_seen seen root ≡ false → IsInDepth needs seen scanned [] left → IsInDepth needs (set seen root true) scanned path left
-begun {needs} {seen} path {left} root e lt unseen h = record {
+begun {needs} {seen} {left} root e lt unseen h = record {
   seen_each = length-set seen root true ∙ h.seen_each;
   scanned_each = h.scanned_each;
   counted = λ node. rw e (counted_push seen [] left root (omega arith) unseen h.counted node);
   scanned_seen = λ node k below in'. sees_more seen root (omega arith) (slice_index (needs_of needs node) k) (h.scanned_seen node k below in');
   walk = rw e tt;
-  settled = λ index needed in' need. ⊎_elim (λ s. inl s) (λ p. absurd (has_none needed p.0)) (h.settled index needed in' need);
+  settled = λ index needed in' need. ⊎_elim (λ s. inl s) (λ p. absurd (has_none p.0)) (h.settled index needed in' need);
 }
 
 -- the search continues with a node that the last of the path needs
@@ -117,14 +110,14 @@ entered {needs} {seen} {scanned} rest {left = left} node index next e lt next_lt
   scanned_seen = λ other k below in'.
       ⊎_elim
       (λ same.
-      let one_more : slice_index (set scanned node (index + 1)) other ≡ index + 1 = ap (slice_index (set scanned node (index + 1))) same ∙
+      let one_more = ap (slice_index (set scanned node (index + 1))) same ∙
       get_or-set_same scanned node (index + 1) 0 (omega arith) in
       rw same (up_to k (omega arith)))
       (λ ne.
-      let as_was : slice_index (set scanned node (index + 1)) other ≡ slice_index scanned other = get_or-set_other scanned node other (index + 1) 0 ne in
+      let as_was = get_or-set_other scanned node other (index + 1) 0 ne in
       kept (slice_index (needs_of needs other) k) (h.scanned_seen other k (omega arith) in'))
       (cases_eq other node);
-  walk = walk_push (NodeNeeds needs) rest node next (rw (← e) h.walk) need;
+  walk = walk_push (NodeNeeds needs) rest (rw (← e) h.walk) need;
   settled = λ i needed in' uses. ⊎_elim (λ s. inl s) (λ p. inr (Contains-append_left (rest ++ node ∷ []) (next ∷ []) needed (rw (← e) p.0), p.1))
       (h.settled i needed in' uses);
 }
@@ -151,10 +144,10 @@ entered {needs} {seen} {scanned} rest {left = left} node index next e lt next_lt
         (cases_lt k index)
 
 -- the search leaves the last node of the path, all of whose needs are seen
-pub left_behind : {needs : Graph} {seen : List Bool} {scanned : Numbers} (rest : Numbers) {path left : Numbers} (node : ℕ) → path ≡ rest ++ node ∷ [] →
-    ((k : ℕ) → slice_index scanned node ≤ k → k < length (needs_of needs node) → is_seen seen (slice_index (needs_of needs node) k) ≡ true) →
+pub left_behind : {needs : Graph} {seen : List Bool} {scanned rest path left : Numbers} (node : ℕ) → path ≡ rest ++ node ∷ [] → ((k : ℕ) →
+    slice_index scanned node ≤ k → k < length (needs_of needs node) → is_seen seen (slice_index (needs_of needs node) k) ≡ true) →
     IsInDepth needs seen scanned path left → IsInDepth needs seen scanned rest (left ++ node ∷ [])
-left_behind {needs} {seen} {scanned} rest {path} {left} node e behind h = record {
+left_behind {needs} {seen} {scanned} {rest} {path} {left} node e behind h = record {
   seen_each = h.seen_each;
   scanned_each = h.scanned_each;
   counted = λ x. omega (arith, rw e at (h.counted x), count_push x node left, count_push x node rest);
@@ -162,32 +155,28 @@ left_behind {needs} {seen} {scanned} rest {path} {left} node e behind h = record
   walk = walk_pop (NodeNeeds needs) rest node walk;
   settled = λ index needed in' need.
       ⊎_elim
-      (λ lt. old index needed lt (h.settled index needed lt (rw (← (get_or_append_left left (node ∷ []) 0 index lt)) need)))
+      (λ lt. old lt (h.settled index needed lt (rw (← (get_or_append_left left (node ∷ []) 0 index lt)) need)))
       (λ ge.
       let last : length left ≡ index = omega (arith, length_push left node) in
-      new index needed last (rw (← (get_or_push left node 0 index last)) need))
+      new last (rw (← (get_or_push left node 0 index last)) need))
       (cases_lt index (length left));
 }
   where
+    longer : Numbers
+    longer = left ++ node ∷ []
+
     walk : IsWalk (NodeNeeds needs) (rest ++ node ∷ [])
     walk = rw (← e) h.walk
 
     -- the nodes up to the last one are as they were, and then comes this one
-    upto : (needed index : ℕ) → ((k : ℕ) → index ≤ k → k < length left → Reaches (NodeNeeds needs) needed (slice_index left k)) →
-        Reaches (NodeNeeds needs) needed node → (k : ℕ) → index ≤ k → k < length (left ++ node ∷ []) →
-        Reaches (NodeNeeds needs) needed (slice_index (left ++ node ∷ []) k)
-    upto needed index front end k ge lt =
-        ⊎_elim
-        (λ below. rw (get_or_append_left left (node ∷ []) 0 k below) (front k ge below))
-        (λ above. rw (get_or_push left node 0 k (omega (arith, length_push left node))) end)
-        (cases_lt k (length left))
+    upto : {needed : ℕ} (index : ℕ) → ((k : ℕ) → index ≤ k → k < length left → Reaches (NodeNeeds needs) needed (slice_index left k)) →
+        Reaches (NodeNeeds needs) needed node → (k : ℕ) → index ≤ k → k < length longer →
+        Reaches (NodeNeeds needs) needed (slice_index longer k)
+    upto index front end k ge lt = grind (arith, common_steps, get_or_append_left, get_or_push, length_push)
 
-    old : (index needed : ℕ) → index < length left →
-        IsBeforeOrLeads needs left index needed ⊎
-        (Contains path needed × ((k : ℕ) → index ≤ k → k < length left → Reaches (NodeNeeds needs) needed (slice_index left k))) →
-        IsBeforeOrLeads needs (left ++ node ∷ []) index needed ⊎
-        (Contains rest needed × ((k : ℕ) → index ≤ k → k < length (left ++ node ∷ []) → Reaches (NodeNeeds needs) needed (slice_index (left ++ node ∷ []) k)))
-    old index needed lt s =
+    old : {index needed : ℕ} → index < length left → IsBeforeOrLeads needs left index needed ⊎
+        IsOnPathAndLeads needs path left index needed → IsBeforeOrLeads needs longer index needed ⊎ IsOnPathAndLeads needs rest longer index needed
+    old {index} {needed} lt s =
         ⊎_elim
         (λ t. inl (⊎_elim
         (λ b. inl (b.0, b.1, get_or_append_left left (node ∷ []) 0 b.0 (omega arith) ∙ b.2))
@@ -201,56 +190,54 @@ left_behind {needs} {seen} {scanned} rest {path} {left} node e behind h = record
         ))
         t))
         (λ p. ⊎_elim
-        (λ r. inr (r, upto needed index p.1 (walk_reaches (NodeNeeds needs) rest node needed walk r)))
+        (λ r. inr (r, upto index p.1 (walk_reaches (NodeNeeds needs) rest walk r)))
         (λ same. inl (inr (
           length left,
           omega arith,
           omega (arith, length_push left node),
           get_or_push left node 0 (length left) refl ∙
               same,
-          λ k ge le. upto needed index p.1 (inl (sym same)) k ge (omega (arith, length_push left node)),
+          λ k ge le. upto index p.1 (inl (sym same)) k ge (omega (arith, length_push left node)),
         )))
         (Contains-push_cases rest node needed (rw (← e) p.0)))
         s
 
-    needs_seen : (needed : ℕ) → NodeNeeds needs node needed → is_seen seen needed ≡ true
-    needs_seen needed need =
-        let at : slice_index (needs_of needs node) need.0 ≡ needed = get_or_default (needs_of needs node) need.0 0 needed need.1 ∙ need.2 in
+    needs_seen : {needed : ℕ} → NodeNeeds needs node needed → is_seen seen needed ≡ true
+    needs_seen {needed} need =
+        let at = get_or_default (needs_of needs node) need.0 0 needed need.1 ∙ need.2 in
         subst (λ x. is_seen seen x ≡ true) at
         (⊎_elim (λ lt. h.scanned_seen node need.0 lt need.1) (λ ge. behind need.0 ge need.1) (cases_lt need.0 (slice_index scanned node)))
 
-    new : (index needed : ℕ) → length left ≡ index → NodeNeeds needs node needed →
-        IsBeforeOrLeads needs (left ++ node ∷ []) index needed ⊎
-        (Contains rest needed × ((k : ℕ) → index ≤ k → k < length (left ++ node ∷ []) → Reaches (NodeNeeds needs) needed (slice_index (left ++ node ∷ []) k)))
-    new index needed last need =
+    new : {index needed : ℕ} → length left ≡ index → NodeNeeds needs node needed → IsBeforeOrLeads needs longer index needed ⊎
+        IsOnPathAndLeads needs rest longer index needed
+    new {index} {needed} last need =
         let none : (k : ℕ) → index ≤ k → k < length left → Reaches (NodeNeeds needs) needed (slice_index left k) = λ k ge lt. absurd (omega arith) in
         ⊎_elim
         (λ has. inl (inl (has.0, omega arith, get_or_append_left left (node ∷ []) 0 has.0 has.1 ∙ get_or_default left has.0 0 needed has.1 ∙ has.2)))
         (λ on. ⊎_elim
-        (λ r. inr (r, upto needed index none (walk_reaches (NodeNeeds needs) rest node needed walk r)))
+        (λ r. inr (r, upto index none (walk_reaches (NodeNeeds needs) rest walk r)))
         (λ same. inl (inr (
           index,
           omega arith,
           omega (arith, length_push left node),
           get_or_push left node 0 index last ∙
               same,
-          λ k ge le. upto needed index none (inl (sym same)) k ge (omega (arith, length_push left node)),
+          λ k ge le. upto index none (inl (sym same)) k ge (omega (arith, length_push left node)),
         )))
         (Contains-push_cases rest node needed (rw (← e) on)))
-        (seen_where needed h (needs_seen needed need))
+        (seen_where h (needs_seen need))
 
 -- all are left
 pub all_left : {needs : Graph} {seen : List Bool} {scanned left : Numbers} → ((node : ℕ) → node < length needs → is_seen seen node ≡ true) →
     IsInDepth needs seen scanned [] left → IsPostorder needs left
 all_left {seen} {left} all h = record {
   nodes = λ k d lt.
-      let x : ℕ = get_or left k d in
-      let some : 0 < count_of (get_or left k d) left = count_from_has (get_or left k d) left (Contains-get_or left k d lt) in
-      let seen_here : is_seen seen (get_or left k d) ≡
-      true = ⊎_elim (λ e. e) (λ e. absurd (omega (arith, h.counted (get_or left k d), ap one_if e))) (cases_Bool (is_seen seen (get_or left k d))) in
+      let x = get_or left k d in
+      let some = count_from_has left (Contains-get_or left k d lt) in
+      let seen_here = ⊎_elim (λ e. e) (λ e. absurd (omega (arith, h.counted (get_or left k d), ap one_if e))) (cases_Bool (is_seen seen (get_or left k d))) in
       omega (arith, seen_in_range seen (get_or left k d) seen_here);
-  once = λ node lt. let e : one_if (is_seen seen node) ≡ 1 = ap one_if (all node lt) in omega (arith, h.counted node);
-  left = λ index needed in' need. ⊎_elim (λ s. s) (λ p. absurd (has_none needed p.0)) (h.settled index needed in' need);
+  once = λ node lt. omega (arith, ap one_if (all node lt), h.counted node);
+  left = λ index needed in' need. ⊎_elim (λ s. s) (λ p. absurd (has_none p.0)) (h.settled index needed in' need);
 }
 
 -- If the free nodes are up to the last of them, what leads to that one by free nodes is led to from
@@ -260,12 +247,12 @@ pub led_back : {needs : Graph} {postorder : Numbers} (IsFree : ℕ → Type 0) (
     IsChain (NodeNeeds needs) (x ∷ things) (slice_index postorder last) → IsFree x → All IsFree things → index < length postorder →
     slice_index postorder index ≡ x → (k : ℕ) → index ≤ k → k ≤ last → Reaches (NodeNeeds needs) (slice_index postorder last) (slice_index postorder k)
 led_back {needs} {postorder} IsFree last p in' bound x [] index need free all lt at k ge le =
-    let root : ℕ = slice_index postorder last in
+    let root = slice_index postorder last in
     let few : count_of (slice_index postorder last) postorder ≤ 1 = omega (arith, p.once (slice_index postorder last) (p.nodes last 0 in')) in
-    let here : index ≤ last = bound index lt (subst IsFree (sym at) free) in
+    let here = bound index lt (subst IsFree (sym at) free) in
     ⊎_elim
-    (λ b. absurd (omega (arith, one_index postorder (slice_index postorder last) b.0 last few (omega arith) in' b.2 refl)))
-    (λ b. b.4 k ge (omega (arith, one_index postorder (slice_index postorder last) b.0 last few b.2 in' b.3 refl)))
+    (λ b. absurd (omega (arith, one_index postorder b.0 last few (omega arith) in' b.2 refl)))
+    (λ b. b.4 k ge (omega (arith, one_index postorder b.0 last few b.2 in' b.3 refl)))
     (p.left index (slice_index postorder last) lt (rw (← (sym at)) need))
 led_back {needs} {postorder} IsFree last p in' bound x (next ∷ things) index h free all lt at k ge le =
     let rest : (j : ℕ) → j < length postorder → slice_index postorder j ≡ next → (i : ℕ) → j ≤ i → i ≤ last →
@@ -275,15 +262,15 @@ led_back {needs} {postorder} IsFree last p in' bound x (next ∷ things) index h
     (λ b. rest b.0 (omega arith) b.2 k (omega arith) le)
     (λ b. ⊎_elim
     (λ before.
-    let j_le : b.0 ≤ last = bound b.0 b.2 (subst IsFree (sym b.3) (All-head IsFree next things all)) in
-    reaches_on (NodeNeeds needs) (slice_index postorder last) next (slice_index postorder k) (rw (← b.3) (rest b.0 b.2 b.3 b.0 (omega arith) j_le))
+    let j_le = bound b.0 b.2 (subst IsFree (sym b.3) (All-head IsFree next things all)) in
+    reaches_on (NodeNeeds needs) next (rw (← b.3) (rest b.0 b.2 b.3 b.0 (omega arith) j_le))
     (b.4 k ge (omega arith)))
     (λ behind. rest b.0 b.2 b.3 k behind le)
     (cases_lt k b.0))
     (p.left index next lt (rw (← (sym at)) h.0))
 
 -- the first index whose node isn't seen, of the same row, nodes seen and start
-pub first_unseen_at : (row own_row : Numbers) (seen own_seen : List Bool) (from shared_from : ℕ) (found : Option ℕ) → row ≡ own_row → seen ≡ own_seen →
+pub first_unseen_at : {row own_row : Numbers} {seen own_seen : List Bool} {from shared_from : ℕ} (found : Option ℕ) → row ≡ own_row → seen ≡ own_seen →
     from ≡ shared_from → IsFirstUnseen row seen from found → IsFirstUnseen own_row own_seen shared_from found
-first_unseen_at row own_row seen own_seen from shared_from found e f g h =
+first_unseen_at found e f g h =
     rw (← g) (rw (← f) (rw (← e) h))

@@ -1,6 +1,5 @@
 -- Short names for the types in these proofs.
-use Rattle.std.specs.Prelude.{ℕ, List, Option}
-use Rattle.std.specs.Borrow.{Bor}
+use Rattle.dep_order.specs.Prelude.{ℕ, List, Option, Bor}
 pub use Rattle.dep_order.specs.Numbers.{Numbers}
 
 -- which things need which

@@ -5,3 +5,4 @@ pub mod Cycles
 pub mod Rows
 pub mod Sortings
 pub mod inner
+pub mod Prelude

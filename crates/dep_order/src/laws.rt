@@ -1,10 +1,8 @@
 //! Laws about orders and cycles. A law is the contract of a function that does nothing; callers
 //! call it to use the law in a proof.
 ghost use Rattle.std.specs.Prelude.{◌≡◌, ℕ, List, length};
-ghost use Rattle.dep_order.specs.Numbers.{Numbers};
-ghost use Rattle.dep_order.specs.Needs.{NodeNeeds, NeedsAreNodes, IsOrderable};
-ghost use Rattle.dep_order.specs.Orders.{IsLeastOrder};
-ghost use Rattle.dep_order.specs.Cycles.{IsCycle, IsLeastCycle};
+ghost use Rattle.dep_order.specs.Prelude.{Numbers, NodeNeeds, NeedsAreNodes, IsOrderable};
+ghost use Rattle.dep_order.specs.Prelude.{IsLeastOrder, IsCycle, IsLeastCycle};
 
 /// A digraph has at most one order by smallest numbers, and at most one least cycle.
 pub fn least_order_and_least_cycle_are_unique()

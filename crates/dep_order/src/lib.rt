@@ -34,44 +34,23 @@
 //!
 //! The definitions speak of any relation between numbered things. A caller with a relation of its
 //! own builds the digraph so that `NodeNeeds` holds if and only if the relation does, calls
-//! [`order`], and transfers the clause with `sorting_same` of `proofs/ForCallers.antt`. That file
-//! has all lemmas for other crates:
-//!
-//! - `sorting_same`, `orderable_same`, `order_same`, `least_cycle_same`, `cycle_same`,
-//!   `chain_same`, `reaches_same`: equal relations have equal results;
-//! - `no_cycle`, `orderable_or_cycle`: an orderable digraph has no cycle, and a digraph is
-//!   orderable or has a cycle;
-//! - `least_is_short`, `no_cycle_without_least`: the least cycle is no longer than the number of
-//!   things, and without a least cycle there is no cycle;
-//! - `orderable`, `AreWithin`, `within`: things with an order are orderable, if all needs are among
-//!   the things, as in a digraph;
-//! - `layered`: numbers that put needed things lower or level, and inner numbers for level things,
-//!   make needs orderable;
-//! - `one_order`, `one_cycle`: there is at most one of each;
-//! - `other_number`: different numbers test as different.
+//! [`order`], and transfers the clause with `sorting_same` of `proofs/ForCallers.antt`, which has
+//! all lemmas for other crates.
 #![tactic(auto)]
 
-mod components;
 mod cycles;
 pub mod laws;
 mod ordering;
-mod reaching;
-mod rows;
 mod searching;
-mod users;
 
 ghost use Rattle.std.specs.Prelude.{◌≡◌, ◌<◌, length, IfOk};
-ghost use Rattle.dep_order.specs.Needs.{NodeNeeds, NeedsAreNodes, IsReach};
-ghost use Rattle.dep_order.specs.Rows.{rows};
-ghost use Rattle.dep_order.specs.Sortings.{IsSortingOf};
+ghost use Rattle.dep_order.specs.Prelude.{rows, NodeNeeds, NeedsAreNodes, IsReach, IsSortingOf};
 
 use cycles::least_cycle;
-use ordering::order_ready;
-pub use reaching::Reaching;
-use rows::{part_slices, row_slices};
+use ordering::{order_ready, part_slices, row_slices, users_of};
+pub use searching::Reaching;
 use std::alloc::{AllocError, Global};
 use std::marker::Model;
-use users::users_of;
 
 /// A digraph: the nodes that each node needs. Its view is the list of these lists.
 #[derive(Drop)]
@@ -80,10 +59,7 @@ pub struct Digraph {
 }
 
 impl Model for Digraph {
-    ghost use Rattle.std.specs.Prelude.{List};
-    ghost use Rattle.dep_order.specs.Numbers.{Numbers};
-    ghost use Rattle.dep_order.specs.Needs.{NeedsAreNodes};
-    ghost use Rattle.dep_order.specs.Rows.{rows};
+    ghost use Rattle.dep_order.specs.Prelude.{List, Numbers, NeedsAreNodes, rows};
 
     ghost Value = { List Numbers };
 
@@ -116,11 +92,8 @@ pub enum Sorting {
     Cycle(Vec<usize>),
 }
 
-/// Returns the order by smallest numbers, or the least cycle if there is no order.
-///
-/// # Errors
-///
-/// Returns an error if an allocation fails.
+/// Returns the order by smallest numbers, or the least cycle if there is no order. Returns an error
+/// if an allocation fails.
 pub fn order(alloc: Global, graph: &Digraph) -> Result<Sorting, AllocError>
     ensures { IfOk result (IsSortingOf (length graph.now) (NodeNeeds graph.now)) }
 {
@@ -136,11 +109,8 @@ pub fn order(alloc: Global, graph: &Digraph) -> Result<Sorting, AllocError>
     Ok(Sorting::Cycle(cycle))
 }
 
-/// Returns the node and all nodes to which chains of needs lead from it, in rising order.
-///
-/// # Errors
-///
-/// Returns an error if an allocation fails.
+/// Returns the node and all nodes to which chains of needs lead from it, in rising order, or an
+/// error if an allocation fails.
 pub fn reach(alloc: Global, graph: &Digraph, from: usize) -> Result<Vec<usize>, AllocError>
     requires { from < length graph.now }
     ensures { IfOk result (λ reached. IsReach (NodeNeeds graph.now) from reached.items) }

@@ -9,16 +9,13 @@
 //! `must-fail/` has a wrong body for each clause that is stated here. The clause that rejects
 //! `name_bytes_of_another` is also that of [`Name::text`] and [`TargetName::text`], and
 //! `name_copy_of_another` also stands for the copies of [`TargetName`]. `name_limit_one_less` turns
-//! the test that [`Name::of`] and [`SharedNames::read`] share. No clause says which
-//! names share the string of a [`SharedNames`], because it decides only how much memory they take.
+//! the test that [`Name::of`] and [`SharedNames::read`] share. Names are compared as the texts that
+//! they hold ([`ninja_text::SharedText`]). No clause says which names share the string of a
+//! [`SharedNames`], because it decides only how much memory they take.
 #![tactic(auto)]
 
-mod info;
 mod name;
-mod rule;
-mod target_name;
+mod values;
 
-pub use info::{Info, InfoModule};
-pub use name::{NAME_LIMIT, Name, SharedNames};
-pub use rule::Rule;
-pub use target_name::TargetName;
+pub use name::{NAME_LIMIT, Name, SharedNames, TargetName};
+pub use values::{Info, InfoModule, Rule};

@@ -1,15 +1,13 @@
-//! Names of modules.
-
-ghost use Rattle.std.specs.Prelude.{◌≡◌, IfOk, IsTrue, IsUtf8};
+//! Names of modules and of targets.
+ghost use Rattle.std.specs.Prelude.{◌≡◌, IfOk, IsTrue, IsUtf8, Some};
 ghost use Rattle.std.specs.Option.{SomeIff};
-ghost use Rattle.document_values.specs.Name.{is_name, is_name_byte, IsName};
+ghost use Rattle.document_values.specs.Name.{is_name, is_name_byte, is_target_name};
 
+use ninja_text::SharedText;
 use std::alloc::{AllocError, Global};
-use std::cmp::Ordering;
-use std::hash::{Hash, Hasher};
+use std::fmt;
 use std::marker::Model;
 use std::rc::RcSlice;
-use std::{fmt, str};
 
 /// The maximum length of a name in bytes.
 pub const NAME_LIMIT: usize = 1024;
@@ -20,54 +18,33 @@ pub const NAME_LIMIT: usize = 1024;
 /// empty, and no byte is a control byte, a space, 127 or one of `/ \ " ' = | $`. The view of a name
 /// is its string. Copies of a name share the string, and the names of a scan document or an info
 /// document share one.
-#[derive(Drop)]
-pub struct Name {
-    /// The text, from `start` to `end`.
-    shared: RcSlice<u8>,
-    start: usize,
-    end: usize,
-}
+#[derive(Drop, PartialEq, Eq, PartialOrd, Ord, Hash)]
+pub struct Name(SharedText);
 
 impl Model for Name {
-    ghost use Rattle.std.specs.Prelude.{◌≤◌, length, slice_range, IsTrue, IsUtf8};
-    ghost use Rattle.std.specs.Rc.{rc_slice_items};
+    ghost use Rattle.std.specs.Prelude.{IsTrue, IsUtf8};
     ghost use Rattle.ninja_text.specs.Bytes.{Bytes};
     ghost use Rattle.document_values.specs.Name.{is_name};
 
     ghost Value = { Bytes };
 
-    ghost view = { λ n. slice_range (rc_slice_items n.shared) n.start n.end };
+    ghost view = { λ n. n.0 };
 
-    ghost invariant = { λ n. (n.start ≤ n.end) × (n.end ≤ length (rc_slice_items n.shared))
-        × IsTrue (is_name (slice_range (rc_slice_items n.shared) n.start n.end))
-        × IsUtf8 (slice_range (rc_slice_items n.shared) n.start n.end) };
+    ghost inverse = { λ text. record { 0 = text } };
+
+    ghost invariant = { λ n. IsTrue (is_name n.0) × IsUtf8 n.0 };
 }
 
 impl Name {
-    /// Returns the name of a string, or `None` if the string is not a valid name.
-    ///
-    /// # Errors
-    ///
-    /// Returns an error if an allocation fails.
+    /// Returns the name of a string, or `None` if the string is not a valid name, or an error if an
+    /// allocation fails.
     pub fn of(alloc: Global, text: &str) -> Result<Option<Name>, AllocError>
         ensures { IfOk result (λ name. SomeIff name (IsTrue (is_name text.now)) text.now) }
     {
         if !is_name(text.as_bytes()) {
             return Ok(None);
         }
-        Ok(Some(Name::with_own_text(alloc, text.as_bytes())?))
-    }
-
-    fn with_own_text(alloc: Global, text: &[u8]) -> Result<Name, AllocError>
-        requires { IsName text.now }
-        ensures { IfOk result (λ name. name ≡ text.now) }
-    {
-        let shared = RcSlice::from_slice(alloc, text)?;
-        Ok(Name {
-            shared,
-            start: 0,
-            end: text.len(),
-        })
+        Ok(Some(Name(SharedText::of(alloc, text.as_bytes())?)))
     }
 
     /// Returns the string of the name.
@@ -75,10 +52,7 @@ impl Name {
         ensures text { result.now ≡ self.now }
         ensures accepted { IsTrue (is_name self.now) }
     {
-        match str::from_utf8(self.bytes()) {
-            Ok(text) => text,
-            Err(_) => unreachable!(),
-        }
+        self.0.text()
     }
 
     /// Returns the bytes of the string.
@@ -87,22 +61,15 @@ impl Name {
         ensures accepted { IsTrue (is_name self.now) }
         ensures utf8 { IsUtf8 result.now }
     {
-        &self.shared.as_slice()[self.start..self.end]
+        self.0.bytes()
     }
 
-    /// Returns a copy of the name. The copies share one string; if its reference count is full, the
-    /// copy gets a string of its own.
-    ///
-    /// # Errors
-    ///
-    /// Returns an error if an allocation fails.
+    /// Returns a copy of the name, or an error if an allocation fails. The copies share one string;
+    /// if its reference count is full, the copy gets a string of its own.
     pub fn copy(&self, alloc: Global) -> Result<Name, AllocError>
         ensures { IfOk result (λ copy. copy ≡ self.now) }
     {
-        match self.clone() {
-            Ok(name) => Ok(name),
-            Err(_) => Name::with_own_text(alloc, self.bytes()),
-        }
+        Ok(Name(self.0.copy(alloc)?))
     }
 }
 
@@ -112,12 +79,14 @@ impl Clone for Name {
     ghost is_clone = { λ name clone. clone ≡ name };
 
     fn clone(&self) -> Result<Name, AllocError> {
-        let shared = self.shared.clone()?;
-        Ok(Name {
-            shared,
-            start: self.start,
-            end: self.end,
-        })
+        Ok(Name(SharedText::clone(&self.0)?))
+    }
+}
+
+/// A name is printed as its string.
+impl fmt::Debug for Name {
+    fn fmt<W: fmt::Write>(&self, f: &mut fmt::Formatter<W>) -> fmt::Result {
+        f.write_str(self.text())
     }
 }
 
@@ -140,11 +109,8 @@ impl Model for SharedNames {
 }
 
 impl SharedNames {
-    /// Returns the names in this string. The next one to be made begins the string.
-    ///
-    /// # Errors
-    ///
-    /// Returns an error if an allocation fails.
+    /// Returns the names in this string, or an error if an allocation fails. The next one to be
+    /// made begins the string.
     pub fn new(text: Vec<u8>) -> Result<SharedNames, AllocError>
         ensures { IfOk result (λ names. names ≡ text.items) }
     {
@@ -152,12 +118,9 @@ impl SharedNames {
         Ok(SharedNames { text, start: 0 })
     }
 
-    /// Returns the name of a string, as [`Name::of`] does. If the string is the next one of the
-    /// shared string, the name shares it, and the one after it is the next.
-    ///
-    /// # Errors
-    ///
-    /// Returns an error if an allocation fails.
+    /// Returns the name of a string, as [`Name::of`] does, or an error if an allocation fails. If
+    /// the string is the next one of the shared string, the name shares it, and the one after it is
+    /// the next.
     pub fn read(&mut self, alloc: Global, text: &str) -> Result<Option<Name>, AllocError>
         ensures { IfOk result (λ name. SomeIff name (IsTrue (is_name text.now)) text.now) }
     {
@@ -168,12 +131,79 @@ impl SharedNames {
         let end = start.saturating_add(text.len());
         match self.text.as_slice().get(start..end) {
             Some(next) if next == text.as_bytes() => {
-                let shared = self.text.clone()?;
+                let shared = SharedText::part(&self.text, start, end)?;
                 self.start = end;
-                Ok(Some(Name { shared, start, end }))
+                Ok(Some(Name(shared)))
             }
-            _ => Ok(Some(Name::with_own_text(alloc, text.as_bytes())?)),
+            _ => Ok(Some(Name(SharedText::of(alloc, text.as_bytes())?))),
         }
+    }
+}
+
+/// The name of a target: 1 to 1,024 bytes, none of them a control byte or 127. The view of a name
+/// is its string.
+#[derive(Drop, PartialEq, Eq, PartialOrd, Ord, Hash)]
+pub struct TargetName(SharedText);
+
+impl Model for TargetName {
+    ghost use Rattle.std.specs.Prelude.{IsTrue, IsUtf8};
+    ghost use Rattle.ninja_text.specs.Bytes.{Bytes};
+    ghost use Rattle.document_values.specs.Name.{is_target_name};
+
+    ghost Value = { Bytes };
+
+    ghost view = { λ n. n.0 };
+
+    ghost inverse = { λ text. record { 0 = text } };
+
+    ghost invariant = { λ n. IsTrue (is_target_name n.0) × IsUtf8 n.0 };
+}
+
+impl TargetName {
+    /// Returns the name of a string, or `None` if the string is not a valid name, or an error if an
+    /// allocation fails.
+    #[tactic(auto, unfolding(crate::specs::Name::is_target_name))]
+    pub fn of(alloc: Global, text: &str) -> Result<Option<TargetName>, AllocError>
+        ensures { IfOk result (λ name. SomeIff name (IsTrue (is_target_name text.now)) text.now) }
+    {
+        let bytes = text.as_bytes();
+        let are_printed = bytes.iter().all(|b| *b >= 32 && *b != 127);
+        if bytes.is_empty() || bytes.len() > NAME_LIMIT || !are_printed {
+            return Ok(None);
+        }
+        Ok(Some(TargetName(SharedText::of(alloc, bytes)?)))
+    }
+
+    /// Returns the string of the name.
+    pub fn text(&self) -> &str
+        ensures text { result.now ≡ self.now }
+        ensures accepted { IsTrue (is_target_name self.now) }
+    {
+        self.0.text()
+    }
+
+    /// Returns a copy of the name, or an error if an allocation fails.
+    pub fn copy(&self, alloc: Global) -> Result<TargetName, AllocError>
+        ensures { IfOk result (λ copy. copy ≡ self.now) }
+    {
+        Ok(TargetName(self.0.copy(alloc)?))
+    }
+}
+
+impl Clone for TargetName {
+    ghost is_clone = { λ name clone. clone ≡ name };
+
+    fn clone(&self) -> Result<TargetName, AllocError> {
+        Ok(TargetName(self.0.clone()?))
+    }
+}
+
+/// A name is printed as a struct with its string.
+impl fmt::Debug for TargetName {
+    fn fmt<W: fmt::Write>(&self, f: &mut fmt::Formatter<W>) -> fmt::Result {
+        f.debug_struct("TargetName")
+            .field("text", &self.text())
+            .finish()
     }
 }
 
@@ -212,87 +242,4 @@ fn is_name_byte(byte: &u8) -> bool
             *byte,
             b'/' | b'\\' | b'"' | b'\'' | b'=' | b'|' | b'$' | 127
         )
-}
-
-/// Two names are equal if their strings are.
-impl PartialEq for Name {
-    ghost use Rattle.std.specs.Prelude.{bytes_eq};
-    ghost use Rattle.std.specs.Cmp.{partial_equiv_from_equiv};
-    ghost use Rattle.std.proofs.lemmas.Cmp.{nat_list_eq_equiv};
-
-    ghost eq = { bytes_eq };
-
-    ghost laws = { partial_equiv_from_equiv nat_list_eq_equiv };
-
-    fn eq(&self, other: &Name) -> bool {
-        self.bytes() == other.bytes()
-    }
-}
-
-impl Eq for Name {
-    ghost use Rattle.std.proofs.lemmas.Cmp.{nat_list_eq_equiv};
-
-    ghost laws = { nat_list_eq_equiv };
-}
-
-/// Names are in the byte order of their strings.
-impl Ord for Name {
-    ghost use Rattle.std.proofs.Common.{rules};
-    ghost use Rattle.std.specs.Cmp.Rules.{comparing};
-    ghost use Rattle.std.specs.Ordering.{nat_cmp};
-    ghost use Rattle.std.specs.Cmp.Lexicographic.{slice_cmp};
-
-    ghost cmp = { slice_cmp nat_cmp };
-
-    ghost total = { Prim.search (comparing, rules) };
-
-    ghost matches_partial_cmp = { Prim.search (comparing, rules) };
-
-    ghost matches_eq = { Prim.search (comparing, rules) };
-
-    fn cmp(&self, other: &Name) -> Ordering {
-        self.bytes().cmp(other.bytes())
-    }
-}
-
-impl PartialOrd for Name {
-    ghost use Rattle.std.proofs.Common.{rules};
-    ghost use Rattle.std.specs.Cmp.{partial_order_from_own_ties};
-    ghost use Rattle.std.specs.Cmp.Rules.{comparing};
-    ghost use Rattle.std.specs.Ordering.{nat_cmp, as_partial_cmp};
-    ghost use Rattle.std.specs.Cmp.Lexicographic.{slice_cmp};
-
-    ghost partial_cmp = { as_partial_cmp (slice_cmp nat_cmp) };
-
-    ghost laws = { partial_order_from_own_ties
-        (Prim.search (comparing, rules)) (Prim.search (comparing, rules)) };
-
-    fn partial_cmp(&self, other: &Name) -> Option<Ordering> {
-        Some(self.cmp(other))
-    }
-}
-
-impl Hash for Name {
-    ghost use Rattle.std.specs.Prelude.{[], ◌∷◌, ◌++◌, length};
-    ghost use Rattle.std.proofs.Common.{rules};
-    ghost use Rattle.std.specs.Cmp.Rules.{hashing};
-    ghost use Rattle.std.specs.Hash as fed;
-
-    ghost hash_input = { λ n. fed.usize (length n) ++ n ∷ [] };
-
-    ghost respects_eq = { Prim.search (hashing, rules) };
-
-    fn hash<H: Hasher>(&self, state: &mut H) {
-        state.write_usize(self.bytes().len());
-        state.write(self.bytes());
-    }
-}
-
-/// A name is printed as its string.
-impl fmt::Debug for Name {
-    ghost use Rattle.std.specs.Prelude.{Some};
-
-    fn fmt<W: fmt::Write>(&self, f: &mut fmt::Formatter<W>) -> fmt::Result {
-        f.write_str(self.text())
-    }
 }

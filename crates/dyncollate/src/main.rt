@@ -13,6 +13,7 @@
 
 use commands::{Folder, PieceReader, program_run};
 use ninja_text::Counted;
+use std::borrow::CowSlice;
 use std::fs::File;
 use std::io::{ErrorKind, Read};
 use std::process::ExitCode;
@@ -46,13 +47,13 @@ struct SystemFiles<'a, R> {
     mark: Option<u64>,
 }
 
-impl<R: Files + RandomSource + AllocGlobal> Folder for SystemFiles<'_, R> {
+impl<'f, R: Files + RandomSource + AllocGlobal> Folder<'f> for SystemFiles<'_, R> {
     ghost use Rattle.std.specs.Prelude.{None};
 
     ghost calls = { λ _. None };
 
-    fn read(&mut self, name: &str, most: usize) -> io::Result<Vec<u8>> {
-        system_files::read(self.rt, name, most)
+    fn read(&mut self, name: &str, most: usize) -> io::Result<CowSlice<'f, u8>> {
+        Ok(CowSlice::Owned(system_files::read(self.rt, name, most)?))
     }
 
     /// Stops at the first piece that the reader rejects.

@@ -1,25 +1,10 @@
 -- The class of a line: at most one, and one if the table has no fault for it.
-use Rattle.std.proofs.Common.{inl, inr, ◌≡◌, ℕ, List, [], ◌∷◌, ◌++◌, map, refl, ap, ◌∙◌, Some, None, ◌==◌, Bool, true, false, length, sym, arith}
-use Rattle.std.specs.Prelude.{Option, codes, is_some, if◌then◌else◌, nat_lt, bytes_eq}
+use Rattle.std.proofs.Common.{if◌then◌else◌, inl, inr, ◌≡◌, ℕ, List, [], ◌∷◌, ◌++◌, map, refl, ap, ◌∙◌, Some, None, ◌==◌, Bool, true, false, length, sym, arith}
 use Rattle.std.proofs.lemmas.Bool.{cases_Bool, eqb-true}
-use Rattle.ninja_text.specs.declared.token.TokenKind.TheVariants.{Bar, DoubleBar, BarAt, Colon}
-use Rattle.dyndep_file.specs.Classes.{DyndepClass, Comment, Blank, Version, Build, Binding, IsBuild, IsDyndepLine, is_version_one}
-use Rattle.dyndep_file.specs.Faults.{implicit_inputs_fault, after_rule_fault, rule_fault, implicit_outputs_fault, after_output_fault, output_fault, value_assigned, indented_fault, version_fault, build_or_other_fault, unindented_fault, text_fault, text_line_fault, lexical_fault_or}
-use Rattle.dyndep_file.specs.inner.BuildLines.{Names}
-use Rattle.dyndep_file.specs.declared.fault.LineFault.{LineFault}
+use Rattle.dyndep_file.specs.Prelude.{is_some, nat_lt, Option, bytes_eq, codes, SeenAssignment, assignment_of, Assigns, lexical_fault, is_empty, symbols, Symbol, WordSymbol, SignSymbol, begins_at_start, begins_with_space, after_build, IsPart, tokens, TokenAt, value_of, LexFault, Bar, BarAt, Colon, DoubleBar, DyndepClass, Comment, Blank, Version, Build, Binding, IsBuild, is_version_one, IsDyndepLine, implicit_inputs_fault, after_rule_fault, rule_fault, implicit_outputs_fault, after_output_fault, output_fault, indented_fault, version_fault, value_assigned, build_or_other_fault, unindented_fault, text_fault, lexical_fault_or, text_line_fault, StatementValue, ProgressValue, step, Names, LineFault, Stage, BeforeVersion, NoneOpen, Open}
 use Rattle.dyndep_file.proofs.LineLemmas.{never, build_class, first_word, starts, no_indent_at_name, names_apart}
-use Rattle.ninja_text.specs.Lexical.{lexical_fault}
-use Rattle.ninja_text.specs.Tokens.{TokenAt, tokens, value_of}
-use Rattle.ninja_text.specs.Assignments.{SeenAssignment, assignment_of, Assigns}
-use Rattle.ninja_text.specs.declared.fault.LexFault.{LexFault}
 use Rattle.ninja_text.proofs.ForCallers.{assignment_not_empty, after_keyword, keyword_first, no_indent_at_token}
-use Rattle.dyndep_file.specs.StatementValue.{StatementValue}
-use Rattle.ninja_text.specs.Paths.{is_empty}
-use Rattle.ninja_text.specs.Symbols.{Symbol, WordSymbol, SignSymbol, IsPart, symbols, begins_at_start, begins_with_space, after_build}
 use Rattle.std.proofs.lemmas.Slice.Eq.{bytes_eq-Decides}
-use Rattle.dyndep_file.specs.Steps.{ProgressValue, step}
-use Rattle.dyndep_file.specs.declared.progress.Stage.{Stage}
-use Rattle.dyndep_file.specs.declared.progress.Stage.TheVariants.{BeforeVersion, NoneOpen, Open}
 
 -- ---- the tokens of a build line that has no fault, by its parts
 

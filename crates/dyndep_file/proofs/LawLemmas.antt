@@ -1,37 +1,12 @@
 -- The laws: a text has one list of statements or one fault, and not both, and its fault is that of every text that begins with it.
-use Rattle.std.proofs.Common.{inl, inr, ◌≡◌, false, List, ℕ, ◌<◌, ◌≤◌, [], ◌∷◌, ◌++◌, length, refl, sym, ap, ◌∙◌, subst, Option, Some, None, Ok, Err, ◌⊎◌, true, arith, Bool, not, take, drop, append_assoc, length-append}
-use Rattle.std.specs.List.{list_any, flat_map}
+use Rattle.std.proofs.Common.{if◌then◌else◌, inl, inr, ◌≡◌, false, List, ℕ, ◌<◌, ◌≤◌, [], ◌∷◌, ◌++◌, length, refl, sym, ap, ◌∙◌, subst, Option, Some, None, Ok, Err, ◌⊎◌, true, arith, Bool, not, take, drop, append_assoc, length-append}
 use Rattle.std.proofs.lemmas.Bool.{lt-ltb, le-ltb, cases_lt, le-leb, lt-leb}
-use Rattle.dyndep_file.specs.Classes.{DyndepClass, IsDyndepLine, Version}
-use Rattle.dyndep_file.specs.Faults.{is_version, is_open, stage_after, line_fault, text_line_fault}
-use Rattle.dyndep_file.specs.declared.progress.Stage.TheVariants.{BeforeVersion, NoneOpen, Open}
-use Rattle.std.specs.Prelude.{Result, if◌then◌else◌, nat_le, nat_lt, All}
-use Rattle.std.specs.Option.{option_and_then}
-use Rattle.ninja_text.specs.Lines.{line_limit, IsLine, LogicalLine, text_of_line, is_comment, LineEnd, line_end, Divides}
-use Rattle.ninja_text.specs.LineReading.{BeginsWith, IsNextFault, HasLentAll, FeedsLines, EndsLines}
-use Rattle.ninja_text.specs.LineFormats.{AreTextsOfClasses, IsFaultyAfter, FaultyLine, IsOfClass, Begins, IsDecided, FaultyEnd}
-use Rattle.ninja_text.specs.FormatReading.{AreReadTo}
-use Rattle.ninja_text.specs.declared.failure.Failure.{Failure}
-use Rattle.ninja_text.specs.declared.failure.Failure.TheVariants.{Fault, Memory}
+use Rattle.dyndep_file.specs.Prelude.{nat_lt, nat_le, All, Result, flat_map, option_and_then, list_any, AreReadTo, IsOfClass, AreTextsOfClasses, Begins, IsFaultyAfter, FaultyLine, FaultyEnd, IsDecided, BeginsWith, IsNextFault, HasLentAll, FeedsLines, EndsLines, line_limit, is_comment, LineEnd, line_end, IsLine, Divides, text_of_line, LogicalLine, Failure, Fault, Memory, DyndepClass, Version, IsDyndepLine, is_version, is_open, stage_after, text_line_fault, line_fault, body_end, IsDyndepFile, comment_first, blank_first, version_line, OneList, NotBoth, OneOfBoth, OneReadFault, FaultStays, LeadToStatements, DyndepReaderState, HasReadDyndep, IsReadFaultIn, FeedsDyndep, IsFaultAtEnd, EndsDyndepFile, dyndep_format, StandsForOnly, FaultAt, IsEndFault, dyndep_faults, HasReadFault, StatementValue, ProgressValue, step, run, CanBeWritten, dyndep_text, PassesLine, RefusesLine, fault_of_cutter, answer_at_end, LineFault, LineTooLong, NoVersion, Truncated, ReadFault, AtLine, Io, Stage, BeforeVersion, NoneOpen, Open}
 use Rattle.ninja_text.proofs.ForCallers.{all_lent, faulty_next, faulty_rest, faulty_at_limit, line_end-append, divides_some, AllByRecursion-append, one_more_line}
 use Rattle.ninja_text.proofs.ForCallers as lines
-use Rattle.dyndep_file.specs.Steps.{ProgressValue, step, run}
-use Rattle.dyndep_file.specs.Reading.{dyndep_format, dyndep_faults, FaultAt, IsEndFault, HasReadFault, StandsForOnly}
-use Rattle.dyndep_file.specs.Reader.{LeadToStatements, DyndepReaderState, HasReadDyndep, FeedsDyndep, EndsDyndepFile, IsFaultAtEnd, IsReadFaultIn}
-use Rattle.dyndep_file.specs.inner.LineStates.{fault_of_cutter, PassesLine, RefusesLine, answer_at_end}
-use Rattle.dyndep_file.specs.StatementValue.{StatementValue}
-use Rattle.dyndep_file.specs.declared.fault.ReadFault.{ReadFault}
-use Rattle.dyndep_file.specs.declared.fault.ReadFault.TheVariants.{AtLine, Io}
-use Rattle.dyndep_file.specs.declared.fault.LineFault.{LineFault}
-use Rattle.dyndep_file.specs.declared.fault.LineFault.TheVariants.{LineTooLong, Truncated, NoVersion}
-use Rattle.dyndep_file.specs.declared.progress.Stage.{Stage}
 use Rattle.dyndep_file.proofs.LineLemmas.{no_fault, never}
 use Rattle.dyndep_file.proofs.Runs.{none_or_some, runs_begin, begins_runs, run_more, run_is_file, stage_runs, is_past, one_list_of_statements}
-use Rattle.dyndep_file.specs.Grammar.{IsDyndepFile, comment_first, blank_first, version_line, body_end}
 use Rattle.dyndep_file.proofs.Classes.{class_one, can_stand}
-use Rattle.dyndep_file.specs.Laws.{OneList, NotBoth, OneOfBoth, OneReadFault, FaultStays}
-use Rattle.dyndep_file.specs.Writing.{dyndep_text}
-use Rattle.dyndep_file.specs.WriteFaults.{CanBeWritten}
 use Rattle.dyndep_file.proofs.WrittenText.{stands_for}
 use Rattle.std.proofs.Math.Seq.{take-append_seam}
 use Rattle.std.proofs.lemmas.List.{take-append-drop, take-append-le}

@@ -1,31 +1,11 @@
 -- The class and the fault of a line: the tables of faults agree with the classes of lines, and both follow from the tokens or the assignment that are read.
 use Rattle.std.proofs.Common.{inl, inr, ◌≡◌, ℕ, Bool, true, false, List, [], ◌∷◌, ◌++◌, map, get_or, refl, sym, ap, ◌∙◌, subst, Some, None, arith, ◌==◌, eq-eqb, ◌⊎◌, ◌+◌, zero, suc, length, Ok, Err}
-use Rattle.std.specs.Prelude.{bytes_eq, Option, IsTrue, codes, slice_range, is_some, Result, slice_set, slice_index_or, nat_lt, not}
 use Rattle.std.proofs.lemmas.List.{append-nil}
 use Rattle.std.proofs.lemmas.Bool.{cases_Bool, eqb-true}
-use Rattle.ninja_text.specs.Lexical.{lexical_fault}
-use Rattle.ninja_text.specs.LineForms.{HasTokens}
-use Rattle.ninja_text.specs.Lines.{LogicalLine}
-use Rattle.ninja_text.specs.Tokens.{TokenAt, tokens, raw, value_of}
-use Rattle.ninja_text.specs.declared.token.TokenKind.{TokenKind}
-use Rattle.ninja_text.specs.declared.token.TokenKind.TheVariants.{Word, Bar, Colon}
-use Rattle.ninja_text.specs.Assignments.{SeenAssignment, assignment_of, Assigns}
+use Rattle.dyndep_file.specs.Prelude.{not, is_some, IsTrue, nat_lt, slice_index_or, slice_set, slice_range, Option, Result, bytes_eq, codes, SeenAssignment, assignment_of, Assigns, lexical_fault, HasTokens, LogicalLine, is_empty, symbols, Symbol, WordSymbol, SignSymbol, symbol, begins_at_start, begins_with_space, after_build, IsPart, tokens, TokenAt, raw, value_of, Failure, Fault, Memory, TokenKind, Bar, Colon, Word, DyndepClass, Comment, Blank, Version, Build, Binding, IsBuild, is_version_one, IsDyndepLine, implicit_inputs_fault, after_rule_fault, rule_fault, implicit_outputs_fault, after_output_fault, indented_fault, version_fault, build_fault, value_assigned, build_or_other_fault, unindented_fault, text_fault, text_line_fault, StatementValue, ProgressValue, with_last_restat, step, IsNamed, PassesOr, IsBuildOf, with_name, IsBindingOf, IsVersionLineOf, LineFault, Stage, BeforeVersion, NoneOpen, Open}
 use Rattle.ninja_text.proofs.ForCallers.{name_indented, assignment_parts, assignment_not_empty, slice_first, after_keyword, keyword_first, no_indent_at_token}
-use Rattle.dyndep_file.specs.StatementValue.{StatementValue}
-use Rattle.dyndep_file.specs.Classes.{DyndepClass, Comment, Blank, Version, Build, Binding, IsBuild, is_version_one, IsDyndepLine}
-use Rattle.dyndep_file.specs.Faults.{implicit_inputs_fault, after_rule_fault, rule_fault, implicit_outputs_fault, after_output_fault, value_assigned, indented_fault, build_fault, build_or_other_fault, version_fault, unindented_fault, text_fault, text_line_fault}
-use Rattle.ninja_text.specs.Paths.{is_empty}
-use Rattle.dyndep_file.specs.Steps.{ProgressValue, step, with_last_restat}
-use Rattle.dyndep_file.specs.declared.progress.Stage.{Stage}
-use Rattle.dyndep_file.specs.declared.progress.Stage.TheVariants.{BeforeVersion, NoneOpen, Open}
 use Rattle.std.proofs.lemmas.Bool.Decides.{nat_tests}
 use Rattle.std.proofs.lemmas.Slice.Eq.{bytes_eq-Decides}
-use Rattle.ninja_text.specs.declared.failure.Failure.{Failure}
-use Rattle.ninja_text.specs.declared.failure.Failure.TheVariants.{Memory, Fault}
-use Rattle.ninja_text.specs.Symbols.{Symbol, WordSymbol, SignSymbol, symbol, symbols, begins_at_start, IsPart, begins_with_space, after_build}
-use Rattle.dyndep_file.specs.inner.BuildLines.{IsNamed}
-use Rattle.dyndep_file.specs.inner.LineReading.{PassesOr, IsBuildOf, with_name, IsBindingOf, IsVersionLineOf}
-use Rattle.dyndep_file.specs.declared.fault.LineFault.{LineFault}
 
 -- ---- a line of a class that is allowed at a stage has no fault there
 

@@ -1,26 +1,10 @@
 -- The parts of a build line: the values of its words, and its paths as they are borrowed, read and written.
-use Rattle.std.proofs.Common.{◌≡◌, ℕ, Bool, false, List, [], ◌∷◌, refl, ap, ◌+◌, ◌<◌, cond, ◌++◌, length, map, get_or, Some, None, Bor, sym, ◌∙◌, take, codes, subst, append_assoc, Option, Vec, Global, Ok, Err}
-use Rattle.std.specs.List.{position_from, flat_map}
-use Rattle.ninja_text.specs.Bytes.{line_feed}
-use Rattle.ninja_text.specs.Tokens.{value_of}
-use Rattle.std.specs.Prelude.{position, All, Result}
+use Rattle.std.proofs.Common.{◌≡◌, ℕ, Bool, false, List, [], ◌∷◌, refl, ap, ◌+◌, ◌<◌, cond, ◌++◌, length, map, get_or, Some, None, Bor, sym, ◌∙◌, take, codes, subst, append_assoc, Vec, Global}
 use Rattle.std.proofs.lemmas.List.{append-nil, map-append, take_more, get_or-map, length-map}
 use Rattle.std.proofs.lemmas.Iterator.Adapters.{position_from-zero}
-use Rattle.dyndep_file.specs.inner.Paths.{lent_texts, texts}
-use Rattle.ninja_text.specs.Escapes.{escaped}
-use Rattle.dyndep_file.specs.StatementValue.{StatementValue, statement_with}
-use Rattle.dyndep_file.specs.Writing.{part_text, build_line}
-use Rattle.std.specs.Result.{IsErrAnd}
-use Rattle.ninja_text.specs.declared.failure.Failure.{Failure}
-use Rattle.ninja_text.specs.declared.token.TokenKind.TheVariants.{Bar, DoubleBar, BarAt, Colon}
-use Rattle.dyndep_file.specs.Faults.{output_fault, after_output_fault, implicit_outputs_fault, rule_fault, after_rule_fault, implicit_inputs_fault}
-use Rattle.dyndep_file.specs.inner.BuildLines.{IsNamed, IsFailureOf, TakesOr, TakesOutput, TakesOutputs, TakesInputs, misplaced}
-use Rattle.dyndep_file.specs.declared.fault.LineFault.{LineFault}
-use Rattle.dyndep_file.specs.declared.fault.LineFault.TheVariants.{SecondOutput, ExplicitInput, BadLine}
-use Rattle.ninja_text.specs.Escapes.{IsWritable}
 use Rattle.std.proofs.lemmas.List.{flat_map_more}
 use Rattle.std.proofs.lemmas.List.Elements.{All-from_recursion, recursion_from_All}
-use Rattle.ninja_text.specs.Symbols.{Symbol, WordSymbol, SignSymbol, IsPart, front_words, past_words, past_sign, words_of_part, symbols_past_part}
+use Rattle.dyndep_file.specs.Prelude.{All, flat_map, position, unwrap_or, position_from, line_feed, escaped, IsWritable, Symbol, WordSymbol, SignSymbol, IsPart, front_words, past_words, past_sign, words_of_part, symbols_past_part, value_of, Bar, BarAt, Colon, DoubleBar, implicit_inputs_fault, after_rule_fault, rule_fault, implicit_outputs_fault, after_output_fault, output_fault, StatementValue, statement_with, part_text, build_line, IsNamed, misplaced, TakesOutput, TakesOutputs, TakesInputs, texts, lent_texts, BadLine, ExplicitInput, SecondOutput}
 use Rattle.ninja_text.proofs.ForCallers.{part_symbols, part_raw, is_part, part_meant, sign_at, part_at}
 use Rattle.dyndep_file.proofs.WrittenText.{both_parts}
 use Rattle.dyndep_file.proofs.LineLemmas.{never, after_output_passes}
@@ -129,12 +113,6 @@ one_more values new_values value word more is pushed =
     ap (λ v. texts values ++ v ∷ front_words more) (sym is) ∙ sym (append_assoc (texts values) (value.items ∷ []) (front_words more))
     ∙ ap (λ vs. vs ++ front_words more) (sym (ap texts pushed ∙ map-append (λ (v : Vec ℕ Global). v.items) values (value ∷ [])))
 
--- what a reading fails with, another fails with that has the same fault
-pub refuses : {T : Type 0} {fault other : Option LineFault} (is : T → Type 0) (failure : Failure LineFault) (result : Result T (Failure LineFault))
-    → IsErrAnd result (λ e. e ≡ failure) → fault ≡ other → IsFailureOf fault failure → TakesOr other is result
-refuses is failure (Ok value) e same h = absurd e
-refuses {T} {fault} {other} is failure (Err reason) e same h = subst (IsFailureOf other) (sym e) (subst (λ f. IsFailureOf f failure) same h)
-
 -- ---- what follows a part
 
 -- the implicit outputs, if a `:` follows
@@ -151,19 +129,15 @@ outputs_taken old between new words rest colon =
     }
 
 -- the fault if none follows; at the end of the line it is `BadLine`
-abbrev pub or_bad : Option LineFault → LineFault
-or_bad None = BadLine
-or_bad (Some fault) = fault
-
 words_without_colon : (ss : List Symbol) → past_sign Colon (past_words ss) ≡ None →
-    implicit_outputs_fault ss ≡ Some (or_bad (misplaced SecondOutput (past_words ss)))
+    implicit_outputs_fault ss ≡ Some (unwrap_or (misplaced SecondOutput (past_words ss)) BadLine)
 words_without_colon [] h = refl
 words_without_colon (WordSymbol word ∷ more) h = words_without_colon more h
 words_without_colon (SignSymbol Colon ∷ more) h = never (sym h)
 words_without_colon (SignSymbol other ∷ more) h = refl
 
 part_without_colon : (ss : List Symbol) → past_sign Colon (symbols_past_part Bar ss) ≡ None →
-    after_output_fault ss ≡ Some (or_bad (misplaced SecondOutput (symbols_past_part Bar ss)))
+    after_output_fault ss ≡ Some (unwrap_or (misplaced SecondOutput (symbols_past_part Bar ss)) BadLine)
 part_without_colon [] h = refl
 part_without_colon (WordSymbol word ∷ more) h = refl
 part_without_colon (SignSymbol Bar ∷ more) h = words_without_colon more h
@@ -171,9 +145,9 @@ part_without_colon (SignSymbol Colon ∷ more) h = never (sym h)
 part_without_colon (SignSymbol other ∷ more) h = refl
 
 pub no_colon : (old new between : List Symbol) → between ≡ symbols_past_part Bar old → new ≡ between → past_sign Colon between ≡ None →
-    after_output_fault old ≡ Some (or_bad (misplaced SecondOutput new))
+    after_output_fault old ≡ Some (unwrap_or (misplaced SecondOutput new) BadLine)
 no_colon old new between rest same none =
-    part_without_colon old (ap (past_sign Colon) (sym rest) ∙ none) ∙ ap (λ s. Some (or_bad (misplaced SecondOutput s))) (sym (same ∙ rest))
+    part_without_colon old (ap (past_sign Colon) (sym rest) ∙ none) ∙ ap (λ s. Some (unwrap_or (misplaced SecondOutput s) BadLine)) (sym (same ∙ rest))
 
 -- the fault of what follows the implicit inputs
 words_to_end : (ss : List Symbol) → implicit_inputs_fault ss ≡ misplaced ExplicitInput (past_words ss)

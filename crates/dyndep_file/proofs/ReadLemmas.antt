@@ -1,23 +1,10 @@
 -- Reading to the end of a reader.
 use Rattle.std.proofs.Common.{inl, inr, ◌≡◌, ℕ, ◌≤◌, List, [], ◌∷◌, ◌++◌, length, take, refl, sym, ap, ◌∙◌, subst, append_assoc, length-append, ◌+◌, Option, Some, None, Ok, Err, arith}
-use Rattle.std.specs.Prelude.{IfOk, IfErr}
-use Rattle.std.specs.Io.KnownBytes.{Consumes, Keeps, IsAtEnd}
 use Rattle.std.proofs.lemmas.List.{length-take-le, flat_map_more}
-use Rattle.ninja_text.specs.Failure.{ForFault}
-use Rattle.ninja_text.specs.declared.failure.Failure.{Failure}
-use Rattle.ninja_text.specs.declared.failure.Failure.TheVariants.{Memory, Fault}
-use Rattle.dyndep_file.specs.Reader.{IsReadFaultOf, LeadToStatements, DyndepReaderState, HasReadDyndep, EndsDyndepFile, IsReadFailureIn}
-use Rattle.ninja_text.specs.Counting.{held, failures, Call, Counts}
-use Rattle.ninja_text.specs.declared.counting.Counted.{Counted}
-use Rattle.dyndep_file.specs.Laws.{GoesOnUnrefused}
-use Rattle.dyndep_file.specs.ReadingAll.{ReadTurn, bytes_of, bytes_read, GivesSome, ReadsInTurn, LastCall, AtEnd, last_bytes, has_failed, IsLastCall, Answer, AnswersLastCall, IsReadFrom}
-use Rattle.dyndep_file.specs.declared.fault.ReadFault.{ReadFault}
-use Rattle.dyndep_file.specs.declared.fault.ReadFault.TheVariants.{AtLine, Io}
+use Rattle.dyndep_file.specs.Prelude.{IfOk, IfErr, Consumes, IsAtEnd, Keeps, held, failures, Counts, Call, ForFault, Counted, Failure, Fault, Memory, GoesOnUnrefused, LeadToStatements, DyndepReaderState, HasReadDyndep, IsReadFailureIn, IsReadFaultOf, EndsDyndepFile, dyndep_format, StandsForOnly, IsEndFault, dyndep_faults, ReadTurn, bytes_of, bytes_read, GivesSome, ReadsInTurn, LastCall, AtEnd, last_bytes, has_failed, IsLastCall, Answer, AnswersLastCall, IsReadFrom, PassesLine, RefusesLine, fault_of_cutter, ReadFault, AtLine, Io}
 use Rattle.dyndep_file.proofs.Runs.{runs_begin}
 use Rattle.dyndep_file.proofs.LawLemmas.{decided, one_list}
 use Rattle.ninja_text.proofs.ForCallers as lines
-use Rattle.dyndep_file.specs.inner.LineStates.{PassesLine, RefusesLine, fault_of_cutter}
-use Rattle.dyndep_file.specs.Reading.{dyndep_format, dyndep_faults, IsEndFault, StandsForOnly}
 
 -- known bytes that are consumed in two reads
 consumes_more : (a b c : Option (List ℕ)) (x y : List ℕ) → Consumes a b x → Consumes b c y → Consumes a c (x ++ y)

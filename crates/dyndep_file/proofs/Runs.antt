@@ -1,17 +1,7 @@
 -- The grammar of a dyndep file, and runs over its lines: they give the same statements, and continue with the same lines.
-use Rattle.std.proofs.Common.{inl, inr, ◌⊎◌, ◌||◌, ◌≡◌, ℕ, Bool, true, false, List, [], ◌∷◌, ◌++◌, refl, sym, ap, ◌∙◌, subst, append_assoc, Some, None}
-use Rattle.std.specs.Prelude.{Option, if◌then◌else◌}
-use Rattle.std.specs.Option.{option_and_then}
-use Rattle.std.specs.List.{list_all}
-use Rattle.dyndep_file.specs.Faults.{is_open, is_comment_class, stage_after}
+use Rattle.std.proofs.Common.{if◌then◌else◌, inl, inr, ◌⊎◌, ◌||◌, ◌≡◌, ℕ, Bool, true, false, List, [], ◌∷◌, ◌++◌, refl, sym, ap, ◌∙◌, subst, append_assoc, Some, None}
 use Rattle.std.proofs.lemmas.List.{append-nil}
-use Rattle.dyndep_file.specs.StatementValue.{StatementValue, statement_with}
-use Rattle.dyndep_file.specs.Classes.{DyndepClass, Comment, Blank, Version, Build, Binding}
-use Rattle.dyndep_file.specs.Grammar.{HasBinding, binding_here, comment_before, IsDyndepBody, body_end, body_comment, body_blank, body_build, body_build_binding, IsDyndepFile}
-use Rattle.dyndep_file.specs.Grammar.{comment_first, blank_first, version_line, BeginsDyndepFile}
-use Rattle.dyndep_file.specs.Steps.{ProgressValue, with_last_restat, step, run}
-use Rattle.dyndep_file.specs.declared.progress.Stage.{Stage}
-use Rattle.dyndep_file.specs.declared.progress.Stage.TheVariants.{BeforeVersion, NoneOpen, Open}
+use Rattle.dyndep_file.specs.Prelude.{Option, option_and_then, list_all, DyndepClass, Comment, Blank, Version, Build, Binding, is_comment_class, is_open, stage_after, HasBinding, binding_here, comment_before, IsDyndepBody, body_end, body_comment, body_blank, body_build, body_build_binding, IsDyndepFile, comment_first, blank_first, version_line, BeginsDyndepFile, StatementValue, statement_with, ProgressValue, with_last_restat, step, run, Stage, BeforeVersion, NoneOpen, Open}
 use Rattle.dyndep_file.proofs.LineLemmas.{never}
 
 -- whether the version line has come

@@ -1,30 +1,16 @@
 -- Statements that are written: which can be written, and what is written of those added to a text one after another.
 use Rattle.std.proofs.Common.{◌≡◌, ◌↔◌, ℕ, ◌+◌, ◌≤◌, Bool, true, false, not, cond, List, [], ◌∷◌, length, Option, Some, None, option_map, Ok, Err, Vec, Global, inl, inr, refl, ap, sym, ◌∙◌, arith, ◌++◌, subst, append_assoc, append-nil, length-append}
-use Rattle.std.specs.Prelude.{position, nat_lt, All}
-use Rattle.std.specs.List.{position_from, AllByRecursion, flat_map}
-use Rattle.std.specs.Option.{option_or}
 use Rattle.std.proofs.lemmas.List.Elements.{All-from_recursion, recursion_from_All}
 use Rattle.std.proofs.lemmas.Iterator.Adapters.{position_from-zero}
 use Rattle.std.proofs.lemmas.Option.{cond_some}
-use Rattle.ninja_text.specs.Counting.{Call, held}
-use Rattle.ninja_text.specs.declared.counting.Counted.{Counted}
-use Rattle.ninja_text.specs.declared.failure.Failure.{Failure}
-use Rattle.ninja_text.specs.declared.failure.Failure.TheVariants.{Memory, Fault}
-use Rattle.ninja_text.specs.Failure.{Gives, ForFault}
-use Rattle.ninja_text.specs.Lines.{line_limit}
-use Rattle.ninja_text.specs.Escapes.{is_writable, IsWritable}
+use Rattle.dyndep_file.specs.Prelude.{nat_lt, All, flat_map, position, AllByRecursion, position_from, option_or, held, Call, is_writable, IsWritable, Gives, ForFault, line_limit, Counted, Failure, Fault, Memory, OnlyTooLong, TooLongIfWritable, FirstFault, StatementValue, TextValue, IsTextOf, IsFinished, paths_of, statement_fault, fault_from, write_fault, text_unless, text_or_fault, CanBeWritten, LeavesWriter, StopsInTurn, AnswersWriteFault, build_line, binding_line, statement_text, dyndep_text, WriteFault, StatementTooLong, Unwritable}
 use Rattle.ninja_text.proofs.ForCallers.{is_writable-meaning}
-use Rattle.dyndep_file.specs.StatementValue.{StatementValue}
-use Rattle.dyndep_file.specs.Writing.{build_line, dyndep_text, version_line, binding_line, statement_text}
-use Rattle.dyndep_file.specs.WriteFaults.{text_unless, text_or_fault, LeavesWriter, StopsInTurn, AnswersWriteFault, write_fault, paths_of, statement_fault, fault_from, CanBeWritten}
-use Rattle.dyndep_file.specs.declared.fault.WriteFault.{WriteFault}
-use Rattle.dyndep_file.specs.declared.fault.WriteFault.TheVariants.{Unwritable, StatementTooLong, Io}
+use Rattle.dyndep_file.specs.Writing.{version_line}
+use Rattle.dyndep_file.specs.declared.fault.WriteFault.TheVariants.{Io}
 use Rattle.std.proofs.lemmas.Bool.{cases_Bool}
 use Rattle.dyndep_file.proofs.LineLemmas.{never}
 use Rattle.dyndep_file.proofs.Runs.{none_or_some}
 use Rattle.std.proofs.lemmas.Grind.{flat_map-append}
-use Rattle.dyndep_file.specs.Laws.{OnlyTooLong, TooLongIfWritable, FirstFault}
-use Rattle.dyndep_file.specs.Texts.{TextValue, IsTextOf, IsFinished}
 use Rattle.dyndep_file.proofs.LawLemmas.{stands_for_only}
 
 -- ---- the fault of a statement, by its first path that cannot be escaped, and by whether its build line is too long

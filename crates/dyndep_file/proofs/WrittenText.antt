@@ -1,24 +1,10 @@
 -- The text of a list of statements, line by line: it is a dyndep file with them.
-use Rattle.std.proofs.Common.{inl, inr, ◌≡◌, ℕ, true, false, List, [], ◌∷◌, ◌++◌, map, refl, sym, ap, subst, Bool, ◌∙◌, arith}
-use Rattle.std.specs.Prelude.{codes, if◌then◌else◌, All}
-use Rattle.std.specs.List.{flat_map, AllByRecursion}
+use Rattle.std.proofs.Common.{if◌then◌else◌, inl, inr, ◌≡◌, ℕ, true, false, List, [], ◌∷◌, ◌++◌, map, refl, sym, ap, subst, Bool, ◌∙◌, arith}
 use Rattle.std.proofs.lemmas.List.{append-nil, append_assoc}
 use Rattle.std.proofs.lemmas.List.Elements.{recursion_from_All}
-use Rattle.ninja_text.specs.Lines.{IsLine, is_comment, text_of_line, Divides}
-use Rattle.ninja_text.specs.Tokens.{value_of}
-use Rattle.ninja_text.specs.Escapes.{IsWritable, escaped}
-use Rattle.ninja_text.specs.declared.token.TokenKind.TheVariants.{Bar, Colon}
+use Rattle.dyndep_file.specs.Prelude.{All, codes, flat_map, AllByRecursion, SeenAssignment, Assigns, escaped, IsWritable, IsOfClass, AreOfClasses, is_comment, IsLine, Divides, text_of_line, Symbol, WordSymbol, SignSymbol, symbol, IsPart, value_of, Bar, Colon, DyndepClass, Version, Build, Binding, IsBuild, IsDyndepLine, binding_here, IsDyndepBody, body_end, body_build, body_build_binding, version_line, dyndep_format, StandsFor, StatementValue, paths_of, CanBeWritten, part_text, build_line, statement_text, dyndep_text}
 use Rattle.ninja_text.proofs.ForCallers.{value_of_escaped, Written, written_none, written_word, written_path, written_space, written_colon, written_bar, written_tokens, written_sound, written_line, written_text, written_first, AllByRecursion-append, joined, AreOfClasses-append}
-use Rattle.dyndep_file.specs.StatementValue.{StatementValue}
-use Rattle.ninja_text.specs.LineFormats.{IsOfClass, AreOfClasses}
-use Rattle.dyndep_file.specs.Reading.{dyndep_format, StandsFor}
-use Rattle.dyndep_file.specs.Classes.{DyndepClass, Build, IsBuild, IsDyndepLine, Version, Binding}
-use Rattle.dyndep_file.specs.Writing.{part_text, build_line, statement_text, dyndep_text}
-use Rattle.dyndep_file.specs.WriteFaults.{paths_of, CanBeWritten}
 use Rattle.std.proofs.lemmas.Grind.{flat_map-append}
-use Rattle.ninja_text.specs.Assignments.{SeenAssignment, Assigns}
-use Rattle.ninja_text.specs.Symbols.{Symbol, WordSymbol, SignSymbol, symbol, IsPart}
-use Rattle.dyndep_file.specs.Grammar.{IsDyndepBody, binding_here, body_end, body_build, body_build_binding, version_line}
 
 -- ---- a build line as it is written
 

@@ -12,3 +12,4 @@ pub mod ReadingAll
 pub mod Laws
 pub mod Reader
 pub mod inner
+pub mod Prelude

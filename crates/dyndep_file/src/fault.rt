@@ -1,6 +1,7 @@
 //! Errors of dyndep files.
-ghost use Rattle.std.specs.Prelude.{◌≡◌};
-ghost use Rattle.dyndep_file.specs.declared.fault.ReadFault.TheVariants.{AtLine};
+ghost use Rattle.std.specs.Prelude.{◌≡◌, Some};
+ghost use Rattle.dyndep_file.specs.Prelude.{line_fault_text, read_fault_text, write_fault_text};
+ghost use Rattle.dyndep_file.specs.Prelude.{AtLine};
 
 use ninja_text::LexFault;
 use std::fmt;
@@ -54,9 +55,6 @@ impl LineFault {
 }
 
 impl fmt::Display for LineFault {
-    ghost use Rattle.std.specs.Prelude.{Some};
-    ghost use Rattle.dyndep_file.specs.FaultTexts.{line_fault_text};
-
     ghost output = { λ fault. Some (line_fault_text fault) };
 
     fn fmt<W: fmt::Write>(&self, f: &mut fmt::Formatter<W>) -> fmt::Result {
@@ -92,9 +90,6 @@ pub enum ReadFault {
 }
 
 impl fmt::Display for ReadFault {
-    ghost use Rattle.std.specs.Prelude.{Some};
-    ghost use Rattle.dyndep_file.specs.FaultTexts.{read_fault_text};
-
     ghost output = { λ fault. Some (read_fault_text fault) };
 
     fn fmt<W: fmt::Write>(&self, f: &mut fmt::Formatter<W>) -> fmt::Result {
@@ -120,9 +115,6 @@ pub enum WriteFault {
 }
 
 impl fmt::Display for WriteFault {
-    ghost use Rattle.std.specs.Prelude.{Some};
-    ghost use Rattle.dyndep_file.specs.FaultTexts.{write_fault_text};
-
     ghost output = { λ fault. Some (write_fault_text fault) };
 
     fn fmt<W: fmt::Write>(&self, f: &mut fmt::Formatter<W>) -> fmt::Result {

@@ -1,11 +1,10 @@
 //! Laws about the definitions. A law is the contract of a function that does nothing; callers call
 //! it to use the law in a proof.
 ghost use Rattle.std.specs.Prelude.{◌≡◌, ◌↔◌, List, All, None};
-ghost use Rattle.dyndep_file.specs.StatementValue.{StatementValue};
-ghost use Rattle.dyndep_file.specs.Writing.{dyndep_text};
-ghost use Rattle.dyndep_file.specs.WriteFaults.{write_fault, CanBeWritten};
-ghost use Rattle.dyndep_file.specs.Reading.{StandsForOnly};
-ghost use Rattle.dyndep_file.specs.Laws.{OneList, NotBoth, OneOfBoth, OneReadFault, GoesOnUnrefused, FaultStays, OnlyTooLong, TooLongIfWritable, FirstFault};
+ghost use Rattle.dyndep_file.specs.Prelude.{OneList, NotBoth, OneOfBoth, OneReadFault};
+ghost use Rattle.dyndep_file.specs.Prelude.{GoesOnUnrefused, FaultStays, OnlyTooLong};
+ghost use Rattle.dyndep_file.specs.Prelude.{TooLongIfWritable, FirstFault, StandsForOnly};
+ghost use Rattle.dyndep_file.specs.Prelude.{StatementValue, write_fault, CanBeWritten, dyndep_text};
 
 /// The grammar relates a text to at most one list of statements.
 pub fn one_list()

@@ -12,24 +12,14 @@
 //! - `specs/FaultTexts.antt` defines how [`LineFault`], [`ReadFault`] and [`WriteFault`] are
 //!   printed.
 //! - [`laws`] proves that a text has either a list of statements or an error.
-//!
-//! `must-fail/` has a wrong body of each public function, or of one that it calls, with these
-//! exceptions. Laws have no body. [`DyndepText::new`] and [`DyndepText::finish`] fill or return
-//! fields, and their clauses determine the bytes. `line_limit_one_byte_more` changes
-//! [`DyndepText::add_writable`], which [`DyndepText::add`] and so [`Dyndep::to_text`] call.
-//! `first_byte_out_before_a_fault_is_reported` shows that nothing is written before an error, and
-//! `rest_of_a_statement_is_left_after_an_error` what a text has after one.
 #![tactic(auto)]
 
-mod build_line;
 mod fault;
 pub mod laws;
 mod progress;
 mod reader;
-mod statement;
 mod text;
 
 pub use fault::{LineFault, ReadFault, WriteFault};
 pub use reader::{DyndepReader, read_all};
-pub use statement::{Dyndep, LentStatement, Statement};
-pub use text::{DyndepText, write};
+pub use text::{Dyndep, DyndepText, LentStatement, Statement, write};

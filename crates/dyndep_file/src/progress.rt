@@ -1,18 +1,21 @@
-//! Reads the lines of a dyndep file: the statements so far, and the effect of each kind of line.
-ghost use Rattle.std.specs.Prelude.{◌≡◌, codes, is_some, option_map, IfOk};
-ghost use Rattle.ninja_text.specs.LineViews.{seen_line};
-ghost use Rattle.ninja_text.specs.Tokens.{value_of};
-ghost use Rattle.ninja_text.specs.AssignmentViews.{seen_assignment};
-ghost use Rattle.ninja_text.specs.TokenViews.{symbols_left};
-ghost use Rattle.dyndep_file.specs.Classes.{is_version_one, IsDyndepLine};
-ghost use Rattle.dyndep_file.specs.Faults.{value_assigned, indented_fault, build_fault, text_line_fault, unindented_fault};
-ghost use Rattle.dyndep_file.specs.inner.LineReading.{PassesOr, IsBuildOf, IsBindingOf, IsVersionLineOf, with_name};
+//! Reads the lines of a dyndep file: the statements so far, what each kind of line does to them,
+//! and the tokens of a build line.
+ghost use Rattle.std.specs.Prelude.{◌≡◌, is_some, IfOk, OnOk, codes, option_map};
+ghost use Rattle.dyndep_file.specs.Prelude.{seen_assignment, seen_line, words_of_part};
+ghost use Rattle.dyndep_file.specs.Prelude.{symbols_past_part, symbols_left, is_version_one};
+ghost use Rattle.dyndep_file.specs.Prelude.{IsDyndepLine, output_fault, indented_fault};
+ghost use Rattle.dyndep_file.specs.Prelude.{build_fault, value_assigned, unindented_fault};
+ghost use Rattle.dyndep_file.specs.Prelude.{text_line_fault, ProgressValue, IsNamed, misplaced};
+ghost use Rattle.dyndep_file.specs.Prelude.{TakesOr, PassesOr, IsBuildOf, with_name, IsBindingOf};
+ghost use Rattle.dyndep_file.specs.Prelude.{IsVersionLineOf, PassesLine, RefusesLine};
+ghost use Rattle.dyndep_file.specs.Prelude.{fault_of_cutter, texts};
 
-use crate::build_line::statement;
 use crate::fault::{LineFault, ReadFault};
-use crate::statement::Statement;
-use ninja_text::{Assignment, CutFault, Failure, Line, LineForm, LineState, Words, line_form};
-use std::alloc::Global;
+use crate::text::Statement;
+use ninja_text::{
+    Assignment, CutFault, Failure, Line, LineForm, LineState, TokenKind, Words, line_form,
+};
+use std::alloc::{AllocError, Global};
 use std::marker::Model;
 
 /// The stage of a file: which lines are allowed next.
@@ -34,8 +37,6 @@ pub(crate) struct Progress {
 }
 
 impl Model for Progress {
-    ghost use Rattle.dyndep_file.specs.Steps.{ProgressValue};
-
     ghost Value = { ProgressValue };
 
     ghost view = { λ p. record { stage = p.stage; statements = p.statements.items } };
@@ -43,8 +44,6 @@ impl Model for Progress {
 
 impl LineState for Progress {
     type Fault = ReadFault;
-
-    ghost use Rattle.dyndep_file.specs.inner.LineStates.{PassesLine, RefusesLine, fault_of_cutter};
 
     ghost passes = { PassesLine };
 
@@ -65,12 +64,10 @@ impl LineState for Progress {
     }
 }
 
+type Passed = Result<(), Failure<LineFault>>;
+
 /// Reads the text of a line.
-fn read_text(
-    alloc: Global,
-    progress: &mut Progress,
-    line: Line<'_>,
-) -> Result<(), Failure<LineFault>>
+fn read_text(alloc: Global, progress: &mut Progress, line: Line<'_>) -> Passed
     ensures { let view = seen_line line.entry in
         PassesOr (text_line_fault progress.old.stage view.text view.comment)
         (IsDyndepLine view.text view.comment)
@@ -94,12 +91,8 @@ fn read_text(
 
 /// An indented line sets the flag of the open statement if it assigns to `restat`, and closes the
 /// statement.
-fn indented_line(
-    alloc: Global,
-    progress: &mut Progress,
-    assignment: Option<Assignment<'_>>,
-) -> Result<(), Failure<LineFault>>
-    ensures { let view = option_map seen_assignment assignment.entry in
+fn indented_line(alloc: Global, progress: &mut Progress, found: Option<Assignment<'_>>) -> Passed
+    ensures { let view = option_map seen_assignment found.entry in
         let restat = is_some (value_assigned (codes "restat") view) in
         PassesOr (indented_fault progress.old.stage restat)
         (IsBindingOf view) progress.old result progress.new }
@@ -109,7 +102,7 @@ fn indented_line(
         Stage::NoneOpen => return Err(Failure::Fault(LineFault::Indent)),
         Stage::Open => {}
     }
-    let Some(binding) = named(assignment, b"restat") else {
+    let Some(binding) = named(found, b"restat") else {
         return Err(Failure::Fault(LineFault::BadBinding));
     };
     let value = binding.value(alloc)?;
@@ -120,12 +113,9 @@ fn indented_line(
     Ok(())
 }
 
-/// A build line opens a statement. These are the tokens after its keyword.
-fn build_line(
-    alloc: Global,
-    progress: &mut Progress,
-    words: Words<'_>,
-) -> Result<(), Failure<LineFault>>
+/// A build line opens a statement. These are the tokens after its keyword, and the first one that
+/// is not allowed decides the error.
+fn build_line(alloc: Global, progress: &mut Progress, words: Words<'_>) -> Passed
     ensures { PassesOr (build_fault progress.old.stage (symbols_left words.entry))
         (IsBuildOf (symbols_left words.entry))
         progress.old result progress.new }
@@ -134,25 +124,43 @@ fn build_line(
         Stage::BeforeVersion => return Err(Failure::Fault(LineFault::NoVersion)),
         Stage::NoneOpen | Stage::Open => {}
     }
-    let statement = statement(alloc, words)?;
-    progress.statements.push(statement)?;
+    let mut words = words;
+    let Some(token) = words.next_word() else {
+        return Err(Failure::Fault(LineFault::NoOutput));
+    };
+    let output = token.value(alloc)?;
+    let implicit_outputs = part(alloc, &mut words)?;
+    if !words.take_sign(TokenKind::Colon) {
+        let fault = misplaced(words, LineFault::SecondOutput);
+        return Err(Failure::Fault(fault.unwrap_or(LineFault::BadLine)));
+    }
+    match words.next() {
+        Some(token) if token.is_keyword(b"dyndep") => {}
+        _ => return Err(Failure::Fault(LineFault::BadRule)),
+    }
+    let implicit_inputs = part(alloc, &mut words)?;
+    if let Some(fault) = misplaced(words, LineFault::ExplicitInput) {
+        return Err(Failure::Fault(fault));
+    }
+    progress.statements.push(Statement {
+        output,
+        implicit_outputs,
+        implicit_inputs,
+        restat: false,
+    })?;
     progress.stage = Stage::Open;
     Ok(())
 }
 
 /// A line that is neither indented nor a build line is a version line, or it is not allowed. A
 /// version line is allowed once, before all statements, with the value `1` or `1.0`.
-fn unindented_line(
-    alloc: Global,
-    progress: &mut Progress,
-    assignment: Option<Assignment<'_>>,
-) -> Result<(), Failure<LineFault>>
-    ensures { let view = option_map seen_assignment assignment.entry in
+fn unindented_line(alloc: Global, progress: &mut Progress, found: Option<Assignment<'_>>) -> Passed
+    ensures { let view = option_map seen_assignment found.entry in
         let version = value_assigned (codes "ninja_dyndep_version") view in
         PassesOr (unindented_fault progress.old.stage version None)
         (IsVersionLineOf view) progress.old result progress.new }
 {
-    let version = match named(assignment, b"ninja_dyndep_version") {
+    let version = match named(found, b"ninja_dyndep_version") {
         Some(version) if version.name_start() == 0 => version,
         _ => return Err(Failure::Fault(match progress.stage {
             Stage::BeforeVersion => LineFault::NoVersion,
@@ -192,4 +200,36 @@ fn is_version_one(value: &[u8]) -> bool
         [b'1', byte, ..] => !byte.is_ascii_digit() && *byte != b'.',
         _ => false,
     }
+}
+
+/// Takes `|` and the words after it, if it is there. Returns the values of the words.
+fn part(alloc: Global, words: &mut Words<'_>) -> Result<Vec<Vec<u8>>, AllocError>
+    ensures words { IfOk result
+        (λ values. texts values.items ≡ words_of_part TokenKind.Bar (symbols_left words.old)) }
+    ensures rest { OnOk result
+        (symbols_left words.new ≡ symbols_past_part TokenKind.Bar (symbols_left words.old)) }
+{
+    let mut values = Vec::new(alloc);
+    if !words.take_sign(TokenKind::Bar) {
+        return Ok(values);
+    }
+    while let Some(token) = words.next_word() {
+        values.push(token.value(alloc)?)?;
+    }
+    Ok(values)
+}
+
+/// Returns the error of the next token, which may not be there, or `None` at the end of the line.
+/// `word` is the error of a word.
+fn misplaced(words: Words<'_>, word: LineFault) -> Option<LineFault>
+    ensures { result ≡ misplaced word (symbols_left words.entry) }
+{
+    let mut words = words;
+    let fault = match words.next()?.kind() {
+        TokenKind::Word => word,
+        TokenKind::DoubleBar => LineFault::OrderOnly,
+        TokenKind::BarAt => LineFault::Validation,
+        TokenKind::Bar | TokenKind::Colon => LineFault::BadLine,
+    };
+    Some(fault)
 }

@@ -1,10 +1,12 @@
 //! Reads dyndep files, line by line.
-ghost use Rattle.std.specs.Prelude.{◌≡◌, ◌++◌, [], Some};
-ghost use Rattle.dyndep_file.specs.ReadingAll.{IsReadFrom};
+ghost use Rattle.std.specs.Prelude.{◌≡◌, ◌++◌, [], IfOk, IfErr, Some};
+ghost use Rattle.dyndep_file.specs.Prelude.{Bytes, ForFault, Failure, DyndepReaderState};
+ghost use Rattle.dyndep_file.specs.Prelude.{HasReadDyndep, IsReadFaultOf, FeedsDyndep};
+ghost use Rattle.dyndep_file.specs.Prelude.{EndsDyndepFile, StandsForOnly, IsReadFrom, ReadFault};
 
 use crate::fault::{LineFault, ReadFault};
 use crate::progress::{Progress, Stage};
-use crate::statement::Dyndep;
+use crate::text::Dyndep;
 use ninja_text::{Counted, Failure, LineReader, ReadCall};
 use std::alloc::Global;
 use std::marker::Model;
@@ -18,19 +20,12 @@ pub struct DyndepReader {
 }
 
 impl Model for DyndepReader {
-    ghost use Rattle.dyndep_file.specs.Reader.{DyndepReaderState};
-
     ghost Value = { DyndepReaderState };
 
     ghost view = { λ r. r.lines };
 }
 
 impl DyndepReader {
-    ghost use Rattle.ninja_text.specs.Bytes.{Bytes};
-    ghost use Rattle.dyndep_file.specs.Reader.{HasReadDyndep, FeedsDyndep, EndsDyndepFile};
-    ghost use Rattle.dyndep_file.specs.declared.fault.ReadFault.{ReadFault};
-    ghost use Rattle.ninja_text.specs.declared.failure.Failure.{Failure};
-
     /// Returns a reader that has read nothing. It does not allocate.
     pub fn new(alloc: Global) -> DyndepReader
         ensures { HasReadDyndep [] result }
@@ -61,12 +56,8 @@ impl DyndepReader {
         self.lines.feed(piece)
     }
 
-    /// Returns the statements of the text.
-    ///
-    /// # Errors
-    ///
-    /// Returns the error of an earlier `feed` again, `Truncated` if the last line has no end, or
-    /// `NoVersion` if there was no version line.
+    /// Returns the statements of the text, or the error of an earlier `feed` again, `Truncated` if
+    /// the last line has no end, or `NoVersion` if there was no version line.
     pub fn finish(self) -> Result<Dyndep, Failure<ReadFault>>
         ensures failed { (failure : Failure ReadFault) → self.failed ≡ Some failure →
             result ≡ Err failure }
@@ -82,16 +73,8 @@ impl DyndepReader {
 }
 
 impl Dyndep {
-    ghost use Rattle.std.specs.Prelude.{IfOk, IfErr};
-    ghost use Rattle.ninja_text.specs.Failure.{ForFault};
-    ghost use Rattle.dyndep_file.specs.Reading.{StandsForOnly};
-    ghost use Rattle.dyndep_file.specs.Reader.{IsReadFaultOf};
-
-    /// Returns the statements of a whole dyndep file (Ninja 1.11 manual, "Dyndep file reference").
-    ///
-    /// # Errors
-    ///
-    /// Returns the error of the first faulty line or of the end, as [`DyndepReader`] does, or
+    /// Returns the statements of a whole dyndep file (Ninja 1.11 manual, "Dyndep file reference"),
+    /// or the error of the first faulty line or of the end, as [`DyndepReader`] does, or
     /// [`Failure::Memory`] if an allocation fails. It never returns `Io`.
     pub fn of(alloc: Global, text: &[u8]) -> Result<Dyndep, Failure<ReadFault>>
         ensures statements { IfOk result (StandsForOnly text.now) }

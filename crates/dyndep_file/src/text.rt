@@ -1,20 +1,73 @@
-//! Builds the text of a dyndep file, statement by statement, and writes it.
-ghost use Rattle.std.specs.Prelude.{◌≡◌, ◌++◌, List, [], ◌∷◌, All, IfOk, OnOk, OnErr, IfErr, MatchResult, None, Some};
-ghost use Rattle.ninja_text.specs.Failure.{Gives, ForFault};
-ghost use Rattle.ninja_text.specs.Counting.{held, IsWritten};
-ghost use Rattle.ninja_text.specs.Escapes.{IsWritable};
-ghost use Rattle.dyndep_file.specs.StatementValue.{StatementValue};
-ghost use Rattle.dyndep_file.specs.Reading.{StandsForOnly};
-ghost use Rattle.dyndep_file.specs.Writing.{dyndep_text, part_text};
-ghost use Rattle.dyndep_file.specs.WriteFaults.{text_or_fault, paths_of, statement_fault, write_fault, LeavesWriter, WritesInTurn, AnswersWriteFault};
-ghost use Rattle.dyndep_file.specs.Texts.{IsTextOf, IsFinished};
-ghost use Rattle.dyndep_file.specs.inner.Paths.{texts, lent_texts};
+//! The statements of a dyndep file, and the text that is built of them and written.
+ghost use Rattle.std.specs.Prelude.{◌≡◌, ◌∷◌, ◌++◌, List, [], map, IfOk, IfErr, OnOk, OnErr, All};
+ghost use Rattle.dyndep_file.specs.Prelude.{MatchResult, None, Some, held, IsWritten, IsWritable};
+ghost use Rattle.dyndep_file.specs.Prelude.{Gives, ForFault, StandsForOnly, StatementValue};
+ghost use Rattle.dyndep_file.specs.Prelude.{TextValue, IsTextOf, IsFinished, paths_of};
+ghost use Rattle.dyndep_file.specs.Prelude.{statement_fault, write_fault, text_or_fault};
+ghost use Rattle.dyndep_file.specs.Prelude.{LeavesWriter, WritesInTurn, AnswersWriteFault};
+ghost use Rattle.dyndep_file.specs.Prelude.{part_text, dyndep_text, texts, lent_texts};
 
 use crate::fault::WriteFault;
-use crate::statement::{Dyndep, LentStatement};
 use ninja_text::{Counted, Failure, LINE_LIMIT, WriteCall, escape_into, is_writable};
 use std::alloc::{AllocError, Global};
 use std::marker::Model;
+
+/// What a dyndep file adds to one build statement of the manifest (Ninja 1.11 manual, "Dyndep file
+/// reference"). Paths are without escapes. They need not be canonical.
+#[derive(Debug, Drop)]
+pub struct Statement {
+    /// The explicit output, which identifies the build statement.
+    pub output: Vec<u8>,
+    /// The implicit outputs that are added.
+    pub implicit_outputs: Vec<Vec<u8>>,
+    /// The implicit inputs that are added.
+    pub implicit_inputs: Vec<Vec<u8>>,
+    /// Whether the statement has a `restat` binding whose value is not empty.
+    pub restat: bool,
+}
+
+impl Model for Statement {
+    ghost Value = { StatementValue };
+
+    ghost view = { λ s. record {
+      output = s.output.items;
+      implicit_outputs = map (λ path. path.items) s.implicit_outputs.items;
+      implicit_inputs = map (λ path. path.items) s.implicit_inputs.items;
+      restat = s.restat;
+    } };
+}
+
+/// A [`Statement`] with borrowed paths.
+#[derive(Drop)]
+pub struct LentStatement<'a> {
+    pub output: &'a [u8],
+    pub implicit_outputs: &'a [&'a [u8]],
+    pub implicit_inputs: &'a [&'a [u8]],
+    pub restat: bool,
+}
+
+impl<'a> Model for LentStatement<'a> {
+    ghost Value = { StatementValue };
+
+    ghost view = { λ s. record {
+      output = s.output.now;
+      implicit_outputs = map (λ path. path.now) s.implicit_outputs.now;
+      implicit_inputs = map (λ path. path.now) s.implicit_inputs.now;
+      restat = s.restat;
+    } };
+}
+
+/// The statements of a dyndep file, in order.
+#[derive(Debug, Drop)]
+pub struct Dyndep {
+    pub statements: Vec<Statement>,
+}
+
+impl Model for Dyndep {
+    ghost Value = { List StatementValue };
+
+    ghost view = { λ d. d.statements.items };
+}
 
 const VERSION_LINE: &[u8] = b"ninja_dyndep_version = 1\n";
 
@@ -34,19 +87,14 @@ pub struct DyndepText {
 }
 
 impl Model for DyndepText {
-    ghost use Rattle.dyndep_file.specs.Texts.{TextValue};
-
     ghost Value = { TextValue };
 
     ghost view = { λ t. record { bytes = t.text.items; count = t.count } };
 }
 
 impl DyndepText {
-    /// Returns the text without statements: the version line.
-    ///
-    /// # Errors
-    ///
-    /// Returns an error if an allocation fails.
+    /// Returns the text without statements: the version line. Returns an error if an allocation
+    /// fails.
     pub fn new(alloc: Global) -> Result<DyndepText, AllocError>
         ensures { IfOk result (IsTextOf []) }
     {
@@ -89,12 +137,8 @@ impl DyndepText {
         self.add_writable(statement)
     }
 
-    /// Adds the lines of a statement whose paths can all be escaped. It does not check the paths.
-    ///
-    /// # Errors
-    ///
-    /// Returns Y2 `StatementTooLong` or [`Failure::Memory`], as [`add`](DyndepText::add) does.
-    /// After an error the text is unchanged.
+    /// Adds the lines of a statement, as [`add`](DyndepText::add) does, but does not check that the
+    /// paths can be escaped. They must be.
     pub fn add_writable(&mut self, statement: &LentStatement<'_>) -> Result<(), Failure<WriteFault>>
         requires { All IsWritable (paths_of statement.now) }
         ensures added { OnOk result ((statements : List StatementValue) →
@@ -134,12 +178,8 @@ impl DyndepText {
 }
 
 impl Dyndep {
-    /// Returns the text of the statements, as [`DyndepText`] builds it.
-    ///
-    /// # Errors
-    ///
-    /// Returns the error of the first statement that has one, or [`Failure::Memory`] if an
-    /// allocation fails.
+    /// Returns the text of the statements, as [`DyndepText`] builds it, or the error of the first
+    /// statement that has one, or [`Failure::Memory`] if an allocation fails.
     pub fn to_text(&self, alloc: Global) -> Result<Vec<u8>, Failure<WriteFault>>
         ensures text { Gives (λ text. text.items) result (text_or_fault self.now) }
         ensures unfaulted { IfOk result (λ _. write_fault self.now ≡ None) }

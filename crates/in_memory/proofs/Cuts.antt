@@ -1,13 +1,9 @@
 -- Files that lie one after another in one text: what their first file tells.
-use Rattle.std.proofs.Common.{◌≡◌, ◌∙◌, ℕ, List, [], ◌∷◌, ◌++◌, length, take, drop, ap, ap₂, refl, sym, subst, append_assoc}
-use Rattle.std.specs.Prelude.{◌==◌, ◌&&◌, Bool, true, false, IsUtf8, ⊤}
-use Rattle.std.specs.List.{flat_map}
+use Rattle.std.proofs.Common.{◌==◌, ◌&&◌, ◌≡◌, ◌∙◌, ℕ, List, [], ◌∷◌, ◌++◌, length, take, drop, ap, ap₂, refl, sym, subst, append_assoc}
+use Rattle.in_memory.specs.Prelude.{Bool, true, false, IsUtf8, ⊤, flat_map, Bytes, GivenFile, AreCut, IsCut, BeginsWithFile, lengths_of}
 use Rattle.std.proofs.Math.Seq.{take-append_seam, drop-append_seam}
 use Rattle.std.proofs.lemmas.List.Elements.{All-cons, All-head, All-nil, All-tail}
 use Rattle.std.proofs.lemmas.List.{nil_from_length}
-use Rattle.ninja_text.specs.Bytes.{Bytes}
-use Rattle.in_memory.specs.Given.{GivenFile}
-use Rattle.in_memory.specs.Cuts.{AreCut, IsCut, BeginsWithFile, lengths_of}
 
 abbrev head : List ℕ → ℕ
 head [] = 0

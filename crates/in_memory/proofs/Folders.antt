@@ -1,11 +1,6 @@
 -- The calls on a folder of files that are values tell which files these are.
 use Rattle.std.proofs.Common.{◌≡◌, ◌∙◌, List, [], ◌∷◌, ◌++◌, All, Option, Some, Ok, refl, ap, ap₂, sym, subst}
-use Rattle.std.specs.Prelude.{⊤}
-use Rattle.commands.specs.Folder.{FileCall, writing}
-use Rattle.commands.specs.Outcomes.{Part, Outcome, OutputValue, Runs}
-use Rattle.in_memory.specs.Given.{GivenFile, IsCallOf}
-use Rattle.in_memory.specs.Runs.{Over}
-use Rattle.in_memory.specs.inner.Calls.{calls_on}
+use Rattle.in_memory.specs.Prelude.{⊤, FileCall, writing, Part, Outcome, OutputValue, Runs, GivenFile, IsCallOf, Over, calls_on}
 
 pub with_more : (files : List GivenFile) (calls more : List FileCall) → calls_on files (calls ++ more) ≡ calls_on files calls ++ more
 with_more [] calls more = refl

@@ -8,7 +8,7 @@ use types.Kit.{◌$◌, ◌∵◌, !, qed, done, fjoin, feq_i, fpack}
 use denote.RattleType.{Valss}
 use denote.Steps.{nothing}
 use denote.Struct.Struct.{Shape, within}
-use Rattle.in_memory.specs.contracts.history.History as History
+use Rattle.in_memory.specs.contracts.files.History as History
 
 -- the value of a struct without fields
 abbrev pub empty : Val

@@ -3,12 +3,7 @@ use Rattle.std.proofs.Common.{◌≡◌, ◌∙◌, ℕ, ◌+◌, ◌-◌, ◌*�
 use Rattle.std.proofs.lemmas.Bool.Decides.{nat_tests}
 use Rattle.std.proofs.lemmas.Fmt.{decimal_by_steps}
 use Rattle.std.proofs.lemmas.List.{map-append}
-use Rattle.std.specs.Char.{is_ascii_digit}
-use Rattle.std.specs.Fmt.{decimal}
-use Rattle.ninja_text.specs.Bytes.{Text, line_feed}
-use Rattle.commands.specs.Answers.{visible}
-use Rattle.in_memory.specs.Locations.{absent}
-use Rattle.in_memory.specs.inner.Lines.{number_after, with_digit}
+use Rattle.in_memory.specs.Prelude.{is_ascii_digit, decimal, Text, line_feed, visible, absent, number_after, with_digit}
 
 -- what a line has of a text, up to its end
 abbrev pub shown : Text → Text

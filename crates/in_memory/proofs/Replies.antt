@@ -1,21 +1,13 @@
 -- The reply of a command, by its answer.
 use Rattle.std.proofs.Common.{◌≡◌, ◌∙◌, ◌<◌, ◌+◌, List, ℕ, [], ◌∷◌, ◌++◌, Ok, Err, ap, ap₂, get_or, length, map, sym, take}
-use Rattle.std.specs.List.{flat_map}
-use Rattle.std.specs.Prelude.{IfOk, Result, ⊤}
+use Rattle.in_memory.specs.Prelude.{flat_map, IfOk, Result, ⊤, AllocError, Bytes, OutputValue, Part, Answer, AreCut, IsCut, OfCut, GivenFile, HasAnswer, Puts, Replies, ReplyValue, answer_reply, no_call, no_memory, replies, Answers, Over}
 use Rattle.std.proofs.lemmas.List.{flat_map_more, map-append, take_more}
-use Rattle.std.specs.declared.alloc.AllocError.{AllocError}
-use Rattle.ninja_text.specs.Bytes.{Bytes}
 use Rattle.commands.specs.Outcomes as commands
-use Rattle.commands.specs.Outcomes.{OutputValue, Part}
-use Rattle.commands.specs.declared.answer.Answer.{Answer}
-use Rattle.in_memory.specs.Cuts.{AreCut, IsCut, OfCut}
-use Rattle.in_memory.specs.Given.{GivenFile}
-use Rattle.in_memory.specs.Replies.{HasAnswer, Puts, Replies, ReplyValue, answer_reply, no_call, no_memory, replies}
-use Rattle.in_memory.specs.Runs.{Answers, Over}
 use Rattle.in_memory.specs.declared.reply.Outcome.{Outcome}
 
 -- what was passed is a call, and each of these replies is one of those
-put_as : {IsCall : Type 0} {Has : ReplyValue → Type 0} (IsReply : ReplyValue → Type 0) {numbers new_numbers : List ℕ} {text new_text : Bytes} {outcome : Outcome} →
+put_as : {IsCall : Type 0} {Has : ReplyValue → Type 0} (IsReply : ReplyValue → Type 0) {numbers new_numbers : List ℕ} {text new_text : Bytes}
+    {outcome : Outcome} →
     IsCall → ((reply : ReplyValue) → Has reply → IsReply reply) →
     Puts ⊤ Has numbers text new_numbers new_text outcome → Puts IsCall IsReply numbers text new_numbers new_text outcome
 put_as IsReply call are (replies _ reply has is_put) = replies call reply (are reply has) is_put
@@ -23,7 +15,8 @@ put_as IsReply call are (no_memory _ is unchanged) = no_memory call is unchanged
 put_as IsReply call are (no_call none is unchanged) = absurd (none tt)
 
 -- a reply of which this holds, unless memory ran out
-pub put_ok : (IsReply : ReplyValue → Type 0) (result : Result ReplyValue AllocError) {numbers new_numbers : List ℕ} {text new_text : Bytes} {outcome : Outcome} →
+pub put_ok : (IsReply : ReplyValue → Type 0) (result : Result ReplyValue AllocError) {numbers new_numbers : List ℕ} {text new_text : Bytes}
+    {outcome : Outcome} →
     IfOk result IsReply → Puts ⊤ (λ reply. result ≡ Ok reply) numbers text new_numbers new_text outcome →
     Puts ⊤ IsReply numbers text new_numbers new_text outcome
 put_ok IsReply result holds = put_as IsReply tt (λ reply is. rw is at holds)

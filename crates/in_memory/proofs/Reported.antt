@@ -82,8 +82,8 @@ abbrev Plain : {V : Type 0} → Part V → Type 0
 Plain = All IsPlain
 
 -- a part that stops with the text of a fault
-said : {F : Type 0} {IsFault : F → Type 0} {text : F → Text} → ((fault : F) → IsPlain (outcomes.refusal (text fault))) → (calls : List FileCall) (stop : LineValue) →
-    (calls ≡ []) × ((fault : F) × IsFault fault × (stop ≡ outcomes.refusal (text fault))) → IsPlain stop
+said : {F : Type 0} {IsFault : F → Type 0} {text : F → Text} → ((fault : F) → IsPlain (outcomes.refusal (text fault)))
+    → (calls : List FileCall) (stop : LineValue) → (calls ≡ []) × ((fault : F) × IsFault fault × (stop ≡ outcomes.refusal (text fault))) → IsPlain stop
 said are calls stop (none, (fault, is, same)) = rw same (are fault)
 
 target_of : (target : TargetValue) (style : Option Written) → Plain (TargetOf target style)

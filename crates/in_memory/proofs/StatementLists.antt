@@ -1,17 +1,7 @@
 -- Statements one after another, as numbers and a text.
 use Rattle.std.proofs.Common.{◌≡◌, ◌∙◌, ℕ, List, Bor, [], ◌∷◌, ◌++◌, length, map, Ok, Err, ap, ap₂, refl, append_assoc}
 use mir.Val.{bool_byte}
-use Rattle.std.specs.Prelude.{Bool, true, false, IfOk, Result, Vec}
-use Rattle.std.specs.Global.{Global}
-use Rattle.std.specs.List.{flat_map}
-use Rattle.std.specs.declared.alloc.AllocError.{AllocError}
-use Rattle.ninja_text.specs.Bytes.{Text, PathText}
-use Rattle.dyndep_file.specs.Reader.{IsReadFaultOf}
-use Rattle.dyndep_file.specs.Reading.{StandsFor}
-use Rattle.dyndep_file.specs.StatementValue.{StatementValue}
-use Rattle.dyndep_file.specs.declared.fault.ReadFault.{ReadFault}
-use Rattle.in_memory.specs.Replies.{ReplyValue, as_number}
-use Rattle.in_memory.specs.Statements.{Tells, fault_reply, faulty, stands, statement_numbers, statement_paths, statements_reply}
+use Rattle.in_memory.specs.Prelude.{Bool, true, false, IfOk, Result, Vec, Global, flat_map, AllocError, Text, PathText, IsReadFaultOf, StandsFor, StatementValue, ReadFault, ReplyValue, as_number, Tells, fault_reply, faulty, stands, statement_numbers, statement_paths, statements_reply}
 
 abbrev pub text_of : Bor (Vec ℕ Global) → PathText
 text_of path = path.now.items

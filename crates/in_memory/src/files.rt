@@ -1,14 +1,14 @@
-//! Files that are values, and a folder of them.
+//! Files that are values, and a folder of them. What calls were made on it exists only in proofs: a
+//! history takes no memory and no time.
 
-ghost use Rattle.std.specs.Prelude.{◌≡◌, [], All, IfOk, Some, option_copied};
-ghost use Rattle.commands.specs.Folder.{answer_of};
-ghost use Rattle.in_memory.specs.Given.{Gets, IsCallOf, bytes_named};
-ghost use Rattle.in_memory.specs.inner.Facts.{calls-prop, named-prop};
-ghost use Rattle.in_memory.specs.inner.FirstFiles.{AreFirst};
+ghost use Rattle.std.specs.Prelude.{◌≡◌, ◌∷◌, ◌++◌, [], List, All, Some, option_copied, IfOk};
+ghost use Rattle.in_memory.specs.Prelude.{ftrue, cow_slice_items, FileCall, answer_of, Gets};
+ghost use Rattle.in_memory.specs.Prelude.{IsCallOf, bytes_named, AreFirst, call_of, calls_on};
+ghost use Rattle.in_memory.specs.Prelude.{calls-prop, named-prop};
 
-use crate::history::{Call, History};
-use commands::Folder;
+use commands::{Folder, PieceReader};
 use std::alloc::{AllocError, Global};
+use std::borrow::CowSlice;
 use std::collections::BTreeMap;
 use std::io;
 use std::io::ErrorKind;
@@ -32,7 +32,6 @@ impl<'a> Model for File<'a> {
 /// A folder of these files. The first file of a name counts, and none can be written.
 #[derive(Drop)]
 pub(crate) struct Files<'a, 'f> {
-    alloc: Global,
     pub(crate) files: &'a [File<'f>],
     /// The bytes of the first file of each name.
     first: BTreeMap<&'f str, &'f [u8]>,
@@ -54,7 +53,6 @@ impl<'a, 'f> Files<'a, 'f> {
             first.insert(file.name, file.bytes)?;
         }
         Ok(Files {
-            alloc,
             files,
             first,
             history: History::new(),
@@ -68,24 +66,30 @@ impl<'a, 'f> Files<'a, 'f> {
         self.first.get(name).copied()
     }
 
-    /// Returns a copy of the bytes of a file, or of the first `most` of them if there are more.
-    fn copy(&self, name: &str, most: usize) -> io::Result<Vec<u8>>
-        ensures { Gets (bytes_named self.now.files.now name.now) (answer_of most result) }
+    /// Borrows the bytes of a file, or the first `most` of them if there are more.
+    fn borrowed(&self, name: &str, most: usize) -> io::Result<CowSlice<'f, u8>>
+        ensures { Gets (bytes_named self.now.files.now name.now)
+            (answer_of cow_slice_items most result) }
     {
         let bytes = self.bytes_named(name).ok_or(ErrorKind::NotFound)?;
-        Ok(Vec::from_slice(self.alloc, &bytes[..bytes.len().min(most)])?)
+        Ok(CowSlice::Borrowed(&bytes[..bytes.len().min(most)]))
     }
 }
 
-impl Folder for Files<'_, '_> {
-    ghost use Rattle.in_memory.specs.inner.Calls.{calls_on};
-
+impl<'f> Folder<'f> for Files<'_, 'f> {
     ghost calls = { λ s. Some (calls_on s.files.now s.history.calls) };
 
-    fn read(&mut self, name: &str, most: usize) -> io::Result<Vec<u8>> {
-        let answer = self.copy(name, most);
+    fn read(&mut self, name: &str, most: usize) -> io::Result<CowSlice<'f, u8>> {
+        let answer = self.borrowed(name, most);
         self.history = self.history.then(&Call::Read(name, most, &answer));
         answer
+    }
+
+    /// All bytes are one piece.
+    fn feed<R: PieceReader>(&mut self, name: &str, reader: &mut R) -> io::Result<()> {
+        let file = self.read(name, usize::MAX)?;
+        let _ = reader.read_piece(&file);
+        Ok(())
     }
 
     fn has(&mut self, name: &str, bytes: &[u8]) -> bool {
@@ -98,5 +102,41 @@ impl Folder for Files<'_, '_> {
         let answer = Err(io::Error::from(ErrorKind::Unsupported));
         self.history = self.history.then(&Call::Written(name, bytes, &answer));
         answer
+    }
+}
+
+/// The calls that were made on a folder, in order.
+#[derive(Drop)]
+pub(crate) struct History {
+    pub(crate) ghost calls: { List FileCall },
+}
+
+impl Model for History {
+    ghost also_owns = { λ _. ftrue };
+}
+
+/// A call, with the name of the file first, what else was passed, and the result.
+#[derive(Clone, Copy, Drop)]
+pub(crate) enum Call<'a> {
+    Read(&'a str, usize, &'a io::Result<CowSlice<'a, u8>>),
+    Compared(&'a str, &'a [u8], bool),
+    Written(&'a str, &'a [u8], &'a io::Result<()>),
+}
+
+impl History {
+    /// Returns the history of a folder on which no call was made yet.
+    #[inline(always)]
+    fn new() -> History
+        ensures { result.calls ≡ [] }
+    {
+        History {}
+    }
+
+    /// Returns the history with one more call.
+    #[inline(always)]
+    fn then(&self, _call: &Call<'_>) -> History
+        ensures { result.calls ≡ self.now.calls ++ call_of _call.now ∷ [] }
+    {
+        History {}
     }
 }

@@ -11,23 +11,20 @@
 //! - [`locate`] returns where the error of a line is, and which error it is
 //!   (`specs/Locations.antt`). `laws` says that each line of a command is that of an error
 //!   (`specs/Reported.antt`).
-//! - `files` has the `Folder` of these files, and `history` what proofs know of its calls.
+//! - `files` has the `Folder` of these files, and what proofs know of its calls.
 #![tactic(auto)]
 
-mod cut;
 mod files;
-mod history;
-mod into;
 pub mod laws;
 mod location;
 mod reply;
 mod runs;
-mod statements;
 
 pub use commands::Answer;
 pub use files::File;
-pub use into::{collate_into, effect_into, one_into, order_into, project_into, show_into};
 pub use location::{Location, locate};
-pub use reply::Outcome;
-pub use runs::{collate_run, effect_run, one_run, order_run, project_names, project_run, show_run};
-pub use statements::statements_into;
+pub use reply::{Outcome, statements_into};
+pub use runs::{
+    collate_into, collate_run, effect_into, effect_run, one_into, one_run, order_into, order_run,
+    project_into, project_names, project_run, show_into, show_run,
+};

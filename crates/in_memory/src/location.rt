@@ -1,8 +1,9 @@
 //! Where the error of a command is, and which error it is, as numbers that are read from its line.
 
 ghost use Rattle.std.specs.Prelude.{◌≡◌, ℕ, Option, option_map};
-ghost use Rattle.in_memory.specs.Locations.{CommandError, IsLineOf, location};
-ghost use Rattle.in_memory.specs.inner.Lines.{code, document, from_space, in_document, in_statement, labelled, lined, number_after, numbered, spot, targeted, without_program};
+ghost use Rattle.in_memory.specs.Prelude.{CommandError, IsLineOf, location, code, document};
+ghost use Rattle.in_memory.specs.Prelude.{from_space, in_document, in_statement, labelled, lined};
+ghost use Rattle.in_memory.specs.Prelude.{number_after, numbered, spot, targeted, without_program};
 
 /// Stands for a number that an error does not have.
 const ABSENT: usize = usize::MAX;

@@ -1,23 +1,11 @@
 -- The texts that are read as maps of Clang were written for maps.
-use Rattle.std.proofs.Common.{◌≡◌, ◌-◌, Bool, true, false, cond, List, [], ◌∷◌, ◌++◌, length, Option, Some, None, Ok, refl, ap, ap₂, sym, subst, ◌∙◌, arith, take, drop, slice_get, codes}
-use Rattle.std.specs.Prelude.{bytes_eq}
-use Rattle.std.proofs.lemmas.Cmp.{nat_list_cmp_total}
-use Rattle.std.proofs.lemmas.List.Kept.{AllPairs-cons}
+use Rattle.std.proofs.Common.{◌≡◌, ℕ, zero, suc, ◌+◌, ◌<◌, get_or, add-one, ◌-◌, Bool, true, false, cond, List, [], ◌∷◌, ◌++◌, length, Option, Some, None, Ok, refl, ap, ap₂, sym, subst, ◌∙◌, arith, take, drop, slice_get, codes}
+use Rattle.module_maps.specs.Prelude.{bytes_eq, map, IsPath, join_with_byte, Precedes, Text, ModuleMapValue, IsModulePair, IsWrittenText, IsRising, behind, pair_in, is_fit, named, nameless, lines_of, read_lines, module_flag, output_flag, file_flag, file_line, clang_result, clang_written, clang_kept, rises_behind, file_entry, file_pair, output_path, clang_form, read_behind, read_provided, clang_read, clang_entries, Pairs, lines_text, MapEntry, AreModules, AreFit, RisesBehind, last-entry, map_with, one-text, read_behind_first}
 use Rattle.std.proofs.lemmas.List.Splits.{join_with_byte-slice_split}
-use Rattle.ninja_text.specs.Paths.{IsPath}
-use Rattle.std.specs.List.{join_with_byte, AllByRecursion}
-use Rattle.std.proofs.lemmas.List.Elements.{All-nil, All-from_recursion}
+use Rattle.std.proofs.lemmas.List.Elements.{All-from_recursion}
 use Rattle.std.proofs.lemmas.List.{take-append-drop}
 use Rattle.std.proofs.lemmas.Slice.Eq.{bytes_eq-Decides}
-use Rattle.ninja_text.specs.Bytes.{Precedes, Text}
-use Rattle.module_maps.specs.Values.{ModuleMapValue}
-use Rattle.module_maps.specs.Maps.{IsModulePair, IsWrittenText, IsRising}
-use Rattle.module_maps.specs.MapLines.{behind, pair_in, is_fit, first_unfit, named, nameless, lines_of, read_lines}
-use Rattle.module_maps.specs.ClangMaps.{module_flag, output_flag, file_flag, file_line, clang_text, clang_result, clang_written, clang_kept, rises_behind, file_entry, file_pair, output_path, clang_form, read_behind, read_provided, clang_read, clang_entries}
-use Rattle.module_maps.specs.map_laws.LineLemmas.{Pairs, lines_text}
-use Rattle.module_maps.specs.declared.module_map.MapEntry.{MapEntry}
-use Rattle.module_maps.specs.map_laws.ClangLemmas.{RisesBehind, last-entry, map_with, one-text, read_behind_first}
-use Rattle.module_maps.proofs.LinesOnly.{pair-is, EachBehind, IsLineOf, lines-only, none-unfit, modules-of, precedes, some-module, path-is}
+use Rattle.module_maps.proofs.LinesOnly.{pair-is, EachBehind, IsLineOf, lines-only, none-unfit, modules-of, precedes, climbs, some-module, path-is}
 
 -- what follows a prefix
 behind-is : (prefix text rest : Text) → behind prefix text ≡ Some rest → text ≡ prefix ++ rest
@@ -67,53 +55,45 @@ next-is entries x y is =
     let behind_x : rises_behind (Some (named x)) y.0 ≡ true = ap (λ o. rises_behind o y.0) (sym (last-entry entries (named x))) ∙ is.2 in
     precedes x.0 y.0 behind_x
 
--- the name comes before all of these
-abbrev PrecedesAll : Text → Pairs → Type 0
-PrecedesAll name xs = AllByRecursion (λ (y : Text × Text). Precedes name y.0) xs
-
-rest-rises : (first x : Text × Text) (entries : List MapEntry) (xs : Pairs) →
-    Precedes first.0 x.0 → EachBehind named IsFile (entries ++ named x ∷ []) xs →
-    PrecedesAll first.0 xs
-rest-rises first x entries [] less each = tt
-rest-rises first x entries (y ∷ ys) less each =
-    let next = nat_list_cmp_total.trans first.0 x.0 y.0 less (next-is entries x y each.0) in
-    (next, rest-rises first y (entries ++ named x ∷ []) ys next each.1)
-
-rises-from : (entries : List MapEntry) (x : Text × Text) (xs : Pairs) →
-    EachBehind named IsFile (entries ++ named x ∷ []) xs → PrecedesAll x.0 xs
-rises-from entries x [] each = tt
-rises-from entries x (y ∷ ys) each =
-    let next = next-is entries x y each.0 in
-    (next, rest-rises x y (entries ++ named x ∷ []) ys next each.1)
+nexts : (entries : List MapEntry) (xs : Pairs) → EachBehind named IsFile entries xs → (k : ℕ) (d : Text × Text) → k + 1 < length xs →
+    Precedes (get_or xs k d).0 (get_or xs (k + 1) d).0
+nexts entries [] each k d less = absurd (omega (arith, less))
+nexts entries (x ∷ []) each k d less = absurd (omega (arith, less))
+nexts entries (x ∷ y ∷ ys) each zero d less = next-is entries x y each.1.0
+nexts entries (x ∷ y ∷ ys) each (suc k) d less =
+    rw add-one (rw add-one at (nexts (entries ++ named x ∷ []) (y ∷ ys) each.1 k d (omega (arith, less))))
 
 rising-only : (entries : List MapEntry) (xs : Pairs) → EachBehind named IsFile entries xs → IsRising xs
-rising-only entries [] each = λ i j d less within. absurd (omega (arith, less, within))
-rising-only entries (x ∷ xs) each =
-    AllPairs-cons (λ (a b : Text × Text). Precedes a.0 b.0) x xs
-    (All-from_recursion (λ (y : Text × Text). Precedes x.0 y.0) xs (rises-from entries x xs each.1))
-    (rising-only (entries ++ named x ∷ []) xs each.1)
+rising-only entries xs each i j d less within =
+    climbs (λ k. (get_or xs k d).0) (length xs) (λ k lt. nexts entries xs each k d lt) i j less within
 
 -- the text is that of a map of which these entries are kept
 abbrev IsWritten : Text → List MapEntry → Type 0
 IsWritten text found = IsWrittenText clang_written clang_kept text found
 
--- lines of needed modules were written for them
-files-only : (lines : List Text) (found : List MapEntry) →
-    read_lines clang_form [] 1 lines ≡ Ok found → IsWritten (join_with_byte 10 lines) found
-files-only lines found e =
-    let w = lines-only clang_form file_line named IsFile file-only [] 1 lines found e in
-    let both = modules-of named IsFile (λ entries x is. (is.0, is.1)) [] w.xs w.each in
-    let m : ModuleMapValue = map_with [] w.xs in
+-- lines of needed modules after provided ones were written for both
+written-with : (provided : Pairs) (text : Text) (n : ℕ) (lines : List Text) (found : List MapEntry) → AreModules provided →
+    ((xs : Pairs) → AreFit xs → AreFit (provided ++ xs)) →
+    ((xs : Pairs) → join_with_byte 10 lines ≡ lines_text file_line xs → clang_result (map_with provided xs) None ≡ Ok text) →
+    read_lines clang_form (map nameless provided) n lines ≡ Ok found → IsWritten text found
+written-with provided text n lines found modules fit same e =
+    let earlier = map nameless provided in
+    let w = lines-only clang_form file_line named IsFile file-only earlier n lines found e in
+    let both = modules-of named IsFile (λ entries x is. (is.0, is.1)) earlier w.xs w.each in
+    let m : ModuleMapValue = map_with provided w.xs in
     record {
       value = m;
       is_map = record {
-        provided = All-nil IsModulePair;
+        provided = All-from_recursion IsModulePair provided modules;
         needed = All-from_recursion IsModulePair w.xs both.0;
-        rising = rising-only [] w.xs w.each;
+        rising = rising-only earlier w.xs w.each;
       };
-      is_written = ap (clang_result m) (none-unfit w.xs both.1) ∙ ap (λ t. Ok t) (sym w.text);
+      is_written = ap (clang_result m) (none-unfit (provided ++ w.xs) (fit w.xs both.1)) ∙ same w.xs w.text;
       is_kept = w.all;
     }
+
+files-only : (lines : List Text) (found : List MapEntry) → read_lines clang_form [] 1 lines ≡ Ok found → IsWritten (join_with_byte 10 lines) found
+files-only lines found = written-with [] (join_with_byte 10 lines) 1 lines found tt (λ xs fits. fits) (λ xs same. ap Ok (sym same))
 
 -- the text of a provided module's path, and of what follows its line
 abbrev provided_text : Text → Text → Text
@@ -122,25 +102,10 @@ provided_text path rest = module_flag ++ 10 ∷ (output_flag ++ path) ++ 10 ∷ 
 provided-only : (path : Text) (lines : List Text) (found : List MapEntry) → IsPath path → is_fit path ≡ true →
     read_lines clang_form (record { name = None; path = path } ∷ []) 3 lines ≡ Ok found →
     IsWritten (provided_text path (join_with_byte 10 lines)) found
-provided-only path lines found is fit e =
-    let x : Text × Text = (codes "A", path) in
-    let earlier : List MapEntry = nameless x ∷ [] in
-    let w = lines-only clang_form file_line named IsFile file-only earlier 3 lines found e in
-    let both = modules-of named IsFile (λ entries x is. (is.0, is.1)) earlier w.xs w.each in
-    let m : ModuleMapValue = map_with (x ∷ []) w.xs in
-    let fits : first_unfit (x ∷ w.xs) ≡ None = none-unfit (x ∷ w.xs) (fit, both.1) in
-    let same : clang_text m ≡ provided_text path (join_with_byte 10 lines) =
-    ap (λ t. module_flag ++ 10 ∷ (output_flag ++ t)) (one-text path (lines_text file_line w.xs)) ∙ ap (provided_text path) (sym w.text) in
-    record {
-      value = m;
-      is_map = record {
-        provided = All-from_recursion IsModulePair (x ∷ []) (some-module path is, tt);
-        needed = All-from_recursion IsModulePair w.xs both.0;
-        rising = rising-only earlier w.xs w.each;
-      };
-      is_written = ap (clang_result m) fits ∙ ap (λ t. Ok t) same;
-      is_kept = w.all;
-    }
+provided-only path lines found is fit =
+    written-with ((codes "A", path) ∷ []) (provided_text path (join_with_byte 10 lines)) 3 lines found (some-module path is, tt) (λ xs fits. (fit, fits))
+    (λ xs same.
+    ap Ok (ap (λ t. module_flag ++ 10 ∷ (output_flag ++ t)) (one-text path (lines_text file_line xs)) ∙ ap (provided_text path) (sym same)))
 
 -- the line is that of this path, which can be in a map
 abbrev IsOutputLine : Text → Text → Type 0

@@ -1,15 +1,9 @@
 -- The texts that are read as maps of GCC were written for maps.
 use Rattle.std.proofs.Common.{◌≡◌, [], List, Option, Some, None, Ok, refl, ap, sym, ◌∙◌, true, map, arith, append-nil}
-use Rattle.ninja_text.specs.Bytes.{Text}
-use Rattle.std.specs.Prelude.{option_map}
+use Rattle.module_maps.specs.Prelude.{Text, option_map, ModuleMapValue, IsModulePair, IsWrittenText, pair_in, is_fit, first_unfit, named, lines_of, gcc_line, gcc_text, gcc_form, gcc_written, gcc_kept, gcc_entries, MapEntry}
 use Rattle.std.proofs.lemmas.List.Elements.{All-nil, All-from_recursion}
 use Rattle.std.proofs.lemmas.List.Splits.{join_with_byte-slice_split}
-use Rattle.module_maps.specs.Values.{ModuleMapValue}
-use Rattle.module_maps.specs.Maps.{IsModulePair, IsWrittenText}
-use Rattle.module_maps.specs.MapLines.{pair_in, is_fit, first_unfit, named, lines_of}
-use Rattle.module_maps.specs.GccMaps.{gcc_line, gcc_text, gcc_form, gcc_written, gcc_kept, gcc_entries}
 use Rattle.module_maps.proofs.LinesOnly.{pair-is, IsLineOf, lines-only, none-unfit, modules-of}
-use Rattle.module_maps.specs.declared.module_map.MapEntry.{MapEntry}
 
 -- a line that is read is that of a module which fits
 abbrev IsGccModule : List MapEntry → Text × Text → Type 0
@@ -41,6 +35,6 @@ gcc-only text found e =
         needed = All-nil IsModulePair;
         rising = λ i j d less within. absurd (omega (arith, less, within));
       };
-      is_written = ap (λ ps. gcc_text ps (first_unfit ps)) pairs ∙ ap (gcc_text w.xs) (none-unfit w.xs both.1) ∙ ap (λ t. Ok t) same;
+      is_written = ap (λ ps. gcc_text ps (first_unfit ps)) pairs ∙ ap (gcc_text w.xs) (none-unfit w.xs both.1) ∙ ap Ok same;
       is_kept = w.all ∙ sym (ap (map named) pairs);
     }

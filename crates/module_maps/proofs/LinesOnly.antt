@@ -1,15 +1,13 @@
 -- The lines that are read were written.
-use Rattle.std.proofs.Common.{◌≡◌, ℕ, ◌+◌, ◌==◌, ◌&&◌, Bool, true, false, cond, List, [], ◌∷◌, ◌++◌, take, drop, get_or, Option, Some, None, Result, Ok, Err, refl, ap, ap₂, subst, sym, ◌∙◌, arith, position, IsTrue, map, append_assoc, append-nil, suc, eqb-true, codes}
-use Rattle.ninja_text.specs.Bytes.{Precedes, Text}
+use Rattle.std.proofs.Common.{◌≡◌, ℕ, ◌+◌, ◌<◌, zero, inl, inr, add-one, ◌==◌, ◌&&◌, Bool, true, false, cond, List, [], ◌∷◌, ◌++◌, drop, get_or, Option, Some, None, Result, Ok, Err, refl, ap, ap₂, subst, sym, ◌∙◌, arith, position, IsTrue, map, append_assoc, append-nil, suc, eqb-true, codes}
+use Rattle.module_maps.specs.Prelude.{Precedes, Text, nat_cmp, is_lt, slice_cmp, Gives, join_with_byte, path_of, is_empty, IsPath, IsModulePair, MapEntry, MapFault, Pairs, AreModules, AreFit, lines_text, read_on, parts_at, pair-of}
 use Rattle.std.specs.Prelude.{⊤, bytes_eq, IsUtf8, IfOk, Vec, option_map}
 use Rattle.std.specs.declared.alloc.Global.{Global}
 use Rattle.std.specs.declared.cmp.Ordering.{Ordering}
 use Rattle.std.specs.declared.cmp.Ordering.TheVariants.{Less, Equal, Greater}
-use Rattle.std.specs.Ordering.{nat_cmp, is_lt}
-use Rattle.std.specs.Cmp.Lexicographic.{slice_cmp}
-use Rattle.ninja_text.specs.Failure.{Gives}
 use Rattle.ninja_text.specs.declared.failure.Failure.{Failure}
-use Rattle.std.specs.List.{join_with_byte}
+use Rattle.std.proofs.lemmas.Bool.{cases_lt}
+use Rattle.std.proofs.lemmas.Cmp.{nat_list_cmp_total}
 use Rattle.std.specs.Str.{is_utf8, IsAscii}
 use Rattle.std.proofs.lemmas.List.Quantifiers.{position-Some}
 use Rattle.std.proofs.Math.Seq.{drop-cons}
@@ -17,15 +15,10 @@ use Rattle.std.proofs.lemmas.List.{take-append-drop}
 use Rattle.std.proofs.lemmas.Slice.Eq.{bytes_eq-Decides}
 use Rattle.std.proofs.lemmas.Str.Ascii.{IsAscii-cons, IsAscii-nil}
 use Rattle.std.proofs.lemmas.Str.{IsUtf8-from_ascii, IsUtf8-from_is_utf8}
-use Rattle.ninja_text.specs.Paths.{path_of, is_empty, IsPath}
 use Rattle.ninja_text.specs.declared.fault.PathFault.{PathFault}
 use Rattle.document_values.specs.Name.{is_name}
-use Rattle.module_maps.specs.Maps.{IsModulePair}
 use Rattle.module_maps.specs.MapLines.{canonical_in, is_fit, first_unfit, name_in, path_in, cut, both, pair_in, LineForm, read_lines}
-use Rattle.module_maps.specs.declared.module_map.MapEntry.{MapEntry}
-use Rattle.module_maps.specs.declared.fault.MapFault.{MapFault}
 use Rattle.module_maps.specs.declared.fault.MapFault.TheVariants.{BadMapLine}
-use Rattle.module_maps.specs.map_laws.LineLemmas.{Pairs, AreModules, AreFit, lines_text, read_on, parts_at, pair-of}
 
 -- a text that is cut is what is before the mark, the mark, and what is after it
 cut-whole : (mark : ℕ) (text first rest : Text) → cut mark text ≡ Some (first, rest) → text ≡ first ++ mark ∷ rest
@@ -35,15 +28,10 @@ cut-whole mark text first rest e = by (position (λ b. b == mark) text) refl e w
   by None is found = absurd cc
   by (Some i) is found =
       let facts = position-Some (λ b. b == mark) text i 0 is in
-      let within = facts.0 in
-      let next : suc i ≡ i + 1 = omega arith in
-      let here = eqb-true (get_or text i 0) mark facts.1 in
       let parts : parts_at text i ≡ (first, rest) = cc in
-      let front : take i text ≡ first = ap (λ (p : Text × Text). p.0) parts in
       let back : drop (i + 1) text ≡ rest = ap (λ (p : Text × Text). p.1) parts in
-      let behind : drop i text ≡ mark ∷ rest =
-      drop-cons text i 0 within ∙ ap₂ (λ (x : ℕ) (t : Text). x ∷ t) here (ap (λ n. drop n text) next ∙ back) in
-      sym (take-append-drop i text) ∙ ap (λ t. take i text ++ t) behind ∙ ap (λ t. t ++ mark ∷ rest) front
+      sym (take-append-drop i text) ∙ ap₂ (λ (a b : Text). a ++ b) (ap (λ (p : Text × Text). p.0) parts)
+      (drop-cons text i 0 facts.0 ∙ ap₂ (λ (x : ℕ) (t : Text). x ∷ t) (eqb-true (get_or text i 0) mark facts.1) (rw add-one at back))
 
 -- the name is the text, which is one
 abbrev IsNameOf : Text → Text → Type 0
@@ -71,7 +59,7 @@ path-is text path e = by (is_fit text) (path_of text) refl refl e where
       IsPathOf text path
   at fit p is true same found =
       let e : text ≡ path = cc in
-      (sym e, is ∙ ap (λ t. Ok t) ((bytes_eq-Decides p text).0 same), fit)
+      (sym e, is ∙ ap Ok ((bytes_eq-Decides p text).0 same), fit)
   at fit p is false same found = absurd cc
 
   by : (f : Bool) (r : Result Text PathFault) → is_fit text ≡ f → path_of text ≡ r →
@@ -137,51 +125,39 @@ empty-is : (xs : Text) → is_empty xs ≡ true → xs ≡ []
 empty-is [] e = refl
 empty-is (x ∷ xs) e = absurd cc
 
--- nothing was written if no line is read
-none-written : {X : Type 0} (line : X → Text) (entry : X → MapEntry)
-    (Q : List MapEntry → X → Type 0) (entries : List MapEntry) (lines : List Text)
-    (found : List MapEntry) → join_with_byte 10 lines ≡ [] → entries ≡ found →
-    AreWritten line entry Q entries lines found
-none-written line entry Q entries lines found empty same =
-    record { xs = []; text = empty; all = sym same ∙ sym (append-nil entries); each = tt }
+module _ {X : Type 0} (form : LineForm) (line : X → Text) (entry : X → MapEntry) (Q : List MapEntry → X → Type 0)
+    (back : (entries : List MapEntry) (text : Text) (e : MapEntry) → form entries text ≡ Some e → IsLineOf line entry Q entries text e) where
+  -- nothing was written if no line is read
+  none-written : (entries : List MapEntry) (lines : List Text) (found : List MapEntry) → join_with_byte 10 lines ≡ [] → entries ≡ found →
+      AreWritten line entry Q entries lines found
+  none-written entries lines found empty same = record { xs = []; text = empty; all = sym same ∙ sym (append-nil entries); each = tt }
 
-pub lines-only : {X : Type 0} (form : LineForm) (line : X → Text) (entry : X → MapEntry)
-    (Q : List MapEntry → X → Type 0) →
-    ((entries : List MapEntry) (text : Text) (e : MapEntry) →
-    form entries text ≡ Some e → IsLineOf line entry Q entries text e) →
-    (entries : List MapEntry) (n : ℕ) (lines : List Text) (found : List MapEntry) →
-    read_lines form entries n lines ≡ Ok found → AreWritten line entry Q entries lines found
-lines-only form line entry Q back entries n [] found e =
-    let same : entries ≡ found = cc in
-    none-written line entry Q entries [] found refl same
-lines-only {X} form line entry Q back entries n (last ∷ []) found e =
-    by (is_empty last) refl e where
-      by : (t : Bool) → is_empty last ≡ t → cond t (Ok entries) (Err (BadMapLine n)) ≡ Ok found →
-          AreWritten line entry Q entries (last ∷ []) found
-      by true is read =
-          let same : entries ≡ found = cc in
-          none-written line entry Q entries (last ∷ []) found (empty-is last is) same
-      by false is read = absurd cc
-lines-only {X} form line entry Q back entries n (first ∷ next ∷ lines) found e =
-    by (form entries first) refl e
-    (λ z. lines-only form line entry Q back (entries ++ z ∷ []) (n + 1) (next ∷ lines) found) where
-      by : (o : Option MapEntry) → form entries first ≡ o → read_on form entries n (next ∷ lines) o ≡ Ok found →
-          ((z : MapEntry) → read_lines form (entries ++ z ∷ []) (n + 1) (next ∷ lines) ≡ Ok found →
-          AreWritten line entry Q (entries ++ z ∷ []) (next ∷ lines) found) →
-          AreWritten line entry Q entries (first ∷ next ∷ lines) found
-      by None is read more = absurd cc
-      by (Some z) is read more =
-          let one = back entries first z is in
-          let rest = more z read in
-          record {
-            xs = one.0 ∷ rest.xs;
-            text = ap₂ (λ (a b : Text). a ++ 10 ∷ b) one.1 rest.text ∙ sym (append_assoc (line one.0) (10 ∷ []) (lines_text line rest.xs));
-            all = rest.all ∙ append_assoc entries (z ∷ []) (map entry rest.xs) ∙ ap (λ y. entries ++ y ∷ map entry rest.xs) one.2;
-            each = (
-              one.3,
-              subst (λ y. EachBehind entry Q (entries ++ y ∷ []) rest.xs) one.2 rest.each,
-            );
-          }
+  pub lines-only : (entries : List MapEntry) (n : ℕ) (lines : List Text) (found : List MapEntry) →
+      read_lines form entries n lines ≡ Ok found → AreWritten line entry Q entries lines found
+  lines-only entries n [] found e = none-written entries [] found refl cc
+  lines-only entries n (last ∷ []) found e = by (is_empty last) refl e where
+    by : (t : Bool) → is_empty last ≡ t → cond t (Ok entries) (Err (BadMapLine n)) ≡ Ok found → AreWritten line entry Q entries (last ∷ []) found
+    by true is read = none-written entries (last ∷ []) found (empty-is last is) cc
+    by false is read = absurd cc
+  lines-only entries n (first ∷ next ∷ lines) found e =
+      by (form entries first) refl e (λ z. lines-only (entries ++ z ∷ []) (n + 1) (next ∷ lines) found) where
+        by : (o : Option MapEntry) → form entries first ≡ o → read_on form entries n (next ∷ lines) o ≡ Ok found →
+            ((z : MapEntry) → read_lines form (entries ++ z ∷ []) (n + 1) (next ∷ lines) ≡ Ok found →
+            AreWritten line entry Q (entries ++ z ∷ []) (next ∷ lines) found) →
+            AreWritten line entry Q entries (first ∷ next ∷ lines) found
+        by None is read more = absurd cc
+        by (Some z) is read more =
+            let one = back entries first z is in
+            let rest = more z read in
+            record {
+              xs = one.0 ∷ rest.xs;
+              text = ap₂ (λ (a b : Text). a ++ 10 ∷ b) one.1 rest.text ∙ sym (append_assoc (line one.0) (10 ∷ []) (lines_text line rest.xs));
+              all = rest.all ∙ append_assoc entries (z ∷ []) (map entry rest.xs) ∙ ap (λ y. entries ++ y ∷ map entry rest.xs) one.2;
+              each = (
+                one.3,
+                subst (λ y. EachBehind entry Q (entries ++ y ∷ []) rest.xs) one.2 rest.each,
+              );
+            }
 
 pub none-unfit : (pairs : Pairs) → AreFit pairs → first_unfit pairs ≡ None
 none-unfit [] fits = refl
@@ -210,3 +186,13 @@ precedes a b e = by (slice_cmp nat_cmp a b) e where
   by Less e = refl
   by Equal e = absurd cc
   by Greater e = absurd cc
+
+-- names of which each comes before the next one rise
+pub climbs : (name : ℕ → Text) (end : ℕ) → ((k : ℕ) → k + 1 < end → Precedes (name k) (name (k + 1))) → (i j : ℕ) → i < j → j < end → Precedes (name i) (name j)
+climbs name end next i zero less within = absurd (omega arith)
+climbs name end next i (suc j) less within =
+    let step : Precedes (name j) (name (suc j)) = rw add-one at (next j (omega arith)) in
+    elim (cases_lt i j) [
+      | inl before ↦ nat_list_cmp_total.trans (name i) (name j) (name (suc j)) (climbs name end next i j before (omega arith)) step
+      | inr past ↦ let same : i ≡ j = omega arith in rw same step
+    ]

@@ -1,12 +1,17 @@
 -- Loops that write a text for each element of a list.
 use Rattle.std.proofs.Common.{◌≡◌, ℕ, ◌+◌, ◌<◌, List, [], ◌∷◌, ◌++◌, length, take, map, ◌≤◌, get_or, ap, sym, ◌∙◌, append_assoc, append-nil, Result, Ok, Err}
-use Rattle.std.specs.Prelude.{OnErr}
-use Rattle.ninja_text.specs.Bytes.{Text}
-use Rattle.std.specs.List.{flat_map}
+use Rattle.module_maps.specs.Prelude.{OnErr, Bor, Text, flat_map}
 use Rattle.std.proofs.lemmas.List.{take_more, take_all, take-map, length-map}
 use Rattle.std.proofs.lemmas.List.Folds.{flat_map-map}
 use Rattle.std.proofs.lemmas.Simd.{map-map}
 use Rattle.std.proofs.lemmas.Grind.{flat_map-append}
+
+-- a borrowed name and path, and what is seen of them
+abbrev pub Lent : Type 0
+Lent = Bor Text × Bor Text
+
+abbrev pub seen : Lent → Text × Text
+seen pair = (pair.0.now, pair.1.now)
 
 -- one more element was written
 pub one-more : {X : Type 0} (f : X → Text) (start old new : Text) (xs : List X) (i : ℕ) (x : X) → i < length xs → x ≡ get_or xs i x →

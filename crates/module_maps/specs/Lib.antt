@@ -4,3 +4,4 @@ pub mod MapLines
 pub mod GccMaps
 pub mod ClangMaps
 pub mod map_laws
+pub mod Prelude

@@ -16,6 +16,12 @@ use Rattle.module_maps.specs.declared.fault.UnwritableMap.TheVariants as unwrita
 abbrev pub lent_pairs : List (Bor Name × Bor PathText) → List (Name × PathText)
 lent_pairs pairs = map (λ pair. (pair.0.now, pair.1.now)) pairs
 
+-- the map of these borrowed names and paths
+abbrev pub lent_map : List (Bor Name × Bor PathText) → List (Bor Name × Bor PathText) →
+    ModuleMapValue
+lent_map provided needed =
+    record { provided = lent_pairs provided; needed = lent_pairs needed }
+
 -- all pairs of a map, the provided ones first
 abbrev pub pairs_of : ModuleMapValue → List (Name × PathText)
 pairs_of m = m.provided ++ m.needed

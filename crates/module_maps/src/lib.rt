@@ -22,15 +22,11 @@
 //! `fits`, `keeps` and `read`, which are the same for each style.
 #![tactic(auto)]
 
-mod clang;
 mod fault;
-mod gcc;
 pub mod map_lines;
-mod map_style;
 mod module_map;
+mod styles;
 
-pub use clang::Clang;
 pub use fault::{MapFault, UnwritableMap};
-pub use gcc::Gcc;
-pub use map_style::MapStyle;
-pub use module_map::{MapEntry, ModuleMap};
+pub use module_map::{MapEntry, MapStyle, ModuleMap};
+pub use styles::{Clang, Gcc};

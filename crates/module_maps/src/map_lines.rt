@@ -1,9 +1,11 @@
 //! Helpers for styles of module maps: which paths a map can have, and how its lines are read.
-ghost use Rattle.std.specs.Prelude.{◌≡◌, ◌<◌, ◌≤◌, ◌==◌, ◌++◌, [], ◌∷◌, length, map, Some, None, IfOk, OnOk, OnErr, IfSome, MatchOption, option_copied, position};
-ghost use Rattle.std.specs.List.{flat_map};
-ghost use Rattle.ninja_text.specs.Failure.{Gives};
-ghost use Rattle.module_maps.specs.Maps.{pairs_of, lent_pairs};
-ghost use Rattle.module_maps.specs.MapLines.{LineForm, AppendsFirst, is_map_byte, is_fit, first_unfit, named, nameless, ended_line, lines_of, cut, path_in, pair_in, read_lines};
+
+ghost use Rattle.std.specs.Prelude.{◌≡◌, ◌<◌, ◌≤◌, ◌==◌, ◌++◌, ◌∷◌, [], length, map, flat_map};
+ghost use Rattle.module_maps.specs.Prelude.{position, Some, None, option_copied, IfOk, OnOk, OnErr};
+ghost use Rattle.module_maps.specs.Prelude.{IfSome, MatchOption, Gives, pairs_of, lent_pairs};
+ghost use Rattle.module_maps.specs.Prelude.{LineForm, AppendsFirst, is_map_byte, first_unfit};
+ghost use Rattle.module_maps.specs.Prelude.{is_fit, named, nameless, ended_line, lines_of, cut};
+ghost use Rattle.module_maps.specs.Prelude.{path_in, pair_in, read_lines};
 
 use crate::fault::MapFault;
 use crate::module_map::{MapEntry, ModuleMap};
@@ -12,22 +14,17 @@ use ninja_text::{Failure, Path};
 use std::alloc::{AllocError, Global};
 use std::str;
 
+/// The entry of a line, `None` if the line does not have the form, or an error if an allocation
+/// fails.
+pub type LineEntry = Result<Option<MapEntry>, AllocError>;
+
 /// The form of a style's lines.
 pub trait LineForm {
     /// How a line without its end is read, given the entries of the lines before it.
     ghost form: { Self → LineForm };
 
-    /// Returns the entry of a line, or `None` if the line does not have the form.
-    ///
-    /// # Errors
-    ///
-    /// Returns an error if an allocation fails.
-    fn entry(
-        &self,
-        alloc: Global,
-        entries: &[MapEntry],
-        line: &[u8],
-    ) -> Result<Option<MapEntry>, AllocError>
+    /// Returns the entry of a line.
+    fn entry(&self, alloc: Global, entries: &[MapEntry], line: &[u8]) -> LineEntry
         ensures { IfOk result (λ entry. entry ≡ form self.now entries.now line.now) };
 }
 
@@ -82,10 +79,8 @@ fn cut(text: &[u8], mark: u8) -> Option<(&[u8], &[u8])>
         (λ c. cut mark text.now ≡ Some (c.0.now, c.1.now)) }
     ensures less { IfSome result (λ c. length c.1.now < length text.now) }
 {
-    match index_of(text, mark) {
-        Some(index) => Some((&text[..index], &text[index + 1..])),
-        None => None,
-    }
+    let index = index_of(text, mark)?;
+    Some((&text[..index], &text[index + 1..]))
 }
 
 fn index_of(text: &[u8], mark: u8) -> Option<usize>
@@ -96,11 +91,7 @@ fn index_of(text: &[u8], mark: u8) -> Option<usize>
 }
 
 /// Returns the module in a text: a name, the first byte that is the mark, and a path. Returns
-/// `None` if the text does not have this form.
-///
-/// # Errors
-///
-/// Returns an error if an allocation fails.
+/// `None` if the text does not have this form, or an error if an allocation fails.
 pub fn pair_in(alloc: Global, mark: u8, text: &[u8]) -> Result<Option<(Name, Path)>, AllocError>
     ensures { IfOk result (λ pair. pair ≡ pair_in mark text.now) }
 {
@@ -119,12 +110,8 @@ pub fn pair_in(alloc: Global, mark: u8, text: &[u8]) -> Result<Option<(Name, Pat
     }
 }
 
-/// Returns the path in a text. Returns `None` if the text is not canonical or has a byte that needs
-/// quotes.
-///
-/// # Errors
-///
-/// Returns an error if an allocation fails.
+/// Returns the path in a text, `None` if the text is not canonical or has a byte that needs quotes,
+/// or an error if an allocation fails.
 #[tactic(auto, unfolding(crate::specs::MapLines::path_in))]
 pub fn path_in(alloc: Global, text: &[u8]) -> Result<Option<Path>, AllocError>
     ensures { IfOk result (λ path. path ≡ path_in text.now) }
@@ -199,11 +186,8 @@ pub(crate) fn push_lines(
     Ok(())
 }
 
-/// Appends the entries of modules, with their names.
-///
-/// # Errors
-///
-/// Returns an error if an allocation fails. The entries of the first modules are appended then.
+/// Appends the entries of modules, with their names. Returns an error if an allocation fails: the
+/// entries of the first modules are appended then.
 pub fn push_named(
     alloc: Global,
     entries: &mut Vec<MapEntry>,
@@ -222,11 +206,8 @@ pub fn push_named(
     Ok(())
 }
 
-/// Appends the entries of modules, without their names.
-///
-/// # Errors
-///
-/// Returns an error if an allocation fails. The entries of the first modules are appended then.
+/// Appends the entries of modules, without their names. Returns an error if an allocation fails:
+/// the entries of the first modules are appended then.
 pub fn push_nameless(
     alloc: Global,
     entries: &mut Vec<MapEntry>,

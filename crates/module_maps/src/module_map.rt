@@ -1,10 +1,13 @@
-//! Module maps.
-ghost use Rattle.std.specs.Prelude.{◌≡◌, ◌↔◌, IsSome, IfSome, IsTrue};
-ghost use Rattle.std.specs.List.{All};
-ghost use Rattle.module_maps.specs.Maps.{IsModuleMap, IsModulePair, IsRising, lent_pairs};
+//! Module maps, and styles of them.
 
+ghost use Rattle.std.specs.Prelude.{◌≡◌, ◌↔◌, All, IsTrue, IsOk, IfOk, IsSome, IfSome};
+ghost use Rattle.module_maps.specs.Prelude.{lent_pairs, lent_map, IsModulePair, IsModuleMap};
+ghost use Rattle.module_maps.specs.Prelude.{IsRising, Gives, MapEntry, MapFault};
+
+use crate::fault::MapFault;
 use document_values::Name;
-use ninja_text::Path;
+use ninja_text::{Failure, Path};
+use std::alloc::{AllocError, Global};
 use std::marker::Model;
 
 /// A module that was read from a map: its path, and its name if the style keeps it.
@@ -25,20 +28,13 @@ pub struct ModuleMap<'m> {
 }
 
 impl<'m> Model for ModuleMap<'m> {
-    ghost use Rattle.module_maps.specs.Values.{ModuleMapValue};
-    ghost use Rattle.module_maps.specs.Maps.{IsModuleMap, lent_pairs};
+    ghost use Rattle.module_maps.specs.Prelude.{ModuleMapValue, IsModuleMap, lent_map};
 
     ghost Value = { ModuleMapValue };
 
-    ghost view = { λ m. record {
-      provided = lent_pairs m.provided.items;
-      needed = lent_pairs m.needed.items;
-    } };
+    ghost view = { λ m. lent_map m.provided.items m.needed.items };
 
-    ghost invariant = { λ m. IsModuleMap (record {
-      provided = lent_pairs m.provided.items;
-      needed = lent_pairs m.needed.items;
-    }) };
+    ghost invariant = { λ m. IsModuleMap (lent_map m.provided.items m.needed.items) };
 }
 
 impl<'m> ModuleMap<'m> {
@@ -48,10 +44,8 @@ impl<'m> ModuleMap<'m> {
         provided: Vec<(&'m Name, &'m Path)>,
         needed: Vec<(&'m Name, &'m Path)>,
     ) -> Option<ModuleMap<'m>>
-        ensures map { IfSome result (λ map. map ≡ record {
-          provided = lent_pairs provided.entry.items;
-          needed = lent_pairs needed.entry.items;
-        }) }
+        ensures map { IfSome result
+            (λ map. map ≡ lent_map provided.entry.items needed.entry.items) }
         ensures rising { IsSome result ↔ IsRising (lent_pairs needed.entry.items) }
         ensures is_map { IfSome result IsModuleMap }
     {
@@ -62,15 +56,9 @@ impl<'m> ModuleMap<'m> {
     }
 
     /// Returns the map of these modules. The names of the needed modules have to rise.
-    pub fn of_rising(
-        provided: Vec<(&'m Name, &'m Path)>,
-        needed: Vec<(&'m Name, &'m Path)>,
-    ) -> ModuleMap<'m>
+    pub fn of_rising(provided: Vec<(&'m Name, &'m Path)>, needed: Vec<(&'m Name, &'m Path)>) -> Self
         requires { IsRising (lent_pairs needed.items) }
-        ensures map { result ≡ record {
-          provided = lent_pairs provided.entry.items;
-          needed = lent_pairs needed.entry.items;
-        } }
+        ensures map { result ≡ lent_map provided.entry.items needed.entry.items }
         ensures is_map { IsModuleMap result }
     {
         let len = bytes_in(&provided).saturating_add(bytes_in(&needed));
@@ -97,13 +85,63 @@ impl<'m> ModuleMap<'m> {
         &self.needed
     }
 
-    /// Returns the number of bytes of all names and paths, with these numbers of bytes besides for
-    /// each provided and each needed module.
-    pub(crate) fn text_len(&self, for_provided: usize, for_needed: usize) -> usize {
-        let provided = self.provided.len().saturating_mul(for_provided);
-        let needed = self.needed.len().saturating_mul(for_needed);
+    /// Returns the number of bytes of all names and paths, and of these texts for each provided and
+    /// each needed module.
+    pub(crate) fn text_len(&self, for_provided: &[u8], for_needed: &[u8]) -> usize {
+        let provided = self.provided.len().saturating_mul(for_provided.len());
+        let needed = self.needed.len().saturating_mul(for_needed.len());
         self.len.saturating_add(provided).saturating_add(needed)
     }
+}
+
+/// A style of module maps: how a text tells a compiler the files of modules.
+pub trait MapStyle {
+    ghost use Rattle.module_maps.specs.Prelude.{List, Result, Text, ModuleMapValue};
+    ghost use Rattle.module_maps.specs.Prelude.{FaultsAreOfMaps, ReadsWritten, KeepsPairs};
+
+    /// The text that the style writes for a map, or why it cannot.
+    ghost written: { Self → ModuleMapValue → Result Text MapFault };
+
+    /// What a text of the style keeps of a map.
+    ghost kept: { Self → ModuleMapValue → List MapEntry };
+
+    /// The entries that the style reads in a text, or the error of its first bad line.
+    ghost entries: { Self → Text → Result (List MapEntry) MapFault };
+
+    /// Returns whether the style can write the map.
+    fn fits(&self, map: &ModuleMap<'_>) -> bool
+        ensures { IsTrue result ↔ IsOk (written self.now map.now) };
+
+    /// Returns what is left of the map after it was written and read, or an error if an allocation
+    /// fails.
+    fn keeps(&self, alloc: Global, map: &ModuleMap<'_>) -> Result<Vec<MapEntry>, AllocError>
+        ensures { IfOk result (λ found. found.items ≡ kept self.now map.now) };
+
+    /// Returns the text of the map.
+    ///
+    /// # Errors
+    ///
+    /// Returns K1 or K2 if and only if the map does not fit, or [`Failure::Memory`] if an
+    /// allocation fails.
+    fn write(&self, alloc: Global, map: &ModuleMap<'_>) -> Result<Vec<u8>, Failure<MapFault>>
+        ensures { Gives (λ text. text.items) result (written self.now map.now) };
+
+    /// Returns the entries of a text.
+    ///
+    /// # Errors
+    ///
+    /// Returns the error of the first bad line, or [`Failure::Memory`] if an allocation fails.
+    fn read(&self, alloc: Global, text: &[u8]) -> Result<Vec<MapEntry>, Failure<MapFault>>
+        ensures { Gives (λ found. found.items) result (entries self.now text.now) };
+
+    /// A map that is not written fails with K1 or K2.
+    ghost faults_of_maps: { (s : Self) → FaultsAreOfMaps (written s) };
+
+    /// The text written for a map is read as what the style keeps of the map.
+    ghost reads_back: { (s : Self) → ReadsWritten (written s) (kept s) (entries s) };
+
+    /// What the style keeps are the map's paths in order, and each name is that of its pair.
+    ghost keeps_pairs: { (s : Self) → KeepsPairs (kept s) };
 }
 
 /// Returns the number of bytes of the names and paths. Each of them has been looked at then, so it

@@ -1,36 +1,20 @@
 -- A table without a fault is sound.
 use Rattle.std.proofs.Common.{◌≡◌, ℕ, zero, suc, ◌<◌, ◌^◌, ◌⊎◌, false, List, [], ◌∷◌, Vec, length, map, Some, refl, ap, ap₂, subst, sym, ◌∙◌, inl, inr, ⊎_elim, arith, slice_get, Contains, bytes_eq}
 use denote.RawPtr.{null_ptr}
-use Rattle.std.specs.declared.alloc.Global.{Global}
-use Rattle.std.specs.List.{filter_map, cons_option}
-use Rattle.std.specs.Cmp.Lexicographic.{bytes_decides}
+use Rattle.module_table.specs.Prelude.{Global, filter_map, cons_option, bytes_decides, RuleValue, ModuleValue, NodeNeeds, IsOrderable, TableValue, Provides, Requires, InfoRequires, IsProvided, IsInfoProvided, DependsOn, Provision, provisions, InfoRequirement, info_requirements, IsFirst, IsFirstRepetition, AllDiffer, Claim, claims, Collides, IsUnknown, IsInfoUnknown, Disagrees, HasPrivate, IsPrivateName, IsPrivateElsewhere, Requiring, IsFirstRequired, IsUnprovided, IsSound, HasNoFault, names_of, IsAbsent, IsNamed, IsNotByInfo, index_in, IsNumbered, maker_at, Maker, Object, Info, ObjectTwice, InfoTwice, ProvidedTwice, BmiTwice, ModuleUnknown, InfoUnknown, InfoDisagrees, ImportCycle, ModulePrivate, PrivateUnknown, Name}
 use Rattle.std.proofs.lemmas.Bool.{cases_Bool, cases_eq, true≢false}
 use Rattle.std.proofs.lemmas.Option.{slice_get_within}
-use Rattle.document_values.specs.Rule.{RuleValue}
-use Rattle.document_values.specs.Info.{ModuleValue}
-use Rattle.dep_order.specs.Needs.{NodeNeeds, IsOrderable}
 use Rattle.dep_order.specs.Cycles.{IsCycle, IsLeastCycle}
 use Rattle.dep_order.proofs.ForCallers.{AreWithin, orderable_same, cycle_same, orderable_or_cycle, least_is_short, no_cycle_without_least}
-use Rattle.module_table.specs.TableValue.{TableValue}
-use Rattle.module_table.specs.Modules.{Provides, Requires, InfoRequires, IsProvided, IsInfoProvided, DependsOn, Provision, provisions, InfoRequirement, info_requirements}
-use Rattle.ninja_text.specs.Firsts.{IsFirst, IsFirstRepetition, AllDiffer}
-use Rattle.module_table.specs.Faults.{IsFault, Claim, claims, Collides, IsUnknown, IsInfoUnknown, Disagrees, HasPrivate, IsPrivateName, IsPrivateElsewhere, Requiring, IsFirstRequired, IsUnprovided}
-use Rattle.module_table.specs.Sound.{IsSound, PrivateAreProvided}
-use Rattle.module_table.specs.Outcomes.{HasNoFault, FaultlessIsSound}
-use Rattle.module_table.specs.inner.Views.{names_of, IsAbsent}
-use Rattle.module_table.specs.inner.Finds.{IsNamed, IsNotByInfo}
-use Rattle.module_table.specs.inner.Graph.{index_in}
-use Rattle.module_table.specs.inner.Numbered.{IsNumbered, maker_at}
-use Rattle.module_table.specs.declared.fault.Maker.{Maker}
-use Rattle.module_table.specs.declared.fault.Maker.TheVariants.{Object, Info}
-use Rattle.module_table.specs.declared.fault.TableFault.TheVariants.{ObjectTwice, InfoTwice, ProvidedTwice, BmiTwice, ModuleUnknown, InfoUnknown, InfoDisagrees, ImportCycle, ModulePrivate, PrivateUnknown}
+use Rattle.module_table.specs.Faults.{IsFault}
+use Rattle.module_table.specs.Sound.{PrivateAreProvided}
+use Rattle.module_table.specs.Outcomes.{FaultlessIsSound}
 use Rattle.module_table.proofs.Places.{neither_less, requirement_of, requirement, agreed}
 use Rattle.ninja_text.proofs.ForCallers.{contained, placed, to_map, from_map}
 use Rattle.module_table.proofs.IndexRows.{number_known, as_many, to_depends, from_depends, are_nodes}
 use Rattle.module_table.proofs.Found.{absent_unknown, provided_numbered, nothing_named, object_not_info, info_not_object}
 use Rattle.module_table.proofs.Passing.{from_info, unknown_by, unprovided_by, provided_by}
 use Rattle.module_table.proofs.Words.{name_of, path_of, target_of, names_wanted, At}
-use Rattle.ninja_text.specs.Bytes.{Name}
 use Rattle.module_table.proofs.Lists.{differ_by}
 
 -- ---- if nothing is the first there is nothing

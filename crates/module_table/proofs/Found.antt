@@ -1,31 +1,16 @@
 -- What the checks report.
-use Rattle.std.proofs.Common.{◌≡◌, ℕ, suc, ◌+◌, ◌<◌, ◌≤◌, true, false, List, [], ◌∷◌, ◌++◌, length, map, take, Some, refl, ap, subst, sym, ◌∙◌, ⊎_elim, arith, slice_get, Box, Global, zero, Bool, not, cond, ◌||◌, Option, None, find, MatchBool, bytes_eq, true≢false}
-use Rattle.std.specs.List.{enumerate_from}
+use Rattle.std.proofs.Common.{◌≡◌, ℕ, suc, ◌+◌, ◌<◌, ◌≤◌, true, false, List, [], ◌∷◌, ◌++◌, length, map, take, Some, refl, ap, subst, sym, ◌∙◌, ⊎_elim, arith, slice_get, Box, Global, zero, Bool, cond, Option, None, find, bytes_eq, true≢false}
+use Rattle.std.proofs.lemmas.Bool.{eq-eqb, eqb-true}
+use Rattle.module_table.specs.Prelude.{Maker, is_info_at, enumerate_from, RuleValue, ForFault, Failure, TableValue, IsProvided, IsProvidedBy, Provision, provisions, InfoRequirement, IsFirst, AllDiffer, RepeatsFirst, Claim, claims, claims_of, own_claims, IsUnknown, names_of, files_of, IsMadeTwice, IsAbsent, Reports, Object, Info, TableFault, ModuleUnknown, bytes_decides, found, IsNamed, IsNotByInfo, IsPublic, IsNotByObject, AcceptsAll, Name}
 use Rattle.std.proofs.lemmas.List.{map-append, length-map}
 use Rattle.std.proofs.lemmas.Option.{slice_get_within}
-use Rattle.document_values.specs.Rule.{RuleValue}
-use Rattle.ninja_text.specs.Failure.{ForFault}
-use Rattle.ninja_text.specs.declared.failure.Failure.{Failure}
 use Rattle.ninja_text.specs.declared.failure.Failure.TheVariants.{Memory, Fault}
-use Rattle.module_table.specs.TableValue.{TableValue}
-use Rattle.module_table.specs.Modules.{IsProvided, IsProvidedBy, Provision, provisions, InfoRequirement}
-use Rattle.ninja_text.specs.Firsts.{IsFirst, AllDiffer, RepeatsFirst}
-use Rattle.module_table.specs.Faults.{Claim, claims, claims_of, own_claims, module_claims, IsUnknown}
-use Rattle.module_table.specs.inner.Views.{names_of, files_of, IsProvidedTwice, IsMadeTwice, IsAbsent}
-use Rattle.module_table.specs.inner.Reported.{Reports}
-use Rattle.module_table.specs.declared.fault.Maker.TheVariants.{Object, Info}
-use Rattle.module_table.specs.declared.fault.TableFault.{TableFault}
-use Rattle.module_table.specs.declared.fault.TableFault.TheVariants.{ModuleUnknown}
+use Rattle.module_table.specs.Faults.{module_claims}
+use Rattle.module_table.specs.inner.Views.{IsProvidedTwice}
 use Rattle.module_table.proofs.Places.{either, numbered, object_provision, info_provision, from_provisions, neither_less, from_find, map_map}
 use Rattle.module_table.proofs.Lists.{repetition_of, one_there, same_reads, one_value}
-use Rattle.ninja_text.proofs.ForCallers.{in_take, same_some, to_map, in_first, in_second, from_map, in_append}
-use Rattle.std.specs.Cmp.Lexicographic.{bytes_decides}
-use Rattle.std.proofs.lemmas.Bool.{eq-eqb, eqb-true, not-true, not-false}
-use Rattle.module_table.specs.inner.Finds.{found, is_info, is_object, is_info_at, some_and, none_or, is_by_info, agrees, is_allowed, is_public_at, is_by_object, IsNamed, IsByInfo, IsNotByInfo, Agrees, Differs, IsAllowed, IsNotAllowed, IsPublic, IsPrivate, IsByObject, IsNotByObject, RefusesAt, AcceptsAll}
-use Rattle.module_table.specs.inner.Found.{with_module}
-use Rattle.module_table.specs.declared.fault.Maker.{Maker}
+use Rattle.ninja_text.proofs.ForCallers.{in_take, to_map, in_first, in_second, from_map, in_append}
 use Rattle.module_table.proofs.Words.{name_of, maker_of, path_of, claimed, claimant, privacy_of, own_claim_of, module_claim, names_wanted, At}
-use Rattle.ninja_text.specs.Bytes.{Name}
 use Rattle.std.proofs.lemmas.List.FromFn.{length-enumerate_from}
 
 pub for_fault : {P Q : Box TableFault Global → Type 0} (failure : Failure (Box TableFault Global)) → ((fault : Box TableFault Global) → P fault → Q fault) →
@@ -275,132 +260,23 @@ module _ (ps : List Provision) (differ : AllDiffer (names_of ps)) (k : ℕ) (p :
       let maker : Info info ≡ Object h.2 = sym is ∙ ap maker_of same ∙ h.4 in
       cc
 
--- what holds of the module that is found, or of none, decides what holds of all of that name
-module _ (ps : List Provision) (differ : AllDiffer (names_of ps)) (name : Name) (test : Provision → Bool) where
-  abbrev Holds : Type 0
-  Holds = (k : ℕ) × (p : Provision) × IsNamed ps name k p × (test p ≡ true)
-
-  abbrev Fails : Type 0
-  Fails = (k : ℕ) × (p : Provision) × IsNamed ps name k p × (test p ≡ false)
-
-  some_decides : MatchBool (some_and test (found ps name)) Holds (Holds → ⊥)
-  some_decides = by (found ps name) refl
-    where
-      other : (q : Provision) → found ps name ≡ Some q → (b : Bool) → test q ≡ b → MatchBool b Holds (Holds → ⊥)
-      other q e true t = let f = found_named ps name q e in (f.0, q, f.1, t)
-      other q e false t = λ h. let f = found_named ps name q e in true≢false (sym h.3 ∙ ap test (one_module ps name differ h.0 f.0 h.2 f.1) ∙ t)
-
-      by : (o : Option Provision) → found ps name ≡ o → MatchBool (some_and test o) Holds (Holds → ⊥)
-      by None e = λ h. none_named ps name e h.0 h.1 h.2
-      by (Some q) e = other q e (test q) refl
-
-  abbrev All : Type 0
-  All = (k : ℕ) (p : Provision) → IsNamed ps name k p → test p ≡ true
-
-  all_decides : MatchBool (none_or test (found ps name)) All Fails
-  all_decides = by (found ps name) refl
-    where
-      other : (q : Provision) → found ps name ≡ Some q → (b : Bool) → test q ≡ b → MatchBool b All Fails
-      other q e true t = λ k p named. let f = found_named ps name q e in ap test (one_module ps name differ k f.0 named f.1) ∙ t
-      other q e false t = let f = found_named ps name q e in (f.0, q, f.1, t)
-
-      by : (o : Option Provision) → found ps name ≡ o → MatchBool (none_or test o) All Fails
-      by None e = λ k p named. absurd (none_named ps name e k p named)
-      by (Some q) e = other q e (test q) refl
-
-turned : (b : Bool) (P Q R S : Type 0) → (P → R) → (Q → S) → MatchBool b P Q → MatchBool b R S
-turned true P Q R S f g h = f h
-turned false P Q R S f g h = g h
-
-is_info_by : (m : Maker) → is_info m ≡ true → (info : ℕ) × (m ≡ Info info)
-is_info_by (Object object) e = absurd (true≢false (sym e))
-is_info_by (Info info) e = (info, refl)
-
-is_object_by : (m : Maker) → is_object m ≡ true → (object : ℕ) × (m ≡ Object object)
-is_object_by (Object object) e = (object, refl)
-is_object_by (Info info) e = absurd (true≢false (sym e))
-
-info_at_by : (m : Maker) (index : ℕ) → is_info_at m index ≡ true → m ≡ Info index
+pub info_at_by : (m : Maker) (index : ℕ) → is_info_at m index ≡ true → m ≡ Info index
 info_at_by (Object object) index e = absurd (true≢false (sym e))
 info_at_by (Info info) index e = ap Info (eqb-true info index e)
 
-info_at_of : (m : Maker) (index : ℕ) → m ≡ Info index → is_info_at m index ≡ true
+pub info_at_of : (m : Maker) (index : ℕ) → m ≡ Info index → is_info_at m index ≡ true
 info_at_of m index same = ap (λ maker. is_info_at maker index) same ∙ eq-eqb index index refl
 
-module _ (ps : List Provision) (differ : AllDiffer (names_of ps)) where
-  pub by_info : (r : InfoRequirement) → MatchBool (is_by_info (with_module ps r)) (IsByInfo ps r) (IsNotByInfo ps r)
-  by_info r =
-      turned (is_by_info (with_module ps r)) _ _ (IsByInfo ps r) (IsNotByInfo ps r)
-      (λ h. let m = is_info_by h.1.maker h.3 in (h.0, h.1, m.0, h.2, m.1))
-      (λ none h. none (h.0, h.1, h.3, ap is_info h.4))
-      (some_decides ps differ r.name (λ p. is_info p.maker))
+-- the module at this index is not private
+abbrev pub IsPublicAt : List Provision → ℕ → Type 0
+IsPublicAt ps index = (p : Provision) → At ps index p → p.is_private ≡ false
 
-  pub by_object : (name : Name) → MatchBool (is_by_object ps name) (IsByObject ps name) (IsNotByObject ps name)
-  by_object name =
-      turned (is_by_object ps name) _ _ (IsByObject ps name) (IsNotByObject ps name)
-      (λ h. let m = is_object_by h.1.maker h.3 in (h.0, h.1, m.0, h.2, m.1))
-      (λ none h. none (h.0, h.1, h.3, ap is_object h.4))
-      (some_decides ps differ name (λ p. is_object p.maker))
-
-  pub agreeing : (r : InfoRequirement) → MatchBool (agrees (with_module ps r)) (Agrees ps r) (Differs ps r)
-  agreeing r =
-      turned (agrees (with_module ps r)) _ _ (Agrees ps r) (Differs ps r)
-      (λ h k p named. (bytes_decides p.file r.file).0 (h k p named))
-      (λ h. (h.0, h.1, h.2, λ same. true≢false (sym ((bytes_decides h.1.file r.file).1 same) ∙ h.3)))
-      (all_decides ps differ r.name (λ p. bytes_eq p.file r.file))
-
-  abbrev unless_private : Option Provision → Bool
-  unless_private p = none_or (λ q. not q.is_private) p
-
-  -- the module of this index has this name, and no other has
-  private_of : (index : ℕ) (name : Name) → At (names_of ps) index name → is_public_at ps index ≡ false → IsPrivate ps name
-  private_of index name at private =
-      let p = from_map name_of ps index name at in
-      (index, p.0, (p.1, p.2), not-false p.0.is_private (sym (ap unless_private p.1) ∙ private))
-
-  public_of : (index : ℕ) (name : Name) → At (names_of ps) index name → is_public_at ps index ≡ true → IsPublic ps name
-  public_of index name at public k q named =
-      let p = from_map name_of ps index name at in
-      let same = one_module ps name differ k index named (p.1, p.2) in
-      ap privacy_of same ∙ not-true p.0.is_private (sym (ap unless_private p.1) ∙ public)
-
-  abbrev pub IsPublicAt : ℕ → Type 0
-  IsPublicAt index = is_public_at ps index ≡ true
-
-  abbrev pub IsPrivateAt : ℕ → Type 0
-  IsPrivateAt index = is_public_at ps index ≡ false
-
-  -- the first private module of a row, by the names that the row stands for
-  module _ (row : List ℕ) (names : List Name) (same : map (slice_get (names_of ps)) row ≡ map Some names) where
-    name_here : (k index : ℕ) (name : Name) → At row k index → At names k name → At (names_of ps) index name
-    name_here k index name at at_name =
-        same_some _ _ (sym (to_map (slice_get (names_of ps)) row k index at) ∙ same_reads k same ∙ to_map Some names k name at_name)
-
-    pub row_public : AcceptsAll IsPublicAt row → AcceptsAll (IsPublic ps) names
-    row_public all = record
-        { each = λ k name at_name. let n = in_row (names_of ps) row names k same at_name in public_of n.0 name n.2 (all.each k n.0 n.1) }
-
-    pub row_private : (k : ℕ) → RefusesAt IsPublicAt IsPrivateAt row k → (name : Name) → At names k name → RefusesAt (IsPublic ps) (IsPrivate ps) names k
-    row_private k found name at_name = record {
-      x = name;
-      here = at_name;
-      refused = private_of found.x name (name_here k found.x name found.here at_name) found.refused;
-      accepted = λ l other lt at. let n = in_row (names_of ps) row names l same at in public_of n.0 other n.2 (found.accepted l n.0 lt n.1);
-    }
-
-  -- a private module is of the one info
-  private_is : (b c : Bool) → not b || c ≡ true → b ≡ true → c ≡ true
-  private_is true c e p = e
-  private_is false c e p = absurd (true≢false (sym p))
-
-  private_not : (b c : Bool) → not b || c ≡ false → (b ≡ true) × (c ≡ false)
-  private_not true c e = (refl, e)
-  private_not false c e = absurd (true≢false e)
-
-  pub allowed : (r : InfoRequirement) → MatchBool (is_allowed (with_module ps r)) (IsAllowed ps r) (IsNotAllowed ps r)
-  allowed r =
-      turned (is_allowed (with_module ps r)) _ _ (IsAllowed ps r) (IsNotAllowed ps r)
-      (λ h k p named private. info_at_by p.maker r.info (private_is p.is_private (is_info_at p.maker r.info) (h k p named) private))
-      (λ h. let n = private_not h.1.is_private (is_info_at h.1.maker r.info) h.3 in
-      (h.0, h.1, h.2, n.0, λ same. true≢false (sym (info_at_of h.1.maker r.info same) ∙ n.1)))
-      (all_decides ps differ r.name (λ p. not p.is_private || is_info_at p.maker r.info))
+-- a row whose modules are not private stands for names that are not
+pub row_public : (ps : List Provision) → AllDiffer (names_of ps) → (row : List ℕ) (names : List Name) → map (slice_get (names_of ps)) row ≡ map Some names →
+    AcceptsAll (IsPublicAt ps) row → AcceptsAll (IsPublic ps) names
+row_public ps differ row names same all = record {
+  each = λ j name at_name k q named.
+      let n = in_row (names_of ps) row names j same at_name in
+      let p = from_map name_of ps n.0 name n.2 in
+      ap privacy_of (one_module ps name differ k n.0 named (p.1, p.2)) ∙ all.each j n.0 n.1 p.0 p.1;
+}

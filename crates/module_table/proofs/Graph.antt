@@ -1,26 +1,15 @@
 -- Where each module is provided, what modules need, and the graph of it.
 use Rattle.std.proofs.Common.{◌≡◌, ℕ, ◌+◌, ◌<◌, List, length, Some, refl, ap, subst, sym, ◌∙◌, arith, slice_get, [], ◌∷◌, ◌++◌, map, get_or, Option, ap₂, ⊎_elim, length-append, append-nil}
-use Rattle.std.specs.Option.{option_map}
+use Rattle.module_table.specs.Prelude.{option_map, flat_map, enumerate_from, AllZip, filter_map, cons_option, RuleValue, InfoValue, ModuleValue, TableValue, IsProvidedBy, Provision, provisions, object_provisions, info_provisions, origins_of, object_origins, info_origins, Origin, names_of, IsNamedAt, pair_at, Object, Info, NeedsAreNodes, AreRequiredIndexes, IsModuleGraph, IsModuleRow, AreModuleRows, indexes_in, object_row, info_rows, Name}
 use Rattle.std.proofs.lemmas.Option.{slice_get_within, slice_get-get_or}
-use Rattle.std.specs.List.{flat_map, enumerate_from, AllZip, All, filter_map, cons_option}
-use Rattle.document_values.specs.Rule.{RuleValue}
-use Rattle.document_values.specs.Info.{InfoValue, ModuleValue}
-use Rattle.module_table.specs.TableValue.{TableValue}
-use Rattle.module_table.specs.Modules.{IsProvidedBy, Provision, provisions, object_provisions, info_provisions}
-use Rattle.module_table.specs.inner.Origins.{origins_of, object_origins, info_origins, Origin}
-use Rattle.module_table.specs.inner.Views.{names_of}
-use Rattle.module_table.specs.inner.Indexed.{IsInfosModule, IsNamedAt, pair_at}
-use Rattle.module_table.specs.declared.fault.Maker.TheVariants.{Object, Info}
+use Rattle.std.specs.List.{All}
+use Rattle.module_table.specs.inner.Indexed.{IsInfosModule}
 use Rattle.module_table.proofs.Places.{from_numbered, Has}
 use Rattle.module_table.proofs.Lists.{zip_append, zip_flat_map, zip_numbered, zip_back, zip_length, zip_flip, one_there, same_reads}
 use Rattle.ninja_text.proofs.ForCallers.{from_map, in_append}
 use Rattle.std.proofs.lemmas.List.Elements.{filter_map-append}
-use Rattle.dep_order.specs.Needs.{NeedsAreNodes}
-use Rattle.module_table.specs.inner.Numbered.{AreRequiredIndexes}
-use Rattle.module_table.specs.inner.Graph.{IsModuleGraph, IsModuleRow, AreModuleRows, indexes_in, object_row, info_rows}
 use Rattle.module_table.proofs.IndexRows.{length_mapped, only_one, from_numbers, many_rows, rule_of, name_of_index}
 use Rattle.module_table.proofs.Words.{Pair, name_of, own_module, infos_module, names_wanted, own_modules, infos_modules, At, name_in_pair}
-use Rattle.ninja_text.specs.Bytes.{Name}
 
 -- ---- each place is that of the module of its number
 

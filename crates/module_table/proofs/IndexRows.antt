@@ -1,38 +1,23 @@
 -- Rows of indexes, and which objects need each other by them.
 use Rattle.std.proofs.Common.{◌≡◌, ℕ, zero, suc, ◌+◌, ◌<◌, List, [], ◌∷◌, ◌++◌, length, map, take, get_or, Option, Some, None, false, option_and_then, Contains, append-nil, refl, ap, subst, sym, ◌∙◌, arith, slice_get, Bool, true, cond, ltb, bytes_eq, ◌≤◌, Vec, ◌≢◌, eqb}
-use Rattle.std.specs.List.{filter_map, cons_option, position_or_len, AllPairs}
+use Rattle.module_table.specs.Prelude.{filter_map, cons_option, AllPairs, NodeNeeds, NeedsAreNodes, IsSortingOf, RuleValue, TableValue, table_with, Provides, IsProvidedBy, DependsOn, Provision, provisions, names_of, IsNumbered, maker_at, AreRequiredIndexes, Maker, Object, Info, bytes_decides, AllDiffer, index_in, indexes_in, Global, InfoValue, rows, IsSorted, IsPermutation, nat_cmp, Name}
+use Rattle.std.specs.List.{position_or_len}
 use Rattle.std.proofs.lemmas.Option.{slice_get_within, slice_get-get_or, get_or_from_slice_get}
-use Rattle.dep_order.specs.Needs.{NodeNeeds, NeedsAreNodes}
-use Rattle.dep_order.specs.Sortings.{IsSortingOf}
 use Rattle.dep_order.specs.declared.Sorting.{Sorting}
 use Rattle.dep_order.proofs.ForCallers.{other_number, sorting_same}
-use Rattle.document_values.specs.Rule.{RuleValue}
-use Rattle.module_table.specs.TableValue.{TableValue, table_with}
-use Rattle.module_table.specs.Modules.{Provides, IsProvidedBy, DependsOn, Provision, provisions}
-use Rattle.module_table.specs.inner.Views.{names_of}
-use Rattle.module_table.specs.inner.Numbered.{IsNumbered, object_of, maker_at, AreRequiredIndexes}
-use Rattle.module_table.specs.declared.fault.Maker.{Maker}
-use Rattle.module_table.specs.declared.fault.Maker.TheVariants.{Object, Info}
+use Rattle.module_table.specs.inner.Numbered.{object_of}
 use Rattle.module_table.proofs.Places.{object_provision, neither_less, Has, from_provisions}
 use Rattle.ninja_text.proofs.ForCallers.{contained, placed, take_next, to_map, from_map, from_filter_map, in_filter_map}
 use Rattle.module_table.proofs.Found.{one_index, in_row}
-use Rattle.std.specs.Cmp.Lexicographic.{bytes_decides}
 use Rattle.std.proofs.lemmas.Bool.{cond-true}
 use Rattle.std.proofs.lemmas.Bool.Decides.{nat_tests}
 use Rattle.std.proofs.lemmas.List.Sums.{position_or_len_is}
-use Rattle.ninja_text.specs.Firsts.{AllDiffer}
-use Rattle.module_table.specs.inner.Graph.{index_in, indexes_in}
 use Rattle.module_table.proofs.Lists.{finds, same_reads, one_value}
-use Rattle.std.specs.declared.alloc.Global.{Global}
-use Rattle.document_values.specs.Info.{InfoValue}
-use Rattle.dep_order.specs.Rows.{rows}
-use Rattle.std.specs.List.Sorted.{IsSorted, IsPermutation, IsStrictlyIncreasing}
-use Rattle.std.specs.Ordering.{nat_cmp}
+use Rattle.std.specs.List.Sorted.{IsStrictlyIncreasing}
 use Rattle.std.proofs.lemmas.Cmp.{nat_eq_equiv}
 use Rattle.std.proofs.lemmas.List.Sorted.{IsNonDecreasingBy-from_sort}
 use Rattle.std.proofs.lemmas.Map.Keys.{IsDistinct-from_apart, IsDistinct-IsPermutation, IsStrictlyIncreasing-from_distinct}
 use Rattle.module_table.proofs.Words.{Pair, name_of, items_of, names_wanted, At}
-use Rattle.ninja_text.specs.Bytes.{Name}
 use Rattle.std.proofs.lemmas.List.Elements.{filter_map-append}
 use Rattle.std.proofs.lemmas.List.{length-map, take_all}
 

@@ -1,15 +1,11 @@
 -- What loops push, lists that differ or have the same indexes, and the first that is rejected.
-use Rattle.std.proofs.Common.{◌≡◌, ℕ, ◌+◌, List, [], ◌∷◌, ◌++◌, map, take, Some, ap, sym, ◌∙◌, append_assoc, slice_get, zero, suc, length, refl, subst, arith, ◌<◌, Bool, true, false, ⊎_elim, MatchBool, not, Option, None, position, get_or, append-nil, bytes_eq, cond, IfSome, IfNone, is_some, slice_set}
+use Rattle.std.proofs.Common.{◌≡◌, ℕ, ◌+◌, List, [], ◌∷◌, ◌++◌, map, take, Some, ap, sym, ◌∙◌, append_assoc, slice_get, zero, suc, length, refl, subst, arith, ◌<◌, true, false, ⊎_elim, not, Option, None, position, get_or, append-nil, bytes_eq, cond, IfSome, IfNone, is_some, slice_set}
 use Rattle.std.proofs.lemmas.List.{map-append, length-take-le}
 use Rattle.ninja_text.proofs.ForCallers.{take_next, same_some, from_push, in_take, to_map, from_map, from_take, differ_push, not_among, found_if, new_if}
-use Rattle.std.specs.List.{flat_map, enumerate_from, AllZip, list_any}
+use Rattle.module_table.specs.Prelude.{flat_map, enumerate_from, AllZip, list_any, AcceptsAll, bytes_decides, AllDiffer, RepeatsFirst, IsFirstRepetition, IsFirst, Name}
 use Rattle.std.proofs.lemmas.Grind.{flat_map-append}
 use Rattle.std.proofs.lemmas.Option.{slice_get-get_or, slice_get_within, slice_get_read}
 use Rattle.std.proofs.lemmas.List.Quantifiers.{position-Some}
-use Rattle.module_table.specs.inner.Finds.{AcceptsAll, RefusesAt}
-use Rattle.std.specs.Cmp.Lexicographic.{bytes_decides}
-use Rattle.ninja_text.specs.Firsts.{AllDiffer, RepeatsFirst, IsFirstRepetition, IsFirst}
-use Rattle.ninja_text.specs.Bytes.{Name}
 use Rattle.std.proofs.lemmas.Slice.Zip.{AllZip-long}
 use Rattle.module_table.proofs.Words.{At}
 
@@ -95,24 +91,17 @@ zip_length R xs ys h = sym (AllZip-long R xs ys h)
 
 -- ---- what is asked of each requirement, and the first that is rejected
 
--- what a loop that checks a list knows after the next element: all are accepted so far, or this is
--- the first that is rejected
-module _ {X : Type 0} (Accepted Refused : X → Type 0) (xs : List X) (k : ℕ) {x : X} (at : At xs k x) (before : AcceptsAll Accepted (take k xs)) where
-  pub first_rejected : (b : Bool) → MatchBool b (Accepted x) (Refused x) → MatchBool b (AcceptsAll Accepted (take (k + 1) xs)) (RefusesAt Accepted Refused xs k)
-  first_rejected true good = subst (AcceptsAll Accepted) (sym (take_next xs k x at)) (record { each = each })
-    where
-      each : (i : ℕ) (y : X) → At (take k xs ++ x ∷ []) i y → Accepted y
-      each i y at_i = ⊎_elim (λ old. before.each i y old) (λ last. subst Accepted last.1 good) (from_push (take k xs) x i y at_i)
-  first_rejected false bad = record { x = x; here = at; refused = bad; accepted = λ i y lt at_i. before.each i y (in_take k xs i y lt at_i) }
+-- what a loop that checks a list knows after the next element
+pub accepts_next : {X : Type 0} (Accepted : X → Type 0) (xs : List X) (k : ℕ) {x : X} → At xs k x → AcceptsAll Accepted (take k xs) → Accepted x →
+    AcceptsAll Accepted (take (k + 1) xs)
+accepts_next Accepted xs k {x} at before good = subst (AcceptsAll Accepted) (sym (take_next xs k x at)) (record {
+  each = λ i y at_i. ⊎_elim (λ old. before.each i y old) (λ last. subst Accepted last.1 good) (from_push (take k xs) x i y at_i);
+})
 
 -- the first that is rejected is the first of which P holds
-pub first_of_rejected : {X : Type 0} {Accepted Refused : X → Type 0} (P : X → Type 0) {xs : List X} {k : ℕ} {x : X} → At xs k x →
-    RefusesAt Accepted Refused xs k → (Refused x → P x) → ((y : X) → Accepted y → P y → ⊥) → IsFirst P xs k x
-first_of_rejected {X} {Accepted} {Refused} P at rejected holds fails = record {
-  here = at;
-  holds = holds (subst Refused (one_there rejected.here at) rejected.refused);
-  before = λ i y lt at_i. fails y (rejected.accepted i y lt at_i);
-}
+pub first_of : {X : Type 0} {Accepted : X → Type 0} (P : X → Type 0) {xs : List X} {k : ℕ} {x : X} → At xs k x → AcceptsAll Accepted (take k xs) → P x →
+    ((y : X) → Accepted y → P y → ⊥) → IsFirst P xs k x
+first_of P {xs} {k} at before holds fails = record { here = at; holds = holds; before = λ i y lt at_i. fails y (before.each i y (in_take k xs i y lt at_i)) }
 
 -- the parts of one more element, without its number
 pub gathers_more : {X A : Type 0} (f : X → List A) (xs : List X) (i : ℕ) {x : X} (old : List A) {now new : List A} → At xs i x →

@@ -1,28 +1,17 @@
 -- Names in order of first mention, and the marks of a loop that has met them.
 use Rattle.std.proofs.Common.{◌≡◌, ℕ, ◌+◌, Bool, true, false, cond, not, ◌||◌, List, [], ◌∷◌, ◌++◌, map, take, filter, Some, append-nil, refl, ap, subst, sym, ◌∙◌, slice_get, bytes_eq, true≢false, zero, suc, ◌<◌, length, get_or, set, filter_map, Option, None, ⊎_elim, arith, append_assoc, inl, inr}
-use Rattle.std.specs.List.{list_any, All, cons_option, flat_map}
-use Rattle.std.specs.Cmp.Lexicographic.{bytes_decides}
-use Rattle.module_table.specs.Added.{first_mentions, pair_of}
+use Rattle.module_table.specs.Prelude.{list_any, cons_option, flat_map, bytes_decides, first_mentions, pair_of, option_map, Provision, provisions, AllDiffer, names_of, pair_at, name_in, ArePairsSoFar, mentioned_names, ModuleValue, TableValue, IsSound, Info, Name}
+use Rattle.std.specs.List.{All}
 use Rattle.ninja_text.proofs.ForCallers.{take_next, found_if, new_if, from_push, map_take, to_map, in_first, in_second, from_map, in_append, contained, from_flat_map}
-use Rattle.std.specs.Option.{option_map}
 use Rattle.std.proofs.lemmas.Bool.{cases_eq}
 use Rattle.std.proofs.lemmas.List.{get_or-set_same, get_or-set_other, length-set, map-append}
 use Rattle.std.proofs.lemmas.Option.{slice_get-get_or, get_or_from_slice_get, slice_get_within}
-use Rattle.module_table.specs.Modules.{Provision, provisions}
-use Rattle.ninja_text.specs.Firsts.{AllDiffer}
-use Rattle.module_table.specs.inner.Views.{names_of}
-use Rattle.module_table.specs.inner.Indexed.{pair_at}
-use Rattle.module_table.specs.inner.Mentioned.{name_in, AreMarked, ArePairsSoFar, mentioned_names, info_names}
+use Rattle.module_table.specs.inner.Mentioned.{AreMarked, info_names}
 use Rattle.module_table.proofs.Places.{neither_less, sound_names}
 use Rattle.std.proofs.lemmas.List.Elements.{filter-append}
 use Rattle.module_table.proofs.Lists.{pushes_next, same_reads, one_value}
 use Rattle.module_table.proofs.Found.{named_found, numbered_provided}
-use Rattle.document_values.specs.Info.{ModuleValue}
-use Rattle.module_table.specs.TableValue.{TableValue}
-use Rattle.module_table.specs.Sound.{IsSound}
-use Rattle.module_table.specs.declared.fault.Maker.TheVariants.{Info}
 use Rattle.module_table.proofs.Words.{Pair, name_of, bmi_of, required_by, At, name_in_pair}
-use Rattle.ninja_text.specs.Bytes.{Name}
 use Rattle.std.proofs.lemmas.List.Folds.{list_any_at, list_any_none}
 
 -- ---- names in order of first mention

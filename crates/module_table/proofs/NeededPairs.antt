@@ -1,31 +1,17 @@
 -- Chains of needs in the graph lead to a node if names lead from one to the next.
 use Rattle.std.proofs.Common.{◌≡◌, ℕ, ◌+◌, ◌<◌, ◌⊎◌, List, [], ◌∷◌, length, map, Some, refl, ap, subst, sym, ◌∙◌, inl, inr, ⊎_elim, arith, slice_get, Contains, get_or, Option, ap₂}
 use Rattle.std.proofs.lemmas.Option.{slice_get_within, get_or_from_slice_get, slice_get-get_or}
-use Rattle.document_values.specs.Rule.{RuleValue}
-use Rattle.document_values.specs.Info.{ModuleValue}
-use Rattle.dep_order.specs.Needs.{NodeNeeds, IsChain, Reaches, AreReached}
-use Rattle.module_table.specs.TableValue.{TableValue}
-use Rattle.module_table.specs.Modules.{Provides, Requires, InfoProvides, IsProvided, Provision, provisions}
-use Rattle.module_table.specs.Needed.{LeadsTo, Leads, IsNeeded, ArePairs, lent}
-use Rattle.module_table.specs.Sound.{IsSound}
-use Rattle.module_table.specs.inner.Views.{names_of}
-use Rattle.module_table.specs.inner.Origins.{origins_of, Origin}
-use Rattle.module_table.specs.inner.Graph.{IsModuleGraph, IsModuleRow, indexes_in}
-use Rattle.module_table.specs.declared.fault.Maker.TheVariants.{Object, Info}
+use Rattle.module_table.specs.Prelude.{RuleValue, ModuleValue, NodeNeeds, AreReached, TableValue, Provides, Requires, InfoProvides, IsProvided, Provision, provisions, LeadsTo, Leads, IsNeeded, ArePairs, lent, IsSound, names_of, origins_of, Origin, IsModuleGraph, IsModuleRow, indexes_in, Object, Info, Bor, AllPairs, filter_map, IsSorted, IsPermutation, nat_cmp, Precedes, Name, AreRanked}
+use Rattle.dep_order.specs.Needs.{IsChain, Reaches}
 use Rattle.module_table.proofs.Places.{object_provision, info_provision, Has, from_provisions, provision_by, sound_names}
 use Rattle.ninja_text.proofs.ForCallers.{contained, placed, to_map, in_first, in_second, from_map, element_at, from_filter_map, in_filter_map}
 use Rattle.module_table.proofs.Found.{in_row, numbered_provided}
 use Rattle.module_table.proofs.Lists.{zip_there, zip_length, one_there, same_reads, one_value}
 use Rattle.module_table.proofs.Graph.{IsPlaceOf, module_places, one_entry, all_from, many_origins}
 use Rattle.module_table.proofs.IndexRows.{different, all_made, strictly, only_one, one_number, to_numbers, from_numbers, length_mapped}
-use Rattle.std.specs.Borrow.{Bor}
-use Rattle.std.specs.List.{All, AllPairs, filter_map}
-use Rattle.std.specs.List.Sorted.{IsSorted, IsPermutation}
-use Rattle.std.specs.Ordering.{nat_cmp}
+use Rattle.std.specs.List.{All}
 use Rattle.std.proofs.lemmas.List.Kept.{AllPairs-from_increasing}
 use Rattle.std.proofs.lemmas.List.Sorted.{Contains-permutation, IsPermutation-sym}
-use Rattle.ninja_text.specs.Bytes.{Precedes, Name}
-use Rattle.module_table.specs.inner.Ranks.{AreRanked}
 use Rattle.module_table.proofs.Words.{name_of, maker_of, names_wanted, Pair, At, name_in_pair}
 
 -- one step, and then the rest

@@ -1,25 +1,14 @@
 -- A sound table has no fault, and one fault at most is reported of a table.
 use Rattle.std.proofs.Common.{◌≡◌, ℕ, List, ap, subst, sym, ◌∙◌, arith, slice_get, ◌<◌}
-use Rattle.std.specs.List.{enumerate_from}
-use Rattle.document_values.specs.Rule.{RuleValue}
-use Rattle.document_values.specs.Info.{ModuleValue}
-use Rattle.module_table.specs.TableValue.{TableValue}
-use Rattle.module_table.specs.Modules.{InfoRequires, InfoRequirement, module_requirements, requirements_of_info, info_requirements, DependsOn, provisions}
+use Rattle.module_table.specs.Prelude.{enumerate_from, RuleValue, ModuleValue, TableValue, InfoRequires, InfoRequirement, module_requirements, requirements_of_info, info_requirements, DependsOn, provisions, Object, Info, ObjectTwice, InfoTwice, ProvidedTwice, BmiTwice, ModuleUnknown, InfoUnknown, InfoDisagrees, ImportCycle, ModulePrivate, PrivateUnknown, IsFirst, IsFirstRepetition, AllDiffer, IsReported, IsFirstRequired, HasPrivate, code_number, names_of, TableFault, Name}
 use Rattle.module_table.specs.Outcomes.{SoundHasNoFault, IsSameFault, same, same_ring, OneTableFault}
-use Rattle.module_table.specs.declared.fault.Maker.TheVariants.{Object, Info}
-use Rattle.module_table.specs.declared.fault.TableFault.TheVariants.{ObjectTwice, InfoTwice, ProvidedTwice, BmiTwice, ModuleUnknown, InfoUnknown, InfoDisagrees, ImportCycle, ModulePrivate, PrivateUnknown}
 use Rattle.module_table.proofs.Places.{one_file, neither_less, from_first}
 use Rattle.ninja_text.proofs.ForCallers.{contained, from_map, from_flat_map}
 use Rattle.dep_order.proofs.ForCallers.{one_cycle}
-use Rattle.ninja_text.specs.Firsts.{IsFirst, IsFirstRepetition, AllDiffer}
-use Rattle.module_table.specs.Faults.{IsReported, IsFirstRequired, HasPrivate, code_number}
-use Rattle.module_table.specs.inner.Views.{names_of}
-use Rattle.module_table.specs.declared.fault.TableFault.{TableFault}
 use Rattle.module_table.proofs.Found.{one_module}
 use Rattle.module_table.proofs.Passing.{has_private}
 use Rattle.module_table.proofs.Faultless.{names_differ}
 use Rattle.module_table.proofs.Words.{Pair, maker_of, path_of, target_of, At}
-use Rattle.ninja_text.specs.Bytes.{Name}
 use Rattle.module_table.proofs.Lists.{one_there}
 
 -- ---- A sound table that keeps its own names has no fault

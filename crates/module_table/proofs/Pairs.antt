@@ -1,18 +1,13 @@
 -- Pairs of names and files: which of them an object requires, and their order by name.
 use Rattle.std.proofs.Common.{◌≡◌, ℕ, zero, suc, ◌<◌, ◌⊎◌, List, [], ◌∷◌, Some, None, refl, ap, ap₂, subst, sym, ◌∙◌, inl, inr, ⊎_elim, arith, slice_get, get_or, Bool, true, false, filter, find, cond, not, bytes_eq, ◌≢◌, ◌+◌, ◌++◌, length, map, set, slice_index, Ordering, true≢false}
-use Rattle.std.specs.List.{AllPairs}
-use Rattle.std.specs.Ordering.{ordering_reverse, nat_cmp, ordering_then, is_lt, is_eq}
+use Rattle.module_table.specs.Prelude.{AllPairs, nat_cmp, bytes_decides, ArePairs, lent, Precedes, Name, option_map, Provision, provisions, first_mentions, pair_of, IsSorted, IsPermutation, TableValue, pair_at, IsSound, pair_in, AreByNumber, AreByName, AreNumbers, AreRanks, AreRanked, Numbered}
+use Rattle.std.specs.Ordering.{ordering_reverse, ordering_then, is_lt, is_eq}
 use Rattle.std.specs.declared.cmp.Ordering.TheVariants.{Less, Greater, Equal}
-use Rattle.std.specs.Cmp.Lexicographic.{nat_list_cmp_total, bytes_decides, slice_cmp, on_texts}
+use Rattle.std.specs.Cmp.Lexicographic.{nat_list_cmp_total, slice_cmp, on_texts}
 use Rattle.std.proofs.lemmas.Option.{slice_get_within, get_or_from_slice_get, slice_get-get_or}
-use Rattle.module_table.specs.Needed.{ArePairs, lent}
-use Rattle.ninja_text.specs.Bytes.{Precedes, Name}
 use Rattle.module_table.proofs.Places.{Has, has_more, from_option_map, provision_by, neither_less}
 use Rattle.ninja_text.proofs.ForCallers.{contained, placed, same_some, from_push, to_map, from_map, element_at, in_filter_map}
-use Rattle.std.specs.Option.{option_map}
-use Rattle.module_table.specs.Modules.{Provision, provisions}
-use Rattle.module_table.specs.Added.{first_mentions, pair_of, required_of, AllRequired}
-use Rattle.std.specs.List.Sorted.{IsSorted, IsPermutation}
+use Rattle.module_table.specs.Added.{required_of, AllRequired}
 use Rattle.std.specs.Cmp.{IsTotalOrder}
 use Rattle.std.proofs.lemmas.Bool.{cases_lt, false≢true, false_from_ne_true}
 use Rattle.std.proofs.lemmas.Cmp.{nat_list_eq_equiv, nat_cmp_total, on_total, then_total}
@@ -21,13 +16,8 @@ use Rattle.std.proofs.lemmas.Map.Keys.{IsDistinct-from_apart, IsDistinct-IsPermu
 use Rattle.std.proofs.lemmas.Map.Text.{is_eq-slice_cmp}
 use Rattle.std.proofs.lemmas.List.{length_push, length-set, get_or-set_same, get_or-set_other}
 use Rattle.std.proofs.lemmas.List.Sorted.{ranks_by, sorted_far, Contains-permutation, IsPermutation-sym}
-use Rattle.module_table.specs.TableValue.{TableValue}
-use Rattle.module_table.specs.inner.Indexed.{pair_at}
-use Rattle.module_table.specs.Sound.{IsSound}
-use Rattle.module_table.specs.inner.Ranks.{pair_in, AreByNumber, AreByName, AreNumbers, AreRanks, AreRanked}
 use Rattle.module_table.proofs.Words.{bmi_of, Pair, At, name_in_pair, pair_of_module, with_file}
 use Rattle.module_table.proofs.Lists.{same_reads, one_value}
-use Rattle.module_table.specs.declared.needed.Numbered.{Numbered}
 
 -- ---- at most one list has exactly the pairs of which something holds, in byte order of names
 

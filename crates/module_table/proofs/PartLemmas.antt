@@ -1,24 +1,12 @@
 -- A sound table with a part of the info files stands for the one with all.
 use Rattle.std.proofs.Common.{◌≡◌, ◌↔◌, ℕ, suc, ◌+◌, ◌<◌, ◌⊎◌, List, [], ◌∷◌, length, map, Option, Some, refl, ap, ap₂, subst, sym, ◌∙◌, inl, inr, arith, slice_get, Contains}
-use Rattle.std.specs.Option.{option_map}
-use Rattle.std.specs.List.{flat_map, enumerate_from, filter_map, cons_option}
-use Rattle.document_values.specs.Rule.{RuleValue}
-use Rattle.document_values.specs.Info.{InfoValue, ModuleValue}
-use Rattle.module_table.specs.TableValue.{TableValue, table_with}
-use Rattle.module_table.specs.Modules.{Provides, Requires, InfoRequires, IsProvided, IsProvidedBy, IsInfoProvided, Provision, provisions, info_provisions}
-use Rattle.module_table.specs.Faults.{Claim, claims, own_claims, Collides, HasPrivate}
-use Rattle.module_table.specs.Sound.{IsSound}
-use Rattle.module_table.specs.Needed.{LeadsTo, Leads, IsNeeded}
-use Rattle.module_table.specs.Added.{first_mentions, file_of, pair_of, required_of, tasks_of}
-use Rattle.module_table.specs.Parts.{HasModule, KeepsRequired, IsEnough}
-use Rattle.module_table.specs.declared.fault.Maker.{Maker}
-use Rattle.module_table.specs.declared.fault.Maker.TheVariants.{Object, Info}
+use Rattle.module_table.specs.Prelude.{option_map, flat_map, enumerate_from, filter_map, cons_option, RuleValue, InfoValue, ModuleValue, TableValue, table_with, Provides, Requires, InfoRequires, IsProvided, IsProvidedBy, IsInfoProvided, Provision, provisions, info_provisions, Claim, claims, own_claims, Collides, HasPrivate, IsSound, LeadsTo, Leads, IsNeeded, first_mentions, file_of, pair_of, HasModule, KeepsRequired, IsEnough, Maker, Object, Info, Name}
+use Rattle.module_table.specs.Added.{required_of, tasks_of}
 use Rattle.module_table.proofs.Places.{one_file, provision_by, from_numbered, from_mentions, module_from, sound_names}
 use Rattle.ninja_text.proofs.ForCallers.{contained, to_map, from_map, in_first, in_second, in_append, offset}
 use Rattle.module_table.proofs.Graph.{one_entry}
 use Rattle.module_table.proofs.Found.{named_found}
 use Rattle.module_table.proofs.Words.{name_of, bmi_of, target_of, claimed, own_claim_of, own_modules, At, module_claim, with_file}
-use Rattle.ninja_text.specs.Bytes.{Name}
 use Rattle.module_table.proofs.Lists.{same_reads}
 
 -- ---- lists

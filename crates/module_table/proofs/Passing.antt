@@ -1,30 +1,16 @@
 -- What the checks of info files and private modules report, and what has passed after each check.
-use Rattle.std.proofs.Common.{◌≡◌, ℕ, List, Some, refl, ap, subst, sym, ◌∙◌, slice_get, true, take, ⊎_elim, arith, true≢false, ◌+◌, ◌≤◌, ◌++◌, length, map, Box, Global, inl, inr}
-use Rattle.module_table.specs.TableValue.{TableValue}
-use Rattle.module_table.specs.Modules.{Provides, IsProvidedBy, IsInfoProvided, Provision, provisions, InfoRequirement, info_requirements, Requires, IsProvided, DependsOn}
-use Rattle.module_table.specs.Faults.{IsFirstRequired, IsInfoUnknown, Disagrees, IsUnprovided, IsPrivateName, HasPrivate, IsPrivateElsewhere, IsReported, claims, code_number}
-use Rattle.ninja_text.specs.Firsts.{AllDiffer}
-use Rattle.module_table.specs.inner.Views.{names_of, files_of}
-use Rattle.module_table.specs.inner.Finds.{IsNamed, IsByInfo, IsNotByInfo, Agrees, Differs, IsByObject, IsNotByObject, RefusesAt, AcceptsAll, IsPublic, IsPrivate, IsAllowed, IsNotAllowed, IsPrivateTo, ArePrivateByInfos, RequiresPublic}
-use Rattle.module_table.specs.inner.Reported.{Reports}
-use Rattle.module_table.specs.declared.fault.Maker.TheVariants.{Object, Info}
-use Rattle.module_table.specs.declared.fault.TableFault.{TableFault}
-use Rattle.module_table.specs.declared.fault.TableFault.TheVariants.{InfoUnknown, InfoDisagrees, PrivateUnknown, ModulePrivate, ObjectTwice, InfoTwice, ProvidedTwice, BmiTwice, ModuleUnknown, ImportCycle}
-use Rattle.module_table.proofs.Places.{object_provision, info_provision, from_provisions, module_from}
-use Rattle.ninja_text.proofs.ForCallers.{contained, in_take, from_map, to_map}
-use Rattle.module_table.proofs.Found.{reports_same, claimed_files, for_fault, in_row, provided_numbered, one_module}
+use Rattle.std.proofs.Common.{◌≡◌, ℕ, List, Some, refl, ap, subst, sym, ◌∙◌, slice_get, true, take, ⊎_elim, arith, true≢false, ◌+◌, ◌≤◌, ◌++◌, length, map, Box, Global, inl, inr, ◌≢◌, None, Bor}
+use Rattle.module_table.specs.Prelude.{HasNoFault, option_map, TableValue, Provides, IsProvidedBy, IsInfoProvided, Provision, provisions, InfoRequirement, info_requirements, Requires, IsProvided, DependsOn, Requiring, IsFirstRequired, IsInfoUnknown, Disagrees, IsUnprovided, IsPrivateName, HasPrivate, IsPrivateElsewhere, IsReported, claims, code_number, AllDiffer, names_of, files_of, provision_of, DoNamesDiffer, found, LookedUp, IsNamed, IsByInfo, IsNotByInfo, Agrees, IsByObject, IsNotByObject, AcceptsAll, IsPublic, IsAllowed, RequiresPublic, AreInfosKnown, DoInfosAgree, AreObjectsAllowed, AreInfosAllowed, AreByObjects, AreLookedUp, InfoRequired, Module, Reports, Object, Info, TableFault, InfoUnknown, InfoDisagrees, PrivateUnknown, ModulePrivate, ObjectTwice, InfoTwice, ProvidedTwice, BmiTwice, ModuleUnknown, ImportCycle, RuleValue, ForFault, Failure, IsOrderable, AreRequiredIndexes, Passed, Name}
+use Rattle.module_table.specs.inner.Finds.{Differs, IsPrivateTo, ArePrivateByInfos}
+use Rattle.module_table.proofs.Places.{object_provision, info_provision, from_provisions, module_from, found_there}
+use Rattle.ninja_text.proofs.ForCallers.{contained, from_map, to_map}
+use Rattle.module_table.proofs.Found.{reports_same, claimed_files, for_fault, in_row, provided_numbered, one_module, found_named, none_named}
 use Rattle.std.proofs.lemmas.Option.{slice_get-get_or}
-use Rattle.document_values.specs.Rule.{RuleValue}
 use Rattle.std.proofs.lemmas.Bool.{cases_eq}
-use Rattle.ninja_text.specs.Failure.{ForFault}
-use Rattle.ninja_text.specs.declared.failure.Failure.{Failure}
-use Rattle.dep_order.specs.Needs.{IsOrderable}
 use Rattle.dep_order.proofs.ForCallers.{no_cycle}
-use Rattle.module_table.specs.inner.Numbered.{AreRequiredIndexes}
-use Rattle.module_table.specs.inner.Passed.{Lacks, Passed}
+use Rattle.module_table.specs.inner.Passed.{Lacks}
 use Rattle.module_table.proofs.Words.{name_of, maker_of, path_of, target_of, claimed, privacy_of, names_wanted, At}
-use Rattle.ninja_text.specs.Bytes.{Name}
-use Rattle.module_table.proofs.Lists.{first_of_rejected, one_there, same_reads}
+use Rattle.module_table.proofs.Lists.{first_of, same_reads}
 
 -- ---- what the checks of info files and of kept names report
 
@@ -44,7 +30,7 @@ module _ (t : TableValue) where
   known_by : (r : InfoRequirement) → IsByInfo (provisions t) r → (file : Name) × IsInfoProvided t r.name file
   known_by r h = (h.1.file, from_info r.name h.0 h.2 h.1 h.3 h.4)
 
-  module _ (differ : AllDiffer (names_of (provisions t))) where
+  module _ (differ : DoNamesDiffer t) where
     differs_by : (r : InfoRequirement) → IsByInfo (provisions t) r → Differs (provisions t) r → Disagrees t r
     differs_by r by (k, p, named, other) =
         let same = one_module (provisions t) r.name differ by.0 k by.3 named in
@@ -65,26 +51,23 @@ abbrev IsOf : InfoRequirement → (List ℕ → List ℕ → List ℕ → TableF
 IsOf r make fault = fault ≡ make r.target r.module_name r.name
 
 module _ (t : TableValue) (kept : List Name) where
-  pub reports_info_unknown : {index : ℕ} {r : InfoRequirement} {fault : TableFault} →
-      RefusesAt (IsByInfo (provisions t)) (IsNotByInfo (provisions t)) (info_requirements t) index → At (info_requirements t) index r →
-      IsOf r InfoUnknown fault → Reports 6 t kept fault
-  reports_info_unknown {index} {r} rejected at is =
-      let first = first_of_rejected (IsInfoUnknown t) at rejected (unknown_by t r) (λ y by unknown. let h = known_by t y by in unknown h.0 h.1) in
+  pub reports_info_unknown : (index : ℕ) {r : InfoRequirement} {fault : TableFault} → AcceptsAll (IsByInfo (provisions t)) (take index (info_requirements t)) →
+      At (info_requirements t) index r → IsNotByInfo (provisions t) r → IsOf r InfoUnknown fault → Reports 6 t kept fault
+  reports_info_unknown index {r} before at bad is =
+      let first = first_of (IsInfoUnknown t) at before (unknown_by t r bad) (λ y by unknown. let h = known_by t y by in unknown h.0 h.1) in
       reports_same 6 t kept is (record { present = (index, r, first, refl, refl, refl); coded = refl })
 
-  pub reports_info_disagrees : {index : ℕ} {r : InfoRequirement} {fault : TableFault} → AllDiffer (names_of (provisions t)) →
-      AcceptsAll (IsByInfo (provisions t)) (info_requirements t) → RefusesAt (Agrees (provisions t)) (Differs (provisions t)) (info_requirements t) index →
-      At (info_requirements t) index r → IsOf r InfoDisagrees fault → Reports 7 t kept fault
-  reports_info_disagrees {index} {r} differ known rejected at is =
-      let first = first_of_rejected (Disagrees t) at rejected (differs_by t differ r (known.each index r at)) (agrees_not t) in
+  pub reports_info_disagrees : (index : ℕ) {r : InfoRequirement} {fault : TableFault} → DoNamesDiffer t → AreInfosKnown t →
+      AcceptsAll (Agrees (provisions t)) (take index (info_requirements t)) → At (info_requirements t) index r → Differs (provisions t) r →
+      IsOf r InfoDisagrees fault → Reports 7 t kept fault
+  reports_info_disagrees index {r} differ known before at bad is =
+      let first = first_of (Disagrees t) at before (differs_by t differ r (known.each index r at) bad) (agrees_not t) in
       reports_same 7 t kept is (record { present = (index, r, first, refl, refl, refl); coded = refl })
 
-  pub reports_private_unknown : {index : ℕ} {name : Name} {fault : TableFault} →
-      RefusesAt (IsByObject (provisions t)) (IsNotByObject (provisions t)) kept index → At kept index name → fault ≡ PrivateUnknown name →
-      Reports 10 t kept fault
-  reports_private_unknown {index} {name} rejected at is =
-      let first = first_of_rejected (IsUnprovided t) at rejected (unprovided_by t name)
-      (λ y by foreign. let h = provided_by t y by in foreign h.0 h.1 h.2 h.3) in
+  pub reports_private_unknown : (index : ℕ) {name : Name} {fault : TableFault} → AcceptsAll (IsByObject (provisions t)) (take index kept) → At kept index name →
+      IsNotByObject (provisions t) name → fault ≡ PrivateUnknown name → Reports 10 t kept fault
+  reports_private_unknown index {name} before at bad is =
+      let first = first_of (IsUnprovided t) at before (unprovided_by t name bad) (λ y by foreign. let h = provided_by t y by in foreign h.0 h.1 h.2 h.3) in
       reports_same 10 t kept is (record { present = (index, first); coded = refl })
 
 -- ---- modules that info files keep to themselves
@@ -122,54 +105,49 @@ module _ (t : TableValue) where
       let number : i ≡ r.info = cc in
       other number
 
-  public_rows : AcceptsAll (RequiresPublic (provisions t)) t.objects → (object : ℕ) (name : Name) → Requires t object name → IsPrivateName t name → ⊥
+  public_rows : AreObjectsAllowed t → (object : ℕ) (name : Name) → Requires t object name → IsPrivateName t name → ⊥
   public_rows all object name (rule, at, has) kept =
       public_not_private name ((all.each object rule at).each has.0 name (slice_get-get_or rule.required has.0 name has.1 ∙ ap Some has.2)) kept
 
--- a private module is made by an info
-pub info_of_private : (ps : List Provision) → AllDiffer (names_of ps) → ArePrivateByInfos ps → (name : Name) → IsPrivate ps name → (k : ℕ) (q : Provision) →
-    IsNamed ps name k q → (i : ℕ) × (q.maker ≡ Info i) × (q.is_private ≡ true)
-info_of_private ps differ sealed name (l, p, there, private) k q named =
-    let same = one_module ps name differ l k there named in
-    let by = sealed l p there.0 private in
-    (by.0, ap maker_of (sym same) ∙ by.1, ap privacy_of (sym same) ∙ private)
-
 module _ (t : TableValue) (kept : List Name) where
-  pub reports_private_object : {object : ℕ} {rule : RuleValue} {index : ℕ} {name : Name} {info : ℕ} {fault : TableFault} → At t.objects object rule →
-      AcceptsAll (RequiresPublic (provisions t)) (take object t.objects) → RefusesAt (IsPublic (provisions t)) (IsPrivate (provisions t)) rule.required index →
+  pub reports_private_object : (object index : ℕ) {rule : RuleValue} {name : Name} {info : ℕ} {fault : TableFault} → At t.objects object rule →
+      AcceptsAll (RequiresPublic (provisions t)) (take object t.objects) → AcceptsAll (IsPublic (provisions t)) (take index rule.required) →
       At rule.required index name → IsPrivateTo (provisions t) name info → fault ≡ ModulePrivate name info (Object object) → Reports 9 t kept fault
-  reports_private_object {object} {rule} {index} {name} {info} at before rejected at_name by same =
+  reports_private_object object index {rule} {name} {info} at before before_names at_name by same =
       let keeps = private_to t info name by in
       let first : IsFirstRequired (IsPrivateName t) t.objects object name = record {
         rule = rule;
         index = index;
-        first_object = record {
-          here = at;
-          holds = (index, name, at_name, (info, keeps));
-          before = λ k r lt at_k h. let row = before.each k r (in_take object t.objects k r lt at_k) in public_not_private t h.1 (row.each h.0 h.1 h.2) h.3;
-        };
-        first_name = first_of_rejected (IsPrivateName t) at_name rejected (λ private. (info, keeps)) (public_not_private t);
+        first_object = first_of (Requiring (IsPrivateName t)) at before (index, name, at_name, (info, keeps))
+            (λ r row h. public_not_private t h.1 (row.each h.0 h.1 h.2) h.3);
+        first_name = first_of (IsPrivateName t) at_name before_names (info, keeps) (public_not_private t);
       } in
       reports_same 9 t kept same (record { present = (first, keeps); coded = refl })
 
-  pub reports_private_info : {index : ℕ} {r : InfoRequirement} {info : ℕ} {fault : TableFault} → AllDiffer (names_of (provisions t)) →
-      RefusesAt (IsAllowed (provisions t)) (IsNotAllowed (provisions t)) (info_requirements t) index → At (info_requirements t) index r →
-      IsPrivateTo (provisions t) r.name info → fault ≡ ModulePrivate r.name info (Info r.info) → AcceptsAll (RequiresPublic (provisions t)) t.objects →
-      Reports 9 t kept fault
-  reports_private_info {index} {r} {info} differ rejected at by same all =
+  pub reports_private_info : (index : ℕ) {r : InfoRequirement} {info : ℕ} {fault : TableFault} →
+      AcceptsAll (IsAllowed (provisions t)) (take index (info_requirements t)) → At (info_requirements t) index r → IsPrivateTo (provisions t) r.name info →
+      info ≢ r.info → AreObjectsAllowed t → fault ≡ ModulePrivate r.name info (Info r.info) → Reports 9 t kept fault
+  reports_private_info index {r} {info} before at by other all same =
       let keeps = private_to t info r.name by in
-      let elsewhere : IsNotAllowed (provisions t) r →
-      IsPrivateElsewhere t r = λ bad.
-      (info, keeps, λ e. bad.4 (ap maker_of (one_module (provisions t) r.name differ bad.0 by.0 bad.2 by.2) ∙ by.4 ∙ ap Info e)) in
-      let first = first_of_rejected (IsPrivateElsewhere t) at rejected elsewhere (allowed_not_private t) in
-      reports_same 9 t kept same
-      (record {
-        present = (
-          public_rows t all,
-          (index, r, first, refl, refl, keeps, (elsewhere (subst (IsNotAllowed (provisions t)) (one_there rejected.here at) rejected.refused)).2),
-        );
-        coded = refl;
-      })
+      let first = first_of (IsPrivateElsewhere t) at before (info, keeps, other) (allowed_not_private t) in
+      reports_same 9 t kept same (record { present = (public_rows t all, (index, r, first, refl, refl, keeps, other)); coded = refl })
+
+-- ---- what was looked up for a requirement
+
+module _ (t : TableValue) {all : List InfoRequired} (looked : AreLookedUp t all) (k : ℕ) {r : InfoRequired} (at : At all k r) where
+  found_module : option_map (λ m. provision_of m.1.now) r.module ≡ found (provisions t) r.name.now
+  found_module = ap (λ (x : LookedUp). x.1) (found_there t looked k at)
+
+  pub no_module : r.module ≡ None → (l : ℕ) (p : Provision) → IsNamed (provisions t) r.name.now l p → ⊥
+  no_module none = none_named (provisions t) r.name.now (sym found_module ∙ ap (option_map (λ m. provision_of m.1.now)) none)
+
+  -- the module is the one of that name
+  module _ {m : ℕ × Bor Module} (some : r.module ≡ Some m) where
+    pub module_there : (l : ℕ) × IsNamed (provisions t) r.name.now l (provision_of m.1.now)
+    module_there = found_named (provisions t) r.name.now (provision_of m.1.now) (sym found_module ∙ ap (option_map (λ m. provision_of m.1.now)) some)
+
+    pub only_module : (l : ℕ) (p : Provision) → IsNamed (provisions t) r.name.now l p → p ≡ provision_of m.1.now
+    only_module l p named = one_module (provisions t) r.name.now looked.differ l module_there.0 named module_there.1
 
 -- ---- what has passed after each check, and which fault is reported by then
 
@@ -186,6 +164,10 @@ module _ (t : TableValue) (kept : List Name) where
   next_passed : (n : ℕ) → Passed n t kept → Lacks n t kept → Passed (n + 1) t kept
   next_passed n passed lacks fault is =
       ⊎_elim (λ same. absurd (lacks fault same is)) (λ other. omega (arith, (passed fault is), other)) (cases_eq (code_number fault) n)
+
+  -- all checks have passed
+  pub none_left : Passed 11 t kept → HasNoFault t kept
+  none_left passed fault is = let code = code_within fault in omega (arith, passed fault is, code)
 
   -- a fault of this code is the one that is reported, if the checks below have passed
   pub reported : (n : ℕ) (fault : TableFault) → Reports n t kept fault → Passed n t kept → IsReported t kept fault
@@ -205,7 +187,7 @@ module _ (t : TableValue) (kept : List Name) where
   infos_lack differ (InfoTwice target) e h = differ.differ h.0 h.1 target h.2.earlier h.2.x_here h.2.y_here
   infos_lack differ fault e h = absurd (omega (arith, e))
 
-  names_lack : AllDiffer (names_of (provisions t)) → Lacks 3 t kept
+  names_lack : DoNamesDiffer t → Lacks 3 t kept
   names_lack differ (ProvidedTwice name first second) e h =
       differ.differ h.0 h.1 h.3.name h.4.earlier (to_map name_of (provisions t) h.0 h.2 h.4.x_here ∙ ap Some h.4.alike)
       (to_map name_of (provisions t) h.1 h.3 h.4.y_here)
@@ -223,11 +205,11 @@ module _ (t : TableValue) (kept : List Name) where
       h.first_name.holds file.0 file.1
   requirements_lack known fault e h = absurd (omega (arith, e))
 
-  unknown_lacks : AcceptsAll (IsByInfo (provisions t)) (info_requirements t) → Lacks 6 t kept
+  unknown_lacks : AreInfosKnown t → Lacks 6 t kept
   unknown_lacks by (InfoUnknown target module_name name) e h = let file = known_by t h.1 (by.each h.0 h.1 h.2.here) in h.2.holds file.0 file.1
   unknown_lacks by fault e h = absurd (omega (arith, e))
 
-  disagreeing_lacks : AcceptsAll (Agrees (provisions t)) (info_requirements t) → Lacks 7 t kept
+  disagreeing_lacks : DoInfosAgree t → Lacks 7 t kept
   disagreeing_lacks agree (InfoDisagrees target module_name name) e h = agrees_not t h.1 (agree.each h.0 h.1 h.2.here) h.2.holds
   disagreeing_lacks agree fault e h = absurd (omega (arith, e))
 
@@ -235,13 +217,13 @@ module _ (t : TableValue) (kept : List Name) where
   rings_lack orderable (ImportCycle objects) e h = no_cycle (length t.objects) (DependsOn t) objects.items orderable h.is_cycle
   rings_lack orderable fault e h = absurd (omega (arith, e))
 
-  private_lacks : AcceptsAll (RequiresPublic (provisions t)) t.objects → AcceptsAll (IsAllowed (provisions t)) (info_requirements t) → Lacks 9 t kept
+  private_lacks : AreObjectsAllowed t → AreInfosAllowed t → Lacks 9 t kept
   private_lacks public allowed (ModulePrivate name info (Object object)) e h =
       public_rows t public object name (h.0.rule, h.0.first_object.here, contained h.0.rule.required name (h.0.index, h.0.first_name.here)) (info, h.1)
   private_lacks public allowed (ModulePrivate name info (Info user)) e h = allowed_not_private t h.1.1 (allowed.each h.1.0 h.1.1 h.1.2.here) h.1.2.holds
   private_lacks public allowed fault e h = absurd (omega (arith, e))
 
-  kept_lack : AcceptsAll (IsByObject (provisions t)) kept → Lacks 10 t kept
+  kept_lack : AreByObjects t kept → Lacks 10 t kept
   kept_lack own (PrivateUnknown name) e h = let by = provided_by t name (own.each h.0 name h.1.here) in h.1.holds by.0 by.1 by.2 by.3
   kept_lack own fault e h = absurd (omega (arith, e))
 
@@ -261,7 +243,7 @@ module _ (t : TableValue) (kept : List Name) where
   pub after_infos : AllDiffer (map target_of t.infos) → Passed 2 t kept → Passed 3 t kept
   after_infos infos passed = next_passed 2 passed (infos_lack infos)
 
-  pub after_names : AllDiffer (names_of (provisions t)) → Passed 3 t kept → Passed 4 t kept
+  pub after_names : DoNamesDiffer t → Passed 3 t kept → Passed 4 t kept
   after_names names passed = next_passed 3 passed (names_lack names)
 
   pub after_files : AllDiffer (map path_of t.objects ++ files_of (provisions t)) → Passed 4 t kept → Passed 5 t kept
@@ -270,29 +252,29 @@ module _ (t : TableValue) (kept : List Name) where
   pub after_known : (rows : List (List ℕ)) → AreRequiredIndexes t rows → Passed 5 t kept → Passed 6 t kept
   after_known rows is passed = next_passed 5 passed (requirements_lack (rows_known rows is))
 
-  after_infos_known : AcceptsAll (IsByInfo (provisions t)) (info_requirements t) → Passed 6 t kept → Passed 7 t kept
+  after_infos_known : AreInfosKnown t → Passed 6 t kept → Passed 7 t kept
   after_infos_known by_infos passed = next_passed 6 passed (unknown_lacks by_infos)
 
-  after_agreement : AcceptsAll (Agrees (provisions t)) (info_requirements t) → Passed 7 t kept → Passed 8 t kept
+  after_agreement : DoInfosAgree t → Passed 7 t kept → Passed 8 t kept
   after_agreement agree passed = next_passed 7 passed (disagreeing_lacks agree)
 
   after_rings : IsOrderable (length t.objects) (DependsOn t) → Passed 8 t kept → Passed 9 t kept
   after_rings orderable passed = next_passed 8 passed (rings_lack orderable)
 
-  pub after_allowed : AcceptsAll (RequiresPublic (provisions t)) t.objects → AcceptsAll (IsAllowed (provisions t)) (info_requirements t) → Passed 9 t kept →
+  pub after_allowed : AreObjectsAllowed t → AreInfosAllowed t → Passed 9 t kept →
       Passed 10 t kept
   after_allowed public allowed passed = next_passed 9 passed (private_lacks public allowed)
 
-  pub after_kept : AcceptsAll (IsByObject (provisions t)) kept → Passed 10 t kept → Passed 11 t kept
+  pub after_kept : AreByObjects t kept → Passed 10 t kept → Passed 11 t kept
   after_kept own passed = next_passed 10 passed (kept_lack own)
 
   -- what has passed by some of the checks M5 to M9
-  module _ (rows : List (List ℕ)) (indexes : AreRequiredIndexes t rows) (by_infos : AcceptsAll (IsByInfo (provisions t)) (info_requirements t))
+  module _ (rows : List (List ℕ)) (indexes : AreRequiredIndexes t rows) (by_infos : AreInfosKnown t)
       (before : Passed 5 t kept) where
     pub seven_passed : Passed 7 t kept
     seven_passed = after_infos_known by_infos (after_known rows indexes before)
 
-    module _ (agree : AcceptsAll (Agrees (provisions t)) (info_requirements t)) where
+    module _ (agree : DoInfosAgree t) where
       pub eight_passed : Passed 8 t kept
       eight_passed = after_agreement agree seven_passed
 

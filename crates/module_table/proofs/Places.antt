@@ -1,30 +1,15 @@
 -- What the pairs of an object are.
-use Rattle.std.proofs.Common.{◌≡◌, ℕ, zero, suc, ◌+◌, ◌⊎◌, Bool, true, false, List, [], ◌∷◌, ◌++◌, filter, find, Option, Some, None, refl, ap, subst, sym, ◌∙◌, inl, inr, arith, slice_get, cond, bytes_eq, ⊎_elim, ◌<◌, length, map, ◌||◌, IsTrue, ap₂, true≢false, MatchBool, take}
-use Rattle.std.specs.Option.{option_map}
-use Rattle.std.specs.List.{flat_map, enumerate_from}
-use Rattle.std.specs.Cmp.Lexicographic.{bytes_decides}
+use Rattle.std.proofs.Common.{◌≡◌, ℕ, zero, suc, ◌+◌, ◌⊎◌, Bool, true, false, List, [], ◌∷◌, ◌++◌, filter, find, Option, Some, None, refl, ap, subst, sym, ◌∙◌, inl, inr, arith, slice_get, cond, bytes_eq, ⊎_elim, ◌<◌, length, map, ◌||◌, IsTrue, ap₂, true≢false}
+use Rattle.module_table.specs.Prelude.{option_map, flat_map, enumerate_from, bytes_decides, ModuleValue, InfoValue, TableValue, IsProvidedBy, Provision, provisions, object_provisions, info_provisions, Provides, Requires, InfoProvides, IsProvided, DependsOn, InfoRequires, IsInfoProvided, InfoRequirement, info_requirements, requirements_of_info, module_requirements, first_mentions, file_of, Object, Info, RuleValue, IsOrderable, Claim, claims, own_claims, Disagrees, IsSound, Maker, names_of, LookedUp, looked_up, lookups_of, AreLookedUp, InfoRequired, Name, AllDiffer}
 use Rattle.std.proofs.lemmas.Option.{slice_get-get_or}
 use Rattle.ninja_text.proofs.ForCallers.{contained, in_append, from_map, to_map, in_first, in_second, three_ways, from_filter_map, from_flat_map, in_flat_map, offset}
-use Rattle.document_values.specs.Info.{ModuleValue, InfoValue}
-use Rattle.module_table.specs.TableValue.{TableValue}
-use Rattle.module_table.specs.Modules.{IsProvidedBy, Provision, provisions, object_provisions, info_provisions, Provides, Requires, InfoProvides, IsProvided, DependsOn, InfoRequires, IsInfoProvided, InfoRequirement, info_requirements, requirements_of_info, module_requirements}
-use Rattle.module_table.specs.Added.{first_mentions, file_of, required_of, RequiredFiles, AddedNeeds}
-use Rattle.module_table.specs.declared.fault.Maker.TheVariants.{Object, Info}
-use Rattle.document_values.specs.Rule.{RuleValue}
-use Rattle.dep_order.specs.Needs.{IsOrderable}
+use Rattle.module_table.specs.Added.{required_of, RequiredFiles, AddedNeeds}
 use Rattle.dep_order.proofs.ForCallers.{orderable_same}
-use Rattle.module_table.specs.Faults.{Claim, claims, own_claims, Disagrees}
-use Rattle.module_table.specs.Sound.{IsSound}
-use Rattle.module_table.specs.declared.fault.Maker.{Maker}
 use Rattle.std.proofs.lemmas.List.{map-append}
-use Rattle.module_table.specs.inner.Views.{requirement_of as requirement_seen, names_of}
-use Rattle.module_table.specs.inner.Finds.{LookedUp, AcceptsAll, RefusesAt}
-use Rattle.module_table.specs.inner.Found.{looked_up, with_module, lookups_of, AreLookedUp}
-use Rattle.module_table.specs.declared.requirements.InfoRequired.{InfoRequired}
+use Rattle.module_table.specs.inner.Views.{requirement_of as requirement_seen}
+use Rattle.module_table.specs.inner.Found.{with_module}
 use Rattle.module_table.proofs.Words.{Pair, bmi_of, claimant, own_module, infos_module, own_claim_of, own_modules, infos_modules, At, module_claim, name_of, name_in_pair}
-use Rattle.ninja_text.specs.Bytes.{Name}
-use Rattle.ninja_text.specs.Firsts.{AllDiffer}
-use Rattle.module_table.proofs.Lists.{differ_by, first_rejected, same_reads, one_value}
+use Rattle.module_table.proofs.Lists.{differ_by, same_reads, one_value}
 
 -- x is at some index of the list
 abbrev pub Has : {X : Type 0} → List X → X → Type 0
@@ -301,7 +286,7 @@ module _ (t : TableValue) where
       (λ entry. map_map with_found (λ (r : Pair). requirement_of info.0 info.1.target entry r.0 r.1) entry.required))
 
   -- and with the module of its name
-  found_there : {all : List InfoRequired} → AreLookedUp t all → (k : ℕ) {r : InfoRequired} → At all k r → looked_up r ≡ with_found (requirement_seen r)
+  pub found_there : {all : List InfoRequired} → AreLookedUp t all → (k : ℕ) {r : InfoRequired} → At all k r → looked_up r ≡ with_found (requirement_seen r)
   found_there {all} looked k {r} at =
       let y = from_map with_found (info_requirements t) k (looked_up r) (same_reads k (sym looked.same) ∙ to_map looked_up all k r at) in
       sym y.2 ∙ ap (λ (x : LookedUp). with_found x.0) y.2
@@ -311,13 +296,3 @@ module _ (t : TableValue) where
   required_there {all} looked k {r} at =
       let y = from_map with_found (info_requirements t) k (looked_up r) (same_reads k (sym looked.same) ∙ to_map looked_up all k r at) in
       y.1 ∙ ap (λ (x : LookedUp). Some x.0) y.2
-
-  -- a check by a test of what was looked up is one of the requirements of info files
-  pub requirement_checked : (test : LookedUp → Bool) {Yes : InfoRequirement → Type 0} (No : InfoRequirement → Type 0) →
-      ((q : InfoRequirement) → MatchBool (test (with_found q)) (Yes q) (No q)) → {all : List InfoRequired} → AreLookedUp t all → (k : ℕ) {r : InfoRequired} →
-      At all k r → AcceptsAll Yes (take k (info_requirements t)) → {b : Bool} → test (looked_up r) ≡ b →
-      MatchBool b (AcceptsAll Yes (take (k + 1) (info_requirements t))) (RefusesAt Yes No (info_requirements t) k)
-  requirement_checked test {Yes} No decides looked k {r} at before {b} tested =
-      let q = requirement_seen r in
-      first_rejected Yes No (info_requirements t) k (required_there looked k at) before b
-      (subst (λ b. MatchBool b (Yes q) (No q)) (ap test (sym (found_there looked k at)) ∙ tested) (decides q))

@@ -1,20 +1,13 @@
 -- What lists have, and rows of entries by keys: an entry that is added is listed.
 use Rattle.std.proofs.Common.{◌≡◌, ℕ, zero, suc, ◌+◌, ◌<◌, ◌≤◌, ◌⊎◌, Bool, true, false, cond, List, [], ◌∷◌, ◌++◌, length, Option, Some, None, option_copied, refl, ap, subst, sym, ◌∙◌, inl, inr, ⊎_elim, arith, slice_get, bytes_eq, true≢false, is_some, IfNone, IfSome, MatchBool, Bor, get_or, map, length-append}
-use Rattle.std.specs.List.{AllWithin, AllZip, HoldsAt}
+use Rattle.module_table.specs.Prelude.{AllZip, bytes_decides, ModuleValue, InfoValue, ModuleAt, Row, Shared, Has, By, by_name, by_file, key_of, rows_of, module_at, IsSameRow, IsPut, StillListed, AreListed, Below, IsRowUnlinked, IsUnlinked, IsKnownModule, IsSource, IsRelated, IsPool, AreIndexes, AreFit, IsFitAt, IsAlone, IsApart, IsCopied, IsPickedOf, RuleValue, HasModule, IsAlike, IsPartOf, KeepsRequired, IsEnough, AreLinked, Related}
+use Rattle.std.specs.List.{AllWithin, HoldsAt}
 use Rattle.std.specs.Option.{MatchOption, option_eq}
-use Rattle.std.specs.Cmp.Lexicographic.{bytes_decides}
 use Rattle.std.proofs.lemmas.Option.{slice_get_read, slice_get_within, get_or_from_slice_get}
-use Rattle.document_values.specs.Info.{ModuleValue, InfoValue}
-use Rattle.module_table.specs.declared.pool.rows.ModuleAt.{ModuleAt}
-use Rattle.module_table.specs.declared.pool.rows.Row.{Row}
-use Rattle.module_table.specs.declared.pool.rows.Shared.{Shared}
 use Rattle.module_table.specs.declared.pool.rows.Listed.{Listed}
-use Rattle.module_table.specs.inner.Pools.{Has, By, by_name, by_file, key_of, Rows, rows_of, module_at, InRow, IsSameRow, IsPut, StillListed, AreListed, Below, IsRowUnlinked, IsUnlinked, IsKnownModule, IsSource, IsRelated, HasSource, HasShared, IsPool, AreIndexes, AreFit, IsFitAt, IsAlone, IsApart, IsCopied, IsPicked, IsPickedOf}
+use Rattle.module_table.specs.inner.Pools.{Rows, InRow, HasSource, HasShared, IsPicked}
 use Rattle.ninja_text.proofs.ForCallers.{same_some, in_first, in_second, from_push, three_ways, same_cons, to_map, from_map, placed as index_of}
-use Rattle.document_values.specs.Rule.{RuleValue}
-use Rattle.module_table.specs.Parts.{HasModule, IsAlike, IsPartOf, KeepsRequired, InfosApart, OwnApart, AreClosed, IsEnough}
-use Rattle.module_table.specs.Pool.{AreLinked}
-use Rattle.module_table.specs.declared.pool.related.Related.{Related}
+use Rattle.module_table.specs.Parts.{InfosApart, OwnApart, AreClosed}
 use Rattle.module_table.proofs.Words.{At, Pair, target_of}
 
 abbrev pub modules_of : InfoValue → List ModuleValue

@@ -1,14 +1,6 @@
 -- Words for parts of values, as lemmas about lists take them.
 use Rattle.std.proofs.Common.{◌≡◌, slice_get, ℕ, List, Option, Some, Vec, Global, Bool, true, false, map}
-use Rattle.std.specs.List.{flat_map, enumerate_from}
-use Rattle.ninja_text.specs.Bytes.{Name, PathText}
-use Rattle.document_values.specs.Rule.{RuleValue}
-use Rattle.document_values.specs.Info.{InfoValue, ModuleValue}
-use Rattle.module_table.specs.TableValue.{TableValue}
-use Rattle.module_table.specs.Modules.{Provision, object_provisions, info_provisions}
-use Rattle.module_table.specs.Faults.{Claim}
-use Rattle.module_table.specs.declared.fault.Maker.{Maker}
-use Rattle.module_table.specs.declared.fault.Maker.TheVariants.{Object, Info}
+use Rattle.module_table.specs.Prelude.{flat_map, enumerate_from, Name, PathText, RuleValue, InfoValue, ModuleValue, TableValue, Provision, object_provisions, info_provisions, Claim, Maker, Object, Info}
 
 -- x is at index k of the list
 abbrev pub At : {X : Type 0} → List X → ℕ → X → Type 0

@@ -1,3 +1,4 @@
+pub mod Prelude
 pub mod TableValue
 pub mod Modules
 pub mod Entries

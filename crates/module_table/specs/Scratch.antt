@@ -1,6 +1,6 @@
 -- A scratch that has not been used.
 use Rattle.std.specs.Prelude.{◌≡◌, []}
-use Rattle.module_table.specs.declared.pool.picking.Scratch.{Scratch}
+use Rattle.module_table.specs.declared.pool.links.Scratch.{Scratch}
 
 -- it has no indexes and stamps of links, and no picked modules
 pub record IsUnused (scratch : Scratch) : Type 0 where

@@ -1,38 +1,28 @@
 //! All checks of a table in the order of their codes, and what a table keeps for look-ups after
-//! they have passed. M1 to M4 are in `repeated.rt`, M5 to M8 in `required.rt`, M9 and M10 in
-//! `privacy.rt`.
-ghost use Rattle.std.specs.Prelude.{◌≡◌, map, IfOk, IfErr, OnOk};
-ghost use Rattle.ninja_text.specs.Bytes.{Name};
-ghost use Rattle.ninja_text.specs.Failure.{ForFault};
-ghost use Rattle.indexmap.specs.IndexSet.{IsEmpty, hasher_of};
-ghost use Rattle.dep_order.specs.Rows.{rows};
-ghost use Rattle.table_keys.specs.Keys.{Covers};
-ghost use Rattle.module_table.specs.TableValue.{table_with};
-ghost use Rattle.module_table.specs.Entries.{table_entries};
-ghost use Rattle.module_table.specs.Faults.{IsReported};
-ghost use Rattle.module_table.specs.Outcomes.{HasNoFault};
-ghost use Rattle.module_table.specs.inner.Passed.{Passed};
-ghost use Rattle.module_table.specs.inner.Numbered.{AreRequiredIndexes};
-ghost use Rattle.module_table.specs.inner.Graph.{AreModuleRows};
-ghost use Rattle.module_table.specs.inner.LookUps.{AreLookUps};
-ghost use Rattle.module_table.specs.inner.Views.{paths_of};
+//! they have passed. M1 to M4 are here: what is twice among the paths of objects, the targets of
+//! info files, the names of modules and the files. M5 to M10 are in `required.rt`.
+ghost use Rattle.std.specs.Prelude.{◌≡◌, IfErr, IfOk, List, map, OnOk};
+ghost use Rattle.module_table.specs.Prelude.{AllDiffer, AreModuleRows, AreRequiredIndexes, Covers};
+ghost use Rattle.module_table.specs.Prelude.{ForFault, HasNoFault, IsEmpty, IsIndex, IsReported};
+ghost use Rattle.module_table.specs.Prelude.{Name, names_of, Passed, paths_of, provision_of};
+ghost use Rattle.module_table.specs.Prelude.{provisions, Reports, rows, table_entries, table_with};
+ghost use Rattle.module_table.specs.Prelude.{TableValue};
+ghost use Rattle.indexmap.specs.IndexSet.{hasher_of};
 
-use crate::fault::{Maker, TableFault};
-use crate::modules::Modules;
+use crate::fault::{Maker, TableFault, failure_of};
+use crate::modules::{Module, Modules, all_required, module_at, object_rows, provided_modules};
 use crate::needed::all_pairs;
-use crate::requirements::{all_required, object_rows};
 use dep_order::Digraph;
 use document_values::{Info, Name, Rule};
 use indexmap::IndexSet;
 use ninja_text::{Failure, Path};
-use privacy::{check_infos_allowed, check_kept, check_objects_allowed};
-use repeated::{check_files, check_infos, check_names, check_objects};
-use required::{check_infos_agree, check_infos_known, check_objects_known, check_rings};
+use required::{
+    check_infos_agree, check_infos_allowed, check_infos_known, check_kept, check_objects_allowed,
+    check_objects_known, check_rings,
+};
 use std::alloc::{AllocError, Global};
 use table_keys::TableKey;
 
-mod privacy;
-mod repeated;
 mod required;
 
 /// What a table keeps for look-ups besides its objects and info files.
@@ -59,8 +49,7 @@ impl Index {
     ) -> Result<Index, AllocError>
         requires needs { AreModuleRows modules (rows needs.items) }
         requires indexes { AreRequiredIndexes modules (rows indexes.items) }
-        ensures { IfOk result (λ index. AreLookUps modules.entry index.names.keys
-            index.origins.items index.graph (map (λ row. row.items) index.required.items)) }
+        ensures { IfOk result (IsIndex modules.entry) }
     {
         let required = all_pairs(alloc, &modules, indexes.as_slice())?;
         let origins = modules.provided().iter().map(|m| (m.maker, m.index));
@@ -90,12 +79,9 @@ pub(crate) fn check_all(
     requires paths { IsEmpty paths.old }
     requires hasher { hasher_of paths.old ≡ key }
     requires key { Covers key (table_entries (table_with objects.now infos.now)) }
-    ensures no_fault { OnOk result
-        (HasNoFault (table_with objects.now infos.now) kept.now) }
+    ensures no_fault { OnOk result (HasNoFault (table_with objects.now infos.now) kept.now) }
     ensures paths { OnOk result (paths.new.keys ≡ paths_of (table_with objects.now infos.now)) }
-    ensures index { IfOk result (λ index. AreLookUps (table_with objects.now infos.now)
-        index.names.keys index.origins.items index.graph
-        (map (λ row. row.items) index.required.items)) }
+    ensures index { IfOk result (IsIndex (table_with objects.now infos.now)) }
     ensures fault { IfErr result (ForFault (λ fault.
         IsReported (table_with objects.now infos.now) kept.now fault.value)) }
 {
@@ -103,40 +89,165 @@ pub(crate) fn check_all(
     check_infos(alloc, infos, key)?;
     let modules = check_names(alloc, objects, infos, key)?;
     check_files(alloc, &modules, paths)?;
-    let RequiredRows { needs, indexes } = check_requirements(alloc, &modules, kept)?;
-    let index = Index::new(alloc, modules, needs, indexes)?;
-    Ok(index)
+    check_requirements(alloc, modules, kept)
 }
 
-/// What modules and objects need, by index.
-#[derive(Drop)]
-struct RequiredRows {
-    /// What each module needs.
-    needs: Vec<Vec<usize>>,
-    /// The modules that each object requires.
-    indexes: Vec<Vec<usize>>,
-}
-
-/// Checks M5 to M10. Returns what each module needs, and the modules that each object requires.
+/// Checks M5 to M10.
 fn check_requirements(
     alloc: Global,
-    modules: &Modules,
+    modules: Modules<'_>,
     kept: &[Name],
-) -> Result<RequiredRows, Failure<Box<TableFault>>>
-    requires { Passed 5 modules.now kept.now }
-    ensures needs { IfOk result (λ all. AreModuleRows modules.now (rows all.needs.items)) }
-    ensures indexes { IfOk result (λ all. AreRequiredIndexes modules.now (rows all.indexes.items)) }
-    ensures passed { OnOk result (Passed 11 modules.now kept.now) }
-    ensures fault { IfErr result (ForFault (λ fault. IsReported modules.now kept.now fault.value)) }
+) -> Result<Index, Failure<Box<TableFault>>>
+    requires { Passed 5 modules kept.now }
+    ensures no_fault { OnOk result (HasNoFault modules.entry kept.now) }
+    ensures index { IfOk result (IsIndex modules.entry) }
+    ensures fault { IfErr result (ForFault (λ fault.
+        IsReported modules.entry kept.now fault.value)) }
 {
-    let indexes = check_objects_known(alloc, modules)?;
-    let mut needs = object_rows(alloc, modules)?;
-    let required = all_required(alloc, modules, &mut needs)?;
-    check_infos_known(alloc, modules, &required)?;
-    check_infos_agree(alloc, modules, &required)?;
-    check_rings(alloc, modules, &indexes)?;
-    check_objects_allowed(alloc, modules, &indexes)?;
-    check_infos_allowed(alloc, modules, &required)?;
-    check_kept(alloc, modules, kept)?;
-    Ok(RequiredRows { needs, indexes })
+    let indexes = check_objects_known(alloc, &modules)?;
+    let mut needs = object_rows(alloc, &modules)?;
+    let required = all_required(alloc, &modules, &mut needs)?;
+    check_infos_known(alloc, &modules, &required)?;
+    check_infos_agree(alloc, &modules, &required)?;
+    check_rings(alloc, &modules, &indexes)?;
+    check_objects_allowed(alloc, &modules, &indexes)?;
+    check_infos_allowed(alloc, &modules, &required)?;
+    check_kept(alloc, &modules, kept)?;
+    drop(required);
+    Ok(Index::new(alloc, modules, needs, indexes)?)
+}
+
+/// M1: no two objects have the same path. Puts the paths into the empty set, by object.
+pub(crate) fn check_objects(
+    alloc: Global,
+    objects: &[Rule],
+    paths: &mut IndexSet<Path, TableKey>,
+) -> Result<(), Failure<Box<TableFault>>>
+    requires { IsEmpty paths.old }
+    ensures paths { OnOk result (paths.new.keys ≡ map (λ rule. rule.object) objects.now) }
+    ensures differ { OnOk result (AllDiffer (map (λ rule. rule.object) objects.now)) }
+    ensures fault { IfErr result (ForFault (λ fault. (t : TableValue) (kept : List Name) →
+        objects.now ≡ t.objects → Reports 1 t kept fault.value)) }
+{
+    paths.reserve(objects.len())?;
+    for (index, rule) in objects.iter().enumerate() {
+        let path = rule.object.copy(alloc)?;
+        let (first, is_new) = paths.insert_full(path)?;
+        if !is_new {
+            let path = rule.object.copy(alloc)?;
+            let fault = TableFault::ObjectTwice {
+                path,
+                first: Maker::Object(first),
+                second: Maker::Object(index),
+            };
+            return Err(failure_of(alloc, fault));
+        }
+    }
+    Ok(())
+}
+
+/// M2: no two info files have the same target name.
+pub(crate) fn check_infos(
+    alloc: Global,
+    infos: &[Info],
+    key: TableKey,
+) -> Result<(), Failure<Box<TableFault>>>
+    ensures ok { OnOk result (AllDiffer (map (λ info. info.target) infos.now)) }
+    ensures fault { IfErr result (ForFault (λ fault. (t : TableValue) (kept : List Name) →
+        infos.now ≡ t.infos → Reports 2 t kept fault.value)) }
+{
+    let mut targets = IndexSet::with_capacity_and_hasher(alloc, infos.len(), key)?;
+    for info in infos {
+        let (_, is_new) = targets.insert_full(&info.target)?;
+        if !is_new {
+            let target = info.target.copy(alloc)?;
+            return Err(failure_of(alloc, TableFault::InfoTwice { target }));
+        }
+    }
+    Ok(())
+}
+
+/// M3: no name is provided twice. Returns all provided modules.
+pub(crate) fn check_names<'t>(
+    alloc: Global,
+    objects: &'t [Rule],
+    infos: &'t [Info],
+    key: TableKey,
+) -> Result<Modules<'t>, Failure<Box<TableFault>>>
+    ensures modules { IfOk result
+        (λ modules. modules ≡ table_with objects.now infos.now) }
+    ensures differ { IfOk result (λ modules. AllDiffer (names_of (provisions modules))) }
+    ensures fault { IfErr result (ForFault (λ fault. (kept : List Name) →
+        Reports 3 (table_with objects.now infos.now) kept fault.value)) }
+{
+    let provided = provided_modules(alloc, objects, infos)?;
+    let mut names = IndexSet::with_hasher(alloc, key);
+    put_names(alloc, &provided, &mut names)?;
+    Ok(Modules::new(objects, infos, provided, names))
+}
+
+/// Puts the names of the modules into the empty set, by module. Apart from `check_names`, which
+/// would drop the set at each `?`: this saves the prover 14 seconds.
+fn put_names(
+    alloc: Global,
+    provided: &[Module],
+    names: &mut IndexSet<Name, TableKey>,
+) -> Result<(), Failure<Box<TableFault>>>
+    requires { IsEmpty names.old }
+    ensures names { OnOk result (names.new.keys ≡ names_of (map provision_of provided.now)) }
+    ensures differ { OnOk result (AllDiffer (names_of (map provision_of provided.now))) }
+    ensures fault { IfErr result (ForFault (λ fault. (t : TableValue) (kept : List Name) →
+        map provision_of provided.now ≡ provisions t → Reports 3 t kept fault.value)) }
+{
+    names.reserve(provided.len())?;
+    for module in provided {
+        let (first, is_new) = names.insert_full(module.name.copy(alloc)?)?;
+        if !is_new {
+            let name = module.name.copy(alloc)?;
+            let fault = TableFault::ProvidedTwice {
+                name,
+                first: provided[first].maker,
+                second: module.maker,
+            };
+            return Err(failure_of(alloc, fault));
+        }
+    }
+    Ok(())
+}
+
+/// M4: no two provided modules have the same file, and no module's file is an object. `files` has
+/// the paths of the objects, which differ, and the modules' files are put after them.
+pub(crate) fn check_files(
+    alloc: Global,
+    modules: &Modules,
+    files: &mut IndexSet<Path, TableKey>,
+) -> Result<(), Failure<Box<TableFault>>>
+    requires paths { files.old.keys ≡ map (λ rule. rule.object) modules.now.objects }
+    requires differ { AllDiffer (map (λ rule. rule.object) modules.now.objects) }
+    ensures files { OnOk result (files.new.keys ≡ paths_of modules.now) }
+    ensures ok { OnOk result (AllDiffer (paths_of modules.now)) }
+    ensures fault { IfErr result (ForFault
+        (λ fault. (kept : List Name) → Reports 4 modules.now kept fault.value)) }
+{
+    let provided = modules.provided();
+    let objects = modules.objects();
+    files.reserve(provided.len())?;
+    for module in provided {
+        let file = module.file.copy(alloc)?;
+        let (first, is_new) = files.insert_full(file)?;
+        if !is_new {
+            let maker = if first < objects.len() {
+                Maker::Object(first)
+            } else {
+                module_at(provided, first - objects.len()).maker
+            };
+            let fault = TableFault::BmiTwice {
+                path: module.file.copy(alloc)?,
+                first: maker,
+                second: module.maker,
+            };
+            return Err(failure_of(alloc, fault));
+        }
+    }
+    Ok(())
 }

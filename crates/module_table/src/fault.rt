@@ -1,6 +1,6 @@
 //! Why a table cannot be built.
-ghost use Rattle.std.specs.Prelude.{◌≡◌};
-ghost use Rattle.ninja_text.specs.Failure.{ForFault};
+ghost use Rattle.std.specs.Prelude.{◌≡◌, Some};
+ghost use Rattle.module_table.specs.Prelude.{fault_name, ForFault};
 
 use document_values::{Info, Name, Rule, TargetName};
 use ninja_text::{Failure, Path};
@@ -94,9 +94,6 @@ pub struct RefusedTable {
 }
 
 impl TableFault {
-    ghost use Rattle.std.specs.Prelude.{◌≡◌};
-    ghost use Rattle.module_table.specs.FaultNames.{fault_name};
-
     /// Returns the code and the name of the fault, for example `M3 ProvidedTwice`.
     pub fn name(&self) -> &'static str
         ensures { result.now ≡ fault_name self.now }
@@ -127,9 +124,6 @@ pub(crate) fn failure_of(alloc: Global, fault: TableFault) -> Failure<Box<TableF
 }
 
 impl fmt::Display for TableFault {
-    ghost use Rattle.std.specs.Prelude.{Some};
-    ghost use Rattle.module_table.specs.FaultNames.{fault_name};
-
     ghost output = { λ fault. Some (fault_name fault) };
 
     fn fmt<W: fmt::Write>(&self, f: &mut fmt::Formatter<W>) -> fmt::Result {

@@ -1,6 +1,6 @@
 //! Laws of tables: functions that do nothing, and whose contracts callers' proofs may cite.
-
-ghost use Rattle.module_table.specs.Added.{AddedOrderable, FilesOnce, FilesApart, RequiredFiles, AllRequired, OneFile};
+ghost use Rattle.module_table.specs.Added.{AddedOrderable, AllRequired, FilesApart, FilesOnce};
+ghost use Rattle.module_table.specs.Added.{OneFile, RequiredFiles};
 ghost use Rattle.module_table.specs.EnoughParts.{PartIsSound, PartHasTasks, PartIsNeeded};
 ghost use Rattle.module_table.specs.Outcomes.{SoundHasNoFault, FaultlessIsSound, OneTableFault};
 

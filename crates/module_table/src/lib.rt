@@ -11,80 +11,56 @@
 //!
 //! Names, paths and targets are looked up in hash tables. Their key is the digest of all of them
 //! (`specs/Entries.antt`, `table_entries`), so nobody can choose names that all hash alike. One key
-//! may serve several tables ([`add_objects`]). [`Table::build_or_refused`] also returns the objects
-//! and info files with a fault, because a fault has only indexes ([`RefusedTable`]).
+//! may serve several tables ([`add_objects`]).
 //!
-//! [`Table::lookup`] returns the producer of a name. [`Table::provided`] and [`Table::required`]
-//! return what an object provides and requires. [`Table::needed`] returns the modules that an
-//! object requires directly or through others (`specs/Needed.antt`), and [`Table::needs`] does this
-//! for one object after another. [`Resolved`] has the objects and what each requires, without
-//! look-ups. The law [`laws::added_files_can_be_ordered`] says what a sound table means for the
-//! files that are added to a build (`specs/Added.antt`). All these definitions are relations over
-//! rules and info files (`specs/Modules.antt`). Definitions that only private clauses use are in
-//! `specs/inner/`.
+//! Definitions are relations over rules and info files (`specs/Modules.antt`): what an object needs
+//! (`specs/Needed.antt`), and what a sound table means for the files that are added to a build
+//! (`specs/Added.antt`). Definitions that only private clauses use are in `specs/inner/`.
 //!
 //! A [`Pool`] has the info files of a project's targets. [`Pool::part`] returns the part of the
 //! linked modules that a target's table needs (`specs/Pool.antt`, `specs/Parts.antt`), so that the
 //! work for a target does not grow with all that it links. The law [`laws::sound_part_is_enough`]
 //! says what holds of a table that has only such a part (`specs/EnoughParts.antt`).
 //!
-//! [`TableFault::name`] returns the code and the name of a fault (`specs/FaultNames.antt`).
-//!
 //! # How it works
 //!
 //! - `modules.rt` lists the provided modules. The index of a module in the list is the index of its
-//!   name in a table of names. This is the invariant of `Modules`.
+//!   name in a table of names. What the modules of info files require is looked up once.
 //! - `checks.rt` makes the checks in the order of the codes and reports the fault of the first that
-//!   fails. `checks/repeated.rt` has M1 to M4, `checks/required.rt` M5 to M8, and
-//!   `checks/privacy.rt` M9 and M10. M8 calls `order` of `dep_order`. `requirements.rt` looks up
-//!   once what the modules of info files require. M6, M7 and M9 use what it finds.
-//! - `keys.rt` makes the key of a table's hash tables.
-//! - `table.rt`: a table has the objects and what each requires with the files ([`Resolved`]).
-//!   Names and paths have numbers, which are their indexes in two hash tables. Names are numbered
-//!   by first mention, the names of provided modules before those that are required. By these
-//!   numbers the table has the producer of each module and all requirements, as a graph. In the
-//!   graph an object needs the modules that it requires, a module of an object needs the object,
-//!   and a module of an info file needs the modules that it requires.
+//!   fails. `checks/required.rt` has M5 to M10. M8 calls `order` of `dep_order`.
+//! - `table.rt`: names and paths have numbers, their indexes in two hash tables. Names are numbered
+//!   by first mention, those of provided modules first. By these numbers the table has the producer
+//!   of each module and all requirements, as a graph. In the graph an object needs the modules that
+//!   it requires, a module of an object needs the object, and a module of an info file needs the
+//!   modules that it requires.
 //! - `needed.rt` lists the modules that each object requires, with their files. [`Needs`] calls
 //!   `Reaching` of `dep_order` in the graph, and sorts what it finds by the ranks of the names,
 //!   which are computed once.
 //! - `pool.rt`: a pool lists the modules of its info files by name and by file (`pool/rows.rt`),
 //!   hashed under one key, which covers them (`specs/Pool.antt`, `pool_entries`). A name or a file
-//!   with several modules gets a number. For each info file the pool lists the
-//!   others that it requires modules of, and the numbers of what it shares (`pool/related.rt`). For
-//!   the links of a target, one stamp for each number tells which linked module has it, and so
-//!   whether a part of the linked modules is enough (`pool/links.rt`). Then the pool picks the part
-//!   (`pool/picking.rt`) and copies it (`pool/copies.rt`).
-//!
-//! Other crates cite only one file of the proofs: `proofs/ForCallers.antt` shows that at most one
-//! list has exactly the pairs of a relation, and that a known info file of a pool is at its index.
-//!
-//! The crate uses `document_values` for rules, info files and names, `ninja_text` for paths,
-//! `dep_order` for cycles and for what a module leads to, `indexmap` and `table_keys` for look-ups,
-//! and `thiserror` for its fault.
+//!   with several modules gets a number. For each info file the pool lists the others that it
+//!   requires modules of, and the numbers of what it shares. For the links of a target, one stamp
+//!   for each number tells which linked module has it, and so whether a part of the linked modules
+//!   is enough (`pool/links.rt`). Then the pool picks the part and copies it.
 //!
 //! `must-fail/` has wrong bodies for each public function and for the key of a table, with these
-//! exceptions. Laws have no body.
-//! [`TableFault::name`] is a list of texts. [`Table::build`], [`Table::objects`],
-//! [`Table::required`], [`Table::resolved`], [`Table::into_resolved`], [`Table::needs`] and
-//! [`Table::needed`] pass on what other functions return. [`Resolved::objects`],
-//! [`Resolved::into_parts`] and [`Table::provided`] return fields or an entry of a field, and their
-//! clauses name it, as that of [`Resolved::required`] does (`required_by_the_first_object`).
+//! exceptions. Laws have no body. [`TableFault::name`] is a list of texts. [`Table::build`],
+//! [`Table::objects`], [`Table::required`], [`Table::resolved`], [`Table::into_resolved`],
+//! [`Table::needs`] and [`Table::needed`] pass on what other functions return. The clauses of
+//! [`Resolved::objects`], [`Resolved::into_parts`] and [`Table::provided`] name the field or entry
+//! that they return, as that of [`Resolved::required`] does (`required_by_the_first_object`).
 //! [`Scratch::new`] returns an empty value.
 #![tactic(auto)]
 
 mod checks;
 mod fault;
-mod keys;
 pub mod laws;
 mod modules;
 mod needed;
 mod pool;
-mod requirements;
 mod table;
 
 pub use fault::{Maker, RefusedTable, TableFault};
-pub use keys::add_objects;
 pub use needed::Needs;
 pub use pool::{Pool, Requirements, Scratch};
-pub use table::{Resolved, Table};
+pub use table::{Resolved, Table, add_objects};

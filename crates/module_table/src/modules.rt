@@ -1,25 +1,22 @@
-//! Who provides which module: the modules of a target's objects and of the info files, by index and
-//! by name.
-ghost use Rattle.std.specs.Prelude.{◌≡◌, ◌<◌, ℕ, map, length, slice_get, Some, IfOk, IfSome, IfNone};
-ghost use Rattle.std.specs.Option.{option_map};
-ghost use Rattle.module_table.specs.TableValue.{table_with};
-ghost use Rattle.module_table.specs.Modules.{provisions};
-ghost use Rattle.ninja_text.specs.Firsts.{AllDiffer};
-ghost use Rattle.module_table.specs.inner.Views.{provision_of, names_of};
-ghost use Rattle.module_table.specs.inner.Finds.{found};
-ghost use Rattle.module_table.specs.inner.Graph.{index_in};
-ghost use Rattle.module_table.specs.inner.Origins.{origins_of, origin_of};
+//! Who provides which module, by index and by name, and what modules need: those of objects their
+//! objects, and those of info files what they require, which is looked up once.
+ghost use Rattle.std.specs.Prelude.{◌++◌, ◌<◌, ◌≡◌, filter_map, flat_map, IfNone, IfOk, IfSome, ℕ};
+ghost use Rattle.module_table.specs.Prelude.{AreLookedUp, AreNamed, AreProvided, DoNamesDiffer};
+ghost use Rattle.module_table.specs.Prelude.{enumerate_from, found, index_in, indexes_in};
+ghost use Rattle.module_table.specs.Prelude.{info_rows, length, looked_up, lookups_of, map};
+ghost use Rattle.module_table.specs.Prelude.{names_of, object_row, OnOk, option_map, origins_of};
+ghost use Rattle.module_table.specs.Prelude.{provision_of, provisions, rows, slice_get, Some};
+ghost use Rattle.module_table.specs.Prelude.{table_with, TableValue};
 
 use crate::fault::Maker;
-use document_values::{Info, Name, Rule};
+use document_values::{Info, InfoModule, Name, Rule, TargetName};
 use indexmap::IndexSet;
 use ninja_text::Path;
 use std::alloc::{AllocError, Global};
 use std::marker::Model;
 use table_keys::TableKey;
 
-/// A provided module: its producer, and its index in what the producer provides. A module that an
-/// object provides is never private.
+/// A provided module, and its index in what its producer provides. Those of objects are public.
 #[derive(Clone, Copy)]
 pub(crate) struct Module<'t> {
     pub maker: Maker,
@@ -31,6 +28,7 @@ pub(crate) struct Module<'t> {
 
 /// The modules that objects and info files provide, by object, then by info file, in order of
 /// provision. Their names differ. A contract sees it as the table of the objects and info files.
+#[derive(Drop)]
 pub(crate) struct Modules<'t> {
     objects: &'t [Rule],
     infos: &'t [Info],
@@ -39,35 +37,13 @@ pub(crate) struct Modules<'t> {
     names: IndexSet<Name, TableKey>,
 }
 
-// Not derived: a derived drop is written out, field by field, wherever a value goes.
-impl Drop for Modules<'_> {
-    fn drop(self) {
-        let Modules {
-            objects: _,
-            infos: _,
-            provided: _,
-            names: _,
-        } = self;
-    }
-}
-
 impl<'t> Model for Modules<'t> {
-    ghost use Rattle.std.specs.Prelude.{◌≡◌, map};
-    ghost use Rattle.module_table.specs.TableValue.{TableValue, table_with};
-    ghost use Rattle.module_table.specs.Modules.{provisions};
-    ghost use Rattle.ninja_text.specs.Firsts.{AllDiffer};
-    ghost use Rattle.module_table.specs.inner.Views.{provision_of, names_of};
-    ghost use Rattle.module_table.specs.inner.Origins.{origins_of, origin_of};
-
     ghost Value = { TableValue };
 
     ghost view = { λ m. table_with m.objects.now m.infos.now };
 
-    ghost invariant = { λ m.
-        (map provision_of m.provided.items ≡ provisions (table_with m.objects.now m.infos.now))
-        × (map origin_of m.provided.items ≡ origins_of (table_with m.objects.now m.infos.now))
-        × (m.names.keys ≡ names_of (provisions (table_with m.objects.now m.infos.now)))
-        × AllDiffer (names_of (provisions (table_with m.objects.now m.infos.now))) };
+    ghost invariant = { λ m. AreNamed (table_with m.objects.now m.infos.now) m.provided.items
+        m.names.keys };
 }
 
 impl<'t> Modules<'t> {
@@ -78,12 +54,7 @@ impl<'t> Modules<'t> {
         provided: Vec<Module<'t>>,
         names: IndexSet<Name, TableKey>,
     ) -> Modules<'t>
-        requires provisions { map provision_of provided.items
-            ≡ provisions (table_with objects.now infos.now) }
-        requires origins { map origin_of provided.items
-            ≡ origins_of (table_with objects.now infos.now) }
-        requires names { names.keys ≡ names_of (map provision_of provided.items) }
-        requires differ { AllDiffer names.keys }
+        requires { AreNamed (table_with objects.now infos.now) provided.items names.keys }
         ensures { result ≡ table_with objects.now infos.now }
     {
         Modules {
@@ -102,16 +73,15 @@ impl<'t> Modules<'t> {
 
     pub(crate) fn infos(&self) -> &'t [Info]
         ensures infos { result.now ≡ self.now.infos }
-        ensures differ { AllDiffer (names_of (provisions self.now)) }
+        ensures differ { DoNamesDiffer self.now }
     {
         self.infos
     }
 
     /// Returns all modules, by index. Their names differ.
     pub(crate) fn provided(&self) -> &[Module<'t>]
-        ensures provisions { map provision_of result.now ≡ provisions self.now }
-        ensures origins { map origin_of result.now ≡ origins_of self.now }
-        ensures differ { AllDiffer (names_of (provisions self.now)) }
+        ensures all { AreProvided self.now result.now }
+        ensures differ { DoNamesDiffer self.now }
     {
         self.provided.as_slice()
     }
@@ -149,10 +119,7 @@ pub(crate) fn provided_modules<'t>(
     objects: &'t [Rule],
     infos: &'t [Info],
 ) -> Result<Vec<Module<'t>>, AllocError>
-    ensures provisions { IfOk result (λ all. map provision_of all.items
-        ≡ provisions (table_with objects.now infos.now)) }
-    ensures origins { IfOk result (λ all. map origin_of all.items
-        ≡ origins_of (table_with objects.now infos.now)) }
+    ensures { IfOk result (λ all. AreProvided (table_with objects.now infos.now) all.items) }
 {
     // most objects provide one module at most
     let mut all = Vec::with_capacity(alloc, objects.len())?;
@@ -181,7 +148,6 @@ pub(crate) fn provided_modules<'t>(
     Ok(all)
 }
 
-/// Returns the module of that index.
 pub(crate) fn module_at<'p, 't>(provided: &'p [Module<'t>], index: usize) -> &'p Module<'t>
     requires { index < length provided.now }
     ensures { slice_get provided.now index ≡ Some result.now }
@@ -189,7 +155,6 @@ pub(crate) fn module_at<'p, 't>(provided: &'p [Module<'t>], index: usize) -> &'p
     &provided[index]
 }
 
-/// Returns the index of the name, if it is there.
 #[tactic(auto, using(crate::proofs::Lists::finds, crate::proofs::Lists::misses))]
 pub(crate) fn index_of(names: &IndexSet<Name, TableKey>, name: &Name) -> Option<usize>
     ensures index { result ≡ index_in names.now.keys name.now }
@@ -198,4 +163,94 @@ pub(crate) fn index_of(names: &IndexSet<Name, TableKey>, name: &Name) -> Option<
         ((index : ℕ) → slice_get names.now.keys index ≡ Some name.now → ⊥) }
 {
     names.get_index_of(name)
+}
+
+/// A requirement of a module of an info file: the name, the file that the info file says, and the
+/// module of that name.
+#[derive(Clone, Copy)]
+pub(crate) struct InfoRequired<'m, 't> {
+    pub info: usize,
+    pub target: &'t TargetName,
+    pub module_name: &'t Name,
+    pub name: &'t Name,
+    pub file: &'t Path,
+    /// The module of that name and its index, if one is provided.
+    pub module: Option<(usize, &'m Module<'t>)>,
+}
+
+/// Returns what each module of an object needs: the object, whose index comes after those of all
+/// modules.
+pub(crate) fn object_rows(alloc: Global, modules: &Modules) -> Result<Vec<Vec<usize>>, AllocError>
+    ensures { IfOk result (λ needs. rows needs.items
+        ≡ filter_map (object_row (length (provisions modules.now))) (origins_of modules.now)) }
+{
+    let provided = modules.provided();
+    let mut needs = Vec::with_capacity(alloc, provided.len() + modules.objects().len())?;
+    for module in provided {
+        match module.maker {
+            Maker::Object(object) => {
+                let row = vec![in alloc; provided.len() + object]?;
+                needs.push(row)?;
+            }
+            Maker::Info(_) => {}
+        }
+    }
+    Ok(needs)
+}
+
+/// Returns all requirements of the modules of info files, by info file, module and index. Adds what
+/// each of these modules needs: the modules of the names that it requires.
+pub(crate) fn all_required<'m, 't>(
+    alloc: Global,
+    modules: &'m Modules<'t>,
+    needs: &mut Vec<Vec<usize>>,
+) -> Result<Vec<InfoRequired<'m, 't>>, AllocError>
+    ensures required { IfOk result (λ all. AreLookedUp modules.now all.items) }
+    ensures needs { OnOk result (rows needs.new.items ≡ rows needs.old.items
+        ++ flat_map (info_rows (names_of (provisions modules.now)))
+        (enumerate_from 0 modules.now.infos)) }
+{
+    let infos = modules.infos();
+    let mut all = Vec::new(alloc);
+    for (info, value) in infos.iter().enumerate() {
+        for entry in &value.modules {
+            let row = add_module(alloc, modules, info, &value.target, entry, &mut all)?;
+            needs.push(row)?;
+        }
+    }
+    Ok(all)
+}
+
+/// Adds the requirements of a module, and returns the modules of the names.
+fn add_module<'m, 't>(
+    alloc: Global,
+    modules: &'m Modules<'t>,
+    info: usize,
+    target: &'t TargetName,
+    entry: &'t InfoModule,
+    all: &mut Vec<InfoRequired<'m, 't>>,
+) -> Result<Vec<usize>, AllocError>
+    ensures required { OnOk result (map looked_up all.new.items
+        ≡ map looked_up all.old.items
+        ++ lookups_of (provisions modules.now) info target.now entry.now) }
+    ensures row { IfOk result (λ row. row.items
+        ≡ indexes_in (names_of (provisions modules.now)) entry.now.required) }
+{
+    let mut row = Vec::with_capacity(alloc, entry.required.len())?;
+    for pair in &entry.required {
+        let module = modules.find(&pair.0);
+        all.push(InfoRequired {
+            info,
+            target,
+            module_name: &entry.name,
+            name: &pair.0,
+            file: &pair.1,
+            module,
+        })?;
+        match module {
+            Some((index, _)) => row.push(index)?,
+            None => {}
+        }
+    }
+    Ok(row)
 }

@@ -1,19 +1,9 @@
-//! The modules that objects require, with their files: by their own names, and directly or through
-//! others.
-ghost use Rattle.std.specs.Prelude.{◌≡◌, ◌<◌, ◌+◌, ◌^◌, All, map, length, slice_get, Some, IfOk};
-ghost use Rattle.std.specs.List.{filter_map};
-ghost use Rattle.ninja_text.specs.Bytes.{PathText, Name};
-ghost use Rattle.module_table.specs.TableValue.{table_with};
-ghost use Rattle.module_table.specs.Needed.{ArePairs, IsNeeded, lent};
-ghost use Rattle.module_table.specs.Sound.{IsSound};
-ghost use Rattle.module_table.specs.Added.{required_of};
-ghost use Rattle.dep_order.specs.Rows.{rows};
-ghost use Rattle.module_table.specs.inner.Numbered.{AreRequiredIndexes};
-ghost use Rattle.module_table.specs.inner.Origins.{origins_of};
-ghost use Rattle.module_table.specs.inner.Indexed.{IsNamedAt};
-ghost use Rattle.module_table.specs.inner.Graph.{IsModuleGraph};
-ghost use Rattle.module_table.specs.Modules.{provisions};
-ghost use Rattle.module_table.specs.inner.Ranks.{pairs_of};
+//! The modules that objects require, directly and through others, with their files.
+ghost use Rattle.std.specs.Prelude.{◌<◌, ◌≡◌, All, IfOk, length, map, slice_get, Some};
+ghost use Rattle.module_table.specs.Prelude.{AreNeeds, ArePairs, AreRequired, AreRequiredIndexes};
+ghost use Rattle.module_table.specs.Prelude.{IsModuleGraph, IsNamedAt, IsNeeded, IsSound, lent};
+ghost use Rattle.module_table.specs.Prelude.{Name, origins_of, pairs_of, PathText, rows};
+ghost use Rattle.module_table.specs.Prelude.{table_with, TableValue};
 
 use crate::fault::Maker;
 use crate::modules::{Modules, module_at};
@@ -58,24 +48,12 @@ impl Drop for Needs<'_> {
 }
 
 impl<'t> Model for Needs<'t> {
-    ghost use Rattle.std.specs.Prelude.{◌+◌, ◌<◌, ◌^◌, length, map};
-    ghost use Rattle.module_table.specs.TableValue.{TableValue, table_with};
-    ghost use Rattle.module_table.specs.Sound.{IsSound};
-    ghost use Rattle.module_table.specs.Modules.{provisions};
-    ghost use Rattle.module_table.specs.Needed.{lent};
-    ghost use Rattle.module_table.specs.inner.Graph.{IsModuleGraph};
-    ghost use Rattle.module_table.specs.inner.Ranks.{AreRanked, pairs_of};
-
     ghost Value = { TableValue };
 
     ghost view = { λ needs. table_with needs.objects.now needs.infos.now };
 
-    ghost invariant = { λ needs. IsSound (table_with needs.objects.now needs.infos.now)
-        × IsModuleGraph (table_with needs.objects.now needs.infos.now) needs.reaching
-        × AreRanked (provisions (table_with needs.objects.now needs.infos.now)) needs.ranks.items
-        (map lent (pairs_of needs.modules.items))
-        × (length (provisions (table_with needs.objects.now needs.infos.now))
-        + length needs.objects.now < 2 ^ 64) };
+    ghost invariant = { λ needs. AreNeeds (table_with needs.objects.now needs.infos.now)
+        needs.reaching needs.ranks.items needs.modules.items };
 }
 
 impl<'t> Needs<'t> {
@@ -188,8 +166,7 @@ pub(crate) fn all_pairs(
     required: &[Vec<usize>],
 ) -> Result<Vec<Vec<(Name, Path)>>, AllocError>
     requires { AreRequiredIndexes modules.now (rows required.now) }
-    ensures { IfOk result (λ all. map (λ row. row.items) all.items
-        ≡ map (required_of modules.now) modules.now.objects) }
+    ensures { IfOk result (λ all. AreRequired modules.now all.items) }
 {
     let provided = modules.provided();
     // A module's mark is the number of the last object that mentioned it, counted from 1.
@@ -209,7 +186,6 @@ pub(crate) fn all_pairs(
     Ok(all)
 }
 
-/// Returns copies of the name and the file.
 pub(crate) fn copy_pair(alloc: Global, name: &Name, file: &Path) -> Result<(Name, Path), AllocError>
     ensures name { IfOk result (λ pair. pair.0 ≡ name.now) }
     ensures file { IfOk result (λ pair. pair.1 ≡ file.now) }

@@ -1,25 +1,18 @@
 //! The info files of a project, and the part of the linked ones that a target's table needs.
-ghost use Rattle.std.specs.Prelude.{◌≡◌, [], List, IfOk, IfSome, IfNone, None, Some, get_or};
-ghost use Rattle.table_keys.specs.Keys.{Covers};
-ghost use Rattle.document_values.specs.Info.{InfoValue};
-ghost use Rattle.module_table.specs.Parts.{IsEnough, KeepsRequired};
-ghost use Rattle.module_table.specs.Pool.{pool_entries, AreLinked, IsAdded};
-ghost use Rattle.module_table.specs.declared.pool.requirements.Requirements.TheVariants.{Kept};
+ghost use Rattle.std.specs.Prelude.{◌≡◌, [], get_or, IfNone, IfOk, IfSome, List, None, Some};
+ghost use Rattle.module_table.specs.Prelude.{AreLinked, Covers, hasher_of, InfoValue, IsAdded};
+ghost use Rattle.module_table.specs.Prelude.{IsEnough, IsKeyed, IsPool, KeepsRequired, Kept};
+ghost use Rattle.module_table.specs.Prelude.{pool_entries, PoolValue};
 
-mod copies;
 mod links;
-mod picking;
-mod related;
 mod requirements;
 mod rows;
 
-use copies::part_of;
 use document_values::{Info, Rule};
-use links::{Links, put_indexes, put_stamps};
-pub use picking::Scratch;
-use related::Related;
+pub use links::Scratch;
+use links::{Links, part_of, put_links};
 pub use requirements::Requirements;
-use rows::{Listed, ModuleAt};
+use rows::{Listed, ModuleAt, Related};
 use std::alloc::{AllocError, Global};
 use std::marker::Model;
 use table_keys::TableKey;
@@ -27,9 +20,8 @@ use table_keys::TableKey;
 /// The info files of a project's targets, by index. A contract sees them as a list, with `None` in
 /// place of each info file that is not known, and the key of the pool.
 ///
-/// A target that links many targets needs few of their modules. [`Pool::part`] returns these
-/// modules, so the work for a target grows with its own rules and with the number of its links. It
-/// does not grow with the modules of the linked targets.
+/// [`Pool::part`] returns the few linked modules that a target needs, so the work for a target
+/// grows with its rules and its links, and not with the modules of the linked targets.
 pub struct Pool {
     infos: Vec<Option<Info>>,
     listed: Listed,
@@ -37,7 +29,7 @@ pub struct Pool {
     related: Vec<Option<Related>>,
 }
 
-// Not derived, because the prover expands a derived `Drop` at every return.
+// Not derived: a derived drop is written out, field by field, wherever a value goes.
 impl Drop for Pool {
     fn drop(self) {
         let Pool {
@@ -49,10 +41,6 @@ impl Drop for Pool {
 }
 
 impl Model for Pool {
-    ghost use Rattle.indexmap.specs.IndexMap.{hasher_of};
-    ghost use Rattle.module_table.specs.Pool.{PoolValue};
-    ghost use Rattle.module_table.specs.inner.Pools.{IsKeyed, IsPool};
-
     ghost Value = { PoolValue };
 
     ghost view = { λ p. record { infos = p.infos.items; key = hasher_of p.listed.names } };
@@ -76,8 +64,7 @@ impl Pool {
 
     /// Adds the info file of the next target. `None` is added in its place if one of its modules
     /// requires a module that the pool does not have. The key of the pool has to be made of the
-    /// names and files of the modules, and possibly others: whoever chooses them cannot choose the
-    /// key as well.
+    /// names and files of the modules, and possibly others.
     pub fn push(self, alloc: Global, info: Option<Info>) -> Result<Pool, AllocError>
         requires { IfSome info (λ info. Covers self.key (pool_entries info)) }
         ensures added { IfOk result (λ pool. IsAdded self.infos info pool.infos) }
@@ -147,10 +134,9 @@ impl Pool {
         } = scratch;
         indexes.resize(self.infos.len(), 0)?;
         stamps.resize(self.listed.numbers, ModuleAt { info: 0, module: 0 })?;
-        if !put_indexes(linked, indexes) {
+        if !put_links(linked, &self.related, indexes, stamps) {
             return Ok(None);
         }
-        put_stamps(linked, &self.related, stamps);
         let links = Links {
             linked,
             indexes,
@@ -159,10 +145,16 @@ impl Pool {
         if !links.are_fit(&self.related) || !links.are_apart(&self.listed, objects) {
             return Ok(None);
         }
-        picked.pick_required(alloc, objects, &links, &self.listed, &self.infos)?;
-        if requirements == Requirements::Kept {
-            picked.pick_their_required(&self.infos, &self.related)?;
-        }
-        part_of(alloc, &self.infos, &links, &picked.modules, requirements)
+        let (infos, related) = (&self.infos, &self.related);
+        picked.pick(
+            alloc,
+            objects,
+            &links,
+            &self.listed,
+            infos,
+            related,
+            requirements,
+        )?;
+        part_of(alloc, infos, &links, &picked.modules, requirements)
     }
 }

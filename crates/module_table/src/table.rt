@@ -1,21 +1,14 @@
 //! The table of the modules of one target, and its look-ups.
-ghost use Rattle.std.specs.Prelude.{◌≡◌, ◌<◌, IfOk, IfErr, IfSome, IfNone, length, map, slice_get, Some};
-ghost use Rattle.std.specs.Option.{ForSome};
-ghost use Rattle.table_keys.specs.Keys.{Covers};
-ghost use Rattle.ninja_text.specs.Failure.{ForFault};
-ghost use Rattle.document_values.specs.Rule.{RuleValue};
-ghost use Rattle.module_table.specs.TableValue.{table_with};
-ghost use Rattle.module_table.specs.Entries.{table_entries};
-ghost use Rattle.module_table.specs.Modules.{IsProvidedBy};
-ghost use Rattle.module_table.specs.Faults.{IsUnknown};
-ghost use Rattle.module_table.specs.Sound.{IsSound};
-ghost use Rattle.module_table.specs.Building.{Builds};
-ghost use Rattle.module_table.specs.Needed.{ArePairs, IsNeeded};
-ghost use Rattle.module_table.specs.Added.{required_of};
+ghost use Rattle.std.specs.Prelude.{◌++◌, ◌<◌, ◌≡◌, flat_map, IfErr, IfNone, IfOk, IfSome, length};
+ghost use Rattle.module_table.specs.Prelude.{ArePairs, AreRequired, AreStored, Builds, Covers};
+ghost use Rattle.module_table.specs.Prelude.{ForFault, ForSome, HasAdded, info_entries, IsKeyOf};
+ghost use Rattle.module_table.specs.Prelude.{IsNeeded, IsProvidedBy, IsSound, IsUnknown};
+ghost use Rattle.module_table.specs.Prelude.{object_entries, required_of, RuleValue, slice_get};
+ghost use Rattle.module_table.specs.Prelude.{Some, table_entries, table_with, TableEntries};
+ghost use Rattle.module_table.specs.Prelude.{TableValue};
 
 use crate::checks::check_all;
 use crate::fault::{Maker, RefusedTable, TableFault};
-use crate::keys::table_key;
 use crate::modules::index_of;
 use crate::needed::{Needs, copy_pair, named_at};
 use dep_order::Digraph;
@@ -24,7 +17,7 @@ use indexmap::IndexSet;
 use ninja_text::{Failure, Path};
 use std::alloc::{AllocError, Global};
 use std::marker::Model;
-use table_keys::TableKey;
+use table_keys::{KeyDigest, TableKey};
 
 /// The modules of one target and of the targets that it links. It has none of the faults M1 to M10.
 pub struct Table {
@@ -55,33 +48,18 @@ impl Drop for Table {
 }
 
 impl Model for Table {
-    ghost use Rattle.std.specs.Prelude.{◌≡◌};
-    ghost use Rattle.module_table.specs.TableValue.{TableValue};
-    ghost use Rattle.module_table.specs.Modules.{provisions};
-    ghost use Rattle.module_table.specs.Added.{first_mentions};
-    ghost use Rattle.module_table.specs.inner.Mentioned.{mentioned_names};
-    ghost use Rattle.module_table.specs.inner.Views.{names_of, paths_of};
-    ghost use Rattle.module_table.specs.inner.Origins.{origins_of};
-    ghost use Rattle.module_table.specs.inner.Graph.{IsModuleGraph};
-
     ghost Value = { TableValue };
 
     ghost view = { λ t. t.resolved };
 
-    ghost invariant = { λ t. (t.names.keys ≡ names_of (provisions t.resolved))
-        × (t.origins.items ≡ origins_of t.resolved)
-        × IsModuleGraph t.resolved t.graph
-        × (t.paths.keys ≡ paths_of t.resolved)
-        × (t.names.keys ≡ first_mentions (mentioned_names t.resolved)) };
+    ghost invariant = { λ t. AreStored t.resolved t.names.keys t.origins.items t.graph
+        t.paths.keys };
 }
 
 impl Table {
     /// Returns the table of a target's objects and of the info files of the targets that it links.
-    /// `kept` has the names of the modules that are private to the target.
-    ///
-    /// # Errors
-    ///
-    /// Returns the fault with the lowest code, if the modules have one.
+    /// `kept` has the names of the modules that are private to the target. If the modules have a
+    /// fault, returns the one with the lowest code.
     pub fn build(
         alloc: Global,
         objects: Vec<Rule>,
@@ -191,8 +169,7 @@ impl Table {
         self.resolved.required(object)
     }
 
-    /// Returns the file of the module of that name and its producer, or `None` if nobody provides
-    /// it.
+    /// Returns the file of the module of that name and its producer, if somebody provides it.
     pub fn lookup(&self, name: &Name) -> Option<(&Path, Maker)>
         ensures found { IfSome result
             (λ found. IsProvidedBy self.now found.1 name.now found.0.now) }
@@ -258,18 +235,12 @@ impl Drop for Resolved {
 }
 
 impl Model for Resolved {
-    ghost use Rattle.std.specs.Prelude.{◌≡◌, map};
-    ghost use Rattle.module_table.specs.TableValue.{TableValue, table_with};
-    ghost use Rattle.module_table.specs.Sound.{IsSound};
-    ghost use Rattle.module_table.specs.Added.{required_of};
-
     ghost Value = { TableValue };
 
     ghost view = { λ r. table_with r.objects.items r.infos.items };
 
     ghost invariant = { λ r. IsSound (table_with r.objects.items r.infos.items)
-        × (map (λ row. row.items) r.required.items ≡ map
-        (required_of (table_with r.objects.items r.infos.items)) r.objects.items) };
+        × AreRequired (table_with r.objects.items r.infos.items) r.required.items };
 }
 
 impl Resolved {
@@ -280,8 +251,7 @@ impl Resolved {
         required: Vec<Vec<(Name, Path)>>,
     ) -> Resolved
         requires sound { IsSound (table_with objects.items infos.items) }
-        requires required { map (λ row. row.items) required.items
-            ≡ map (required_of (table_with objects.items infos.items)) objects.items }
+        requires required { AreRequired (table_with objects.items infos.items) required.items }
         ensures { result ≡ table_with objects.items infos.items }
     {
         Resolved {
@@ -312,7 +282,6 @@ impl Resolved {
         (objects, infos)
     }
 
-    /// Returns the info files, by index.
     pub(crate) fn infos(&self) -> &[Info]
         ensures { result.now ≡ self.now.infos }
     {
@@ -326,5 +295,49 @@ impl Resolved {
             → result.now ≡ required_of self.now rule }
     {
         &self.required[object]
+    }
+}
+
+pub(crate) fn table_key(objects: &[Rule], infos: &[Info]) -> TableKey
+    ensures { IsKeyOf result (table_entries (table_with objects.now infos.now)) }
+{
+    let mut digest = KeyDigest::new();
+    add_objects(&mut digest, objects);
+    for info in infos {
+        add_info(&mut digest, info);
+    }
+    digest.key()
+}
+
+/// Adds to a digest what a table of these objects holds of them: their paths, and the names and
+/// files of the modules that they provide. A project makes the key of all its tables with this.
+pub fn add_objects(digest: &mut KeyDigest, objects: &[Rule])
+    ensures { (entries : TableEntries) → HasAdded digest.old entries
+        → HasAdded digest.new (entries ++ flat_map object_entries objects.now) }
+{
+    for rule in objects {
+        add_object(digest, rule);
+    }
+}
+
+fn add_object(digest: &mut KeyDigest, rule: &Rule)
+    ensures { (entries : TableEntries) → HasAdded digest.old entries
+        → HasAdded digest.new (entries ++ object_entries rule.now) }
+{
+    digest.add(rule.object.bytes());
+    for pair in &rule.provided {
+        digest.add(pair.0.bytes());
+        digest.add(pair.1.bytes());
+    }
+}
+
+fn add_info(digest: &mut KeyDigest, info: &Info)
+    ensures { (entries : TableEntries) → HasAdded digest.old entries
+        → HasAdded digest.new (entries ++ info_entries info.now) }
+{
+    digest.add(info.target.text().as_bytes());
+    for module in &info.modules {
+        digest.add(module.name.bytes());
+        digest.add(module.file.bytes());
     }
 }

@@ -1,23 +1,23 @@
 -- An assignment has a token: its name begins a word.
-use Rattle.std.proofs.Common.{inl, inr, ◌≡◌, ℕ, ◌+◌, ◌<◌, Bool, true, false, ◌==◌, List, [], ◌∷◌, refl, sym, ◌∙◌, subst, Some, None, arith}
-use Rattle.std.specs.Prelude.{Option, nat_lt, ◌&&◌}
+use Rattle.std.proofs.lemmas.Grind.{common_steps}
+use Rattle.std.proofs.Common.{inl, inr, ◌≡◌, ℕ, ◌+◌, ◌<◌, Bool, true, false, List, [], ◌∷◌, refl, Some, arith, rules}
+use Rattle.std.specs.Prelude.{nat_lt, ◌&&◌}
 use Rattle.std.specs.List.{list_any}
-use Rattle.std.proofs.lemmas.Bool.{cases_Bool, ltb-true, eqb-true, and_parts}
+use Rattle.std.proofs.lemmas.Bool.{cases_Bool, ltb-true, and_parts}
 use Rattle.ninja_text.specs.Units.{LineUnits, units, unit_len, is_byte}
-use Rattle.ninja_text.specs.declared.unit.LineUnit.{LineUnit}
-use Rattle.ninja_text.specs.declared.unit.LineUnit.TheVariants.{Continuation, Escape, Byte}
+use Rattle.ninja_text.specs.declared.lexing.LineUnit.{LineUnit}
+use Rattle.ninja_text.specs.declared.lexing.LineUnit.TheVariants.{Continuation, Escape, Byte}
 use Rattle.ninja_text.specs.Tokens.{TokenAt, is_blank, is_piece, goes_on, with_first_start, with_unit, tokens_from, tokens}
 use Rattle.ninja_text.specs.Assignments.{after_run, is_name_unit, begins_with_equals, SeenAssignment, assignment_of}
 use Rattle.ninja_text.specs.Paths.{is_empty}
-use Rattle.ninja_text.proofs.Units.{tokens_with, byte_is}
 
 any_later : (test : LineUnit → Bool) (u : LineUnit) (us : LineUnits) → list_any test us ≡ true → list_any test (u ∷ us) ≡ true
-any_later test u us h = elim (cases_Bool (test u)) [ inl t ↦ rw t refl | inr f ↦ rw f h ]
+any_later test u us h = search rules
 
 -- if a word continues, a piece follows
 goes_on_piece : (us : LineUnits) → goes_on us ≡ true → list_any is_piece us ≡ true
 goes_on_piece [] h = cc
-goes_on_piece (Continuation len ∷ us) h = any_later is_piece (Continuation len) us (goes_on_piece us h)
+goes_on_piece (Continuation len ∷ us) h = simp (any_later, goes_on_piece us h)
 goes_on_piece (Escape b ∷ us) h = refl
 goes_on_piece (Byte b ∷ us) h = rw h refl
 
@@ -31,38 +31,16 @@ none_widened index (t ∷ ts) h = none_added h
 -- no token and a piece: never
 none_with : (index : ℕ) (u : LineUnit) (us : LineUnits) (later : List TokenAt) → (later ≡ [] → list_any is_piece us ≡ true → ⊥) →
     with_unit index u us later ≡ [] → list_any is_piece (u ∷ us) ≡ true → ⊥
-none_with index u us later none h piece = elim (cases_Bool (is_piece u)) [
-  | inl p ↦ elim (cases_Bool (goes_on us)) [
-    | inl g ↦ none (none_widened index later (rw (p, g) at h)) (goes_on_piece us g)
-    | inr g ↦ none_added (rw (p, g) at h)
-  ]
-  | inr p ↦ elim (cases_Bool (is_byte 58 u)) [
-    | inl c ↦ none_added (rw (p, c) at h)
-    | inr c ↦ elim (cases_Bool (is_byte 124 u)) [
-      | inl b ↦ none_added (rw (p, c, b) at h)
-      | inr b ↦ none (rw (p, c, b) at h) (rw p at piece)
-    ]
-  ]
-]
-
--- a `|` is a token, or begins one
-bar_added : (index : ℕ) (v : LineUnit) (us : LineUnits) → tokens_from index (Byte 124 ∷ v ∷ us) ≡ [] → ⊥
-bar_added index v us h = elim (cases_Bool (is_byte 124 v)) [
-  | inl d ↦ none_added (rw d at h)
-  | inr d ↦ elim (cases_Bool (is_byte 64 v)) [
-    | inl a ↦ none_added (rw (d, a) at h)
-    | inr a ↦ none_added (rw (d, a) at h)
-  ]
-]
+none_with index u us later none h piece = grind (arith, none_widened, goes_on_piece, none_added)
 
 -- a text without tokens has no piece of a word
 no_piece : (us : LineUnits) (index : ℕ) → tokens_from index us ≡ [] → list_any is_piece us ≡ true → ⊥
 no_piece [] index h piece = cc
-no_piece (u ∷ []) index h piece = none_with index u [] [] (λ e p. cc) h piece
+no_piece (u ∷ []) index h piece = grind (arith, common_steps)
 no_piece (u ∷ v ∷ us) index h piece = elim (cases_Bool (is_byte 124 u)) [
   | inr n ↦ none_with index u (v ∷ us) (tokens_from (index + unit_len u) (v ∷ us)) (λ e p. no_piece (v ∷ us) (index + unit_len u) e p)
-      (sym (tokens_with index u (v ∷ us) n) ∙ h) piece
-  | inl b ↦ bar_added index v us (subst (λ w. tokens_from index (w ∷ v ∷ us) ≡ []) (byte_is 124 u b) h)
+      (cc) piece
+  | inl b ↦ grind (arith, common_steps)
 ]
 
 -- what is left after a run is a part of all
@@ -73,29 +51,9 @@ run_any test index (u ∷ us) h = elim (cases_Bool (test u)) [
   | inr f ↦ rw f at h
 ]
 
--- a name's units are pieces
-name_piece : (u : LineUnit) → is_name_unit u ≡ true → is_piece u ≡ true
-name_piece (Continuation len) h = h
-name_piece (Escape b) h = refl
-name_piece (Byte b) h = elim (cases_Bool (b == 32)) [
-  | inl s ↦ apart 32 s refl
-  | inr s ↦ elim (cases_Bool (b == 58)) [
-    | inl c ↦ apart 58 c refl
-    | inr c ↦ elim (cases_Bool (b == 124)) [
-      | inl v ↦ apart 124 v refl
-      | inr v ↦ rw (s, c, v) refl
-    ]
-  ]
-] where
-  apart : (c : ℕ) → (b == c) ≡ true → is_name_unit (Byte c) ≡ false → is_piece (Byte b) ≡ true
-  apart c same none = cc (sym none ∙ subst (λ n. is_name_unit (Byte n) ≡ true) (eqb-true b c same) h)
-
 run_first : (index : ℕ) (us : LineUnits) → index < (after_run is_name_unit index us).place → list_any is_piece us ≡ true
 run_first index [] h = absurd (omega arith)
-run_first index (u ∷ us) h = elim (cases_Bool (is_name_unit u)) [
-  | inl t ↦ rw (name_piece u t) refl
-  | inr f ↦ absurd (let x = rw f at h in omega arith)
-]
+run_first index (u ∷ us) h = grind (arith, common_steps)
 
 -- a text that is an assignment has a token
 pub assignment_has_token : (text : List ℕ) (a : SeenAssignment) → assignment_of text ≡ Some a → tokens text ≡ [] → ⊥
@@ -104,10 +62,8 @@ assignment_has_token text a h none =
     let past_name = after_run is_name_unit name.place name.units in
     let sign = after_run is_blank past_name.place past_name.units in
     elim (cases_Bool (nat_lt name.place past_name.place && begins_with_equals sign.units)) [
-      | inl t ↦ no_piece (units text) 0 none (run_any is_blank 0 (units text)
-          (run_first name.place name.units
-          (ltb-true name.place past_name.place (and_parts (nat_lt name.place past_name.place) (begins_with_equals sign.units) t).0)))
-      | inr f ↦ let x : ◌≡◌ {A = Option SeenAssignment} None (Some a) = rw f at h in cc
+      | inl t ↦ grind (arith, no_piece, run_any, run_first, ltb-true, and_parts)
+      | inr f ↦ search rules
     ]
 
 pub assignment_not_empty : (text : List ℕ) (a : SeenAssignment) → assignment_of text ≡ Some a → is_empty (tokens text) ≡ false

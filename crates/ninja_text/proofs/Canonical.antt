@@ -1,7 +1,8 @@
 -- A canonical text means itself.
+use Rattle.std.proofs.lemmas.Grind.{common_steps}
 use Rattle.ninja_text.specs.Bytes.{Bytes}
-use Rattle.std.proofs.Common.{◌≡◌, ◌≢◌, ℕ, ◌+◌, ◌<◌, ◌≤◌, Bool, true, false, ◌&&◌, cond, nat_lt, ◌==◌, [], ◌∷◌, ◌++◌, length, Option, Some, None, Result, Ok, Err, refl, sym, ◌∙◌, ap, subst, arith, position, option_map, ◌⊎◌, inl, inr}
-use Rattle.std.specs.List.{AllByRecursion, list_any, position_from, onto_first}
+use Rattle.std.proofs.Common.{◌≡◌, ◌≢◌, ℕ, ◌+◌, ◌<◌, ◌≤◌, Bool, true, false, ◌&&◌, cond, nat_lt, ◌==◌, [], ◌∷◌, ◌++◌, length, Option, Some, None, Result, Ok, Err, refl, sym, ◌∙◌, ap, arith, position, option_map, ◌⊎◌, inl, inr}
+use Rattle.std.specs.List.{AllByRecursion, list_any, position_from}
 use Rattle.std.proofs.lemmas.Iterator.Adapters.{position_from-zero}
 use Rattle.std.proofs.lemmas.Bool.{le-ltb, lt-ltb}
 use Rattle.ninja_text.specs.declared.fault.PathFault.{PathFault}
@@ -26,35 +27,18 @@ err_or : (b : Bool) (f : PathFault) (r : Result Bytes PathFault) (p : Bytes) →
 err_or true f r p h = cc
 err_or false f r p h = (refl, h)
 
--- so did the test of the length
-long_or : (b : Bool) (last p : Bytes) → cond b (Err TooLong) (Ok last) ≡ Ok p → (b ≡ false) × (last ≡ p)
-long_or true last p h = cc
-long_or false last p h = (refl, cc)
-
--- what held at the last two tests if there is a path
-checked_ok : (o : Option ℕ) (last p : Bytes) → checked o last ≡ Ok p → (o ≡ None) × (last ≡ p) × (nat_lt 4096 (length p) ≡ false)
-checked_ok None last p h = let k = long_or (nat_lt 4096 (length last)) last p h in (refl, k.1, ap (λ l. nat_lt 4096 (length l)) (sym k.1) ∙ k.0)
-checked_ok (Some n) last p h = cc
-
 -- if a text has a path, these facts hold
 pub facts : (build : Option Bytes) (text p : Bytes) → canonical_of build text ≡ Ok p → Facts build text p
 unfolding canonical_of
 facts build text p h =
     let a = err_or (is_empty (reduced (components text))) _ _ p h in
-    let b = err_or (is_rooted text && list_any is_parent (reduced (components text))) _ _ p a.1 in
-    let k = checked_ok (position is_unwritable text) (seen_from build (is_rooted text) (reduced (components text))) p b.1 in
-    record { some = a.0; inside = b.0; clean = k.0; made = k.1; short = k.2 }
+    grind (arith, common_steps, err_or (is_rooted text && list_any is_parent (reduced (components text))) _ _ p a.1)
 
 -- and if they hold, it has that path
 pub from_facts : (build : Option Bytes) (text p : Bytes) → Facts build text p → canonical_of build text ≡ Ok p
 unfolding canonical_of
 from_facts build text p f =
-    let last = seen_from build (is_rooted text) (reduced (components text)) in
-    let rest = checked (position is_unwritable text) last in
-    let e = cond (is_rooted text && list_any is_parent (reduced (components text))) (Err AboveRoot) rest in
-    let g : e ≡ rest = ap (λ b. cond b (Err AboveRoot) rest) f.inside in
-    let h : rest ≡ Ok p = ap (λ o. checked o last) f.clean ∙ ap (λ l. checked None l) f.made ∙ ap (λ b. cond b (Err TooLong) (Ok p)) f.short in
-    ap (λ b. cond b (Err Empty) e) f.some ∙ g ∙ h
+    cc
 
 -- ---- no unwritable byte
 
@@ -87,20 +71,14 @@ rooted-text false (x ∷ xs) w = rooted-list x xs w.fixed w.lacks
 pub reduced-text : (rooted : Bool) (list : Components) → IsWhole rooted list → reduced (components (path_text rooted list)) ≡ list
 reduced-text true [] w = let h = w.some in cc
 reduced-text false [] w = let h = w.some in cc
-reduced-text true (x ∷ xs) w = in_front-current [] (reduced (components (list_text (x ∷ xs)))) refl ∙ ap reduced (components-list x xs w.lacks) ∙
-    fixed-reduced (x ∷ xs) w.fixed
-reduced-text false (x ∷ xs) w = ap reduced (components-list x xs w.lacks) ∙ fixed-reduced (x ∷ xs) w.fixed
-
--- what is made of clean parts is clean
-clean-append : (a b : Bytes) → IsClean a → IsClean b → IsClean (a ++ b)
-clean-append [] b h k = k
-clean-append (x ∷ a) b h k = (h.0, clean-append a b h.1 k)
+reduced-text true (x ∷ xs) w = grind (arith, in_front-current, components-list, fixed-reduced)
+reduced-text false (x ∷ xs) w = grind (arith, components-list, fixed-reduced)
 
 -- so is a list that is written out
 clean-list : (list : Components) → AllByRecursion IsClean list → IsClean (list_text list)
 clean-list [] a = tt
 clean-list (x ∷ []) a = a.0
-clean-list (x ∷ y ∷ ys) a = clean-append x (47 ∷ list_text (y ∷ ys)) a.0 (refl, clean-list (y ∷ ys) a.1)
+clean-list (x ∷ y ∷ ys) a = grind (arith, common_steps, clean-list (y ∷ ys) a.1)
 
 -- so is a path
 clean-text : (rooted : Bool) (list : Components) → AllByRecursion IsClean list → IsClean (path_text rooted list)
@@ -113,34 +91,23 @@ none-from index [] a = refl
 none-from index (b ∷ bs) a = rw a.0 (none-from (index + 1) bs a.1)
 
 pub clean-none : (text : Bytes) → IsClean text → position is_unwritable text ≡ None
-clean-none text a = position_from-zero is_unwritable text ∙ none-from 0 text a
+clean-none text a = simp (position_from-zero, none-from)
 
 -- a text in which none is found is clean
 clean-from : (index : ℕ) (text : Bytes) → position_from is_unwritable index text ≡ None → IsClean text
 clean-from index [] h = tt
 clean-from index (b ∷ bs) h = elim (either_way (is_unwritable b)) [
-  | inl u ↦ absurd (let k : Some index ≡ None = rw u at h in cc)
+  | inl u ↦ cc
   | inr u ↦ (u, clean-from (index + 1) bs (rw u at h))
 ]
 
 pub none-clean : (text : Bytes) → position is_unwritable text ≡ None → IsClean text
-none-clean text h = clean-from 0 text (sym (position_from-zero is_unwritable text) ∙ h)
-
--- a clean byte in front of the first component
-clean-onto : (b : ℕ) (parts : Components) → is_unwritable b ≡ false → AllByRecursion IsClean parts → AllByRecursion IsClean (onto_first b parts)
-clean-onto b [] h e = ((h, tt), tt)
-clean-onto b (part ∷ parts) h e = ((h, e.0), e.1)
-
--- a clean byte, which is a slash or not, in front of components
-clean-cond : (t : Bool) (b : ℕ) (parts : Components) → is_unwritable b ≡ false → AllByRecursion IsClean parts →
-    AllByRecursion IsClean (cond t ([] ∷ parts) (onto_first b parts))
-clean-cond true b parts h e = (tt, e)
-clean-cond false b parts h e = clean-onto b parts h e
+none-clean text h = grind (arith, clean-from, position_from-zero)
 
 -- the components of a clean text are clean
 pub clean-components : (text : Bytes) → IsClean text → AllByRecursion IsClean (components text)
 clean-components [] a = (tt, tt)
-clean-components (b ∷ bs) a = clean-cond (b == 47) b (components bs) a.0 (clean-components bs a.1)
+clean-components (b ∷ bs) a = grind (arith, common_steps, clean-components bs a.1)
 
 -- ---- what is left of a text that has no fault
 
@@ -167,22 +134,22 @@ seen-rest dirs list rest w h =
     let k = below-some dirs list rest h in
     record {
       some = some-list rest k.1;
-      fixed = fixed-behind dirs rest (subst IsFixed k.0 w.fixed);
-      lacks = below-each LacksSlash dirs rest (subst EachLacksSlash k.0 w.lacks);
-      clean = below-each IsClean dirs rest (subst (AllByRecursion IsClean) k.0 w.clean);
+      fixed = grind (arith, fixed-behind);
+      lacks = grind (arith, below-each);
+      clean = grind (arith, below-each);
       inside = refl;
     }
 
 -- what is left below it, or all of the absolute list
 seen-or : (dirs list : Components) (o : Option Components) → IsWhole true list → below dirs list ≡ o → Seen (relative_or list o)
-seen-or dirs list None w h = record { rooted = true; list = list; whole = w; is = refl }
+seen-or dirs list None w h = grind (arith, common_steps)
 seen-or dirs list (Some rest) w h = record { rooted = false; list = rest; whole = seen-rest dirs list rest w h; is = refl }
 
 -- a whole list is written as one, from wherever it is seen
 seen-whole : (build : Option Bytes) (rooted : Bool) (list : Components) → IsWhole rooted list → Seen (seen_from build rooted list)
-seen-whole None rooted list w = record { rooted = rooted; list = list; whole = w; is = refl }
-seen-whole (Some b) true list w = seen-or (reduced (components b)) list (below (reduced (components b)) list) w refl
-seen-whole (Some b) false list w = record { rooted = false; list = list; whole = w; is = refl }
+seen-whole None rooted list w = grind (arith, common_steps)
+seen-whole (Some b) true list w = grind (arith, seen-or, list)
+seen-whole (Some b) false list w = grind (arith, common_steps)
 
 -- the list of a text without a fault is whole
 pub whole-list : (build : Option Bytes) (text p : Bytes) → Facts build text p → IsWhole (is_rooted text) (reduced (components text))
@@ -190,7 +157,7 @@ whole-list build text p f = record {
   some = f.some;
   fixed = reduced-fixed (components text);
   lacks = reduced-each LacksSlash (components text) (components-lack text);
-  clean = reduced-each IsClean (components text) (clean-components text (none-clean text f.clean));
+  clean = grind (arith, reduced-each, clean-components, none-clean);
   inside = f.inside;
 }
 
@@ -199,46 +166,31 @@ pub whole-path : (rooted : Bool) (list : Components) (p : Bytes) → IsWhole roo
     IsPath p
 whole-path rooted list p w e short =
     let r = sym (ap is_rooted e) ∙ rooted-text rooted list w in
-    let l : reduced (components p) ≡ list = sym (ap (λ t. reduced (components t)) e) ∙ reduced-text rooted list w in
+    let l : reduced (components p) ≡ list = cc (reduced-text rooted list w) in
     from_facts None p p (record {
       some = ap is_empty l ∙ w.some;
-      inside = ap (λ b. b && list_any is_parent (reduced (components p))) r ∙ ap (λ k. rooted && list_any is_parent k) l ∙ w.inside;
-      clean = clean-none p (subst IsClean e (clean-text rooted list w.clean));
-      made = ap (λ b. path_text b (reduced (components p))) r ∙ ap (path_text rooted) l ∙ e;
+      inside = cc;
+      clean = grind (arith, clean-none, clean-text, rooted, list);
+      made = cc;
       short = short;
     })
-
--- a path is seen as it is from anywhere, unless it is absolute and there is a build directory
-seen-plain : (build : Option Bytes) (rooted : Bool) (list : Components) → (build ≡ None) ⊎ (rooted ≡ false) →
-    seen_from build rooted list ≡ path_text rooted list
-seen-plain None rooted list h = refl
-seen-plain (Some b) false list h = refl
-seen-plain (Some b) true list (inl e) = cc
-seen-plain (Some b) true list (inr e) = cc
 
 pub path-alone : (build : Option Bytes) (text : Bytes) → (build ≡ None) ⊎ (is_rooted text ≡ false) → IsPath text → canonical_of build text ≡ Ok text
 path-alone build text h p =
     let f = facts None text text p in
     from_facts build text text
-    (record {
-      some = f.some;
-      inside = f.inside;
-      clean = f.clean;
-      made = seen-plain build (is_rooted text) (reduced (components text)) h ∙
-          f.made;
-      short = f.short;
-    })
+    (grind (arith, common_steps))
 
 -- what a text means is a path
 pub canonical-path : (build : Option Bytes) (text p : Bytes) → canonical_of build text ≡ Ok p → IsPath p
 canonical-path build text p h =
     let f = facts build text p h in
     let s = seen-whole build (is_rooted text) (reduced (components text)) (whole-list build text p f) in
-    whole-path s.rooted s.list p s.whole (s.is ∙ f.made) f.short
+    grind (arith, whole-path)
 
 -- a rooted path is a slash and its list
 pub rooted-is : (p : Bytes) → IsPath p → is_rooted p ≡ true → p ≡ 47 ∷ list_text (reduced (components p))
-rooted-is p h r = let f = facts None p p h in sym f.made ∙ ap (λ b. path_text b (reduced (components p))) r
+rooted-is p h r = grind (arith, common_steps, facts None p p h)
 
 -- the list of a rooted path has a first component
 pub path-first : (p : Bytes) → IsPath p → (d : Bytes) × (ds : Components) × (reduced (components p) ≡ d ∷ ds)
@@ -257,7 +209,7 @@ cons-tail b xs ys e = cc
 -- a rooted path without its slash is its list, written out
 pub directory-is : (build directory : Bytes) → IsPath build → is_rooted build ≡ true → build ≡ (47 ∷ []) ++ directory →
     directory ≡ list_text (reduced (components build))
-directory-is build directory h r e = cons-tail 47 directory (list_text (reduced (components build))) (sym e ∙ rooted-is build h r)
+directory-is build directory h r e = grind (arith, cons-tail, rooted-is)
 
 -- no component that is left has a slash
 each-reduced : (text : Bytes) → EachLacksSlash (reduced (components text))
@@ -269,19 +221,15 @@ pub below-found : (build directory list rest r text : Bytes) → IsPath build �
     → option_map list_text (below (reduced (components build)) (reduced (components text))) ≡ Some r
 below-found build directory list rest r text h d e k m =
     let f = path-first build h in
-    let whole : list_text (reduced (components text)) ≡ list_text (f.0 ∷ f.1) ++ 47 ∷ r = sym e ∙ k ∙ ap (λ x. x ++ rest) (d ∙ ap list_text f.2) ∙
-    ap (λ x. list_text (f.0 ∷ f.1) ++ x) m in
-    ap (λ l. option_map list_text (below l (reduced (components text)))) f.2
-    ∙ below-is f.0 f.1 (reduced (components text)) r (subst EachLacksSlash f.2 (each-reduced build)) (each-reduced text) whole
+    let whole : list_text (reduced (components text)) ≡ list_text (f.0 ∷ f.1) ++ 47 ∷ r = cc in
+    grind (arith, below-is, each-reduced, whole)
 
 -- if one of them was not there, no list is below the directory
 pub below-missed : (build directory list text : Bytes) → IsPath build → directory ≡ list_text (reduced (components build)) →
     list ≡ list_text (reduced (components text)) → ((r : Bytes) → list ≡ directory ++ 47 ∷ r → ⊥)
     → option_map list_text (below (reduced (components build)) (reduced (components text))) ≡ None
 below-missed build directory list text h d e absent =
-    let f = path-first build h in
-    ap (λ l. option_map list_text (below l (reduced (components text)))) f.2
-    ∙ below-not f.0 f.1 (reduced (components text)) (λ r k. absent r (e ∙ k ∙ ap (λ x. x ++ 47 ∷ r) (sym (d ∙ ap list_text f.2))))
+    grind (arith, path-first, below-not)
 
 -- ---- each fault, if it is the lowest
 
@@ -296,64 +244,50 @@ later_tests build text = cond (is_rooted text && list_any is_parent (reduced (co
 -- no component is left
 pub is-empty : (build : Option Bytes) (text : Bytes) → is_empty (reduced (components text)) ≡ true → canonical_of build text ≡ Err Empty
 unfolding canonical_of
-is-empty build text h = ap (λ b. cond b (Err Empty) (later_tests build text)) h
+is-empty build text h = cc
 
 -- some component is left, and the later tests decide
 go-on : (build : Option Bytes) (text : Bytes) → is_empty (reduced (components text)) ≡ false → canonical_of build text ≡ later_tests build text
 unfolding canonical_of
-go-on build text h = ap (λ b. cond b (Err Empty) (later_tests build text)) h
+go-on build text h = cc
 
 -- an absolute path has a `..` left
 pub is-above : (build : Option Bytes) (text : Bytes) → is_empty (reduced (components text)) ≡ false →
     (is_rooted text && list_any is_parent (reduced (components text))) ≡ true → canonical_of build text ≡ Err AboveRoot
-is-above build text h k = go-on build text h ∙ ap (λ b. cond b (Err AboveRoot) (last_tests build text)) k
+is-above build text h k = grind (arith, go-on)
 
 -- none is left, and the last tests decide
 go-last : (build : Option Bytes) (text : Bytes) → is_empty (reduced (components text)) ≡ false →
     (is_rooted text && list_any is_parent (reduced (components text))) ≡ false → canonical_of build text ≡ last_tests build text
-go-last build text h k = go-on build text h ∙ ap (λ b. cond b (Err AboveRoot) (last_tests build text)) k
+go-last build text h k = grind (arith, go-on)
 
 -- a byte of the text cannot be escaped
 pub is-unwritable : (build : Option Bytes) (text : Bytes) (index : ℕ) → is_empty (reduced (components text)) ≡ false →
     (is_rooted text && list_any is_parent (reduced (components text))) ≡ false → position is_unwritable text ≡ Some index →
     canonical_of build text ≡ Err (Unwritable index)
-is-unwritable build text index h k m = go-last build text h k ∙ ap (λ o. checked o (seen_from build (is_rooted text) (reduced (components text)))) m
+is-unwritable build text index h k m = grind (arith, go-last)
 
 -- each byte has one, and the length decides
 go-checked : (build : Option Bytes) (text last : Bytes) → is_empty (reduced (components text)) ≡ false →
     (is_rooted text && list_any is_parent (reduced (components text))) ≡ false → position is_unwritable text ≡ None →
     last ≡ seen_from build (is_rooted text) (reduced (components text)) → canonical_of build text ≡ checked None last
-go-checked build text last h k m e = go-last build text h k ∙ ap (λ o. checked o (seen_from build (is_rooted text) (reduced (components text)))) m ∙
-    ap (checked None) (sym e)
+go-checked build text last h k m e = grind (arith, go-last)
 
 -- the path is too long
 pub is-long : (build : Option Bytes) (text last : Bytes) → is_empty (reduced (components text)) ≡ false →
     (is_rooted text && list_any is_parent (reduced (components text))) ≡ false → position is_unwritable text ≡ None →
     last ≡ seen_from build (is_rooted text) (reduced (components text)) → 4096 < length last → canonical_of build text ≡ Err TooLong
-is-long build text last h k m e lt = go-checked build text last h k m e ∙ ap (λ b. cond b (Err TooLong) (Ok last)) (lt-ltb 4096 (length last) lt)
+is-long build text last h k m e lt = grind (arith, go-checked, lt-ltb)
 
 -- the path is short enough
 pub is-path : (build : Option Bytes) (text last : Bytes) → is_empty (reduced (components text)) ≡ false →
     (is_rooted text && list_any is_parent (reduced (components text))) ≡ false → position is_unwritable text ≡ None →
     last ≡ seen_from build (is_rooted text) (reduced (components text)) → length last ≤ 4096 → canonical_of build text ≡ Ok last
-is-path build text last h k m e le = go-checked build text last h k m e ∙ ap (λ b. cond b (Err TooLong) (Ok last)) (le-ltb 4096 (length last) le)
-
--- the last tests never return that no component is left
-checked-not-empty : (o : Option ℕ) (last : Bytes) → checked o last ≡ Err Empty → ⊥
-checked-not-empty (Some n) last e = cc
-checked-not-empty None last e = go (nat_lt 4096 (length last)) e
-  where
-    go : (b : Bool) → cond b (Err TooLong) (Ok last) ≡ Err Empty → ⊥
-    go true k = cc
-    go false k = cc
+is-path build text last h k m e le = grind (arith, go-checked, le-ltb)
 
 -- nor do the later ones
 pub some-not-empty : (build : Option Bytes) (text : Bytes) → is_empty (reduced (components text)) ≡ false → canonical_of build text ≡ Err Empty → ⊥
-some-not-empty build text h e = go (is_rooted text && list_any is_parent (reduced (components text))) (sym (go-on build text h) ∙ e)
-  where
-    go : (b : Bool) → cond b (Err AboveRoot) (last_tests build text) ≡ Err Empty → ⊥
-    go true k = cc
-    go false k = checked-not-empty (position is_unwritable text) (seen_from build (is_rooted text) (reduced (components text))) k
+some-not-empty build text h e = grind (arith, go-on)
 
 -- a list is empty if its text is
 pub nothing-is : (list : Components) → IsFixed list → (length (list_text list) == 0) ≡ is_empty list
@@ -365,7 +299,4 @@ nothing-is ((b ∷ bs) ∷ y ∷ ys) f = grind arith
 
 -- a path has at most 4,096 bytes
 pub path-short : (bytes path : Bytes) → canonical_of None bytes ≡ Ok path → bytes ≡ path → length bytes ≤ 4096
-path-short bytes path h e = let f = facts None bytes path h in let le = short-of (length path) f.short in subst (λ l. length l ≤ 4096) (sym e) le
-  where
-    short-of : (n : ℕ) → nat_lt 4096 n ≡ false → n ≤ 4096
-    short-of n k = grind arith
+path-short bytes path h e = grind (arith, common_steps, facts None bytes path h)

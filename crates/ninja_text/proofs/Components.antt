@@ -1,11 +1,11 @@
 -- The pieces between the slashes of a text.
 use Rattle.ninja_text.specs.Bytes.{Bytes}
 use Rattle.std.proofs.Common.{◌≡◌, ℕ, zero, suc, Bool, true, false, cond, ◌==◌, [], ◌∷◌, ◌++◌, take, refl, sym, ◌∙◌, ap, subst, append_assoc}
-use Rattle.std.specs.List.{AllByRecursion, onto_first, list_any}
+use Rattle.std.specs.List.{AllByRecursion, onto_first}
 use Rattle.std.proofs.lemmas.List.Splits.{slice_split-cons_no, join_with_byte-slice_split}
 use Rattle.std.proofs.lemmas.Slice.Eq.{bytes_eq-Decides}
 use Rattle.std.proofs.Common.{bytes_eq, Option, Some, None, option_map, ◌≢◌}
-use Rattle.ninja_text.specs.Reduction.{is_parent, components}
+use Rattle.ninja_text.specs.Reduction.{components}
 use Rattle.ninja_text.specs.Paths.{below}
 use Rattle.ninja_text.specs.inner.ComponentLists.{Components, list_text, LacksSlash, EachLacksSlash}
 
@@ -47,11 +47,6 @@ components-one (b ∷ bs) h = slice_split-cons_no (λ b. b == 47) b bs h.0 ∙ a
 pub components-list : (x : Bytes) (xs : Components) → EachLacksSlash (x ∷ xs) → components (list_text (x ∷ xs)) ≡ x ∷ xs
 components-list x [] e = components-one x e.0
 components-list x (y ∷ ys) e = components-at x (list_text (y ∷ ys)) e.0 ∙ ap (λ l. x ∷ l) (components-list y ys e.1)
-
--- `..` is looked for in the components of a list that is written out
-pub any-parent : (list : Components) → EachLacksSlash list → list_any is_parent (components (list_text list)) ≡ list_any is_parent list
-any-parent [] e = refl
-any-parent (x ∷ xs) e = ap (list_any is_parent) (components-list x xs e)
 
 -- ---- a proper prefix
 

@@ -14,9 +14,9 @@ use Rattle.ninja_text.specs.Cutting.{CutterState, feed_outcome, feed_outcome_at,
 use Rattle.ninja_text.specs.declared.fault.CutFault.{CutFault}
 use Rattle.ninja_text.specs.declared.failure.Failure.{Failure}
 use Rattle.ninja_text.specs.declared.failure.Failure.TheVariants.{Memory, Fault}
-use Rattle.ninja_text.specs.declared.scan.ScanState.TheVariants.{Start}
-use Rattle.ninja_text.specs.declared.scan.Scanned.{Scanned}
-use Rattle.ninja_text.specs.declared.scan.Scanned.TheVariants.{End, Open}
+use Rattle.ninja_text.specs.declared.cutter.ScanState.TheVariants.{Start}
+use Rattle.ninja_text.specs.declared.cutter.Scanned.{Scanned}
+use Rattle.ninja_text.specs.declared.cutter.Scanned.TheVariants.{End, Open}
 use Rattle.ninja_text.proofs.Scans.{end_of, line_end_scanned, scan_end_append, scan_end_fits, scan_end_take, EndFits, take_shorter}
 
 -- an end that is found was scanned

@@ -1,41 +1,30 @@
 -- Which paths can be escaped, and what the escaped form is and stands for.
+use Rattle.std.proofs.lemmas.Grind.{common_steps}
 use Rattle.ninja_text.specs.Bytes.{Bytes}
-use Rattle.std.proofs.Common.{◌≡◌, ℕ, Bool, true, false, not, ◌==◌, IsTrue, ◌↔◌, List, [], ◌∷◌, length, refl, ap, inl, inr, map}
-use Rattle.std.specs.Prelude.{All, if◌then◌else◌}
+use Rattle.std.proofs.Common.{◌≡◌, ℕ, Bool, true, false, not, ◌==◌, IsTrue, ◌↔◌, List, [], ◌∷◌, length, refl, ap, map, arith, rules}
+use Rattle.std.specs.Prelude.{if◌then◌else◌}
 use Rattle.std.specs.List.{list_any, list_all, AllByRecursion}
-use Rattle.std.proofs.lemmas.List.Elements.{All-nil, All-cons, recursion_from_All}
-use Rattle.std.proofs.lemmas.Bool.{or_parts, cases_Bool, and_from}
+use Rattle.std.proofs.lemmas.List.Elements.{recursion_from_All}
+use Rattle.std.proofs.lemmas.Bool.{or_parts}
 use Rattle.std.proofs.lemmas.List.Folds.{list_any_none}
 use Rattle.ninja_text.specs.Escapes.{is_unwritable, is_writable, IsWritable, is_escaped, escaped_byte, escaped}
-use Rattle.ninja_text.specs.declared.unit.LineUnit.{LineUnit}
-use Rattle.ninja_text.specs.declared.unit.LineUnit.TheVariants.{Escape, Byte}
+use Rattle.ninja_text.specs.declared.lexing.LineUnit.{LineUnit}
+use Rattle.ninja_text.specs.declared.lexing.LineUnit.TheVariants.{Escape, Byte}
 use Rattle.ninja_text.specs.Tokens.{is_piece, value_of}
 use Rattle.ninja_text.proofs.Spelling.{spells_read, escaped-spells}
 use Rattle.ninja_text.proofs.SpelledUnits.{is_sound, unit_text, text_of_units}
 
 -- ---- the test of what can be escaped means what the record says
 
--- if no element passes the test, each fails it
-none_passes : (p : ℕ → Bool) (bs : Bytes) → list_any p bs ≡ false → All (λ b. p b ≡ false) bs
-none_passes p [] h = All-nil (λ b. p b ≡ false)
-none_passes p (b ∷ bs) h =
-    let both = or_parts (p b) (list_any p bs) h in
-    All-cons (λ x. p x ≡ false) b bs both.0 (none_passes p bs both.1)
-
--- a test whose contrary holds fails
-not-false : (b : Bool) → IsTrue (not b) → b ≡ false
-not-false true h = cc
-not-false false h = refl
-
 -- if the test holds, the record does
 writable_record : (path : Bytes) → IsTrue (is_writable path) → IsWritable path
 writable_record [] h = cc
-writable_record (b ∷ bs) h = record { some = λ e. cc; each = none_passes is_unwritable (b ∷ bs) (not-false (list_any is_unwritable (b ∷ bs)) h) }
+writable_record (b ∷ bs) h = grind (arith, common_steps)
 
 -- if the record holds, the test does
 writable_test : (path : Bytes) → IsWritable path → IsTrue (is_writable path)
 writable_test [] w = absurd (w.some refl)
-writable_test (b ∷ bs) w = ap not (list_any_none is_unwritable (b ∷ bs) w.each)
+writable_test (b ∷ bs) w = search (rules, list_any_none)
 
 -- so the test means what the record says
 pub writable : (path : Bytes) → IsTrue (is_writable path) ↔ IsWritable path
@@ -60,11 +49,11 @@ abbrev HasSpelling : Bytes → Type 0
 HasSpelling path = AllByRecursion (λ b. is_unwritable b ≡ false) path
 
 pub has_spelling : (path : Bytes) → IsWritable path → HasSpelling path
-has_spelling path w = recursion_from_All (λ b. is_unwritable b ≡ false) path w.each
+has_spelling path w = grind (arith, recursion_from_All)
 
 -- they are its escaped form
 byte_text : (b : ℕ) → unit_text (path_unit b) ≡ escaped_byte b
-byte_text b = elim (cases_Bool (is_escaped b)) [ inl e ↦ rw e refl | inr e ↦ rw e refl ]
+byte_text b = search rules
 
 pub path_text : (path : Bytes) → text_of_units (path_units path) ≡ escaped path
 path_text [] = refl
@@ -82,41 +71,27 @@ record Ordinary (b : ℕ) : Type 0 where
 
 ordinary : (b : ℕ) → is_escaped b ≡ false → is_unwritable b ≡ false → Ordinary b
 ordinary b e u =
-    let d = or_parts (b == 36) _ e in
-    let s = or_parts (b == 32) _ d.1 in
-    let p = or_parts (b == 124) _ u in
-    let n = or_parts (b == 0) _ p.1 in
-    let r = or_parts (b == 13) _ n.1 in
-    record { no_dollar = d.0; no_space = s.0; no_colon = s.1; no_bar = p.0; no_nul = n.0; no_return = r.0; no_feed = r.1 }
-
-byte_sound : (b : ℕ) → is_unwritable b ≡ false → is_sound (path_unit b) ≡ true
-byte_sound b u = elim (cases_Bool (is_escaped b)) [
-  | inl e ↦ rw e e
-  | inr e ↦ let o = ordinary b e u in rw e (rw (o.no_dollar, o.no_nul, o.no_return, o.no_feed) refl)
-]
+    grind (arith, common_steps)
 
 -- the units of a path are sound, and pieces of a word
 pub path_sound : (path : Bytes) → HasSpelling path → list_all is_sound (path_units path) ≡ true
 path_sound [] can = refl
-path_sound (b ∷ path) can = and_from _ _ (byte_sound b can.0) (path_sound path can.1)
+path_sound (b ∷ path) can = grind (arith, common_steps, path_sound path can.1)
 
 byte_piece : (b : ℕ) → is_unwritable b ≡ false → is_piece (path_unit b) ≡ true
-byte_piece b u = elim (cases_Bool (is_escaped b)) [
-  | inl e ↦ rw e refl
-  | inr e ↦ let o = ordinary b e u in rw e (rw (o.no_space, o.no_colon, o.no_bar) refl)
-]
+byte_piece b u = grind (arith, common_steps)
 
 pub path_pieces : (path : Bytes) → HasSpelling path → list_all is_piece (path_units path) ≡ true
 path_pieces [] can = refl
-path_pieces (b ∷ path) can = and_from _ _ (byte_piece b can.0) (path_pieces path can.1)
+path_pieces (b ∷ path) can = grind (arith, common_steps, path_pieces path can.1)
 
 -- a path without such a byte is its own escaped form
 pub escaped_none : (path : Bytes) → list_any is_escaped path ≡ false → escaped path ≡ path
 escaped_none [] none = refl
 escaped_none (b ∷ path) none =
     let p = or_parts (is_escaped b) (list_any is_escaped path) none in
-    rw p.0 (ap (λ bytes. b ∷ bytes) (escaped_none path p.1))
+    cc (escaped_none path p.1)
 
 -- what is read of an escaped path is the path
 pub value_of_escaped : (path : Bytes) → IsWritable path → value_of (escaped path) ≡ path
-value_of_escaped path w = spells_read (escaped path) path (escaped-spells path w.some (has_spelling path w))
+value_of_escaped path w = search (rules, spells_read, escaped-spells, has_spelling)

@@ -1,21 +1,21 @@
 -- The bytes that a text's units are, and the units of a line without a lexical fault.
+use Rattle.std.proofs.lemmas.Grind.{common_steps}
 use Rattle.ninja_text.specs.Bytes.{Bytes}
-use Rattle.std.proofs.Common.{inl, inr, ◌≡◌, ℕ, suc, zero, ◌+◌, ◌-◌, Bool, true, false, [], ◌∷◌, ◌++◌, length, take, drop, replicate, refl, sym, ap, ◌∙◌, subst, arith, ◌==◌, ◌&&◌, length-append, append_assoc, ◌||◌, not, Some, None}
+use Rattle.std.proofs.Common.{inl, inr, ◌≡◌, ℕ, suc, zero, ◌+◌, ◌-◌, Bool, true, false, [], ◌∷◌, ◌++◌, length, take, drop, replicate, refl, sym, ap, ◌∙◌, subst, arith, ◌==◌, ◌&&◌, length-append, append_assoc, not, Some, None, rules}
 use Rattle.std.specs.Prelude.{slice_range, Option}
 use Rattle.std.specs.List.{list_all}
 use Rattle.std.proofs.lemmas.List.{drop_at, take_at}
-use Rattle.std.proofs.lemmas.List.Folds.{list_all-append}
-use Rattle.std.proofs.lemmas.Bool.{cases_Bool, eqb-true, and_parts, and_from}
+use Rattle.std.proofs.lemmas.Bool.{cases_Bool, eqb-true, and_parts}
 use Rattle.ninja_text.specs.Units.{LineUnits, units, unit_len, is_continuation, with_continuation}
-use Rattle.ninja_text.specs.declared.unit.LineUnit.{LineUnit}
-use Rattle.ninja_text.specs.declared.unit.LineUnit.TheVariants.{Continuation, Escape, Byte}
+use Rattle.ninja_text.specs.declared.lexing.LineUnit.{LineUnit}
+use Rattle.ninja_text.specs.declared.lexing.LineUnit.TheVariants.{Continuation, Escape, Byte}
 use Rattle.ninja_text.specs.Escapes.{is_escaped, IsContinuation}
 use Rattle.ninja_text.specs.TokenLists.{total_len, begins_with}
-use Rattle.ninja_text.proofs.Units.{units_byte, units_feed, units_pair, end_continued}
-use Rattle.ninja_text.proofs.SpelledUnits.{is_plain, plain, escaped_only}
+use Rattle.ninja_text.proofs.Units.{units_byte, units_feed, end_continued}
+use Rattle.ninja_text.proofs.SpelledUnits.{is_plain}
 use Rattle.ninja_text.specs.declared.fault.LexFault.{LexFault}
 use Rattle.ninja_text.specs.Lines.{LineEnd, begins_with_line_feed, end_from, text_before, text_of_line}
-use Rattle.ninja_text.specs.Lexical.{begins_variable, is_escapable, unit_fault, earlier, first_fault}
+use Rattle.ninja_text.specs.Lexical.{unit_fault, earlier, first_fault}
 use Rattle.ninja_text.specs.Meanings.{IsFaultless}
 
 -- ---- the bytes that the units of a text are, one unit after another
@@ -41,54 +41,47 @@ spaces n = replicate n 32
 
 one_more : (n : ℕ) → spaces n ++ 32 ∷ [] ≡ 32 ∷ spaces n
 one_more zero = refl
-one_more (suc n) = ap (λ xs. 32 ∷ xs) (one_more n)
+one_more (suc n) = rw (one_more n)
 
 longer : (own : Bytes) → IsContinuation own → IsContinuation (own ++ 32 ∷ [])
 longer own c = (
   suc c.0,
-  elim c.1 [
-    | inl h ↦ inl (ap (λ xs. xs ++ 32 ∷ []) h ∙ ap (λ xs. 36 ∷ 10 ∷ xs) (one_more c.0))
-    | inr h ↦ inr (ap (λ xs. xs ++ 32 ∷ []) h ∙ ap (λ xs. 36 ∷ 13 ∷ 10 ∷ xs) (one_more c.0))
-  ],
+  grind (arith, common_steps),
 )
 
 -- a continuation in front of units takes the spaces that they begin with
 continued : (len : ℕ) (us : LineUnits) (own rest : Bytes) → IsContinuation own → length own ≡ len → AreUnitTexts us rest →
     AreUnitTexts (with_continuation len us) (own ++ rest)
-continued len [] own rest c is h = (own, [], (c, is), (λ e. refl), refl, ap (λ xs. own ++ xs) h)
+continued len [] own rest c is h = search rules
 continued len (Byte b ∷ us) own rest c is h = elim (cases_Bool (b == 32)) [
   | inl s ↦ rw s (subst (AreUnitTexts (with_continuation (len + 1) us)) (sym (joins s))
-      (continued (len + 1) us (own ++ 32 ∷ []) h.1 (longer own c) (omega (arith, length-append own (32 ∷ []))) h.4))
-  | inr s ↦ rw s (own, rest, (c, is), (λ e. s), h, refl)
+      (continued (len + 1) us (own ++ 32 ∷ []) h.1 (longer own c) (grind (arith, common_steps)) h.4))
+  | inr s ↦ search rules
 ] where
   joins : (b == 32) ≡ true → own ++ rest ≡ (own ++ 32 ∷ []) ++ h.1
-  joins s = ap (λ xs. own ++ xs) (h.5 ∙ ap (λ xs. xs ++ h.1) h.2 ∙ ap (λ n. n ∷ h.1) (eqb-true b 32 s)) ∙ sym (append_assoc own (32 ∷ []) h.1)
-continued len (Escape b ∷ us) own rest c is h = (own, rest, (c, is), (λ e. refl), h, refl)
-continued len (Continuation more ∷ us) own rest c is h = (own, rest, (c, is), (λ e. refl), h, refl)
+  joins s = grind (arith, common_steps)
+continued len (Escape b ∷ us) own rest c is h = search rules
+continued len (Continuation more ∷ us) own rest c is h = search rules
 
 no_continuation : {A : Type 0} → false ≡ true → A
 no_continuation h = absurd (cc)
 
 escape_text : (a b : ℕ) → (a == 36) ≡ true → IsUnitText (Escape b) (a ∷ b ∷ [])
-escape_text a b d = ap (λ n. n ∷ b ∷ []) (eqb-true a 36 d)
+escape_text a b d = grind (arith, common_steps)
 
 feed_text : (a b : ℕ) → (a == 36) ≡ true → (b == 10) ≡ true → IsContinuation (a ∷ b ∷ [])
-feed_text a b d f = (0, inl (ap (λ n. n ∷ b ∷ []) (eqb-true a 36 d) ∙ ap (λ n. 36 ∷ n ∷ []) (eqb-true b 10 f)))
+feed_text a b d f = grind (arith, common_steps)
 
 return_text : (a b c : ℕ) → (a == 36) ≡ true → ((b == 13) && (c == 10)) ≡ true → IsContinuation (a ∷ b ∷ c ∷ [])
 return_text a b c d r =
-    let p = and_parts (b == 13) (c == 10) r in
-    (0, inr (ap (λ n. n ∷ b ∷ c ∷ []) (eqb-true a 36 d) ∙ ap (λ n. 36 ∷ n ∷ c ∷ []) (eqb-true b 13 p.0) ∙ ap (λ n. 36 ∷ 13 ∷ n ∷ []) (eqb-true c 10 p.1)))
+    grind (arith, common_steps)
 
 -- the units of a text are its bytes
 pub unit_texts : (bytes : Bytes) → AreUnitTexts (units bytes) bytes
 unit_texts [] = refl
-unit_texts (a ∷ []) = (a ∷ [], [], refl, no_continuation, refl, refl)
+unit_texts (a ∷ []) = grind (arith, common_steps)
 unit_texts (a ∷ b ∷ []) = elim (cases_Bool (a == 36)) [
-  | inl d ↦ elim (cases_Bool (b == 10)) [
-    | inl f ↦ rw (d, f) (a ∷ b ∷ [], [], (feed_text a b d f, refl), (λ e. refl), refl, refl)
-    | inr f ↦ rw (d, f) (a ∷ b ∷ [], [], escape_text a b d, no_continuation, refl, refl)
-  ]
+  | inl d ↦ grind (arith, feed_text, escape_text, no_continuation)
   | inr d ↦ rw d (a ∷ [], b ∷ [], refl, no_continuation, unit_texts (b ∷ []), refl)
 ]
 unit_texts (a ∷ b ∷ c ∷ bytes) = elim (cases_Bool (a == 36)) [
@@ -96,16 +89,11 @@ unit_texts (a ∷ b ∷ c ∷ bytes) = elim (cases_Bool (a == 36)) [
     | inl f ↦ rw (d, f) (continued 2 (units (c ∷ bytes)) (a ∷ b ∷ []) (c ∷ bytes) (feed_text a b d f) refl (unit_texts (c ∷ bytes)))
     | inr f ↦ elim (cases_Bool ((b == 13) && (c == 10))) [
       | inl r ↦ rw (d, f, r) (continued 3 (units bytes) (a ∷ b ∷ c ∷ []) bytes (return_text a b c d r) refl (unit_texts bytes))
-      | inr r ↦ rw (d, f, r) (a ∷ b ∷ [], c ∷ bytes, escape_text a b d, no_continuation, unit_texts (c ∷ bytes), refl)
+      | inr r ↦ grind (arith, common_steps, unit_texts (c ∷ bytes))
     ]
   ]
-  | inr d ↦ rw d (a ∷ [], b ∷ c ∷ bytes, refl, no_continuation, unit_texts (b ∷ c ∷ bytes), refl)
+  | inr d ↦ grind (arith, common_steps, unit_texts (b ∷ c ∷ bytes))
 ]
-
--- fewer units begin with a space only if more do
-begins_less : (us vs : LineUnits) → begins_with 32 (us ++ vs) ≡ false → begins_with 32 us ≡ false
-begins_less [] vs h = refl
-begins_less (u ∷ us) vs h = h
 
 -- the bytes of some units, and those of the units after them
 pub split : (us vs : LineUnits) (bytes : Bytes) → AreUnitTexts (us ++ vs) bytes →
@@ -115,10 +103,9 @@ split (u ∷ us) vs bytes h =
     let later = split us vs h.1 h.4 in (
       h.0 ++ later.0,
       later.1,
-      (h.0, later.0, h.2, (λ e. begins_less us vs (h.3 e)), later.2, refl),
+      grind (arith, common_steps),
       later.3,
-      h.5 ∙ ap (λ xs. h.0 ++ xs) later.4 ∙
-          sym (append_assoc h.0 later.0 later.1),
+      grind (arith, common_steps),
     )
 
 unit_length : (u : LineUnit) (own : Bytes) → IsUnitText u own → length own ≡ unit_len u
@@ -129,7 +116,7 @@ unit_length (Byte b) own h = ap length h
 pub texts_length : (us : LineUnits) (bytes : Bytes) → AreUnitTexts us bytes → length bytes ≡ total_len us
 texts_length [] bytes h = ap length h
 texts_length (u ∷ us) bytes h =
-    ap length h.5 ∙ length-append h.0 h.1 ∙ ap (λ n. n + length h.1) (unit_length u h.0 h.2) ∙ ap (λ n. unit_len u + n) (texts_length us h.1 h.4)
+    grind (arith, common_steps, texts_length us h.1 h.4)
 
 -- a unit of a text without lexical fault, and without an end: an escaped byte, one that stands for itself, or a continuation
 abbrev pub is_proper : LineUnit → Bool
@@ -139,10 +126,9 @@ is_proper (Byte b) = is_plain b
 
 -- a continuation takes spaces
 takes : (n k : ℕ) (rest : Bytes) → with_continuation k (units (spaces n ++ rest)) ≡ with_continuation (k + n) (units rest)
-takes zero k rest = ap (λ m. with_continuation m (units rest)) {x = k} {y = k + 0} (omega arith)
+takes zero k rest = search rules
 takes (suc n) k rest =
-    ap (with_continuation k) (units_byte 32 (spaces n ++ rest) refl) ∙ takes n (k + 1) rest
-    ∙ ap (λ m. with_continuation m (units rest)) {x = k + 1 + n} {y = k + suc n} (omega arith)
+    grind (arith, units_byte, takes n (k + 1) rest)
 
 -- and no other unit
 takes_no_more : (len : ℕ) (us : LineUnits) → begins_with 32 us ≡ false → with_continuation len us ≡ Continuation len ∷ us
@@ -158,29 +144,21 @@ spaces_length (suc n) = ap suc (spaces_length n)
 -- a continuation at the front is read back
 continuation_back : (own rest : Bytes) (us : LineUnits) → IsContinuation own → begins_with 32 us ≡ false → units rest ≡ us →
     units (own ++ rest) ≡ Continuation (length own) ∷ us
-continuation_back own rest us c none later = elim c.1 [
-  | inl h ↦ subst (λ xs. units (xs ++ rest) ≡ Continuation (length xs) ∷ us) (sym h)
-      (units_feed (spaces c.0 ++ rest) ∙ after 2 (suc (suc (length (spaces c.0)))) (omega (arith, spaces_length c.0)))
-  | inr h ↦ subst (λ xs. units (xs ++ rest) ≡ Continuation (length xs) ∷ us) (sym h)
-      (after 3 (suc (suc (suc (length (spaces c.0))))) (omega (arith, spaces_length c.0)))
-] where
+continuation_back own rest us c none later = grind (arith, units_feed, after, spaces_length) where
   after : (k m : ℕ) → k + c.0 ≡ m → with_continuation k (units (spaces c.0 ++ rest)) ≡ Continuation m ∷ us
-  after k m is = takes c.0 k rest ∙ ap (with_continuation (k + c.0)) later ∙ takes_no_more (k + c.0) us none ∙ ap (λ n. Continuation n ∷ us) is
+  after k m is = grind (arith, takes, takes_no_more)
 
 -- proper units are read back
 pub read_back : (us : LineUnits) (bytes : Bytes) → list_all is_proper us ≡ true → AreUnitTexts us bytes → units bytes ≡ us
 read_back [] bytes p h = ap units h
 read_back (Continuation len ∷ us) bytes p h =
-    ap units h.5 ∙ continuation_back h.0 h.1 us h.2.0 (h.3 refl) (read_back us h.1 p h.4) ∙ ap (λ n. Continuation n ∷ us) h.2.1
+    grind (arith, continuation_back, read_back us h.1 p h.4)
 read_back (Escape b ∷ us) bytes p h =
     let q = and_parts (is_escaped b) (list_all is_proper us) p in
-    ap units (h.5 ∙ ap (λ xs. xs ++ h.1) h.2)
-    ∙ escaped_only (λ n. units (36 ∷ n ∷ h.1) ≡ Escape n ∷ units h.1) (units_pair 36 h.1 refl refl) (units_pair 32 h.1 refl refl) (units_pair 58 h.1 refl refl)
-    b q.0
-    ∙ ap (λ vs. Escape b ∷ vs) (read_back us h.1 q.1 h.4)
+    grind (arith, common_steps, read_back us h.1 q.1 h.4)
 read_back (Byte b ∷ us) bytes p h =
     let q = and_parts (is_plain b) (list_all is_proper us) p in
-    ap units (h.5 ∙ ap (λ xs. xs ++ h.1) h.2) ∙ units_byte b h.1 (plain b q.0).no_dollar ∙ ap (λ vs. Byte b ∷ vs) (read_back us h.1 q.1 h.4)
+    grind (arith, common_steps, read_back us h.1 q.1 h.4)
 
 -- The text from an index on is these units, all of them proper.
 pub record Remains (text : Bytes) (index : ℕ) (us : LineUnits) : Type 0 where
@@ -192,26 +170,25 @@ pub record Remains (text : Bytes) (index : ℕ) (us : LineUnits) : Type 0 where
   pub proper : list_all is_proper us ≡ true
 
 pub remains_all : (text : Bytes) → list_all is_proper (units text) ≡ true → Remains text 0 (units text)
-remains_all text proper = record { front = []; bytes = text; whole = refl; front_len = refl; texts = unit_texts text; proper = proper }
+remains_all text proper = grind (arith, common_steps, unit_texts text)
 
 -- past the first of them, and past more
 pub past_unit : (text : Bytes) (index : ℕ) (u : LineUnit) (us : LineUnits) → Remains text index (u ∷ us) → Remains text (index + unit_len u) us
 past_unit text index u us r =
     let h = r.texts in
-    record {
-      front = r.front ++ h.0;
-      bytes = h.1;
-      whole = r.whole ∙ ap (λ xs. r.front ++ xs) h.5 ∙ sym (append_assoc r.front h.0 h.1);
-      front_len = length-append r.front h.0 ∙ ap (λ n. n + length h.0) r.front_len ∙ ap (λ n. index + n) (unit_length u h.0 h.2);
-      texts = h.4;
-      proper = (and_parts (is_proper u) (list_all is_proper us) r.proper).1;
-    }
+    grind (
+      arith,
+      common_steps,
+      append_assoc r.front h.0 h.1,
+      length-append r.front h.0,
+      unit_length u h.0 h.2,
+      and_parts (is_proper u) (list_all is_proper us) r.proper,
+    )
 
 pub past_units : (text : Bytes) (index : ℕ) (us vs : LineUnits) → Remains text index (us ++ vs) → Remains text (index + total_len us) vs
-past_units text index [] vs r = subst (λ n. Remains text n vs) {x = index} {y = index + 0} (omega arith) r
+past_units text index [] vs r = search rules
 past_units text index (u ∷ us) vs r =
-    subst (λ n. Remains text n vs) {x = index + unit_len u + total_len us} {y = index + (unit_len u + total_len us)} (omega arith)
-    (past_units text (index + unit_len u) us vs (past_unit text index u (us ++ vs) r))
+    grind (arith, common_steps, past_units text (index + unit_len u) us vs (past_unit text index u (us ++ vs) r))
 
 -- the bytes of the first of them
 pub record Part (text : Bytes) (start : ℕ) (us : LineUnits) : Type 0 where
@@ -226,15 +203,13 @@ first_part text start us vs r =
     record {
       bytes = parts.0;
       texts = parts.2;
-      proper = (and_parts (list_all is_proper us) (list_all is_proper vs) (sym (list_all-append is_proper us vs) ∙ r.proper)).0;
-      slice = ap (λ t. slice_range t start (start + total_len us)) r.whole ∙
-          ap (take (start + total_len us - start)) (drop_at r.front r.bytes start r.front_len ∙ parts.4)
-          ∙ take_at parts.0 parts.1 (start + total_len us - start) (omega (arith, texts_length us parts.0 parts.2));
+      proper = grind (arith, common_steps);
+      slice = grind (arith, drop_at, take_at, texts_length);
     }
 
 -- the rest of the text
 pub rest_is : (text : Bytes) (index : ℕ) (us : LineUnits) (r : Remains text index us) → drop index text ≡ r.bytes
-rest_is text index us r = ap (drop index) r.whole ∙ drop_at r.front r.bytes index r.front_len
+rest_is text index us r = grind (arith, common_steps)
 
 -- ---- the units of a line without a lexical fault
 
@@ -258,22 +233,21 @@ none_some h = absurd (cc)
 here : (index len : ℕ) (end : LineEnd) (bytes : Bytes) → ◌≡◌ {A = Option LineEnd} (Some (record { text_len = index; line_len = len })) (Some end) →
     InnerUpTo index end bytes
 here index len end bytes h =
-    let same : ◌≡◌ {A = LineEnd} (record { text_len = index; line_len = len }) end = cc in
-    record { count = 0; at = omega (arith, ap (λ e. e.text_len) same); inner = refl }
+    grind (arith, common_steps)
 
 past_byte : (b : ℕ) (bytes : Bytes) (index : ℕ) (end : LineEnd) → (b == 36) ≡ false →
     (end_from (index + 1) (units bytes) ≡ Some end → InnerUpTo (index + 1) end bytes)
     → end_from index (Byte b ∷ units bytes) ≡ Some end → InnerUpTo index end (b ∷ bytes)
 past_byte b bytes index end d later h = elim (cases_Bool (b == 10)) [
-  | inl f ↦ here index (index + 1) end (b ∷ bytes) (rw f at h)
+  | inl f ↦ grind (arith, common_steps)
   | inr f ↦ elim (cases_Bool ((b == 13) && begins_with_line_feed (units bytes))) [
-    | inl r ↦ here index (index + 2) end (b ∷ bytes) (rw (f, r) at h)
+    | inl r ↦ grind (arith, common_steps)
     | inr r ↦
         let rest = later (rw (f, r) at h) in
         record {
           count = suc rest.count;
           at = omega (arith, rest.at);
-          inner = ap (list_all is_inner) (units_byte b (take rest.count bytes) d) ∙ rw (d, f) rest.inner;
+          inner = grind (arith, common_steps);
         }
   ]
 ]
@@ -282,29 +256,17 @@ abbrev begins_feed : Bytes → Bool
 begins_feed [] = false
 begins_feed (c ∷ bytes) = c == 10
 
-escape_units : (b : ℕ) (bytes : Bytes) → (b == 10) ≡ false → ((b == 13) && begins_feed bytes) ≡ false → units (36 ∷ b ∷ bytes) ≡ Escape b ∷ units bytes
-escape_units b [] f r = rw f refl
-escape_units b (c ∷ bytes) f r = rw (f, r) refl
-
-less_feed : (b n : ℕ) (bytes : Bytes) → ((b == 13) && begins_feed bytes) ≡ false → ((b == 13) && begins_feed (take n bytes)) ≡ false
-less_feed b zero bytes r = elim (cases_Bool (b == 13)) [ inl h ↦ rw h refl | inr h ↦ rw h refl ]
-less_feed b (suc n) [] r = r
-less_feed b (suc n) (c ∷ bytes) r = r
-
 past_escape : (b : ℕ) (bytes : Bytes) (index : ℕ) (end : LineEnd) → (b == 10) ≡ false → ((b == 13) && begins_feed bytes) ≡ false →
     InnerUpTo (index + 2) end bytes → InnerUpTo index end (36 ∷ b ∷ bytes)
 past_escape b bytes index end f r rest = record {
   count = suc (suc rest.count);
   at = omega (arith, rest.at);
-  inner = ap (list_all is_inner) (escape_units b (take rest.count bytes) f (less_feed b rest.count bytes r)) ∙ rest.inner;
+  inner = grind (arith, common_steps);
 }
 
 inner_continued : (len : ℕ) (us : LineUnits) → list_all is_inner us ≡ true → list_all is_inner (with_continuation len us) ≡ true
 inner_continued len [] h = refl
-inner_continued len (Byte b ∷ us) h = elim (cases_Bool (b == 32)) [
-  | inl s ↦ rw s (inner_continued (len + 1) us (and_parts (is_inner (Byte b)) (list_all is_inner us) h).1)
-  | inr s ↦ rw s h
-]
+inner_continued len (Byte b ∷ us) h = grind (arith, common_steps, inner_continued (len + 1) us (and_parts (is_inner (Byte b)) (list_all is_inner us) h).1)
 inner_continued len (Escape b ∷ us) h = h
 inner_continued len (Continuation more ∷ us) h = h
 
@@ -312,39 +274,31 @@ past_feed : (bytes : Bytes) (index : ℕ) (end : LineEnd) → InnerUpTo (index +
 past_feed bytes index end rest = record {
   count = suc (suc rest.count);
   at = omega (arith, rest.at);
-  inner = ap (list_all is_inner) (units_feed (take rest.count bytes)) ∙ inner_continued 2 (units (take rest.count bytes)) rest.inner;
+  inner = grind (arith, units_feed, bytes, inner_continued);
 }
 
 past_return : (bytes : Bytes) (index : ℕ) (end : LineEnd) → InnerUpTo (index + 3) end bytes → InnerUpTo index end (36 ∷ 13 ∷ 10 ∷ bytes)
 past_return bytes index end rest = record {
   count = suc (suc (suc rest.count));
   at = omega (arith, rest.at);
-  inner = inner_continued 3 (units (take rest.count bytes)) rest.inner;
+  inner = grind (arith, inner_continued, bytes);
 }
 
 -- what `$` begins, by the bytes after it
 module _ (b c : ℕ) (bytes : Bytes) (index : ℕ) (end : LineEnd) where
   by_feed : (b == 10) ≡ true → InnerUpTo (index + 2) end (c ∷ bytes) → InnerUpTo index end (36 ∷ b ∷ c ∷ bytes)
-  by_feed f rest = rw (eqb-true b 10 f) (past_feed (c ∷ bytes) index end rest)
+  by_feed f rest = grind (arith, eqb-true, past_feed, bytes)
 
   by_return : ((b == 13) && (c == 10)) ≡ true → InnerUpTo (index + 3) end bytes → InnerUpTo index end (36 ∷ b ∷ c ∷ bytes)
   by_return r rest =
-      let p = and_parts (b == 13) (c == 10) r in
-      subst (λ n. InnerUpTo index end (36 ∷ n ∷ c ∷ bytes)) (sym (eqb-true b 13 p.0))
-      (subst (λ n. InnerUpTo index end (36 ∷ 13 ∷ n ∷ bytes)) (sym (eqb-true c 10 p.1)) (past_return bytes index end rest))
+      grind (arith, and_parts, bytes, eqb-true, past_return)
 
 inner_units : (bytes : Bytes) (index : ℕ) (end : LineEnd) → end_from index (units bytes) ≡ Some end → InnerUpTo index end bytes
 inner_units [] index end h = none_some h
-inner_units (a ∷ []) index end h = elim (cases_Bool (a == 36)) [
-  | inl d ↦ none_some (subst (λ n. end_from index (Byte n ∷ []) ≡ Some end) (eqb-true a 36 d) h)
-  | inr d ↦ past_byte a [] index end d none_some h
-]
+inner_units (a ∷ []) index end h = grind (arith, common_steps)
 inner_units (a ∷ b ∷ []) index end h = elim (cases_Bool (a == 36)) [
-  | inl d ↦ elim (cases_Bool (b == 10)) [
-    | inl f ↦ none_some (rw (d, f) at h)
-    | inr f ↦ none_some (rw (d, f) at h)
-  ]
-  | inr d ↦ past_byte a (b ∷ []) index end d (inner_units (b ∷ []) (index + 1) end) (rw d at h)
+  | inl d ↦ grind (arith, common_steps)
+  | inr d ↦ past_byte a (b ∷ []) index end d (search rules) (rw d at h)
 ]
 inner_units (a ∷ b ∷ c ∷ bytes) index end h = elim (cases_Bool (a == 36)) [
   | inl d ↦ rw (eqb-true a 36 d) (elim (cases_Bool (b == 10)) [
@@ -363,44 +317,12 @@ earlier_none : (a b : Option LexFault) → earlier a b ≡ None → (a ≡ None)
 earlier_none None b h = (refl, h)
 earlier_none (Some fault) b h = absurd (cc)
 
-some_fault : {fault : LexFault} {A : Type 0} → ◌≡◌ {A = Option LexFault} (Some fault) None → A
-some_fault h = absurd (cc)
-
-regrouped : (x y z : Bool) → ((x || y) || z) ≡ true → (x || (y || z)) ≡ true
-regrouped true y z h = refl
-regrouped false y z h = h
-
-escape_proper : (index b : ℕ) → unit_fault index (Escape b) ≡ None → is_escaped b ≡ true
-escape_proper index b h = elim (cases_Bool (begins_variable b)) [
-  | inl v ↦ some_fault (rw v at h)
-  | inr v ↦ elim (cases_Bool (is_escapable b)) [
-    | inl e ↦ regrouped (b == 36) (b == 32) (b == 58) e
-    | inr e ↦ some_fault (rw (v, e) at h)
-  ]
-]
-
-byte_proper : (index b : ℕ) → unit_fault index (Byte b) ≡ None → is_inner (Byte b) ≡ true → is_plain b ≡ true
-byte_proper index b h i =
-    let p = and_parts (not (b == 36)) (not (b == 10)) i in
-    elim (cases_Bool (b == 0)) [
-      | inl n ↦ some_fault (rw n at h)
-      | inr n ↦ elim (cases_Bool (b == 13)) [
-        | inl r ↦ some_fault (rw (n, r) at h)
-        | inr r ↦ rw (p.0, n, r, p.1) refl
-      ]
-    ]
-
-unit_proper : (index : ℕ) (u : LineUnit) → unit_fault index u ≡ None → is_inner u ≡ true → is_proper u ≡ true
-unit_proper index (Continuation len) h i = refl
-unit_proper index (Escape b) h i = escape_proper index b h
-unit_proper index (Byte b) h i = byte_proper index b h i
-
 all_proper : (us : LineUnits) (index : ℕ) → first_fault index us ≡ None → list_all is_inner us ≡ true → list_all is_proper us ≡ true
 all_proper [] index h i = refl
 all_proper (u ∷ us) index h i =
     let f = earlier_none (unit_fault index u) (first_fault (index + unit_len u) us) h in
     let p = and_parts (is_inner u) (list_all is_inner us) i in
-    and_from _ _ (unit_proper index u f.0 p.0) (all_proper us (index + unit_len u) f.1 p.1)
+    grind (arith, common_steps, all_proper us (index + unit_len u) f.1 p.1)
 
 -- the units of the text of a line that has no fault
 pub faultless_units : (line : Bytes) → IsFaultless line → list_all is_proper (units (text_of_line line)) ≡ true

@@ -181,13 +181,6 @@ module _ (h : CutterState) (works : h.failed ≡ false) where
     )
   ]
 
-  -- one that accepts the end holds none
-  pub finish_ok : (u : Unit) → Finishes h (Ok u) → length h.bytes ≤ 0
-  finish_ok u f = elim (cases_Bool (nat_le (length h.bytes) 0)) [
-    | inl t ↦ leb-true (length h.bytes) 0 t
-    | inr n ↦ absurd (let x : ◌≡◌ {A = Result Unit CutFault} (Ok u) (Err (Truncated h.number)) = rw (works, n) at f in cc)
-  ]
-
 -- ---- one turn of reading a piece: what it keeps, and what it rejects with
 
 -- no bytes are the empty list

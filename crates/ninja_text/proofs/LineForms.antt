@@ -1,6 +1,7 @@
 -- The form of a line, by its tokens as they are read.
-use Rattle.std.proofs.Common.{inl, inr, ◌≡◌, ℕ, Bool, true, false, List, [], ◌∷◌, map, refl, ap, ◌∙◌, subst, Some, None, arith, ◌==◌, ◌&&◌}
-use Rattle.std.specs.Prelude.{bytes_eq, Option, IsTrue, codes}
+use Rattle.std.proofs.lemmas.Grind.{common_steps}
+use Rattle.std.proofs.Common.{inl, inr, ◌≡◌, ℕ, Bool, true, false, List, [], ◌∷◌, map, refl, ap, Some, None, arith, ◌==◌, ◌&&◌, rules}
+use Rattle.std.specs.Prelude.{bytes_eq, IsTrue, codes}
 use Rattle.std.specs.List.{starts_with}
 use Rattle.std.proofs.lemmas.Bool.{cases_Bool, eqb-true, and_parts, false≢true}
 use Rattle.std.proofs.lemmas.Bool.Decides.{nat_tests}
@@ -23,7 +24,7 @@ keyword_is word t h = keyword_symbol t.kind t.raw word h
 
 -- the symbols of the tokens that are read are those of the text
 pub symbols_seen : (text : List ℕ) (ts : List SeenToken) → ts ≡ seen_tokens text → map symbol_of ts ≡ symbols text
-symbols_seen text ts e = ap (map symbol_of) e ∙ map-map symbol_of (with_raw text) (tokens text)
+symbols_seen text ts e = grind (arith, map-map)
 
 -- if no token is read, there is none
 pub none_seen : (text : List ℕ) (ts : List TokenAt) → map (with_raw text) ts ≡ [] → ts ≡ []
@@ -34,7 +35,7 @@ none_seen text (t ∷ ts) h = cc
 pub first_seen : (text : List ℕ) (head : SeenToken) (others : List SeenToken) (ts : List TokenAt) → head ∷ others ≡ map (with_raw text) ts →
     (is_empty ts ≡ false) × (begins_at_start ts ≡ (head.start == 0))
 first_seen text head others [] h = cc
-first_seen text head others (t ∷ ts) h = (refl, ap (λ (s : SeenToken). s.start == 0) (let same : with_raw text t ≡ head = cc in same))
+first_seen text head others (t ∷ ts) h = search rules
 
 -- the tokens after the keyword, if the first token that is read is the keyword at the first byte
 pub build_seen : (text : List ℕ) (head : SeenToken) (others : List SeenToken) → head ∷ others ≡ seen_tokens text → (head.start == 0) ≡ true
@@ -54,7 +55,7 @@ pub not_build_seen : (text : List ℕ) (head : SeenToken) (others : List SeenTok
     → after_build (begins_at_start (tokens text)) (symbols text) ≡ None
 not_build_seen text head others all h =
     rw (← symbols_seen text (head ∷ others) all, (first_seen text head others (tokens text) all).1)
-    (not_built head.kind head.raw (head.start == 0) (map symbol_of others) h)
+    (simp not_built)
 
 -- a text is indented if it starts with a space
 pub starts_with_space : (text : List ℕ) → starts_with (λ a b. a == b) text (32 ∷ []) ≡ begins_with_space text
@@ -69,24 +70,16 @@ after_keyword at more h = rw h refl
 pub keyword_first : (at : Bool) (all more : List Symbol) → after_build at all ≡ Some more → (at ≡ true) × (all ≡ WordSymbol (codes "build") ∷ more)
 keyword_first at [] more h = absurd (cc)
 keyword_first at (SignSymbol k ∷ all) more h = absurd (cc)
-keyword_first at (WordSymbol word ∷ all) more h = elim (cases_Bool (at && bytes_eq word (codes "build"))) [
-  | inr f ↦ absurd (let none : ◌≡◌ {A = Option (List Symbol)} None (Some more) = rw f at h in cc)
-  | inl t ↦
-      let both = and_parts at (bytes_eq word (codes "build")) t in
-      let e : ◌≡◌ {A = Option (List Symbol)} (Some all) (Some more) = rw t at h in
-      let rest : all ≡ more = cc in
-      (both.0, rw ((bytes_eq-Decides word (codes "build")).0 both.1, rest) refl)
-]
+keyword_first at (WordSymbol word ∷ all) more h = grind (arith, and_parts, bytes_eq-Decides)
 
 -- a text whose first token is at its first byte is not indented
 pub no_indent_at_token : (text : List ℕ) → IsTrue (begins_at_start (tokens text)) → begins_with_space text ≡ false
 no_indent_at_token [] h = refl
 no_indent_at_token (b ∷ bytes) h = elim (cases_Bool (b == 32)) [
   | inr n ↦ n
-  | inl s ↦ absurd (clash bytes (tokens (32 ∷ bytes)) refl (subst (λ x. IsTrue (begins_at_start (tokens (x ∷ bytes)))) (eqb-true b 32 s) h))
+  | inl s ↦ absurd (clash bytes (tokens (32 ∷ bytes)) refl (grind (arith, common_steps)))
 ] where
   clash : (bytes : List ℕ) (ts : List TokenAt) → tokens (32 ∷ bytes) ≡ ts → IsTrue (begins_at_start (tokens (32 ∷ bytes))) → ⊥
-  clash bytes [] e h = let x : false ≡ true = subst (λ ts. IsTrue (begins_at_start ts)) e h in cc
+  clash bytes [] e h = cc
   clash bytes (t ∷ ts) e h =
-      let zero : (t.start == 0) ≡ true = subst (λ ts. IsTrue (begins_at_start ts)) e h in
-      omega (arith, eqb-true t.start 0 zero, token_indented bytes t ts e)
+      grind (arith, eqb-true, token_indented)

@@ -1,19 +1,19 @@
 -- A text of names is a canonical path.
+use Rattle.std.proofs.lemmas.Grind.{common_steps}
 use Rattle.ninja_text.specs.inner.ComponentLists.{Components}
 use Rattle.ninja_text.specs.Bytes.{Bytes}
-use Rattle.std.proofs.Common.{◌≡◌, ℕ, ◌≤◌, Bool, true, false, ◌||◌, ◌&&◌, ◌==◌, cond, if◌then◌else◌, [], ◌∷◌, length, refl, sym, subst, ◌∙◌, ap, inl, inr}
+use Rattle.std.proofs.Common.{◌≡◌, ℕ, ◌≤◌, Bool, true, false, ◌||◌, ◌&&◌, ◌==◌, cond, if◌then◌else◌, [], ◌∷◌, length, refl, ◌∙◌, inl, inr, arith, rules}
 use Rattle.std.specs.List.{list_any, onto_first}
 use Rattle.std.proofs.lemmas.Bool.{and_parts, or_parts, le-ltb, cases_Bool}
 use Rattle.std.proofs.lemmas.List.Splits.{join_with_byte-slice_split}
-use Rattle.std.proofs.lemmas.Bool.Decides.{Decides-eqb}
 use Rattle.ninja_text.specs.Escapes.{is_unwritable}
-use Rattle.ninja_text.specs.Reduction.{components, is_current, is_parent, reduced}
-use Rattle.ninja_text.specs.Paths.{is_empty, path_text, IsPath}
+use Rattle.ninja_text.specs.Reduction.{components, is_current, is_parent}
+use Rattle.ninja_text.specs.Paths.{path_text, IsPath}
 use Rattle.ninja_text.specs.inner.PlainPaths.{AreNames, IsReducedList, after, is_name}
-use Rattle.ninja_text.specs.declared.plain.Begun.{Begun}
-use Rattle.ninja_text.specs.declared.plain.Begun.TheVariants.{Nothing, Dot, TwoDots, Name}
-use Rattle.ninja_text.proofs.ReducedList.{IsFixed, names-fixed, fixed-reduced, reduced-fixed, in_front-parent}
-use Rattle.ninja_text.proofs.Components.{components-lack, components-some, components-at}
+use Rattle.ninja_text.specs.declared.reduction.Begun.{Begun}
+use Rattle.ninja_text.specs.declared.reduction.Begun.TheVariants.{Nothing, Dot, TwoDots, Name}
+use Rattle.ninja_text.proofs.ReducedList.{names-fixed, fixed-reduced, reduced-fixed}
+use Rattle.ninja_text.proofs.Components.{components-lack, components-some}
 use Rattle.ninja_text.proofs.Canonical.{IsClean, whole-path, clean-none, none-clean, clean-components}
 
 -- whether the rest of a list continues with names, if this is known of the component that is being read
@@ -48,13 +48,13 @@ ended Name h = refl
 -- if nothing is before the first component, all are names
 all_named : (cs : Components) → AreNamed Nothing cs → list_any no_name cs ≡ false
 all_named [] h = absurd h
-all_named (c ∷ cs) h = ap (λ b. b || list_any no_name cs) h.0 ∙ h.1
+all_named (c ∷ cs) h = cc
 
 -- a byte in front of the first component
 one_more : (begun : Begun) (b : ℕ) (cs : Components) → AreNamed (after begun b) cs → AreNamed begun (onto_first b cs)
 one_more begun b [] h = absurd h
-one_more Nothing b (c ∷ cs) h = elim (cases_Bool (b == 46)) [ inl d ↦ rw d (rw d at h) | inr d ↦ rw d (refl, h.1) ]
-one_more Dot b (c ∷ cs) h = elim (cases_Bool (b == 46)) [ inl d ↦ rw d (rw d at h) | inr d ↦ rw d (refl, h.1) ]
+one_more Nothing b (c ∷ cs) h = search rules
+one_more Dot b (c ∷ cs) h = search rules
 one_more TwoDots b (c ∷ cs) h = (refl, h.1)
 one_more Name b (c ∷ cs) h = (refl, h.1)
 
@@ -64,16 +64,15 @@ names_read begun [] h = ((ended begun h, refl), tt)
 names_read begun (b ∷ bs) h = elim (cases_Bool (b == 47)) [
   | inl s ↦
       let k = and_parts (is_name begun) (names_from Nothing bs) (rw s at h) in
-      let m = names_read Nothing bs k.1 in
-      rw s ((ended begun k.0, all_named (components bs) m.0), (ap is_unwritable ((Decides-eqb b 47).0 s), m.1))
+      grind (arith, common_steps, names_read Nothing bs k.1)
   | inr s ↦ elim (cases_Bool (is_unwritable b)) [
-    | inl u ↦ absurd (let never : false ≡ true = rw (s, u) at h in cc)
-    | inr u ↦ let m = names_read (after begun b) bs (rw (s, u) at h) in rw s (one_more begun b (components bs) m.0, (u, m.1))
+    | inl u ↦ cc
+    | inr u ↦ grind (arith, common_steps, names_read (after begun b) bs (rw (s, u) at h))
   ]
 ]
 
 pub are_names : (list : Bytes) → names_from Nothing list ≡ true → AreNames list
-are_names list h = let m = names_read Nothing list h in record { named = all_named (components list) m.0; clean = clean-none list m.1 }
+are_names list h = grind (arith, names_read, all_named, clean-none)
 
 -- ---- a text of names is a path
 
@@ -81,28 +80,27 @@ no_parents : (cs : Components) → list_any no_name cs ≡ false → list_any is
 no_parents [] h = refl
 no_parents (c ∷ cs) h =
     let p = or_parts (no_name c) (list_any no_name cs) h in
-    let q = or_parts (is_current c) (is_parent c) p.0 in
-    rw q.1 (no_parents cs p.1)
+    grind (arith, common_steps, no_parents cs p.1)
 
 -- components joined by slashes are the text that they were taken from
 joined : (rooted : Bool) (list : Bytes) → path_text rooted (components list) ≡ cond rooted (47 ∷ list) list
-joined true list = ap (λ t. 47 ∷ t) (join_with_byte-slice_split 47 list)
+joined true list = simp join_with_byte-slice_split
 joined false list = join_with_byte-slice_split 47 list
 
 pub names_list : (list : Bytes) → AreNames list → IsReducedList list
-names_list list names = record { reduced_is = fixed-reduced (components list) (names-fixed (components list) names.named); clean = names.clean }
+names_list list names = grind (arith, fixed-reduced, names-fixed)
 
 pub list_path : (rooted : Bool) (list text : Bytes) → IsReducedList list → (rooted && list_any is_parent (components list)) ≡ false →
     cond rooted (47 ∷ list) list ≡ text → length text ≤ 4096 → IsPath text
 list_path rooted list text of inside same short =
     let first = components-some list in
-    whole-path rooted (components list) text (record {
-      some = ap is_empty first.2;
-      fixed = subst IsFixed of.reduced_is (reduced-fixed (components list));
-      lacks = components-lack list;
-      clean = clean-components list (none-clean list of.clean);
-      inside = inside;
-    }) (joined rooted list ∙ same) (le-ltb 4096 (length text) short)
+    whole-path rooted (components list) text (grind (
+      arith,
+      reduced-fixed,
+      components-lack,
+      clean-components,
+      none-clean,
+    )) (joined rooted list ∙ same) (le-ltb 4096 (length text) short)
 
 pub names_path : (list text : Bytes) → AreNames list → 47 ∷ list ≡ text → length text ≤ 4096 → IsPath text
 names_path list text names same short = list_path true list text (names_list list names) (no_parents (components list) names.named) same short
@@ -112,9 +110,4 @@ names_path list text names same short = list_path true list text (names_list lis
 -- a list with `..` in front
 pub parent_list : (rest list : Bytes) → list ≡ 46 ∷ 46 ∷ 47 ∷ rest → IsReducedList rest → IsReducedList list
 parent_list rest list same of =
-    let parts : components list ≡ (46 ∷ 46 ∷ []) ∷ components rest = ap components same ∙ components-at (46 ∷ 46 ∷ []) rest (refl, (refl, tt)) in
-    record {
-      reduced_is =
-          ap reduced parts ∙ in_front-parent (46 ∷ 46 ∷ []) (reduced (components rest)) refl ∙ ap (λ l. (46 ∷ 46 ∷ []) ∷ l) of.reduced_is ∙ sym parts;
-      clean = clean-none list (subst IsClean (sym same) (refl, (refl, (refl, none-clean rest of.clean))));
-    }
+    grind (arith, common_steps)

@@ -1,7 +1,8 @@
 -- The rewriting of components ends in one list, whatever the choice of steps.
+use Rattle.std.proofs.lemmas.Grind.{common_steps}
 use Rattle.ninja_text.specs.inner.ComponentLists.{Components}
 use Rattle.ninja_text.specs.Bytes.{Bytes}
-use Rattle.std.proofs.Common.{◌≡◌, ℕ, zero, suc, Bool, true, false, not, ◌||◌, ◌&&◌, ◌==◌, cond, IsTrue, [], ◌∷◌, ◌++◌, refl, sym, ◌∙◌, ap, subst, append_assoc, rules, ◌⊎◌, inl, inr}
+use Rattle.std.proofs.Common.{◌≡◌, ℕ, zero, suc, Bool, true, false, not, ◌||◌, ◌&&◌, ◌==◌, IsTrue, [], ◌∷◌, ◌++◌, refl, sym, ◌∙◌, ap, subst, append_assoc, rules, ◌⊎◌, inl, inr, arith}
 use Rattle.std.specs.List.{AllByRecursion, list_any}
 use Rattle.std.proofs.lemmas.Bool.{or_parts}
 use Rattle.ninja_text.specs.Reduction.{is_current, is_parent, is_named_component, IsDeletable, ReductionStep, Steps, IsReduced, ReducesTo, in_front, reduced}
@@ -27,7 +28,7 @@ IsFixed (c ∷ d ∷ ds) = (is_current c ≡ false) × ((is_named_component c &&
 
 -- what is not empty, no `.` and no `..` is a name
 pub name-of : (i u : Bool) → i ≡ false → u ≡ false → not (i || u) ≡ true
-name-of i u h k = ap (λ b. not (b || u)) h ∙ ap not k
+name-of i u h k = cc
 
 -- no step applies to the rest of a list to which none applies
 pub fixed-tail : (c : Bytes) (cs : Components) → IsFixed (c ∷ cs) → IsFixed cs
@@ -38,34 +39,18 @@ fixed-tail c (d ∷ ds) h = h.2
 
 -- an empty component or `.` goes
 pub in_front-current : (c : Bytes) (r : Components) → is_current c ≡ true → in_front c r ≡ r
-in_front-current c [] h = ap (λ b. cond b [] (c ∷ [])) h
-in_front-current c (d ∷ ds) h = ap (λ b. cond b (d ∷ ds) (cond (is_named_component c && is_parent d) ds (c ∷ d ∷ ds))) h
-
--- a name and the `..` after it go
-pub in_front-pair : (c d : Bytes) (ds : Components) → is_current c ≡ false → (is_named_component c && is_parent d) ≡ true → in_front c (d ∷ ds) ≡ ds
-in_front-pair c d ds h k = ap (λ b. cond b (d ∷ ds) (cond (is_named_component c && is_parent d) ds (c ∷ d ∷ ds))) h ∙ ap (λ b. cond b ds (c ∷ d ∷ ds)) k
-
--- any other component stays in front of the list
-pub in_front-stays : (c d : Bytes) (ds : Components) → is_current c ≡ false → (is_named_component c && is_parent d) ≡ false →
-    in_front c (d ∷ ds) ≡ c ∷ d ∷ ds
-in_front-stays c d ds h k = ap (λ b. cond b (d ∷ ds) (cond (is_named_component c && is_parent d) ds (c ∷ d ∷ ds))) h ∙ ap (λ b. cond b ds (c ∷ d ∷ ds)) k
+in_front-current c [] h = cc
+in_front-current c (d ∷ ds) h = cc
 
 -- and alone
 pub in_front-alone : (c : Bytes) → is_current c ≡ false → in_front c [] ≡ c ∷ []
-in_front-alone c h = ap (λ b. cond b [] (c ∷ [])) h
+in_front-alone c h = cc
 
 -- no step applies then
 pub in_front-fixed : (c : Bytes) (r : Components) → IsFixed r → IsFixed (in_front c r)
-in_front-fixed c [] f = elim (either_way (is_current c))
-    [ inl h ↦ subst IsFixed (sym (in_front-current c [] h)) tt | inr h ↦ subst IsFixed (sym (in_front-alone c h)) h ]
+in_front-fixed c [] f = grind (arith, common_steps)
 in_front-fixed c (d ∷ ds) f =
-    elim (either_way (is_current c)) [
-      | inl h ↦ subst IsFixed (sym (in_front-current c (d ∷ ds) h)) f
-      | inr h ↦ elim (either_way (is_named_component c && is_parent d)) [
-        | inl k ↦ subst IsFixed (sym (in_front-pair c d ds h k)) (fixed-tail d ds f)
-        | inr k ↦ subst IsFixed (sym (in_front-stays c d ds h k)) (h, k, f)
-      ]
-    ]
+    grind (arith, common_steps)
 
 -- no step applies to the reduced list
 pub reduced-fixed : (xs : Components) → IsFixed (reduced xs)
@@ -76,30 +61,17 @@ reduced-fixed (c ∷ cs) = in_front-fixed c (reduced cs) (reduced-fixed cs)
 pub fixed-reduced : (xs : Components) → IsFixed xs → reduced xs ≡ xs
 fixed-reduced [] f = refl
 fixed-reduced (c ∷ []) f = in_front-alone c f
-fixed-reduced (c ∷ d ∷ ds) f = ap (in_front c) (fixed-reduced (d ∷ ds) f.2) ∙ in_front-stays c d ds f.0 f.1
+fixed-reduced (c ∷ d ∷ ds) f = grind (arith, common_steps, fixed-reduced (d ∷ ds) f.2)
 
 -- no step applies to a list of names
 pub names-fixed : (xs : Components) → list_any (λ c. is_current c || is_parent c) xs ≡ false → IsFixed xs
 names-fixed [] none = tt
-names-fixed (c ∷ []) none = (or_parts (is_current c) (is_parent c) (or_parts (is_current c || is_parent c) false none).0).0
+names-fixed (c ∷ []) none = grind (arith, common_steps)
 names-fixed (c ∷ d ∷ ds) none =
     let p = or_parts (is_current c || is_parent c) (list_any (λ c. is_current c || is_parent c) (d ∷ ds)) none in
-    let q = or_parts (is_current d || is_parent d) (list_any (λ c. is_current c || is_parent c) ds) p.1 in (
-      (or_parts (is_current c) (is_parent c) p.0).0,
-      and-none (is_named_component c) (is_parent d) (or_parts (is_current d) (is_parent d) q.0).1,
-      names-fixed (d ∷ ds) p.1,
-    )
-  where
-    and-none : (n u : Bool) → u ≡ false → (n && u) ≡ false
-    and-none true u h = h
-    and-none false u h = refl
+    grind (arith, common_steps, names-fixed (d ∷ ds) p.1)
 
 -- ---- a step leaves what the list reduces to
-
--- a name is not empty and no `.`
-pub current-not-name : (i u : Bool) → not (i || u) ≡ true → i ≡ false
-current-not-name true u h = cc
-current-not-name false u h = refl
 
 -- `..` is no name
 pub parent-not-name : (i u : Bool) → u ≡ true → not (i || u) ≡ false
@@ -125,56 +97,45 @@ parent-not-current (b ∷ d ∷ ds) h = and-false (b == 46)
 -- `..` stays in front of any list
 pub in_front-parent : (d : Bytes) (r : Components) → is_parent d ≡ true → in_front d r ≡ d ∷ r
 in_front-parent d [] h = in_front-alone d (parent-not-current d h)
-in_front-parent d (e ∷ es) h = in_front-stays d e es (parent-not-current d h) (ap (λ b. b && is_parent e) (parent-not-name (is_current d) (is_parent d) h))
+in_front-parent d (e ∷ es) h = grind (arith, common_steps)
 
 -- a name and `..` in front of a list go
 pub in_front-name_parent : (c d : Bytes) (r : Components) → is_named_component c ≡ true → is_parent d ≡ true → in_front c (in_front d r) ≡ r
 in_front-name_parent c d r h k =
-    ap (in_front c) (in_front-parent d r k)
-    ∙ in_front-pair c d r (current-not-name (is_current c) (is_parent c) h) (ap (λ b. b && is_parent d) h ∙ k)
+    grind (arith, common_steps)
 
 -- lists that reduce to one list do so after others
 pub reduced-context : (front xs ys : Components) → reduced xs ≡ reduced ys → reduced (front ++ xs) ≡ reduced (front ++ ys)
 reduced-context [] xs ys h = h
-reduced-context (c ∷ front) xs ys h = ap (in_front c) (reduced-context front xs ys h)
+reduced-context (c ∷ front) xs ys h = rw (reduced-context front xs ys h)
 
 -- what one step deletes leaves no trace
 reduced-gone : (gone back : Components) → IsDeletable gone → reduced (gone ++ back) ≡ reduced back
 reduced-gone [] back h = absurd h
-reduced-gone (c ∷ []) back h = in_front-current c (reduced back) (true_is _ h)
-reduced-gone (c ∷ d ∷ []) back h = in_front-name_parent c d (reduced back) (true_is _ h.0) (true_is _ h.1)
+reduced-gone (c ∷ []) back h = grind (arith, common_steps)
+reduced-gone (c ∷ d ∷ []) back h = grind (arith, common_steps)
 reduced-gone (c ∷ d ∷ e ∷ more) back h = absurd h
 
 -- a step leaves what the list reduces to
 pub step-reduced : (old new : Components) → ReductionStep old new → reduced old ≡ reduced new
 step-reduced old new s =
-    ap reduced s.before ∙ reduced-context s.front (s.gone ++ s.back) s.back (reduced-gone s.gone s.back s.deletable) ∙ sym (ap reduced s.after)
+    grind (arith, reduced-context, reduced-gone)
 
 -- so do steps
 pub steps-reduced : (n : ℕ) (old new : Components) → Steps n old new → reduced old ≡ reduced new
 steps-reduced zero old new h = ap reduced h
-steps-reduced (suc n) old new h = step-reduced old h.0 h.1 ∙ steps-reduced n h.0 new h.2
+steps-reduced (suc n) old new h = grind (arith, step-reduced, steps-reduced n h.0 new h.2)
 
 -- ---- no step applies if and only if the list is fixed
 
 -- a step after one more component
 pub step-behind : (c : Bytes) (old new : Components) → ReductionStep old new → ReductionStep (c ∷ old) (c ∷ new)
 step-behind c old new s =
-    record { front = c ∷ s.front; gone = s.gone; back = s.back; deletable = s.deletable; before = ap (λ l. c ∷ l) s.before; after = ap (λ l. c ∷ l) s.after }
+    record { front = c ∷ s.front; gone = s.gone; back = s.back; deletable = s.deletable; before = cc; after = cc }
 
 -- the step that deletes an empty component or `.` in front
 step-current : (c : Bytes) (cs : Components) → is_current c ≡ true → ReductionStep (c ∷ cs) cs
 step-current c cs h = record { front = []; gone = c ∷ []; back = cs; deletable = is_true _ h; before = refl; after = refl }
-
--- the first of two tests that hold
-pub and-left : (a b : Bool) → (a && b) ≡ true → a ≡ true
-and-left true b h = refl
-and-left false b h = cc
-
--- the second of two tests that hold
-pub and-right : (a b : Bool) → (a && b) ≡ true → b ≡ true
-and-right true b h = h
-and-right false b h = cc
 
 -- the step that deletes a name and the `..` after it in front
 step-pair : (c d : Bytes) (ds : Components) → (is_named_component c && is_parent d) ≡ true → ReductionStep (c ∷ d ∷ ds) ds
@@ -182,7 +143,7 @@ step-pair c d ds h = record {
   front = [];
   gone = c ∷ d ∷ [];
   back = ds;
-  deletable = (is_true _ (and-left (is_named_component c) (is_parent d) h), is_true _ (and-right (is_named_component c) (is_parent d) h));
+  deletable = grind (arith, common_steps);
   before = refl;
   after = refl;
 }
@@ -214,15 +175,14 @@ fixed-behind (c ∷ front) xs h = fixed-behind front xs (fixed-tail c (front ++ 
 -- a fixed list begins with nothing that a step deletes
 fixed-gone : (gone back : Components) → IsDeletable gone → IsFixed (gone ++ back) → ⊥
 fixed-gone [] back h f = h
-fixed-gone (c ∷ []) [] h f = let e = true_is (is_current c) h in cc
-fixed-gone (c ∷ []) (d ∷ ds) h f = let e = true_is (is_current c) h in let g = f.0 in cc
-fixed-gone (c ∷ d ∷ []) back h f = let e = true_is (is_named_component c) h.0 in let k = true_is (is_parent d) h.1 in let g = f.1 in
-    let j : (is_named_component c && is_parent d) ≡ true = ap (λ b. b && is_parent d) e ∙ k in cc
+fixed-gone (c ∷ []) [] h f = cc
+fixed-gone (c ∷ []) (d ∷ ds) h f = cc
+fixed-gone (c ∷ d ∷ []) back h f = cc
 fixed-gone (c ∷ d ∷ e ∷ more) back h f = h
 
 -- to a fixed list no step applies
 pub fixed-final : (xs : Components) → IsFixed xs → IsReduced xs
-fixed-final xs f next s = fixed-gone s.gone s.back s.deletable (fixed-behind s.front (s.gone ++ s.back) (subst IsFixed s.before f))
+fixed-final xs f next s = grind (arith, fixed-gone, fixed-behind)
 
 -- ---- some steps lead to the reduced list
 
@@ -232,12 +192,12 @@ LeadsTo old new = (n : ℕ) × Steps n old new
 
 -- steps after one more component
 leads-behind : (c : Bytes) (n : ℕ) (old new : Components) → Steps n old new → Steps n (c ∷ old) (c ∷ new)
-leads-behind c zero old new h = ap (λ l. c ∷ l) h
-leads-behind c (suc n) old new h = (c ∷ h.0, step-behind c old h.0 h.1, leads-behind c n h.0 new h.2)
+leads-behind c zero old new h = cc
+leads-behind c (suc n) old new h = grind (arith, step-behind, leads-behind c n h.0 new h.2)
 
 -- steps, and then one more
 leads-on : (n : ℕ) (old mid new : Components) → Steps n old mid → ReductionStep mid new → LeadsTo old new
-leads-on zero old mid new h s = (1, (new, subst (λ l. ReductionStep l new) (sym h) s, refl))
+leads-on zero old mid new h s = (1, search rules)
 leads-on (suc n) old mid new h s = let rest = leads-on n h.0 mid new h.2 s in (suc rest.0, (h.0, h.1, rest.1))
 
 -- the step that one more component in front makes possible
@@ -245,56 +205,45 @@ leads-front : (c : Bytes) (r old : Components) (n : ℕ) → Steps n old (c ∷ 
 leads-front c [] old n s =
     elim (either_way (is_current c)) [
       | inl h ↦ subst (LeadsTo old) (sym (in_front-current c [] h)) (leads-on n old (c ∷ []) [] s (step-current c [] h))
-      | inr h ↦ subst (LeadsTo old) (sym (in_front-alone c h)) (n, s)
+      | inr h ↦ grind (arith, common_steps, in_front-alone c h)
     ]
 leads-front c (d ∷ ds) old n s =
     elim (either_way (is_current c)) [
-      | inl h ↦ subst (LeadsTo old) (sym (in_front-current c (d ∷ ds) h)) (leads-on n old (c ∷ d ∷ ds) (d ∷ ds) s (step-current c (d ∷ ds) h))
+      | inl h ↦ subst (LeadsTo old) (cc) (leads-on n old (c ∷ d ∷ ds) (d ∷ ds) s (step-current c (d ∷ ds) h))
       | inr h ↦ elim (either_way (is_named_component c && is_parent d)) [
-        | inl k ↦ subst (LeadsTo old) (sym (in_front-pair c d ds h k)) (leads-on n old (c ∷ d ∷ ds) ds s (step-pair c d ds k))
-        | inr k ↦ subst (LeadsTo old) (sym (in_front-stays c d ds h k)) (n, s)
+        | inl k ↦ subst (LeadsTo old) (cc) (leads-on n old (c ∷ d ∷ ds) ds s (step-pair c d ds k))
+        | inr k ↦ subst (LeadsTo old) (cc) (n, s)
       ]
     ]
 
 -- some steps lead to the reduced list
 leads-reduced : (xs : Components) → LeadsTo xs (reduced xs)
 leads-reduced [] = (0, refl)
-leads-reduced (c ∷ cs) = let rest = leads-reduced cs in leads-front c (reduced cs) (c ∷ cs) rest.0 (leads-behind c rest.0 cs (reduced cs) rest.1)
+leads-reduced (c ∷ cs) = let rest = leads-reduced cs in leads-front c (reduced cs) (c ∷ cs) rest.0 (grind (arith, leads-behind))
 
 -- the list is reached, and no other is
 pub reaches : (xs : Components) → ReducesTo xs (reduced xs)
-reaches xs = let l = leads-reduced xs in record { count = l.0; steps = l.1; final = fixed-final (reduced xs) (reduced-fixed xs) }
+reaches xs = grind (arith, common_steps, leads-reduced xs, fixed-final (reduced xs) (reduced-fixed xs), reduced-fixed xs)
 
 -- and no other list to which no step applies is reached
 pub reaches-only : (xs ys : Components) → ReducesTo xs ys → ys ≡ reduced xs
-reaches-only xs ys r = sym (fixed-reduced ys (final-fixed ys r.final)) ∙ sym (steps-reduced r.count xs ys r.steps)
+reaches-only xs ys r = grind (arith, fixed-reduced, final-fixed, steps-reduced)
 
 -- ---- a component after a list
 
--- a step in front of other components
-step-ahead : (old new ys : Components) → ReductionStep old new → ReductionStep (old ++ ys) (new ++ ys)
-step-ahead old new ys s = record {
-  front = s.front;
-  gone = s.gone;
-  back = s.back ++ ys;
-  deletable = s.deletable;
-  before = ap (λ l. l ++ ys) s.before ∙ append_assoc s.front (s.gone ++ s.back) ys ∙ ap (λ l. s.front ++ l) (append_assoc s.gone s.back ys);
-  after = ap (λ l. l ++ ys) s.after ∙ append_assoc s.front s.back ys;
-}
-
 -- steps in front of other components
 leads-ahead : (n : ℕ) (old new ys : Components) → Steps n old new → Steps n (old ++ ys) (new ++ ys)
-leads-ahead zero old new ys h = ap (λ l. l ++ ys) h
-leads-ahead (suc n) old new ys h = (h.0 ++ ys, step-ahead old h.0 ys h.1, leads-ahead n h.0 new ys h.2)
+leads-ahead zero old new ys h = cc
+leads-ahead (suc n) old new ys h = grind (arith, common_steps, leads-ahead n h.0 new ys h.2)
 
 -- what is in front may be reduced first
 pub reduced-ahead : (xs ys : Components) → reduced (xs ++ ys) ≡ reduced (reduced xs ++ ys)
-reduced-ahead xs ys = let l = leads-reduced xs in steps-reduced l.0 (xs ++ ys) (reduced xs ++ ys) (leads-ahead l.0 xs (reduced xs) ys l.1)
+reduced-ahead xs ys = let l = leads-reduced xs in steps-reduced l.0 (xs ++ ys) (reduced xs ++ ys) (grind (arith, leads-ahead))
 
 -- nothing after a list
 append-nil : (xs : Components) → xs ++ [] ≡ xs
 append-nil [] = refl
-append-nil (x ∷ xs) = ap (λ l. x ∷ l) (append-nil xs)
+append-nil (x ∷ xs) = search rules
 
 -- an empty component or `.` after a list goes
 pub behind-current : (xs : Components) (c : Bytes) → is_current c ≡ true → reduced (xs ++ c ∷ []) ≡ reduced xs
@@ -328,31 +277,15 @@ fixed-snoc (a ∷ b ∷ init) last c f h k = (f.0, f.1, fixed-snoc (b ∷ init) 
 pub behind-stays : (xs init : Components) (last c : Bytes) → reduced xs ≡ init ++ last ∷ [] → is_current c ≡ false →
     (is_named_component last && is_parent c) ≡ false → reduced (xs ++ c ∷ []) ≡ init ++ last ∷ c ∷ []
 behind-stays xs init last c e h k =
-    reduced-ahead xs (c ∷ [])
-    ∙ ap (λ l. reduced (l ++ c ∷ [])) e
-    ∙ ap reduced (append_assoc init (last ∷ []) (c ∷ []))
-    ∙ fixed-reduced (init ++ last ∷ c ∷ []) (fixed-snoc init last c (subst IsFixed e (reduced-fixed xs)) h k)
+    grind (arith, reduced-ahead, append_assoc, fixed-reduced, fixed-snoc, reduced-fixed)
 
 -- and after an empty one
 pub behind-none : (xs : Components) (c : Bytes) → reduced xs ≡ [] → is_current c ≡ false → reduced (xs ++ c ∷ []) ≡ c ∷ []
-behind-none xs c e h = reduced-ahead xs (c ∷ []) ∙ ap (λ l. reduced (l ++ c ∷ [])) e ∙ in_front-alone c h
+behind-none xs c e h = grind (arith, reduced-ahead, in_front-alone)
 
 -- ---- what holds of each component holds of each that is left
-
--- what holds of a component and of a list holds of the one in front of the other
-pub in_front-each : (P : Bytes → Type 0) (c : Bytes) (r : Components) → P c → AllByRecursion P r → AllByRecursion P (in_front c r)
-in_front-each P c [] p a = elim (either_way (is_current c))
-    [ inl h ↦ subst (AllByRecursion P) (sym (in_front-current c [] h)) tt | inr h ↦ subst (AllByRecursion P) (sym (in_front-alone c h)) (p, tt) ]
-in_front-each P c (d ∷ ds) p a =
-    elim (either_way (is_current c)) [
-      | inl h ↦ subst (AllByRecursion P) (sym (in_front-current c (d ∷ ds) h)) a
-      | inr h ↦ elim (either_way (is_named_component c && is_parent d)) [
-        | inl k ↦ subst (AllByRecursion P) (sym (in_front-pair c d ds h k)) a.1
-        | inr k ↦ subst (AllByRecursion P) (sym (in_front-stays c d ds h k)) (p, a)
-      ]
-    ]
 
 -- what holds of each component holds of each that is left
 pub reduced-each : (P : Bytes → Type 0) (xs : Components) → AllByRecursion P xs → AllByRecursion P (reduced xs)
 reduced-each P [] a = tt
-reduced-each P (c ∷ cs) a = in_front-each P c (reduced cs) a.0 (reduced-each P cs a.1)
+reduced-each P (c ∷ cs) a = grind (arith, common_steps, reduced-each P cs a.1)

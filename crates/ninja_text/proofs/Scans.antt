@@ -4,14 +4,14 @@ use Rattle.std.proofs.Common.{inl, inr, subst, ◌≡◌, ℕ, ◌+◌, ◌-◌,
 use Rattle.std.specs.Prelude.{Option, Result, nat_le}
 use Rattle.std.proofs.lemmas.Bool.{cases_Bool, eqb-true}
 use Rattle.ninja_text.specs.Units.{units}
-use Rattle.ninja_text.specs.declared.unit.LineUnit.TheVariants.{Byte}
+use Rattle.ninja_text.specs.declared.lexing.LineUnit.TheVariants.{Byte}
 use Rattle.ninja_text.specs.Lines.{end_from, LineEnd, line_units, line_end, is_comment, line_limit}
 use Rattle.ninja_text.specs.Scanning.{scan_from, step_of, goes_on_from, scan_end}
-use Rattle.ninja_text.specs.declared.scan.ScanState.TheVariants.{Start, Comment, CommentReturn, Plain, Return, Dollar, DollarReturn}
-use Rattle.ninja_text.specs.declared.scan.Scanned.{Scanned}
-use Rattle.ninja_text.specs.declared.scan.Scanned.TheVariants.{End, Open}
+use Rattle.ninja_text.specs.declared.cutter.ScanState.TheVariants.{Start, Comment, CommentReturn, Plain, Return, Dollar, DollarReturn}
+use Rattle.ninja_text.specs.declared.cutter.Scanned.{Scanned}
+use Rattle.ninja_text.specs.declared.cutter.Scanned.TheVariants.{End, Open}
 use Rattle.ninja_text.proofs.Units.{units_byte, units_feed, units_pair, units_return, units_begin, end_continued}
-use Rattle.ninja_text.specs.declared.scan.ScanState.{ScanState}
+use Rattle.ninja_text.specs.declared.cutter.ScanState.{ScanState}
 use Rattle.std.proofs.Math.Seq.{take-append-add, take-length}
 use Rattle.std.proofs.lemmas.List.{length-take-le, take_min}
 use Rattle.std.proofs.lemmas.Bool.Decides.{nat_tests}

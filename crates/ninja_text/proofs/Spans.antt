@@ -8,8 +8,8 @@ use Rattle.std.proofs.lemmas.List.{take-append-drop, length-take}
 use Rattle.std.proofs.lemmas.List.Folds.{drop_split}
 use Rattle.ninja_text.specs.Assignments.{AssignmentIndexes, LiesIn, with_bytes, after_run, is_name_unit, begins_with_equals, SeenAssignment, assignment_of}
 use Rattle.ninja_text.specs.Units.{LineUnits, units, with_continuation, unit_len, is_byte}
-use Rattle.ninja_text.specs.declared.unit.LineUnit.{LineUnit}
-use Rattle.ninja_text.specs.declared.unit.LineUnit.TheVariants.{Continuation, Escape, Byte}
+use Rattle.ninja_text.specs.declared.lexing.LineUnit.{LineUnit}
+use Rattle.ninja_text.specs.declared.lexing.LineUnit.TheVariants.{Continuation, Escape, Byte}
 use Rattle.ninja_text.specs.Tokens.{TokenAt, is_piece, goes_on, with_first_start, with_unit, tokens_from, tokens, with_raw, seen_tokens, IsSlice, RiseFrom, is_blank}
 use Rattle.ninja_text.proofs.Units.{byte_is, byte_len, tokens_with, units_byte, tokens_blank}
 

@@ -3,7 +3,7 @@ use Rattle.std.proofs.Common.{◌≡◌, ℕ, ◌+◌, true, false, List, [], �
 use Rattle.std.specs.List.{list_all}
 use Rattle.std.proofs.lemmas.List.{append-nil, take_at}
 use Rattle.ninja_text.specs.Units.{LineUnits, units}
-use Rattle.ninja_text.specs.declared.unit.LineUnit.TheVariants.{Byte}
+use Rattle.ninja_text.specs.declared.lexing.LineUnit.TheVariants.{Byte}
 use Rattle.ninja_text.specs.Lines.{is_comment, end_from, line_end, IsLine, text_before, text_of_line}
 use Rattle.ninja_text.specs.Lexical.{first_fault, lexical_fault}
 use Rattle.ninja_text.proofs.SpelledUnits.{is_sound, text_of_units, units_read, end_past, no_fault_in}

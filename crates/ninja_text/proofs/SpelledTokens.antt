@@ -1,15 +1,15 @@
 -- The tokens of units, one after another, wherever in a text they are.
-use Rattle.std.proofs.Common.{◌≡◌, ℕ, ◌+◌, ◌-◌, true, false, List, [], ◌∷◌, ◌++◌, length, map, take, refl, sym, ap, ◌∙◌, subst, arith, length-append, ◌==◌}
+use Rattle.std.proofs.Common.{◌≡◌, ℕ, ◌+◌, ◌-◌, true, false, List, [], ◌∷◌, ◌++◌, length, map, refl, ap, ◌∙◌, subst, arith, length-append, rules}
 use Rattle.std.specs.Prelude.{slice_range}
 use Rattle.std.specs.List.{list_all}
-use Rattle.std.proofs.lemmas.List.{append-nil, append_assoc, take_at, drop_at}
-use Rattle.std.proofs.lemmas.Grind.{flat_map-append}
-use Rattle.std.proofs.lemmas.Bool.{and_parts, or_parts, not-true}
+use Rattle.std.proofs.lemmas.List.{append-nil, append_assoc}
+use Rattle.std.proofs.lemmas.Grind.{flat_map-append, common_steps}
+use Rattle.std.proofs.lemmas.Bool.{and_parts}
 pub use Rattle.ninja_text.proofs.Units.{goes_on_piece}
 use Rattle.ninja_text.proofs.Lists.{same_cons}
 use Rattle.ninja_text.specs.Units.{LineUnits, unit_len, is_byte}
-use Rattle.ninja_text.specs.declared.unit.LineUnit.{LineUnit}
-use Rattle.ninja_text.specs.declared.unit.LineUnit.TheVariants.{Continuation, Escape, Byte}
+use Rattle.ninja_text.specs.declared.lexing.LineUnit.{LineUnit}
+use Rattle.ninja_text.specs.declared.lexing.LineUnit.TheVariants.{Continuation, Escape, Byte}
 use Rattle.ninja_text.specs.declared.token.TokenKind.{TokenKind}
 use Rattle.ninja_text.specs.declared.token.TokenKind.TheVariants.{Word, Bar, Colon}
 use Rattle.ninja_text.specs.Tokens.{token_of, TokenAt, is_piece, goes_on, with_first_start, tokens_from, raw}
@@ -27,16 +27,16 @@ piece_len (Byte b) h = refl
 piece_no_bar : (u : LineUnit) → is_piece u ≡ true → is_byte 124 u ≡ false
 piece_no_bar (Continuation len) h = refl
 piece_no_bar (Escape b) h = refl
-piece_no_bar (Byte b) h = (or_parts _ (b == 124) (not-true _ h)).1
+piece_no_bar (Byte b) h = grind (arith, common_steps)
 
 -- a piece continues if another follows, and ends its word if none does
 pub piece_alone : (n : ℕ) (u : LineUnit) (vs : LineUnits) → is_piece u ≡ true → goes_on vs ≡ false
     → tokens_from n (u ∷ vs) ≡ token_of Word n (unit_len u) ∷ tokens_from (n + unit_len u) vs
-piece_alone n u vs p g = tokens_with n u vs (piece_no_bar u p) ∙ rw (p, g) refl
+piece_alone n u vs p g = grind (arith, tokens_with, piece_no_bar)
 
 pub piece_before : (n : ℕ) (u : LineUnit) (vs : LineUnits) → is_piece u ≡ true → goes_on vs ≡ true
     → tokens_from n (u ∷ vs) ≡ with_first_start n (tokens_from (n + unit_len u) vs)
-piece_before n u vs p g = tokens_with n u vs (piece_no_bar u p) ∙ rw (p, g) refl
+piece_before n u vs p g = grind (arith, tokens_with, piece_no_bar)
 
 -- a word from start up to end, and the tokens of what follows
 abbrev pub word_and : ℕ → ℕ → LineUnits → List TokenAt
@@ -46,30 +46,17 @@ word_and start end vs = record { kind = Word; start = start; end = end } ∷ tok
 pub word_token : (u : LineUnit) (us vs : LineUnits) (n : ℕ) → list_all is_piece (u ∷ us) ≡ true → goes_on vs ≡ false
     → tokens_from n (u ∷ (us ++ vs)) ≡ word_and n (n + length (text_of_units (u ∷ us))) vs
 word_token u [] vs n h g =
-    let p : is_piece u ≡ true = (and_parts (is_piece u) true h).0 in
-    piece_alone n u vs p g
-    ∙ ap (λ e. word_and n e vs) {x = n + unit_len u} {y = n + length (unit_text u ++ [])}
-    (ap (λ k. n + k) (piece_len u p ∙ ap length (sym (append-nil (unit_text u)))))
+    grind (arith, and_parts, piece_alone, piece_len, append-nil)
 word_token u (w ∷ us) vs n h g =
     let p = and_parts (is_piece u) (list_all is_piece (w ∷ us)) h in
-    let q = and_parts (is_piece w) (list_all is_piece us) p.1 in
-    piece_before n u (w ∷ (us ++ vs)) p.0 (goes_on_piece w (us ++ vs) q.0) ∙ ap (with_first_start n) (word_token w us vs (n + unit_len u) p.1 g)
-    ∙ ap (λ e. word_and n e vs) {x = n + unit_len u + length (text_of_units (w ∷ us))} {y = n + length (unit_text u ++ text_of_units (w ∷ us))}
-    (omega (arith, piece_len u p.0, length-append (unit_text u) (text_of_units (w ∷ us))))
+    grind (arith, common_steps, word_token w us vs (n + unit_len u) p.1 g)
 
 -- the bytes of units between others
 bytes_between : (front us vs : LineUnits) →
     slice_range (text_of_units (front ++ (us ++ vs))) (length (text_of_units front)) (length (text_of_units front) + length (text_of_units us)) ≡
     text_of_units us
 bytes_between front us vs =
-    let a = text_of_units front in
-    let b = text_of_units us in
-    let c = text_of_units vs in
-    let whole : text_of_units (front ++ (us ++ vs)) ≡ a ++ (b ++ c) = flat_map-append unit_text front (us ++ vs) ∙
-    ap (λ x. a ++ x) (flat_map-append unit_text us vs) in
-    ap (λ t. slice_range t (length a) (length a + length b)) whole
-    ∙ ap (take (length a + length b - length a)) (drop_at a (b ++ c) (length a) refl)
-    ∙ take_at b c (length a + length b - length a) (omega arith)
+    grind (arith, common_steps)
 
 module _ {X : Type 0} (view : TokenKind → List ℕ → X) where
   -- a token by its kind and its bytes
@@ -84,10 +71,7 @@ module _ {X : Type 0} (view : TokenKind → List ℕ → X) where
   past : (front us vs : LineUnits) (xs : List X) → Yields vs xs
       → map (viewed (text_of_units (front ++ (us ++ vs)))) (tokens_from (length (text_of_units front) + length (text_of_units us)) vs) ≡ xs
   past front us vs xs later =
-      ap (λ w. map (viewed (text_of_units w)) (tokens_from (length (text_of_units front) + length (text_of_units us)) vs)) (sym (append_assoc front us vs))
-      ∙ ap (λ n. map (viewed (text_of_units ((front ++ us) ++ vs))) (tokens_from n vs))
-      (sym (ap length (flat_map-append unit_text front us) ∙ length-append (text_of_units front) (text_of_units us)))
-      ∙ later (front ++ us)
+      grind (arith, common_steps, append_assoc front us vs, flat_map-append unit_text front us, length-append (text_of_units front) (text_of_units us))
 
   -- each unit, in front of units whose tokens are known
   pub no_units : Yields [] []
@@ -98,8 +82,7 @@ module _ {X : Type 0} (view : TokenKind → List ℕ → X) where
       → Yields (u ∷ (us ++ vs)) (view Word (text_of_units (u ∷ us)) ∷ xs)
   word_yields u us vs xs h g later front =
       let n = length (text_of_units front) in
-      ap (map (viewed (text_of_units (front ++ (u ∷ (us ++ vs)))))) (word_token u us vs n h g)
-      ∙ same_cons (ap (view Word) (bytes_between front (u ∷ us) vs)) (past front (u ∷ us) vs xs later)
+      rw (word_token u us vs n h g, same_cons (ap (view Word) (bytes_between front (u ∷ us) vs)) (past front (u ∷ us) vs xs later))
 
   pub space_yields : (vs : LineUnits) (xs : List X) → Yields vs xs → Yields (Byte 32 ∷ vs) xs
   space_yields vs xs later front =
@@ -109,11 +92,11 @@ module _ {X : Type 0} (view : TokenKind → List ℕ → X) where
   pub colon_yields : (vs : LineUnits) (xs : List X) → Yields vs xs → Yields (Byte 58 ∷ vs) (view Colon (58 ∷ []) ∷ xs)
   colon_yields vs xs later front =
       ap (map (viewed (text_of_units (front ++ (Byte 58 ∷ vs))))) (tokens_with (length (text_of_units front)) (Byte 58) vs refl)
-      ∙ same_cons (ap (view Colon) (bytes_between front (Byte 58 ∷ []) vs)) (past front (Byte 58 ∷ []) vs xs later)
+      ∙ same_cons (ap (view Colon) (grind (arith, common_steps))) (past front (Byte 58 ∷ []) vs xs later)
 
   pub bar_yields : (vs : LineUnits) (xs : List X) → Yields (Byte 32 ∷ vs) xs → Yields (Byte 124 ∷ Byte 32 ∷ vs) (view Bar (124 ∷ []) ∷ xs)
   bar_yields vs xs later front =
-      same_cons (ap (view Bar) (bytes_between front (Byte 124 ∷ []) (Byte 32 ∷ vs))) (past front (Byte 124 ∷ []) (Byte 32 ∷ vs) xs later)
+      same_cons (grind (arith, common_steps)) (past front (Byte 124 ∷ []) (Byte 32 ∷ vs) xs later)
 
   -- a path in its escaped form is one word
   pub path_yields : (path : List ℕ) (vs : LineUnits) (xs : List X) → IsWritable path → goes_on vs ≡ false → Yields vs xs
@@ -121,4 +104,4 @@ module _ {X : Type 0} (view : TokenKind → List ℕ → X) where
   path_yields [] vs xs writable g later = absurd (writable.some refl)
   path_yields (b ∷ path) vs xs writable g later =
       subst (λ word. Yields (path_units (b ∷ path) ++ vs) (view Word word ∷ xs)) (path_text (b ∷ path))
-      (word_yields (path_unit b) (path_units path) vs xs (path_pieces (b ∷ path) (has_spelling (b ∷ path) writable)) g later)
+      (word_yields (path_unit b) (path_units path) vs xs (search (rules, path_pieces, has_spelling)) g later)

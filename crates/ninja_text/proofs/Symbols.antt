@@ -1,11 +1,10 @@
 -- The walk over the tokens of a build line finds the words and parts that are there.
-use Rattle.std.proofs.Common.{inl, inr, ◌≡◌, ℕ, true, List, [], ◌∷◌, ◌++◌, map, refl, ap, ◌∙◌, Some, None}
+use Rattle.std.proofs.lemmas.Grind.{common_steps}
+use Rattle.std.proofs.Common.{inl, inr, ◌≡◌, ℕ, List, [], ◌∷◌, ◌++◌, map, refl, Some, None, arith}
 use Rattle.std.specs.Prelude.{Option}
-use Rattle.std.proofs.lemmas.Bool.{cases_Bool, false≢true}
 use Rattle.ninja_text.specs.Tokens.{value_of}
-use Rattle.ninja_text.specs.Symbols.{Symbol, WordSymbol, SignSymbol, IsPart, front_words, past_words, is_sign, past_sign, part_words, past_part}
+use Rattle.ninja_text.specs.Symbols.{Symbol, WordSymbol, SignSymbol, IsPart, front_words, past_words, past_sign, part_words, past_part}
 use Rattle.ninja_text.specs.declared.token.TokenKind.{TokenKind}
-use Rattle.ninja_text.specs.declared.token.TokenKind.TheVariants.{Bar, DoubleBar, BarAt, Colon}
 
 -- the words at the front, in their escaped form
 abbrev pub raw_words : List Symbol → List (List ℕ)
@@ -15,12 +14,12 @@ raw_words (SignSymbol sign ∷ more) = []
 
 pub front_at : (ss : List Symbol) → ss ≡ map WordSymbol (raw_words ss) ++ past_words ss
 front_at [] = refl
-front_at (WordSymbol word ∷ more) = ap (λ s. WordSymbol word ∷ s) (front_at more)
+front_at (WordSymbol word ∷ more) = cc (front_at more)
 front_at (SignSymbol sign ∷ more) = refl
 
 pub front_meant : (ss : List Symbol) → front_words ss ≡ map value_of (raw_words ss)
 front_meant [] = refl
-front_meant (WordSymbol word ∷ more) = ap (λ ws. value_of word ∷ ws) (front_meant more)
+front_meant (WordSymbol word ∷ more) = rw (front_meant more)
 front_meant (SignSymbol sign ∷ more) = refl
 
 -- the part that a sign begins, or nothing, and its words in their escaped form
@@ -40,26 +39,11 @@ pub part_meant : (o : Option (List Symbol)) → part_words o ≡ map value_of (p
 part_meant None = refl
 part_meant (Some more) = front_meant more
 
--- only the sign itself passes the test for it
-sign_is : (sign kind : TokenKind) → is_sign sign kind ≡ true → kind ≡ sign
-sign_is Bar Bar h = refl
-sign_is DoubleBar DoubleBar h = refl
-sign_is BarAt BarAt h = refl
-sign_is Colon Colon h = refl
-sign_is sign kind h = absurd (false≢true h)
-
 pub sign_at : (sign : TokenKind) (ss more : List Symbol) → past_sign sign ss ≡ Some more → ss ≡ SignSymbol sign ∷ more
 sign_at sign [] more h = absurd (cc)
 sign_at sign (WordSymbol word ∷ others) more h = absurd (cc)
-sign_at sign (SignSymbol kind ∷ others) more h = elim (cases_Bool (is_sign sign kind)) [
-  | inl t ↦
-      let k = sign_is sign kind t in
-      let found : ◌≡◌ {A = Option (List Symbol)} (Some others) (Some more) = rw t at h in
-      let m : others ≡ more = cc in
-      rw (k, m) refl
-  | inr f ↦ absurd (let none : ◌≡◌ {A = Option (List Symbol)} None (Some more) = rw f at h in cc)
-]
+sign_at sign (SignSymbol kind ∷ others) more h = grind (arith, common_steps)
 
 pub part_at : (sign : TokenKind) (ss : List Symbol) (o : Option (List Symbol)) → past_sign sign ss ≡ o → ss ≡ part_symbols sign o ++ past_part o ss
 part_at sign ss None h = refl
-part_at sign ss (Some more) h = sign_at sign ss more h ∙ ap (λ s. SignSymbol sign ∷ s) (front_at more)
+part_at sign ss (Some more) h = grind (arith, sign_at, front_at)

@@ -1,17 +1,17 @@
 -- The units of a text and their tokens, by the first unit.
+use Rattle.std.proofs.lemmas.Grind.{common_steps}
 use Rattle.ninja_text.specs.Bytes.{Bytes}
-use Rattle.std.proofs.Common.{get_or, ◌≤◌, inl, inr, suc, subst, ◌≡◌, ℕ, ◌+◌, List, [], ◌∷◌, length, drop, refl, sym, ap, ◌∙◌, false, ◌==◌, ◌&&◌, ◌||◌, arith, map, None, ◌<◌, Bool, true, not, add-one}
+use Rattle.std.proofs.Common.{get_or, ◌≤◌, inl, inr, suc, subst, ◌≡◌, ℕ, ◌+◌, List, [], ◌∷◌, length, drop, refl, sym, ap, ◌∙◌, false, ◌==◌, ◌||◌, arith, map, None, ◌<◌, Bool, true, not, rules}
 use Rattle.std.specs.List.{flat_map, list_any}
-use Rattle.std.proofs.lemmas.Bool.{cases_Bool, eqb-true, or_parts, not-true}
+use Rattle.std.proofs.lemmas.Bool.{cases_Bool, eqb-true, or_parts}
 use Rattle.ninja_text.specs.Units.{LineUnits, units, with_continuation, unit_len, is_byte, is_continuation}
 use Rattle.ninja_text.specs.inner.Runs.{spaces_at}
-use Rattle.ninja_text.specs.declared.unit.LineUnit.{LineUnit}
-use Rattle.ninja_text.specs.declared.unit.LineUnit.TheVariants.{Continuation, Escape, Byte}
+use Rattle.ninja_text.specs.declared.lexing.LineUnit.{LineUnit}
+use Rattle.ninja_text.specs.declared.lexing.LineUnit.TheVariants.{Continuation, Escape, Byte}
 use Rattle.ninja_text.specs.Lines.{begins_with_line_feed, end_from}
 use Rattle.ninja_text.specs.Tokens.{token_of, unit_value, value_of, TokenAt, is_blank, is_piece, goes_on, with_first_start, with_unit, tokens_from, tokens_at}
 use Rattle.ninja_text.specs.Lexical.{first_fault, lexical_fault}
 use Rattle.ninja_text.specs.inner.PlainTexts.{is_dollar, is_suspect, is_plain_piece}
-use Rattle.std.proofs.Math.Seq.{drop-cons}
 use Rattle.std.specs.Prelude.{if◌then◌else◌}
 use Rattle.ninja_text.specs.declared.token.TokenKind.TheVariants.{Word, Bar, DoubleBar, BarAt, Colon}
 use Rattle.ninja_text.specs.inner.TokenStarts.{BeginsPiece, BeginsBar}
@@ -28,37 +28,34 @@ pub units_bytes : (bytes : Bytes) → list_any is_dollar bytes ≡ false → uni
 units_bytes [] none = refl
 units_bytes (b ∷ bytes) none =
     let p = or_parts (is_dollar b) (list_any is_dollar bytes) none in
-    units_byte b bytes p.0 ∙ ap (λ us. Byte b ∷ us) (units_bytes bytes p.1)
+    grind (arith, common_steps, units_bytes bytes p.1)
 
 -- and it stands for itself
 pub bytes_meant : (bytes : Bytes) → flat_map unit_value (map Byte bytes) ≡ bytes
 bytes_meant [] = refl
-bytes_meant (b ∷ bytes) = ap (λ bs. b ∷ bs) (bytes_meant bytes)
+bytes_meant (b ∷ bytes) = rw (bytes_meant bytes)
 
 -- so its value is itself
 pub plain_value : (bytes : Bytes) → list_any is_dollar bytes ≡ false → value_of bytes ≡ bytes
-plain_value bytes none = ap (flat_map unit_value) (units_bytes bytes none) ∙ bytes_meant bytes
+plain_value bytes none = simp (units_bytes, bytes_meant)
 
 -- a text without a suspect byte has no `$`
 pub no_dollar : (bytes : Bytes) → list_any is_suspect bytes ≡ false → list_any is_dollar bytes ≡ false
 no_dollar [] none = refl
 no_dollar (b ∷ bytes) none =
     let p = or_parts (is_suspect b) (list_any is_suspect bytes) none in
-    let d = or_parts (is_dollar b) (b == 0 || b == 13) p.0 in
-    rw d.0 (no_dollar bytes p.1)
+    grind (arith, common_steps, no_dollar bytes p.1)
 
 -- nor is any of its bytes a fault
 pub no_fault_among : (index : ℕ) (bytes : Bytes) → list_any is_suspect bytes ≡ false → first_fault index (map Byte bytes) ≡ None
 no_fault_among index [] none = refl
 no_fault_among index (b ∷ bytes) none =
     let p = or_parts (is_suspect b) (list_any is_suspect bytes) none in
-    let d = or_parts (is_dollar b) (b == 0 || b == 13) p.0 in
-    let n = or_parts (b == 0) (b == 13) d.1 in
-    rw (n.0, n.1) (no_fault_among (index + 1) bytes p.1)
+    grind (arith, common_steps, no_fault_among (index + 1) bytes p.1)
 
 -- so it has no lexical fault
 pub no_suspect : (bytes : Bytes) → list_any is_suspect bytes ≡ false → lexical_fault bytes ≡ None
-no_suspect bytes none = ap (first_fault 0) (units_bytes bytes (no_dollar bytes none)) ∙ no_fault_among 0 bytes none
+no_suspect bytes none = simp (units_bytes, no_dollar, no_fault_among)
 
 pub units_feed : (bytes : Bytes) → units (36 ∷ 10 ∷ bytes) ≡ with_continuation 2 (units bytes)
 units_feed [] = refl
@@ -74,41 +71,28 @@ units_return b bytes feed = rw feed refl
 -- a continuation comes first, however many spaces it takes
 continued_begins : (len : ℕ) (us : LineUnits) → begins_with_line_feed (with_continuation len us) ≡ false
 continued_begins len [] = refl
-continued_begins len (Byte b ∷ us) = elim (cases_Bool (b == 32)) [
-  | inl h ↦ rw h (continued_begins (len + 1) us)
-  | inr h ↦ rw h refl
-]
+continued_begins len (Byte b ∷ us) = grind (arith, common_steps, continued_begins (len + 1) us)
 continued_begins len (Escape b ∷ us) = refl
 continued_begins len (Continuation more ∷ us) = refl
 
 escape_begins_at : (c : ℕ) (bytes : Bytes) → (c == 10) ≡ false → begins_with_line_feed (units (36 ∷ c ∷ bytes)) ≡ false
 escape_begins_at c [] f = rw f refl
-escape_begins_at c (d ∷ bytes) f = elim (cases_Bool ((c == 13) && (d == 10))) [
-  | inl r ↦ rw (f, r) (continued_begins _ (units bytes))
-  | inr r ↦ rw (f, r) refl
-]
+escape_begins_at c (d ∷ bytes) f = search (rules, continued_begins)
 
 escape_begins : (bytes : Bytes) → begins_with_line_feed (units (36 ∷ bytes)) ≡ false
 escape_begins [] = refl
-escape_begins (c ∷ bytes) = elim (cases_Bool (c == 10)) [
-  | inl f ↦ subst (λ x. begins_with_line_feed (units (36 ∷ x ∷ bytes)) ≡ false) (sym (eqb-true c 10 f))
-      (rw (units_feed bytes) (continued_begins _ (units bytes)))
-  | inr f ↦ escape_begins_at c bytes f
-]
+escape_begins (c ∷ bytes) = grind (arith, eqb-true, units_feed, continued_begins, escape_begins_at)
 
 -- only an LF is a unit that is an LF
 pub units_begin : (b : ℕ) (bytes : Bytes) → (b == 10) ≡ false → begins_with_line_feed (units (b ∷ bytes)) ≡ false
-units_begin b bytes h = elim (cases_Bool (b == 36)) [
-  | inl d ↦ subst (λ x. begins_with_line_feed (units (x ∷ bytes)) ≡ false) (sym (eqb-true b 36 d)) (escape_begins bytes)
-  | inr d ↦ rw (units_byte b bytes d) h
-]
+units_begin b bytes h = grind (arith, eqb-true, escape_begins, units_byte)
 
 -- the spaces of a continuation hide no end
 pub end_continued : (n len : ℕ) (us : LineUnits) → end_from n (with_continuation len us) ≡ end_from (n + len) us
 end_continued n len [] = refl
 end_continued n len (Byte b ∷ us) = elim (cases_Bool (b == 32)) [
   | inl h ↦ let e : b ≡ 32 = eqb-true b 32 h in
-      rw e (end_continued n (len + 1) us ∙ ap (λ k. end_from k us) {x = n + (len + 1)} {y = n + len + 1} (omega arith))
+      rw e (grind (arith, common_steps, end_continued n (len + 1) us))
   | inr h ↦ rw h refl
 ]
 end_continued n len (Escape b ∷ us) = refl
@@ -117,35 +101,21 @@ end_continued n len (Continuation more ∷ us) = refl
 -- two continuations are two units
 continued_twice : (len more : ℕ) (us : LineUnits) → with_continuation len (with_continuation more us) ≡ Continuation len ∷ with_continuation more us
 continued_twice len more [] = refl
-continued_twice len more (Byte b ∷ us) = elim (cases_Bool (b == 32)) [
-  | inl h ↦ rw h (continued_twice len (more + 1) us)
-  | inr h ↦ rw h refl
-]
+continued_twice len more (Byte b ∷ us) = grind (arith, common_steps, continued_twice len (more + 1) us)
 continued_twice len more (Escape b ∷ us) = refl
 continued_twice len more (Continuation k ∷ us) = refl
 
 continued_at_pair : (len c : ℕ) (bytes : Bytes) → (c == 10) ≡ false →
     with_continuation len (units (36 ∷ c ∷ bytes)) ≡ Continuation len ∷ units (36 ∷ c ∷ bytes)
 continued_at_pair len c [] f = rw f refl
-continued_at_pair len c (d ∷ bytes) f = elim (cases_Bool ((c == 13) && (d == 10))) [
-  | inl r ↦ rw (f, r) (continued_twice len 3 (units bytes))
-  | inr r ↦ rw (f, r) refl
-]
+continued_at_pair len c (d ∷ bytes) f = search (rules, continued_twice, len)
 
 continued_at_dollar : (len : ℕ) (bytes : Bytes) → with_continuation len (units (36 ∷ bytes)) ≡ Continuation len ∷ units (36 ∷ bytes)
 continued_at_dollar len [] = refl
-continued_at_dollar len (c ∷ bytes) = elim (cases_Bool (c == 10)) [
-  | inl f ↦ subst (λ x. with_continuation len (units (36 ∷ x ∷ bytes)) ≡ Continuation len ∷ units (36 ∷ x ∷ bytes)) (sym (eqb-true c 10 f))
-      (rw (units_feed bytes) (continued_twice len 2 (units bytes)))
-  | inr f ↦ continued_at_pair len c bytes f
-]
+continued_at_dollar len (c ∷ bytes) = grind (arith, len, eqb-true, units_feed, continued_twice, continued_at_pair)
 
 continued_stops : (len b : ℕ) (bytes : Bytes) → (b == 32) ≡ false → with_continuation len (units (b ∷ bytes)) ≡ Continuation len ∷ units (b ∷ bytes)
-continued_stops len b bytes s = elim (cases_Bool (b == 36)) [
-  | inl d ↦ subst (λ x. with_continuation len (units (x ∷ bytes)) ≡ Continuation len ∷ units (x ∷ bytes)) (sym (eqb-true b 36 d))
-      (continued_at_dollar len bytes)
-  | inr d ↦ rw (units_byte b bytes d, s) refl
-]
+continued_stops len b bytes s = grind (arith, len, eqb-true, continued_at_dollar, units_byte)
 
 same_continuation : {k j : ℕ} {us vs : LineUnits} → k ≡ j → us ≡ vs → ◌≡◌ {A = LineUnits} (Continuation k ∷ us) (Continuation j ∷ vs)
 same_continuation p q = rw (p, q) refl
@@ -153,17 +123,11 @@ same_continuation p q = rw (p, q) refl
 -- a continuation takes the spaces at the front of what follows
 pub continued_spaces : (len : ℕ) (bytes : Bytes) →
     with_continuation len (units bytes) ≡ Continuation (len + spaces_at bytes) ∷ units (drop (spaces_at bytes) bytes)
-continued_spaces len [] = ap (λ k. Continuation k ∷ []) {x = len} {y = len + 0} (omega arith)
-continued_spaces len (b ∷ bytes) = elim (cases_Bool (b == 32)) [
-  | inl s ↦ rw s (subst
-      (λ x. with_continuation len (units (x ∷ bytes)) ≡ Continuation (len + (1 + spaces_at bytes)) ∷ units (drop (1 + spaces_at bytes) (x ∷ bytes)))
-      (sym (eqb-true b 32 s))
-      (rw (units_byte 32 bytes refl) (continued_spaces (len + 1) bytes ∙ pushed)))
-  | inr s ↦ rw s (continued_stops len b bytes s ∙ ap (λ k. Continuation k ∷ units (b ∷ bytes)) {x = len} {y = len + 0} (omega arith))
-] where
+continued_spaces len [] = grind (arith, common_steps)
+continued_spaces len (b ∷ bytes) = grind (arith, len, eqb-true, units_byte, pushed, continued_stops, continued_spaces (len + 1) bytes) where
   pushed : Continuation (len + 1 + spaces_at bytes) ∷ units (drop (spaces_at bytes) bytes) ≡
       Continuation (len + (1 + spaces_at bytes)) ∷ units (drop (1 + spaces_at bytes) (32 ∷ bytes))
-  pushed = same_continuation (omega arith) (ap (λ k. units (drop k (32 ∷ bytes))) {x = suc (spaces_at bytes)} {y = 1 + spaces_at bytes} (omega arith))
+  pushed = grind (arith, common_steps)
 
 -- `$` LF at the front
 pub continuation_at : (bytes : Bytes) (n : ℕ) → 2 ≤ length bytes → get_or bytes 0 0 ≡ 36 → get_or bytes 1 0 ≡ 10 → n ≡ spaces_at (drop 2 bytes)
@@ -204,15 +168,14 @@ tokens_with s u (v ∷ us) h = rw h refl
 pub tokens_blank : (s : ℕ) (u : LineUnit) (us : LineUnits) → is_blank u ≡ true → tokens_from s (u ∷ us) ≡ tokens_from (s + unit_len u) us
 tokens_blank s (Continuation len) us h = tokens_with s (Continuation len) us refl
 tokens_blank s (Escape b) us h = cc
-tokens_blank s (Byte b) us h = subst (λ x. tokens_from s (Byte x ∷ us) ≡ tokens_from (s + 1) us) (sym (eqb-true b 32 h)) (tokens_with s (Byte 32) us refl)
+tokens_blank s (Byte b) us h = grind (arith, eqb-true, tokens_with)
 
 tokens_colon : (s : ℕ) (u : LineUnit) (us : LineUnits) → is_byte 58 u ≡ true →
     tokens_from s (u ∷ us) ≡ token_of Colon s 1 ∷ tokens_from (s + 1) us
 tokens_colon s (Continuation len) us h = cc
 tokens_colon s (Escape b) us h = cc
 tokens_colon s (Byte b) us h =
-    subst (λ x. tokens_from s (Byte x ∷ us) ≡ token_of Colon s 1 ∷ tokens_from (s + 1) us) (sym (eqb-true b 58 h))
-    (tokens_with s (Byte 58) us refl)
+    grind (arith, eqb-true, tokens_with)
 
 -- a piece begins a word, or is one
 pub tokens_piece : (s : ℕ) (u : LineUnit) (us : LineUnits) → is_piece u ≡ true
@@ -221,7 +184,7 @@ pub tokens_piece : (s : ℕ) (u : LineUnit) (us : LineUnits) → is_piece u ≡ 
     (token_of Word s (unit_len u) ∷ tokens_from (s + unit_len u) us))
 tokens_piece s (Continuation len) us h = cc
 tokens_piece s (Escape b) us h = tokens_with s (Escape b) us refl
-tokens_piece s (Byte b) us h = tokens_with s (Byte b) us (no_bar (b == 124) ((b == 32) || (b == 58)) h) ∙ rw h refl where
+tokens_piece s (Byte b) us h = grind (arith, tokens_with, no_bar) where
   no_bar : (bar rest : Bool) → not (rest || bar) ≡ true → bar ≡ false
   no_bar true true h = sym h
   no_bar true false h = sym h
@@ -260,65 +223,46 @@ pub record Stands (text : Bytes) (index n : ℕ) (u : LineUnit) : Type 0 where
 
 pub stands : (text : Bytes) (index n : ℕ) (u : LineUnit) → n ≡ unit_len u → units (drop index text) ≡ u ∷ units (drop (index + unit_len u) text) →
     Stands text index n u
-stands text index n u len first = record { len = len; first = rw len first }
+stands text index n u len first = grind (arith, common_steps)
 
 module _ (text : Bytes) (index n : ℕ) (u : LineUnit) (unit : Stands text index n u) where
   pub blank_adds_none : is_blank u ≡ true → tokens_at text (index + n) ≡ tokens_at text index
-  blank_adds_none h = sym
-      (ap (tokens_from index) unit.first ∙ tokens_blank index u _ h ∙ ap (λ k. tokens_from (index + k) (units (drop (index + n) text))) (sym unit.len))
+  blank_adds_none h = grind (arith, tokens_blank)
 
   pub word_begins : is_piece u ≡ true → word_so_far text index (index + n) (index + n) ≡ tokens_at text index
-  word_begins h = sym (ap (tokens_from index) unit.first ∙ tokens_piece index u _ h ∙
-      ap (λ k. if goes_on (units (drop (index + n) text)) then with_first_start index (tokens_from (index + k) (units (drop (index + n) text)))
-      else (token_of Word index k ∷ tokens_from (index + k) (units (drop (index + n) text)))) (sym unit.len))
+  word_begins h = grind (arith, tokens_piece)
 
   pub word_goes_on : (start end : ℕ) → is_piece u ≡ true → word_so_far text start end index ≡ tokens_at text start →
       word_so_far text start (index + n) (index + n) ≡ tokens_at text start
   word_goes_on start end h so_far =
-      let on : goes_on (units (drop index text)) ≡ true = ap goes_on unit.first ∙ goes_on_piece u _ h in
+      let on : goes_on (units (drop index text)) ≡ true = grind (arith, common_steps) in
       let before : with_first_start start (tokens_at text index) ≡ tokens_at text start = rw on at so_far in
-      sym (sym before ∙ ap (with_first_start start) (sym (word_begins h)) ∙ inside) where
+      sym (rw (← before, ← word_begins h, inside)) where
         inside : with_first_start start (word_so_far text index (index + n) (index + n)) ≡ word_so_far text start (index + n) (index + n)
         inside = elim (cases_Bool (goes_on (units (drop (index + n) text)))) [
-          | inl g ↦ rw g (widened_again start index (tokens_at text (index + n)))
+          | inl g ↦ grind (arith, widened_again)
           | inr g ↦ rw g refl
         ]
 
   pub word_waits : (start end : ℕ) → is_continuation u ≡ true → word_so_far text start end index ≡ tokens_at text start →
       word_so_far text start end (index + n) ≡ tokens_at text start
   word_waits start end h so_far =
-      ap (λ ts. if goes_on (units (drop (index + n) text)) then with_first_start start ts else (record { kind = Word; start = start; end = end } ∷ ts))
-      (blank_adds_none (continuation_blank u h))
-      ∙ ap (λ b. if b then with_first_start start (tokens_at text index) else (record { kind = Word; start = start; end = end } ∷ tokens_at text index))
-      (sym (ap goes_on unit.first ∙ continuation_hides u h)) ∙ so_far where
-        continuation_hides : (u : LineUnit) → is_continuation u ≡ true → goes_on (u ∷ units (drop (index + n) text)) ≡ goes_on (units (drop (index + n) text))
-        continuation_hides (Continuation len) h = refl
-        continuation_hides (Escape b) h = cc
-        continuation_hides (Byte b) h = cc
+      grind (arith, blank_adds_none, continuation_blank)
 
 -- the unit that a byte is that is a piece of a word by itself
 pub plain_stands : (text : Bytes) (index : ℕ) → index < length text → is_plain_piece (get_or text index 0) ≡ true →
     Stands text index 1 (Byte (get_or text index 0))
 plain_stands text index in_text plain =
-    let b = get_or text index 0 in
-    let own = or_parts (b == 36) _ (not-true _ plain) in
-    stands text index 1 (Byte b) refl (ap units (drop_at_index) ∙ units_byte b (drop (index + 1) text) own.0) where
-      drop_at_index : drop index text ≡ get_or text index 0 ∷ drop (index + 1) text
-      drop_at_index = rw (add-one, drop-cons text index 0) refl
+    grind (arith, common_steps)
 
 pub plain_piece : (b : ℕ) → is_plain_piece b ≡ true → is_piece (Byte b) ≡ true
 plain_piece b plain =
-    let own = or_parts (b == 36) _ (not-true _ plain) in
-    let space = or_parts (b == 32) _ own.1 in
-    let colon = or_parts (b == 58) (b == 124) space.1 in
-    rw (space.0, colon.0, colon.1) refl
+    grind (arith, common_steps)
 
 -- two readings of the unit at one index are one
 pub piece_at : (text : Bytes) (index : ℕ) (u : LineUnit) (us : LineUnits) → BeginsPiece text index → units (drop index text) ≡ u ∷ us → is_piece u ≡ true
 piece_at text index u us begins e =
-    let both : begins.0 ∷ begins.1 ≡ u ∷ us = sym begins.2 ∙ e in
-    let same : begins.0 ≡ u = cc in
-    ap is_piece (sym same) ∙ begins.3
+    cc
 
 pub byte_len : (c : ℕ) (u : LineUnit) → is_byte c u ≡ true → unit_len u ≡ 1
 byte_len c (Continuation len) h = cc
@@ -328,8 +272,7 @@ byte_len c (Byte b) h = refl
 -- the token that a colon is
 module _ (text : Bytes) (s : ℕ) (u : LineUnit) (e : units (drop s text) ≡ u ∷ units (drop (s + unit_len u) text)) where
   pub colon_at : is_byte 58 u ≡ true → tokens_at text s ≡ token_of Colon s 1 ∷ tokens_at text (s + 1)
-  colon_at h = ap (tokens_from s) e ∙ tokens_colon s u _ h ∙
-      ap (λ k. token_of Colon s 1 ∷ tokens_from (s + 1) (units (drop (s + k) text))) (byte_len 58 u h)
+  colon_at h = grind (arith, tokens_colon, byte_len)
 
 pub byte_is : (c : ℕ) (u : LineUnit) → is_byte c u ≡ true → u ≡ Byte c
 byte_is c (Continuation len) h = cc
@@ -337,20 +280,19 @@ byte_is c (Escape b) h = cc
 byte_is c (Byte b) h = ap Byte (eqb-true b c h)
 
 pub at_bar : (text : Bytes) (s : ℕ) (u : LineUnit) → units (drop s text) ≡ u ∷ units (drop (s + unit_len u) text) → is_byte 124 u ≡ true → BeginsBar text s
-at_bar text s u e bar = e ∙ ap (λ v. v ∷ units (drop (s + unit_len v) text)) (byte_is 124 u bar)
+at_bar text s u e bar = grind (arith, common_steps)
 
 -- the token that a bar begins, by the unit after it
 module _ (text : Bytes) (s : ℕ) (begins : BeginsBar text s) where
   module _ (v : LineUnit) (e : units (drop (s + 1) text) ≡ v ∷ units (drop (s + 1 + unit_len v) text)) where
     after : (c : ℕ) → is_byte c v ≡ true → units (drop (s + 1) text) ≡ Byte c ∷ units (drop (s + 2) text)
-    after c h = e ∙ ap (λ w. w ∷ units (drop (s + 1 + unit_len w) text)) (byte_is c v h) ∙
-        ap (λ k. Byte c ∷ units (drop k text)) {x = s + 1 + 1} {y = s + 2} (omega arith)
+    after c h = grind (arith, common_steps)
 
     pub bar_bar : is_byte 124 v ≡ true → tokens_at text s ≡ token_of DoubleBar s 2 ∷ tokens_at text (s + 2)
-    bar_bar h = ap (tokens_from s) (begins ∙ ap (λ us. Byte 124 ∷ us) (after 124 h))
+    bar_bar h = cc (after 124 h)
 
     pub bar_with_at : is_byte 64 v ≡ true → tokens_at text s ≡ token_of BarAt s 2 ∷ tokens_at text (s + 2)
-    bar_with_at h = ap (tokens_from s) (begins ∙ ap (λ us. Byte 124 ∷ us) (after 64 h))
+    bar_with_at h = cc (after 64 h)
 
     pub bar_single : is_byte 124 v ≡ false → is_byte 64 v ≡ false → tokens_at text s ≡ token_of Bar s 1 ∷ tokens_at text (s + 1)
     bar_single bar at = ap (tokens_from s) (begins ∙ ap (λ us. Byte 124 ∷ us) e) ∙ rw (bar, at) refl ∙

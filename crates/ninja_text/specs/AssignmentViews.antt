@@ -4,7 +4,7 @@ use Rattle.std.specs.Option.{option_map}
 use Rattle.ninja_text.specs.Lines.{LogicalLine}
 use Rattle.ninja_text.specs.Lexical.{lexical_fault}
 use Rattle.ninja_text.specs.Assignments.{SeenAssignment, assignment_of}
-use Rattle.ninja_text.specs.declared.assignments.Assignment.{Assignment}
+use Rattle.ninja_text.specs.declared.token.Assignment.{Assignment}
 use Rattle.ninja_text.specs.declared.fault.LexFault.{LexFault}
 
 abbrev pub seen_assignment : Assignment → SeenAssignment

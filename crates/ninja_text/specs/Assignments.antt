@@ -3,8 +3,8 @@ use Rattle.std.specs.Prelude.{◌≡◌, ℕ, ◌+◌, ◌<◌, Bool, false, ◌
 use Rattle.std.specs.Option.{option_map}
 use Rattle.ninja_text.specs.Bytes.{Text, Name, dot, hyphen, equals_sign, underscore}
 use Rattle.ninja_text.specs.Units.{unit_len, is_byte, units, is_digit, is_letter}
-use Rattle.ninja_text.specs.declared.unit.LineUnit.{LineUnit}
-use Rattle.ninja_text.specs.declared.unit.LineUnit.TheVariants.{Continuation, Escape, Byte}
+use Rattle.ninja_text.specs.declared.lexing.LineUnit.{LineUnit}
+use Rattle.ninja_text.specs.declared.lexing.LineUnit.TheVariants.{Continuation, Escape, Byte}
 use Rattle.ninja_text.specs.Tokens.{is_blank, value_of}
 
 -- whether a name may contain this byte: letters, digits, `_`, `.`, `-`

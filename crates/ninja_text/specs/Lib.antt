@@ -1,3 +1,4 @@
+pub mod Prelude
 pub mod Bytes
 pub mod Failure
 pub mod Firsts

@@ -2,7 +2,7 @@
 use Rattle.std.specs.Prelude.{◌≡◌, true, false, Option, Some, None, Result, Ok, Err}
 use Rattle.ninja_text.specs.Lines.{LogicalLine}
 use Rattle.ninja_text.specs.Cutting.{CutterState, waiting_line}
-use Rattle.ninja_text.specs.declared.line.Line.{Line}
+use Rattle.ninja_text.specs.declared.cutter.Line.{Line}
 use Rattle.ninja_text.specs.declared.fault.CutFault.{CutFault}
 use Rattle.ninja_text.specs.declared.fault.CutFault.TheVariants.{LineTooLong}
 

@@ -5,8 +5,8 @@ use Rattle.ninja_text.specs.Lines.{line_limit}
 use Rattle.ninja_text.specs.Scanning.{scan_from}
 use Rattle.ninja_text.specs.declared.cutter.Phase.{Phase}
 use Rattle.ninja_text.specs.declared.cutter.Phase.TheVariants.{Gathering, Waiting, Lent, Failed}
-use Rattle.ninja_text.specs.declared.scan.ScanState.TheVariants.{Start}
-use Rattle.ninja_text.specs.declared.scan.Scanned.TheVariants.{End, Open}
+use Rattle.ninja_text.specs.declared.cutter.ScanState.TheVariants.{Start}
+use Rattle.ninja_text.specs.declared.cutter.Scanned.TheVariants.{End, Open}
 
 -- the bytes of the current line; if the line in the buffer was returned, there are none
 abbrev pub bytes_in : Phase → Bytes → Bytes

@@ -2,10 +2,10 @@
 -- Here a scan state stands for the bytes so far.
 use Rattle.std.specs.Prelude.{ℕ, ◌+◌, ◌-◌, ◌==◌, if◌then◌else◌, [], ◌∷◌, Option, Some, None}
 use Rattle.ninja_text.specs.Bytes.{Bytes, line_feed, carriage_return, dollar, space, hash}
-use Rattle.ninja_text.specs.declared.scan.ScanState.{ScanState}
-use Rattle.ninja_text.specs.declared.scan.ScanState.TheVariants.{Start, Comment, CommentReturn, Plain, Return, Dollar, DollarReturn}
-use Rattle.ninja_text.specs.declared.scan.Scanned.{Scanned}
-use Rattle.ninja_text.specs.declared.scan.Scanned.TheVariants.{End, Open}
+use Rattle.ninja_text.specs.declared.cutter.ScanState.{ScanState}
+use Rattle.ninja_text.specs.declared.cutter.ScanState.TheVariants.{Start, Comment, CommentReturn, Plain, Return, Dollar, DollarReturn}
+use Rattle.ninja_text.specs.declared.cutter.Scanned.{Scanned}
+use Rattle.ninja_text.specs.declared.cutter.Scanned.TheVariants.{End, Open}
 
 -- the state after a byte that begins a unit; None if the byte ends the line
 abbrev pub plain_step : ℕ → Option ScanState

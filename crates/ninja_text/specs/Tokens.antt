@@ -3,8 +3,8 @@ use Rattle.std.specs.Prelude.{◌≡◌, ℕ, ◌+◌, ◌<◌, ◌≤◌, Bool,
 use Rattle.std.specs.List.{flat_map, list_any}
 use Rattle.ninja_text.specs.Bytes.{Text, space, dollar, colon, vertical_bar, at_sign}
 use Rattle.ninja_text.specs.Units.{unit_len, is_byte, units}
-use Rattle.ninja_text.specs.declared.unit.LineUnit.{LineUnit}
-use Rattle.ninja_text.specs.declared.unit.LineUnit.TheVariants.{Continuation, Escape, Byte}
+use Rattle.ninja_text.specs.declared.lexing.LineUnit.{LineUnit}
+use Rattle.ninja_text.specs.declared.lexing.LineUnit.TheVariants.{Continuation, Escape, Byte}
 use Rattle.ninja_text.specs.declared.token.TokenKind.{TokenKind}
 use Rattle.ninja_text.specs.declared.token.TokenKind.TheVariants.{Word, Bar, DoubleBar, BarAt, Colon}
 

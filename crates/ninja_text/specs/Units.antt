@@ -2,8 +2,8 @@
 -- escapes, and single bytes.
 use Rattle.std.specs.Prelude.{ℕ, ◌+◌, Bool, true, false, ◌==◌, ◌&&◌, ◌||◌, if◌then◌else◌, nat_le, List, [], ◌∷◌}
 use Rattle.ninja_text.specs.Bytes.{Bytes, line_feed, carriage_return, space, dollar, digit_zero, digit_nine, capital_a, capital_z, small_a, small_z}
-use Rattle.ninja_text.specs.declared.unit.LineUnit.{LineUnit}
-use Rattle.ninja_text.specs.declared.unit.LineUnit.TheVariants.{Continuation, Escape, Byte}
+use Rattle.ninja_text.specs.declared.lexing.LineUnit.{LineUnit}
+use Rattle.ninja_text.specs.declared.lexing.LineUnit.TheVariants.{Continuation, Escape, Byte}
 
 abbrev pub is_digit : ℕ → Bool
 is_digit b = nat_le digit_zero b && nat_le b digit_nine

@@ -1,6 +1,6 @@
 //! The error type of calls that allocate memory.
 ghost use Rattle.std.specs.Prelude.{◌≡◌};
-ghost use Rattle.ninja_text.specs.Failure.{Turns, ForFault, failure_text};
+ghost use Rattle.ninja_text.specs.Prelude.{ForFault, Turns, failure_text};
 ghost use Rattle.ninja_text.specs.declared.failure.Failure.TheVariants.{Memory};
 
 use std::alloc::{AllocError, AllocFailed};

@@ -1,6 +1,5 @@
 //! Errors in a text. They are facts about its bytes and never mention memory.
-ghost use Rattle.std.specs.Prelude.{Some};
-ghost use Rattle.ninja_text.specs.FaultTexts.{path_fault_text, cut_fault_text, lex_fault_text};
+ghost use Rattle.ninja_text.specs.Prelude.{Some, cut_fault_text, lex_fault_text, path_fault_text};
 
 use std::fmt;
 use thiserror::Error;

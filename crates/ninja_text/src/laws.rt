@@ -1,18 +1,13 @@
 //! Laws about lines, tokens, escapes and paths. A law is the contract of a function that does
 //! nothing; callers call it to use the law in a proof.
-ghost use Rattle.std.specs.Prelude.{◌≡◌, ◌↔◌, ℕ, List, [], Ok, Err, All};
-ghost use Rattle.std.specs.Option.{ForSome};
-ghost use Rattle.ninja_text.specs.Bytes.{Bytes, Text, PathText, Component};
-ghost use Rattle.ninja_text.specs.Escapes.{Spells};
-ghost use Rattle.ninja_text.specs.Reduction.{ReducesTo, components, reduced};
-ghost use Rattle.ninja_text.specs.Paths.{path_of, IsPath, is_rooted};
-ghost use Rattle.ninja_text.specs.PathShape.{parts, IsShaped};
+ghost use Rattle.std.specs.Prelude.{◌↔◌, ◌≡◌, [], All, Err, List, Ok};
+ghost use Rattle.ninja_text.specs.Prelude.{AreTokens, Bytes, Component, Divides, ForSome};
+ghost use Rattle.ninja_text.specs.Prelude.{IsFaultless, IsPath, IsReadAsSpelled, IsShaped};
+ghost use Rattle.ninja_text.specs.Prelude.{IsValueAsSpelled, PathText, ReducesTo, Spells};
+ghost use Rattle.ninja_text.specs.Prelude.{SpellsValue, Text, TokenAt, assignment_of, components};
+ghost use Rattle.ninja_text.specs.Prelude.{is_rooted, parts, path_of, reduced, seen_tokens};
+ghost use Rattle.ninja_text.specs.Prelude.{text_of_line, tokens};
 ghost use Rattle.ninja_text.specs.declared.fault.PathFault.TheVariants.{Empty};
-ghost use Rattle.ninja_text.specs.Lines.{Divides, text_of_line};
-ghost use Rattle.ninja_text.specs.Tokens.{TokenAt, tokens, seen_tokens};
-ghost use Rattle.ninja_text.specs.TokenLists.{AreTokens};
-ghost use Rattle.ninja_text.specs.Assignments.{assignment_of};
-ghost use Rattle.ninja_text.specs.Meanings.{IsFaultless, IsReadAsSpelled, SpellsValue, IsValueAsSpelled};
 
 /// A text is divided into lines and a rest in exactly one way.
 pub fn one_division()

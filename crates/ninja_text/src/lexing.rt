@@ -1,26 +1,21 @@
-//! Finds the tokens and the lexical errors of a line.
-ghost use Rattle.std.specs.Prelude.{◌≡◌, ◌+◌, ◌<◌, ◌≤◌, length, false, IfOk};
-ghost use Rattle.std.specs.Result.{result_err};
-ghost use Rattle.ninja_text.specs.LineViews.{seen_line};
-ghost use Rattle.ninja_text.specs.TokenViews.{IsWords, tokens_left};
-ghost use Rattle.std.specs.List.{AllByRecursion};
-ghost use Rattle.ninja_text.specs.inner.Runs.{Run};
-ghost use Rattle.ninja_text.specs.Tokens.{is_blank, IsSlice, RiseFrom, tokens_at};
+//! The units of a line (single bytes, escapes and continuations), what they stand for, and the
+//! tokens and lexical errors that they make.
+ghost use Rattle.std.specs.Prelude.{◌++◌, ◌+◌, ◌<◌, ◌∷◌, ◌≡◌, ◌≤◌, IfOk, OnErr, OnOk, drop, false};
+ghost use Rattle.ninja_text.specs.Prelude.{AllByRecursion, IsSlice, IsWords, RiseFrom, is_blank};
+ghost use Rattle.ninja_text.specs.Prelude.{is_byte, is_literal, length, lexical_fault, result_err};
+ghost use Rattle.ninja_text.specs.Prelude.{seen_line, tokens_at, tokens_left, true, unit_fault};
+ghost use Rattle.ninja_text.specs.Prelude.{unit_len, units, value_of};
+ghost use Rattle.ninja_text.specs.inner.Runs.{Run, spaces_at};
 ghost use Rattle.ninja_text.specs.inner.TokenStarts.{BeginsToken, BeginsPiece, IsFirstToken};
-ghost use Rattle.ninja_text.specs.Lexical.{unit_fault, lexical_fault};
 ghost use Rattle.ninja_text.specs.inner.PlainTexts.{is_suspect};
 
+use crate::cutter::Line;
 use crate::fault::LexFault;
-use crate::line::Line;
 use crate::token::{TokenKind, Words};
-use crate::unit::{LineUnit, unit_at};
+use std::alloc::{AllocError, Global};
 
-/// Returns an iterator over the tokens of a line (Ninja 1.11 manual, "Lexical syntax"). The line
-/// must not be a comment.
-///
-/// # Errors
-///
-/// Returns the first lexical error of the line.
+/// Returns an iterator over the tokens of a line (Ninja 1.11 manual, "Lexical syntax"), or the
+/// first lexical error of the line. The line must not be a comment.
 pub fn words(line: Line<'_>) -> Result<Words<'_>, LexFault>
     requires { (seen_line line).comment ≡ false }
     ensures tokens { IsWords (seen_line line.entry) result }
@@ -34,7 +29,6 @@ pub fn words(line: Line<'_>) -> Result<Words<'_>, LexFault>
     Ok(Words { text, index: 0 })
 }
 
-/// Returns the first lexical error of a text.
 pub(crate) fn check_units(text: &[u8]) -> Result<(), LexFault>
     ensures { result_err result ≡ lexical_fault text.now }
 {
@@ -58,7 +52,6 @@ fn is_suspect(byte: &u8) -> bool
     matches!(*byte, b'$' | 0 | b'\r')
 }
 
-/// Returns the lexical error of a unit at this offset.
 fn check_unit(place: usize, unit: LineUnit) -> Result<(), LexFault>
     ensures { result_err result ≡ unit_fault place unit }
 {
@@ -150,4 +143,118 @@ fn word_end(text: &[u8], start: usize) -> usize
         }
     }
     end
+}
+
+/// A unit of a line that is not a comment.
+#[derive(Clone, Copy)]
+pub(crate) enum LineUnit {
+    /// `$` and a line's end, with the spaces after it. This is their length.
+    Continuation(usize),
+    /// `$` and this byte.
+    Escape(u8),
+    /// This byte by itself.
+    Byte(u8),
+}
+
+impl LineUnit {
+    pub(crate) fn len(&self) -> usize
+        ensures { result ≡ unit_len self.now }
+    {
+        match self {
+            LineUnit::Continuation(len) => *len,
+            LineUnit::Escape(_) => 2,
+            LineUnit::Byte(_) => 1,
+        }
+    }
+
+    pub(crate) fn is_byte(&self, byte: u8) -> bool
+        ensures { result ≡ is_byte byte self.now }
+    {
+        matches!(self, LineUnit::Byte(b) if *b == byte)
+    }
+}
+
+/// Returns the unit that begins at this offset.
+pub(crate) fn unit_at(text: &[u8], index: usize) -> LineUnit
+    requires { index < length text.now }
+    ensures within { index + unit_len result ≤ length text.now }
+    ensures some { 0 < unit_len result }
+    ensures first { units (drop index text.now)
+        ≡ result ∷ units (drop (index + unit_len result) text.now) }
+{
+    let bytes = &text[index..];
+    let first = bytes[0];
+    // Two tests, because the first one decides for nearly every byte.
+    if first != b'$' {
+        return LineUnit::Byte(first);
+    }
+    if bytes.len() == 1 {
+        return LineUnit::Byte(first);
+    }
+    let second = bytes[1];
+    if second == b'\n' {
+        return LineUnit::Continuation(2 + leading_spaces(&bytes[2..]));
+    }
+    if second != b'\r' || bytes.len() == 2 {
+        return LineUnit::Escape(second);
+    }
+    if bytes[2] == b'\n' {
+        return LineUnit::Continuation(3 + leading_spaces(&bytes[3..]));
+    }
+    LineUnit::Escape(second)
+}
+
+/// Returns whether no byte is a `$`. Then each byte stands for itself.
+pub(crate) fn is_literal(raw: &[u8]) -> bool
+    ensures exact { result ≡ is_literal raw.now }
+    ensures value { result ≡ true → value_of raw.now ≡ raw.now }
+{
+    !raw.contains(&b'$')
+}
+
+/// Returns what the bytes of a word or a value stand for.
+pub(crate) fn meaning(alloc: Global, raw: &[u8]) -> Result<Vec<u8>, AllocError>
+    ensures { IfOk result (λ value. value.items ≡ value_of raw.now) }
+{
+    let mut value = Vec::with_capacity(alloc, raw.len())?;
+    append_meaning(raw, &mut value)?;
+    Ok(value)
+}
+
+/// Appends what the bytes of a word or a value stand for. If an allocation fails, the vector is
+/// unchanged.
+pub(crate) fn append_meaning(raw: &[u8], out: &mut Vec<u8>) -> Result<(), AllocError>
+    ensures ok { OnOk result (out.new.items ≡ out.old.items ++ value_of raw.now) }
+    ensures err { OnErr result (out.new.items ≡ out.old.items) }
+{
+    if is_literal(raw) {
+        return out.extend_from_slice(raw);
+    }
+    let before = out.len();
+    let mut index = 0;
+    while index < raw.len() {
+        let unit = unit_at(raw, index);
+        let appended = match unit {
+            LineUnit::Continuation(_) => Ok(()),
+            LineUnit::Escape(byte) | LineUnit::Byte(byte) => out.extend_from_slice(&[byte]),
+        };
+        if let Err(e) = appended {
+            out.truncate(before);
+            return Err(e);
+        }
+        index += unit.len();
+    }
+    Ok(())
+}
+
+fn leading_spaces(bytes: &[u8]) -> usize
+    ensures value { result ≡ spaces_at bytes.now }
+    ensures within { result ≤ length bytes.now }
+{
+    for (i, byte) in bytes.iter().enumerate() {
+        if *byte != b' ' {
+            return i;
+        }
+    }
+    bytes.len()
 }

@@ -1,24 +1,20 @@
 //! Reads the lines of a text that arrives in pieces into a state, one by one.
-ghost use Rattle.std.specs.Prelude.{◌≡◌, ℕ, List, [], ◌++◌, false, None, Some, Err};
-ghost use Rattle.ninja_text.specs.Bytes.{Bytes};
-ghost use Rattle.ninja_text.specs.Lines.{LogicalLine};
-ghost use Rattle.ninja_text.specs.LineViews.{seen_line};
-ghost use Rattle.ninja_text.specs.LineReading.{ReadsLine, HasLent, LinesRead, HasLentAll, StaysRefused, FeedsLines, EndsLines};
-ghost use Rattle.ninja_text.specs.inner.PieceReading.{ReadsPiece, failure_of};
+ghost use Rattle.std.specs.Prelude.{◌++◌, ◌≡◌, [], Err, List, None, Some, false};
+ghost use Rattle.ninja_text.specs.Prelude.{Bytes, EndsLines, FeedsLines, HasLent, HasLentAll};
+ghost use Rattle.ninja_text.specs.Prelude.{LinesRead, LogicalLine, ReadsLine, StaysRefused};
+ghost use Rattle.ninja_text.specs.Prelude.{seen_line};
+ghost use Rattle.ninja_text.specs.inner.PieceReading.{ReadsPiece};
 ghost use Rattle.ninja_text.specs.declared.fault.CutFault.{CutFault};
 ghost use Rattle.ninja_text.specs.declared.failure.Failure.{Failure};
 
-use crate::cutter::LineCutter;
+use crate::cutter::{Line, LineCutter};
 use crate::failure::Failure;
 use crate::fault::CutFault;
-use crate::line::Line;
 use std::alloc::Global;
 use std::marker::Model;
 
-/// The state of a reader between two lines.
-///
-/// `passes` relates the state before a line, the line, and the state after it. `refuses` relates
-/// the state, a line that is rejected, and its fault.
+/// The state of a reader between two lines. `passes` relates the state before a line, the line, and
+/// the state after it. `refuses` relates the state, a line that is rejected, and its fault.
 pub trait LineState {
     /// Why a line is rejected.
     type Fault;
@@ -30,11 +26,7 @@ pub trait LineState {
     // the fault that stands for a fault of the cutter
     ghost of_cutter: { CutFault → Self.Fault };
 
-    /// Reads a line.
-    ///
-    /// # Errors
-    ///
-    /// Returns the fault of the line, or [`Failure::Memory`] if an allocation fails. The state is
+    /// Reads a line. Returns its fault, or [`Failure::Memory`] if an allocation fails. The state is
     /// of no use then.
     fn read_line(&mut self, alloc: Global, line: Line<'_>) -> Result<(), Failure<Self::Fault>>
         ensures { ReadsLine passes refuses self.old (seen_line line.entry) result self.new };
@@ -44,10 +36,9 @@ pub trait LineState {
         ensures { result ≡ of_cutter fault };
 }
 
-/// Reads a text that arrives in pieces into a state, line by line.
-///
-/// A piece may end anywhere, also within a continuation or between CR and LF. The result is the
-/// same for all divisions of a text into pieces.
+/// Reads a text that arrives in pieces into a state, line by line. A piece may end anywhere, also
+/// within a continuation or between CR and LF. The result is the same for all divisions of a text
+/// into pieces.
 #[derive(Drop)]
 pub struct LineReader<S, F> {
     alloc: Global,
@@ -78,14 +69,11 @@ impl<F: Copy, S: LineState<Fault = F> + Drop> LineReader<S, F> {
         }
     }
 
-    /// Reads the next piece of the text, all of it.
-    ///
-    /// # Errors
-    ///
-    /// Returns the fault of the first line that the state rejects, as soon as the line is complete,
-    /// or `LineTooLong` as soon as [`LINE_LIMIT`](crate::LINE_LIMIT) bytes contain no end of a
-    /// line. Returns [`Failure::Memory`] if an allocation fails. After an error every later call
-    /// returns the same error.
+    /// Reads the next piece of the text, all of it. Returns the fault of the first line that the
+    /// state rejects, as soon as the line is complete, or `LineTooLong` as soon as
+    /// [`LINE_LIMIT`](crate::LINE_LIMIT) bytes contain no end of a line. Returns
+    /// [`Failure::Memory`] if an allocation fails. After an error every later call returns the same
+    /// error.
     pub fn feed(&mut self, piece: &[u8]) -> Result<(), Failure<F>>
         ensures failed { StaysRefused self.old result self.new }
         // Whatever bytes it was fed before this piece, and whatever lines they were.
@@ -101,11 +89,8 @@ impl<F: Copy, S: LineState<Fault = F> + Drop> LineReader<S, F> {
         read
     }
 
-    /// Returns the state after all lines, and the number of the line that would come next.
-    ///
-    /// # Errors
-    ///
-    /// Returns the error of an earlier `feed` again, or `Truncated` if the last line has no end.
+    /// Returns the state after all lines, and the number of the line that would come next; or the
+    /// error of an earlier `feed` again, or `Truncated` if the last line has no end.
     pub fn finish(self) -> Result<(S, u64), Failure<F>>
         ensures failed { (failure : Failure F) → self.failed ≡ Some failure → result ≡ Err failure }
         ensures all { (bytes : Bytes) (lent : List LogicalLine) → HasLentAll bytes lent self

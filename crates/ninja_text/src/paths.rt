@@ -1,73 +1,48 @@
-//! Canonical paths.
-ghost use Rattle.std.specs.Prelude.{◌≡◌, ◌≤◌, ◌∷◌, ◌++◌, [], length, slice_range, bytes_eq, Ok, IfOk, IsUtf8, true, option_map, option_copied};
-ghost use Rattle.std.specs.Option.{ForSome};
-ghost use Rattle.std.specs.Rc.{rc_slice_items};
-ghost use Rattle.std.specs.Cmp.{partial_equiv_from_equiv, partial_order_from_own_ties};
-ghost use Rattle.std.specs.Cmp.Rules.{comparing, hashing};
-ghost use Rattle.std.specs.Cmp.Lexicographic.{slice_cmp};
-ghost use Rattle.std.specs.Ordering.{nat_cmp, as_partial_cmp};
-ghost use Rattle.std.specs.Hash as fed;
-ghost use Rattle.std.proofs.Common.{rules};
-ghost use Rattle.std.proofs.lemmas.Cmp.{nat_list_eq_equiv};
-ghost use Rattle.ninja_text.specs.Bytes.{Text};
-ghost use Rattle.ninja_text.specs.Failure.{Gives};
-ghost use Rattle.ninja_text.specs.Escapes.{IsWritable};
-ghost use Rattle.ninja_text.specs.Paths.{IsPath, path_of, is_rooted, below, seen_from, canonical_of, placed};
-ghost use Rattle.ninja_text.specs.PathShape.{parts};
+//! Canonical paths, and how they are escaped in Ninja files.
+ghost use Rattle.std.specs.Prelude.{◌++◌, ◌↔◌, ◌≡◌, ◌≤◌, IfOk, IsTrue, IsUtf8, Ok, OnErr, OnOk};
+ghost use Rattle.ninja_text.specs.Prelude.{ForSome, Gives, IsPath, IsWritable, PathText, Spells};
+ghost use Rattle.ninja_text.specs.Prelude.{Text, below, canonical_of, escaped, is_escaped};
+ghost use Rattle.ninja_text.specs.Prelude.{is_rooted, is_writable, length, option_copied};
+ghost use Rattle.ninja_text.specs.Prelude.{option_map, parts, path_of, placed, rc_slice_items};
+ghost use Rattle.ninja_text.specs.Prelude.{seen_from, slice_range, true};
 ghost use Rattle.ninja_text.specs.inner.ComponentLists.{list_text, reduced_text};
 ghost use Rattle.ninja_text.specs.inner.Joins.{IsListOf};
 
 use crate::failure::Failure;
 use crate::fault::PathFault;
-use crate::plain::is_plain;
-use crate::reduction;
+use crate::reduction::{self, PATH_LIMIT, is_plain, is_unwritable};
+use crate::shared_text::SharedText;
 use std::alloc::{AllocError, Global};
-use std::cmp::Ordering;
 use std::fmt;
-use std::hash::{Hash, Hasher};
 use std::marker::Model;
 use std::rc::RcSlice;
 
-/// The maximum length of a canonical path in bytes.
-pub const PATH_LIMIT: usize = 4096;
-
-/// A canonical path.
-///
-/// To make a path canonical, remove empty components and `.`, and remove each name that is followed
-/// by `..` together with that `..`, until nothing is left to remove. An absolute path keeps its
-/// first slash, and a relative path keeps the `..` at its beginning. No file system is accessed.
+/// A canonical path. To make a path canonical, remove empty components and `.`, and remove each
+/// name that is followed by `..` together with that `..`, until nothing is left to remove. An
+/// absolute path keeps its first slash, and a relative path keeps the `..` at its beginning. No
+/// file system is accessed.
 ///
 /// The view of a path is its string: 1 to 4,096 bytes, without `|`, NUL, CR or LF. Copies of a path
 /// share the string, and so do paths that were read [`Path::within`] one.
-#[derive(Drop)]
-pub struct Path {
-    /// The string, from `start` to `end`.
-    shared: RcSlice<u8>,
-    start: usize,
-    end: usize,
-}
+#[derive(Drop, PartialEq, Eq, PartialOrd, Ord, Hash)]
+pub struct Path(SharedText);
 
 impl Model for Path {
-    ghost use Rattle.std.specs.Prelude.{◌≤◌, length, slice_range};
-    ghost use Rattle.std.specs.Rc.{rc_slice_items};
     ghost use Rattle.ninja_text.specs.Bytes.{PathText};
     ghost use Rattle.ninja_text.specs.Paths.{IsPath};
 
     ghost Value = { PathText };
 
-    ghost view = { λ p. slice_range (rc_slice_items p.shared) p.start p.end };
+    ghost view = { λ p. p.0 };
 
-    ghost invariant = { λ p. (p.start ≤ p.end) × (p.end ≤ length (rc_slice_items p.shared))
-        × IsPath (slice_range (rc_slice_items p.shared) p.start p.end) };
+    ghost inverse = { λ text. record { 0 = text } };
+
+    ghost invariant = { λ p. IsPath p.0 };
 }
 
 impl Path {
-    /// Returns the canonical path of a string.
-    ///
-    /// # Errors
-    ///
-    /// Returns a [`PathFault`] if the string has no canonical path; if several apply, the first in
-    /// the order of [`PathFault`]. Returns [`Failure::Memory`] if an allocation fails.
+    /// Returns the canonical path of a string, or the first [`PathFault`] that applies, in their
+    /// order, or [`Failure::Memory`] if an allocation fails.
     pub fn of(alloc: Global, text: &[u8]) -> Result<Path, Failure<PathFault>>
         ensures meaning { Gives (λ path. path) result (path_of text.now) }
         ensures text { IsUtf8 text.now → IfOk result IsUtf8 }
@@ -76,12 +51,8 @@ impl Path {
     }
 
     /// Returns the canonical path of a part of a string, from one offset to another, as
-    /// [`Path::of`] does. If that part is canonical, the path shares the string and nothing is
-    /// allocated, unless the string's reference count is full.
-    ///
-    /// # Errors
-    ///
-    /// Those of [`Path::of`].
+    /// [`Path::of`] does, with the same errors. If that part is canonical, the path shares the
+    /// string and nothing is allocated, unless the string's reference count is full.
     pub fn within(
         alloc: Global,
         shared: &RcSlice<u8>,
@@ -96,25 +67,11 @@ impl Path {
     {
         let text = &shared.as_slice()[start..end];
         if is_plain(text) {
-            let copy: Result<_, _> = shared.clone();
-            if let Ok(shared) = copy {
-                return Ok(Path { shared, start, end });
+            if let Ok(part) = SharedText::part(shared, start, end) {
+                return Ok(Path(part));
             }
         }
         canonical(alloc, None, text)
-    }
-
-    /// Returns a path whose string is the whole of a shared one.
-    fn whole(shared: RcSlice<u8>) -> Path
-        requires { IsPath (rc_slice_items shared) }
-        ensures { result ≡ rc_slice_items shared }
-    {
-        let end = shared.len();
-        Path {
-            shared,
-            start: 0,
-            end,
-        }
     }
 
     /// Returns the canonical string of the path. It can be escaped in a Ninja file.
@@ -123,7 +80,7 @@ impl Path {
         ensures canonical { path_of result.now ≡ Ok self.now }
         ensures writable { IsWritable result.now }
     {
-        &self.shared.as_slice()[self.start..self.end]
+        self.0.bytes()
     }
 
     /// Returns whether the path is absolute.
@@ -133,19 +90,12 @@ impl Path {
         reduction::is_rooted(self.bytes())
     }
 
-    /// Returns a copy of the path. The copies share one string; if its reference count is full, the
-    /// copy gets a string of its own.
-    ///
-    /// # Errors
-    ///
-    /// Returns an error if an allocation fails.
+    /// Returns a copy of the path, or an error if an allocation fails. The copies share one string;
+    /// if its reference count is full, the copy gets a string of its own.
     pub fn copy(&self, alloc: Global) -> Result<Path, AllocError>
         ensures { IfOk result (λ copy. copy ≡ self.now) }
     {
-        match self.clone() {
-            Ok(path) => Ok(path),
-            Err(_) => Ok(Path::whole(RcSlice::from_slice(alloc, self.bytes())?)),
-        }
+        Ok(Path(self.0.copy(alloc)?))
     }
 }
 
@@ -155,12 +105,7 @@ impl Clone for Path {
     ghost is_clone = { λ path clone. clone ≡ path };
 
     fn clone(&self) -> Result<Path, AllocError> {
-        let shared = self.shared.clone()?;
-        Ok(Path {
-            shared,
-            start: self.start,
-            end: self.end,
-        })
+        Ok(Path(self.0.clone()?))
     }
 }
 
@@ -170,8 +115,6 @@ impl Clone for Path {
 /// A relative string is read after the work directory and a slash, unless there is no work
 /// directory or it is empty. An absolute string is read as it is. If the result is absolute and
 /// lies below the build directory, it is made relative to the build directory.
-///
-/// # Errors
 ///
 /// Returns N1 if the string is empty, and otherwise the first [`PathFault`] that applies. The
 /// offset in N3 counts from the beginning of the string that is read, work directory included; N4
@@ -215,7 +158,7 @@ pub(crate) fn canonical(
 {
     let rooted = reduction::is_rooted(text);
     if (build.is_none() || !rooted) && is_plain(text) {
-        return Ok(Path::whole(RcSlice::from_slice(alloc, text)?));
+        return Ok(Path(SharedText::of(alloc, text)?));
     }
     let list = reduction::reduce(alloc, text)?;
     let unwritable = reduction::first_unwritable(text);
@@ -250,7 +193,7 @@ pub(crate) fn finished(
         return Err(Failure::Fault(PathFault::TooLong));
     }
     text.shrink_to_fit();
-    Ok(Path::whole(RcSlice::from_vec(text)?))
+    Ok(Path(SharedText::whole(RcSlice::from_vec(text)?)))
 }
 
 /// Returns the string of a path with these components, as seen from a build directory.
@@ -288,63 +231,51 @@ fn below<'t>(build: &Path, list: &'t [u8]) -> Option<&'t [u8]>
     list.strip_prefix(directory)?.strip_prefix(b"/")
 }
 
-/// Two paths are equal if their canonical strings are.
-impl PartialEq for Path {
-    ghost eq = { bytes_eq };
-
-    ghost laws = { partial_equiv_from_equiv nat_list_eq_equiv };
-
-    fn eq(&self, other: &Path) -> bool {
-        self.bytes() == other.bytes()
-    }
-}
-
-impl Eq for Path {
-    ghost laws = { nat_list_eq_equiv };
-}
-
-/// Paths are ordered as their canonical strings, byte by byte.
-impl Ord for Path {
-    ghost cmp = { slice_cmp nat_cmp };
-
-    ghost total = { Prim.search (comparing, rules) };
-
-    ghost matches_partial_cmp = { Prim.search (comparing, rules) };
-
-    ghost matches_eq = { Prim.search (comparing, rules) };
-
-    fn cmp(&self, other: &Path) -> Ordering {
-        self.bytes().cmp(other.bytes())
-    }
-}
-
-impl PartialOrd for Path {
-    ghost partial_cmp = { as_partial_cmp (slice_cmp nat_cmp) };
-
-    ghost laws = { partial_order_from_own_ties
-        (Prim.search (comparing, rules)) (Prim.search (comparing, rules)) };
-
-    fn partial_cmp(&self, other: &Path) -> Option<Ordering> {
-        Some(self.cmp(other))
-    }
-}
-
-/// Hashes the length and then all bytes in one call, so that a hasher can read whole words.
-impl Hash for Path {
-    ghost hash_input = { λ p. fed.usize (length p) ++ p ∷ [] };
-
-    ghost respects_eq = { Prim.search (hashing, rules) };
-
-    fn hash<H: Hasher>(&self, state: &mut H) {
-        let bytes = self.bytes();
-        state.write_usize(bytes.len());
-        state.write(bytes);
-    }
-}
-
 /// A path is printed as a struct with its string.
 impl fmt::Debug for Path {
     fn fmt<W: fmt::Write>(&self, f: &mut fmt::Formatter<W>) -> fmt::Result {
         f.debug_struct("Path").field("text", &self.bytes()).finish()
     }
+}
+
+fn is_escaped(byte: &u8) -> bool
+    ensures { result ≡ is_escaped byte.now }
+{
+    matches!(*byte, b'$' | b' ' | b':')
+}
+
+/// Returns whether a path can be escaped in a Ninja file.
+pub fn is_writable(path: &[u8]) -> bool
+    ensures value { result ≡ is_writable path.now }
+    ensures meaning { IsTrue result ↔ IsWritable path.now }
+{
+    !path.is_empty() && !path.iter().any(is_unwritable)
+}
+
+/// Appends the escaped form of a path to a vector. If an allocation fails, returns an error, and
+/// the vector is unchanged.
+pub fn escape_into(path: &[u8], out: &mut Vec<u8>) -> Result<(), AllocError>
+    requires { IsWritable path.now }
+    ensures ok { OnOk result (out.new.items ≡ out.old.items ++ escaped path.now) }
+    ensures err { OnErr result (out.new.items ≡ out.old.items) }
+    // The escaped form stands for the path, and for nothing else.
+    ensures meaning { (value : PathText) → Spells (escaped path.now) value ↔ (value ≡ path.now) }
+{
+    // Hardly any path has such a byte.
+    if !path.iter().any(is_escaped) {
+        return out.extend_from_slice(path);
+    }
+    let start = out.len();
+    for byte in path {
+        let appended = if is_escaped(byte) {
+            out.extend_from_slice(&[b'$', *byte])
+        } else {
+            out.extend_from_slice(&[*byte])
+        };
+        if let Err(e) = appended {
+            out.truncate(start);
+            return Err(e);
+        }
+    }
+    Ok(())
 }

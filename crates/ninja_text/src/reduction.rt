@@ -1,17 +1,21 @@
-//! The canonical list of a path's components.
-//!
-//! The list is kept as a string: the components joined by slashes, without the first slash of an
-//! absolute path. It is never longer than the path that is read.
-ghost use Rattle.std.specs.Prelude.{◌≡◌, ◌≢◌, ℕ, ◌+◌, ◌-◌, ◌<◌, ◌≤◌, ◌==◌, ◌&&◌, ◌||◌, List, [], ◌∷◌, ◌++◌, length, slice_index, take, drop, ◌*◌, not, MatchOption, IfOk, OnOk, true, false, position};
-ghost use Rattle.std.specs.List.{list_any, prefix_len};
-ghost use Rattle.ninja_text.specs.Bytes.{Component, slash};
-ghost use Rattle.ninja_text.specs.Escapes.{is_unwritable};
-ghost use Rattle.ninja_text.specs.Reduction.{components, is_current, is_parent, reduced};
-ghost use Rattle.ninja_text.specs.PathShape.{parts};
-ghost use Rattle.ninja_text.specs.Paths.{is_empty, is_rooted};
-ghost use Rattle.ninja_text.specs.inner.ComponentLists.{list_text, reduced_text, LacksSlash, EachLacksSlash, appended, leads_up, slashes_from};
+//! The canonical list of a path's components. It is kept as a string: the components joined by
+//! slashes, without the first slash of an absolute path. It is never longer than the path that is
+//! read. Nearly every string is a canonical path already, and needs no list.
+ghost use Rattle.std.specs.Prelude.{◌&&◌, ◌*◌, ◌++◌, ◌+◌, ◌-◌, ◌<◌, ◌==◌, ◌||◌, ◌∷◌, ◌≡◌, ◌≢◌, ◌≤◌};
+ghost use Rattle.ninja_text.specs.Prelude.{[], Component, IfOk, IsPath, List, MatchOption, OnOk};
+ghost use Rattle.ninja_text.specs.Prelude.{components, drop, false, is_current, is_parent};
+ghost use Rattle.ninja_text.specs.Prelude.{is_rooted, is_unwritable, length, list_any, not};
+ghost use Rattle.ninja_text.specs.Prelude.{position, prefix_len, reduced, slash, slice_index, take};
+ghost use Rattle.ninja_text.specs.Prelude.{true, ℕ};
+ghost use Rattle.ninja_text.specs.inner.ComponentLists.{list_text, reduced_text, LacksSlash};
+ghost use Rattle.ninja_text.specs.inner.ComponentLists.{EachLacksSlash, appended, leads_up};
+ghost use Rattle.ninja_text.specs.inner.ComponentLists.{slashes_from};
+ghost use Rattle.ninja_text.specs.inner.PlainPaths.{AreNames, IsReducedList, after, is_name};
 
 use std::alloc::{AllocError, Global};
+
+/// The maximum length of a canonical path in bytes.
+pub const PATH_LIMIT: usize = 4096;
 
 /// Returns the canonical list of a path's components.
 pub(crate) fn reduce(alloc: Global, text: &[u8]) -> Result<Vec<u8>, AllocError>
@@ -57,7 +61,6 @@ pub(crate) fn without_parents(list: &[u8], count: usize) -> &[u8]
     list.get(count.saturating_mul(3)..).unwrap_or(&[])
 }
 
-/// Returns the offsets of the slashes in a list.
 pub(crate) fn slashes(alloc: Global, list: &[u8]) -> Result<Vec<usize>, AllocError>
     ensures { IfOk result (λ slashes. slashes.items ≡ slashes_from 0 list.now) }
 {
@@ -70,7 +73,6 @@ pub(crate) fn slashes(alloc: Global, list: &[u8]) -> Result<Vec<usize>, AllocErr
     Ok(slashes)
 }
 
-/// Returns whether all components of a path are names.
 pub(crate) fn has_only_names(text: &[u8]) -> bool
     ensures { result ≡ not (list_any (λ c. is_current c || is_parent c) (components text.now)) }
 {
@@ -90,21 +92,18 @@ pub(crate) fn first_component(text: &[u8]) -> (usize, Option<&[u8]>)
     }
 }
 
-/// Returns the offset of the first byte that cannot be escaped in a Ninja file.
 pub(crate) fn first_unwritable(text: &[u8]) -> Option<usize>
     ensures { result ≡ position is_unwritable text.now }
 {
     text.iter().position(is_unwritable)
 }
 
-/// Returns whether a byte cannot be escaped in a Ninja file.
 pub(crate) fn is_unwritable(byte: &u8) -> bool
     ensures { result ≡ is_unwritable byte.now }
 {
     matches!(*byte, b'|' | 0 | b'\r' | b'\n')
 }
 
-/// Returns whether a path begins with `/`.
 pub(crate) fn is_rooted(text: &[u8]) -> bool
     ensures { result ≡ is_rooted text.now }
 {
@@ -170,30 +169,100 @@ fn last_start(list: &[u8]) -> usize
     }
 }
 
-/// Returns whether a byte separates components.
 fn is_slash(byte: &u8) -> bool
     ensures { result ≡ (byte.now == slash) }
 {
     *byte == b'/'
 }
 
-/// Returns whether a component is empty, `.` or `..`.
 fn is_no_name(component: &[u8]) -> bool
     ensures { result ≡ (is_current component.now || is_parent component.now) }
 {
     is_current(component) || is_parent(component)
 }
 
-/// Returns whether a component is empty or `.`.
 fn is_current(component: &[u8]) -> bool
     ensures { result ≡ is_current component.now }
 {
     component.is_empty() || component == b".".as_slice()
 }
 
-/// Returns whether a component is `..`.
 fn is_parent(component: &[u8]) -> bool
     ensures { result ≡ is_parent component.now }
 {
     component == b"..".as_slice()
+}
+
+/// What is known of a component by its bytes so far.
+#[derive(Clone, Copy)]
+pub(crate) enum Begun {
+    Nothing,
+    Dot,
+    TwoDots,
+    /// It is a name, whatever follows.
+    Name,
+}
+
+/// Returns whether a string is a canonical path, after a look at each byte. It may miss a path with
+/// nothing but `..`.
+pub(crate) fn is_plain(text: &[u8]) -> bool
+    ensures { result ≡ true → IsPath text.now }
+{
+    if text.len() > PATH_LIMIT {
+        return false;
+    }
+    match text.strip_prefix(b"/") {
+        Some(list) => are_names(list),
+        None => are_names(past_parents(text)),
+    }
+}
+
+/// Returns a list without the `..` that it begins with.
+fn past_parents(list: &[u8]) -> &[u8]
+    ensures { IsReducedList result.now → IsReducedList list.now }
+{
+    let mut rest = list;
+    while let Some(more) = rest.strip_prefix(b"../") {
+        rest = more;
+    }
+    rest
+}
+
+/// Returns whether all components of a list are names that can be escaped in a Ninja file.
+fn are_names(list: &[u8]) -> bool
+    ensures { result ≡ true → AreNames list.now }
+{
+    let mut begun = Begun::Nothing;
+    for byte in list {
+        // With most bytes the component is a name, whatever else is in it.
+        if matches!(*byte, b'0'..=b'{') {
+            begun = Begun::Name;
+        } else if *byte == b'/' {
+            if !is_name(begun) {
+                return false;
+            }
+            begun = Begun::Nothing;
+        } else if is_unwritable(byte) {
+            return false;
+        } else {
+            begun = after(begun, *byte);
+        }
+    }
+    is_name(begun)
+}
+
+fn after(begun: Begun, byte: u8) -> Begun
+    ensures { result ≡ after begun byte }
+{
+    match begun {
+        Begun::Nothing if byte == b'.' => Begun::Dot,
+        Begun::Dot if byte == b'.' => Begun::TwoDots,
+        _ => Begun::Name,
+    }
+}
+
+fn is_name(begun: Begun) -> bool
+    ensures { result ≡ is_name begun }
+{
+    matches!(begun, Begun::Name)
 }

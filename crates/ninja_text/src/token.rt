@@ -1,8 +1,7 @@
-//! Tokens, and an iterator over the tokens of a line.
+//! Tokens, an iterator over the tokens of a line, and the name and the value of an assignment.
 ghost use Rattle.std.specs.Prelude.{◌≡◌, ◌≤◌, length};
 
-use crate::lexing::{blank_end, token_at};
-use crate::unit::{append_meaning, meaning};
+use crate::lexing::{append_meaning, blank_end, meaning, token_at};
 use std::alloc::{AllocError, Global};
 
 /// The kind of a token.
@@ -30,9 +29,8 @@ pub struct Token<'a> {
 }
 
 impl<'a> Token<'a> {
-    ghost use Rattle.std.specs.Prelude.{◌≡◌, ◌++◌, IfOk, OnOk, OnErr};
-    ghost use Rattle.ninja_text.specs.Tokens.{value_of, is_keyword};
-    ghost use Rattle.ninja_text.specs.TokenViews.{seen_token};
+    ghost use Rattle.std.specs.Prelude.{◌++◌, ◌≡◌, IfOk, OnErr, OnOk};
+    ghost use Rattle.ninja_text.specs.Prelude.{is_keyword, seen_token, value_of};
 
     /// Returns the kind of the token.
     pub fn kind(&self) -> TokenKind
@@ -69,11 +67,7 @@ impl<'a> Token<'a> {
         matches!(self.kind, TokenKind::Word) && self.raw == word
     }
 
-    /// Returns its value, with escapes resolved, as [`Token::value_into`] does.
-    ///
-    /// # Errors
-    ///
-    /// Returns an error if an allocation fails.
+    /// Returns its value, as [`Token::value_into`] does, or an error if an allocation fails.
     pub fn value(&self, alloc: Global) -> Result<Vec<u8>, AllocError>
         ensures { IfOk result (λ value. value.items ≡ value_of (seen_token self.now).raw) }
     {
@@ -81,11 +75,8 @@ impl<'a> Token<'a> {
     }
 
     /// Appends its value to a vector, with escapes resolved: an escape stands for its second byte,
-    /// and a continuation for nothing.
-    ///
-    /// # Errors
-    ///
-    /// Returns an error if an allocation fails. The vector is then unchanged.
+    /// and a continuation for nothing. If an allocation fails, returns an error, and the vector is
+    /// unchanged.
     pub fn value_into(&self, out: &mut Vec<u8>) -> Result<(), AllocError>
         ensures ok { OnOk result
             (out.new.items ≡ out.old.items ++ value_of (seen_token self.now).raw) }
@@ -104,9 +95,8 @@ pub struct Words<'a> {
 }
 
 impl<'a> Words<'a> {
-    ghost use Rattle.std.specs.Option.{option_map};
-    ghost use Rattle.ninja_text.specs.TokenViews.{seen_token, symbols_left};
-    ghost use Rattle.ninja_text.specs.Symbols.{WordTaken, SignTaken};
+    ghost use Rattle.ninja_text.specs.Prelude.{SignTaken, WordTaken, option_map, seen_token};
+    ghost use Rattle.ninja_text.specs.Prelude.{symbols_left};
 
     /// Takes and returns the next token if it is a word. Otherwise takes nothing.
     pub fn next_word(&mut self) -> Option<Token<'a>>
@@ -115,13 +105,11 @@ impl<'a> Words<'a> {
     {
         let mut ahead = *self;
         let token = ahead.next()?;
-        match token.kind() {
-            TokenKind::Word => {
-                *self = ahead;
-                Some(token)
-            }
-            TokenKind::Bar | TokenKind::Colon | TokenKind::DoubleBar | TokenKind::BarAt => None,
+        if token.kind() != TokenKind::Word {
+            return None;
         }
+        *self = ahead;
+        Some(token)
     }
 
     /// Takes the next token if it is this sign. Returns whether it is.
@@ -132,13 +120,7 @@ impl<'a> Words<'a> {
         let Some(token) = ahead.next() else {
             return false;
         };
-        let is_there = match sign {
-            TokenKind::Bar => matches!(token.kind(), TokenKind::Bar),
-            TokenKind::DoubleBar => matches!(token.kind(), TokenKind::DoubleBar),
-            TokenKind::BarAt => matches!(token.kind(), TokenKind::BarAt),
-            TokenKind::Colon => matches!(token.kind(), TokenKind::Colon),
-            TokenKind::Word => false,
-        };
+        let is_there = token.kind() == sign && sign != TokenKind::Word;
         if is_there {
             *self = ahead;
         }
@@ -147,8 +129,8 @@ impl<'a> Words<'a> {
 }
 
 impl<'a> Iterator for Words<'a> {
+    ghost use Rattle.ninja_text.specs.Prelude.{seen_token, tokens_left};
     ghost use Rattle.std.specs.Iterator.{YieldsFirstBy, item_count};
-    ghost use Rattle.ninja_text.specs.TokenViews.{seen_token, tokens_left};
 
     type Item = Token<'a>;
 
@@ -171,5 +153,59 @@ impl<'a> Iterator for Words<'a> {
             end,
             raw: &text[start..end],
         })
+    }
+}
+
+/// The name and the value of an assignment, as slices of the line's text.
+#[derive(Clone, Copy, Debug)]
+pub struct Assignment<'a> {
+    pub(crate) name_start: usize,
+    pub(crate) name: &'a [u8],
+    pub(crate) raw_value: &'a [u8],
+}
+
+impl<'a> Assignment<'a> {
+    ghost use Rattle.std.specs.Prelude.{◌++◌, ◌≡◌, IfOk, OnErr, OnOk};
+    ghost use Rattle.ninja_text.specs.Prelude.{seen_assignment, value_of};
+
+    /// Returns the offset of the name in the line's text. It is 0 if the line is not indented.
+    pub fn name_start(&self) -> usize
+        ensures { result ≡ (seen_assignment self.now).name_start }
+    {
+        self.name_start
+    }
+
+    /// Returns the name: one or more letters, digits, `_`, `.` or `-`.
+    pub fn name(&self) -> &'a [u8]
+        ensures { result.now ≡ (seen_assignment self.now).name }
+    {
+        self.name
+    }
+
+    /// Returns the rest of the line after `=` and the blanks that follow, with escapes and
+    /// continuations as they were read.
+    pub fn raw_value(&self) -> &'a [u8]
+        ensures { result.now ≡ (seen_assignment self.now).raw_value }
+    {
+        self.raw_value
+    }
+
+    /// Returns the value, as [`Assignment::value_into`] does, or an error if an allocation fails.
+    pub fn value(&self, alloc: Global) -> Result<Vec<u8>, AllocError>
+        ensures { IfOk result (λ value.
+            value.items ≡ value_of (seen_assignment self.now).raw_value) }
+    {
+        meaning(alloc, self.raw_value)
+    }
+
+    /// Appends the value to a vector, with escapes resolved: an escape stands for its second byte,
+    /// a continuation for nothing, and any other byte for itself. Spaces at the end are kept. If an
+    /// allocation fails, returns an error, and the vector is unchanged.
+    pub fn value_into(&self, out: &mut Vec<u8>) -> Result<(), AllocError>
+        ensures ok { OnOk result
+            (out.new.items ≡ out.old.items ++ value_of (seen_assignment self.now).raw_value) }
+        ensures err { OnErr result (out.new.items ≡ out.old.items) }
+    {
+        append_meaning(self.raw_value, out)
     }
 }

@@ -1,28 +1,23 @@
 //! Directories in which paths are read, and the end of file names, each reduced once for all paths.
-ghost use Rattle.std.specs.Prelude.{◌≡◌, ℕ, ◌+◌, ◌-◌, ◌*◌, min, ◌<◌, List, ◌∷◌, ◌++◌, length, take, drop, ◌≤◌, ◌&&◌, Some, None, IfOk, MatchOption, MatchResult, IsUtf8, true, option_copied, option_map, position};
-ghost use Rattle.std.specs.List.{prefix_len};
-ghost use Rattle.std.specs.Option.{ForSome};
-ghost use Rattle.ninja_text.specs.Bytes.{Text, Component};
-ghost use Rattle.ninja_text.specs.Failure.{Gives};
-ghost use Rattle.ninja_text.specs.Escapes.{is_unwritable};
-ghost use Rattle.ninja_text.specs.Reduction.{components, is_parent, reduced};
-ghost use Rattle.ninja_text.specs.Paths.{is_rooted, IsPath, canonical_of, placed};
-ghost use Rattle.ninja_text.specs.NameBeginnings.{begins_component};
-ghost use Rattle.ninja_text.specs.PathShape.{parts};
-ghost use Rattle.ninja_text.specs.inner.ComponentLists.{list_text, leads_up, reduced_text};
-ghost use Rattle.ninja_text.specs.inner.Joins.{IsReadIn, IsList, list_limit, glued, long_fault, moved, first_in};
+ghost use Rattle.std.specs.Prelude.{◌&&◌, ◌++◌, ◌+◌, ◌-◌, ◌<◌, ◌∷◌, ◌≡◌, ◌≤◌, IfOk, IsUtf8, List};
+ghost use Rattle.ninja_text.specs.Prelude.{Component, ForSome, Gives, IsPath, MatchOption};
+ghost use Rattle.ninja_text.specs.Prelude.{MatchResult, None, Some, Text, begins_component};
+ghost use Rattle.ninja_text.specs.Prelude.{canonical_of, components, is_rooted, length};
+ghost use Rattle.ninja_text.specs.Prelude.{option_copied, parts, placed, reduced, take, true};
+ghost use Rattle.ninja_text.specs.inner.ComponentLists.{list_text};
+ghost use Rattle.ninja_text.specs.inner.Joins.{IsReadIn, list_limit, glued, long_fault, moved};
+ghost use Rattle.ninja_text.specs.inner.Joins.{first_in};
 
 use crate::failure::Failure;
 use crate::fault::PathFault;
-use crate::paths::{PATH_LIMIT, Path, canonical, finished};
-use crate::reduction;
+use crate::paths::{Path, canonical, finished};
+use crate::reduction::{self, PATH_LIMIT};
 use std::alloc::{AllocError, Global};
 use std::marker::Model;
 
 /// A directory in which relative paths are read. Its string is reduced once. A path that is read in
-/// it costs its own bytes and at most 8,192 more, however long the directory is.
-///
-/// The view is the directory's string.
+/// it costs its own bytes and at most 8,192 more, however long the directory is. The view is the
+/// directory's string.
 #[derive(Drop)]
 pub struct WorkDirectory<'t> {
     text: &'t [u8],
@@ -44,70 +39,8 @@ impl<'t> Model for WorkDirectory<'t> {
         IsDirectory d.text.now d.list.items d.slashes.items d.names d.unwritable };
 }
 
-impl<'t> WorkDirectory<'t> {
-    /// Reduces the string of a directory. An empty string is no directory: paths are read as they
-    /// are.
-    ///
-    /// # Errors
-    ///
-    /// Returns an error if an allocation fails.
-    pub fn of(alloc: Global, text: &'t [u8]) -> Result<WorkDirectory<'t>, AllocError>
-        ensures { IfOk result (λ directory. directory ≡ text.now) }
-    {
-        let list = reduction::reduce(alloc, text)?;
-        let slashes = reduction::slashes(alloc, &list)?;
-        let components = if list.is_empty() {
-            0
-        } else {
-            slashes.len() + 1
-        };
-        let names = components.saturating_sub(reduction::parents(&list));
-        Ok(WorkDirectory {
-            text,
-            list,
-            slashes,
-            names,
-            unwritable: reduction::first_unwritable(text),
-        })
-    }
-
-    /// Returns the path that [`place`](crate::place) returns for this work directory.
-    ///
-    /// # Errors
-    ///
-    /// Returns N1 if the string is empty, and otherwise the first [`PathFault`] that applies, as
-    /// [`place`](crate::place) does. Returns [`Failure::Memory`] if an allocation fails.
-    #[tactic(auto, unfolding(crate::specs::Paths::placed))]
-    pub fn place(
-        &self,
-        alloc: Global,
-        build: Option<&Path>,
-        path: &[u8],
-    ) -> Result<Path, Failure<PathFault>>
-        requires { ForSome (option_copied build) (λ b. is_rooted b ≡ true) }
-        ensures meaning { Gives (λ path. path) result
-            (placed (Some self.now) (option_copied build.entry) path.now) }
-        ensures text { IsUtf8 self.now → IsUtf8 path.now → IfOk result IsUtf8 }
-    {
-        if path.is_empty() {
-            return Err(Failure::Fault(PathFault::Empty));
-        }
-        if self.text.is_empty() || reduction::is_rooted(path) {
-            return canonical(alloc, build, path);
-        }
-        let unwritable = self.unwritable_in(0, reduction::first_unwritable(path))?;
-        if reduction::has_only_names(path) {
-            return self.joined(alloc, build, path, 0, unwritable);
-        }
-        let own = reduction::reduce(alloc, path)?;
-        let parents = reduction::parents(&own);
-        self.joined(alloc, build, &own, parents, unwritable)
-    }
-}
-
-/// The end of file names, as `.bmi`. Its string is reduced once for all names that it is put after.
-///
-/// The view is the string.
+/// The end of file names, as `.bmi`. Its string, which is its view, is reduced once for all names
+/// that it is put after.
 #[derive(Drop)]
 pub struct NameEnding<'t> {
     text: &'t [u8],
@@ -129,11 +62,8 @@ impl<'t> Model for NameEnding<'t> {
 }
 
 impl<'t> NameEnding<'t> {
-    /// Reduces the end of file names. It may have slashes.
-    ///
-    /// # Errors
-    ///
-    /// Returns an error if an allocation fails.
+    /// Reduces the end of file names, or returns an error if an allocation fails. It may have
+    /// slashes.
     pub fn of(alloc: Global, text: &'t [u8]) -> Result<NameEnding<'t>, AllocError>
         ensures { IfOk result (λ ending. ending ≡ text.now) }
     {
@@ -177,12 +107,58 @@ impl<'t> NameEnding<'t> {
 }
 
 impl<'t> WorkDirectory<'t> {
-    /// Returns the path that [`place`](crate::place) returns for this work directory and for the
-    /// name with the ending after it.
-    ///
-    /// # Errors
-    ///
-    /// Those of [`WorkDirectory::place`].
+    /// Reduces the string of a directory, or returns an error if an allocation fails. An empty
+    /// string is no directory: paths are read as they are.
+    pub fn of(alloc: Global, text: &'t [u8]) -> Result<WorkDirectory<'t>, AllocError>
+        ensures { IfOk result (λ directory. directory ≡ text.now) }
+    {
+        let list = reduction::reduce(alloc, text)?;
+        let slashes = reduction::slashes(alloc, &list)?;
+        let components = if list.is_empty() {
+            0
+        } else {
+            slashes.len() + 1
+        };
+        let names = components.saturating_sub(reduction::parents(&list));
+        Ok(WorkDirectory {
+            text,
+            list,
+            slashes,
+            names,
+            unwritable: reduction::first_unwritable(text),
+        })
+    }
+
+    /// Returns the path or the error that [`place`](crate::place) returns for this work directory.
+    #[tactic(auto, unfolding(crate::specs::Paths::placed))]
+    pub fn place(
+        &self,
+        alloc: Global,
+        build: Option<&Path>,
+        path: &[u8],
+    ) -> Result<Path, Failure<PathFault>>
+        requires { ForSome (option_copied build) (λ b. is_rooted b ≡ true) }
+        ensures meaning { Gives (λ path. path) result
+            (placed (Some self.now) (option_copied build.entry) path.now) }
+        ensures text { IsUtf8 self.now → IsUtf8 path.now → IfOk result IsUtf8 }
+    {
+        if path.is_empty() {
+            return Err(Failure::Fault(PathFault::Empty));
+        }
+        if self.text.is_empty() || reduction::is_rooted(path) {
+            return canonical(alloc, build, path);
+        }
+        let unwritable = self.unwritable_in(0, reduction::first_unwritable(path))?;
+        if reduction::has_only_names(path) {
+            return self.joined(alloc, build, path, 0, unwritable);
+        }
+        let own = reduction::reduce(alloc, path)?;
+        let parents = reduction::parents(&own);
+        self.joined(alloc, build, &own, parents, unwritable)
+    }
+
+    /// Returns the path or the error that [`place`](crate::place) returns for this work directory
+    /// and for the name with the ending after it.
     pub fn place_named(
         &self,
         alloc: Global,
@@ -278,11 +254,8 @@ impl<'t> WorkDirectory<'t> {
         let Some(later) = later else {
             return Ok(None);
         };
-        let between = if self.text.is_empty() {
-            0
-        } else {
-            self.text.len() + 1
-        };
+        let len = self.text.len();
+        let between = if len == 0 { 0 } else { len + 1 };
         match before
             .checked_add(later)
             .and_then(|sum| sum.checked_add(between))
@@ -293,7 +266,6 @@ impl<'t> WorkDirectory<'t> {
     }
 }
 
-/// Returns the fault of a list that is too long.
 fn long_fault(above: bool, unwritable: Option<usize>) -> PathFault
     ensures { result ≡ long_fault above unwritable }
 {

@@ -3,21 +3,8 @@ use Rattle.std.proofs.Common.{◌≡◌, ℕ, suc, ◌+◌, ◌<◌, ◌≤◌, 
 use Rattle.std.proofs.Math.Seq.{drop-cons}
 use Rattle.std.proofs.lemmas.List.{get_or-map, take_more, take_all, at_drop_all, length-map}
 use Rattle.std.specs.Result.{IsErrAnd}
-use Rattle.std.specs.List.{AllZip, list_all, All}
-use Rattle.std.specs.Option.{option_or}
-use Rattle.serde_json.specs.Data.{Data}
-use Rattle.ninja_text.specs.declared.failure.Failure.{Failure}
-use Rattle.ninja_text.specs.declared.failure.Failure.TheVariants.{Fault, Memory}
-use Rattle.scan_docs.specs.declared.fault.DocFault.{DocFault}
-use Rattle.scan_docs.specs.Check.{Check, first_refusal, each_from}
-use Rattle.scan_docs.specs.inner.Reading.{first_failure, Answers}
+use Rattle.scan_docs.specs.Prelude.{Text, AllZip, list_all, All, option_or, Data, Failure, Fault, Memory, DocFault, Check, first_refusal, each_from, first_failure, Answers, items_of, view, elements, all_texts, as_str, Value, ForFault, document_limit, IsTree, IsAccepted, IsRefused, false_check}
 use Rattle.std.proofs.lemmas.List.Elements.{All-more}
-use Rattle.serde_json.specs.View.{items_of, view}
-use Rattle.scan_docs.specs.Shape.{elements, all_texts}
-use Rattle.serde_json.specs.Find.{as_str}
-use Rattle.serde_json.specs.declared.value.Value.{Value}
-use Rattle.ninja_text.specs.Failure.{ForFault}
-use Rattle.scan_docs.specs.Document.{document_limit, IsTree, IsAccepted, IsRefused, false_check}
 
 -- ---- what a call returns, and the rejection
 
@@ -127,7 +114,7 @@ module _ {V T : Type 0} {g : V → Data} {checks : ℕ → Data → List Check} 
 
 -- ---- texts that are looked at one after another, up to the first that fails a test
 
-module _ {V : Type 0} (g : V → List ℕ) (p : List ℕ → Bool) (vs : List V) (i : ℕ) (v : V) (lt : i < length vs) (is : v ≡ get_or vs i v) where
+module _ {V : Type 0} (g : V → Text) (p : Text → Bool) (vs : List V) (i : ℕ) (v : V) (lt : i < length vs) (is : v ≡ get_or vs i v) where
   opened : list_all p (drop i (map g vs)) ≡ list_all p (map g vs) → p (g v) && list_all p (drop (i + 1) (map g vs)) ≡ list_all p (map g vs)
   opened h = sym (ap (list_all p) (front g vs i v lt is)) ∙ h
 
@@ -140,7 +127,7 @@ module _ {V : Type 0} (g : V → List ℕ) (p : List ℕ → Bool) (vs : List V)
   passes e h = sym (ap (λ b. b && list_all p (drop (i + 1) (map g vs))) e) ∙ opened h
 
   -- one more of them
-  pub more : (found : List (List ℕ)) → found ≡ take i (map g vs) → found ++ g v ∷ [] ≡ take (i + 1) (map g vs)
+  pub more : (found : List Text) → found ≡ take i (map g vs) → found ++ g v ∷ [] ≡ take (i + 1) (map g vs)
   more found h = ap (λ l. l ++ g v ∷ []) h ∙ sym (last g vs i v lt is)
 
 -- ---- elements of a list, one after another
@@ -162,14 +149,14 @@ All-end {A} P xs i le h = let Q : List A → Type 0 = All P in subst Q (take_all
 -- ---- texts that are copied one after another
 
 -- what has been copied, and then the rest
-abbrev pub onto : List (List ℕ) → Option (List (List ℕ)) → Option (List (List ℕ))
+abbrev pub onto : List Text → Option (List Text) → Option (List Text)
 onto found rest = option_map (λ ts. found ++ ts) rest
 
-onto_cons : (found : List (List ℕ)) (t : List ℕ) (o : Option (List (List ℕ))) → onto found (option_map (λ ts. t ∷ ts) o) ≡ onto (found ++ t ∷ []) o
+onto_cons : (found : List Text) (t : Text) (o : Option (List Text)) → onto found (option_map (λ ts. t ∷ ts) o) ≡ onto (found ++ t ∷ []) o
 onto_cons found t None = refl
 onto_cons found t (Some ts) = ap Some (sym (append_assoc found (t ∷ []) ts))
 
-module _ (found : List (List ℕ)) (vs : List Value) (i : ℕ) (v : Value) where
+module _ (found : List Text) (vs : List Value) (i : ℕ) (v : Value) where
   text_opened : i < length vs → v ≡ get_or vs i v → onto found (all_texts (drop i (map view vs))) ≡ all_texts (map view vs)
       → onto found (option_and_then (λ t. option_map (λ ts. t ∷ ts) (all_texts (drop (i + 1) (map view vs)))) (as_str (view v))) ≡ all_texts (map view vs)
   text_opened lt is h = sym (ap (λ ds. onto found (all_texts ds)) (front view vs i v lt is)) ∙ h
@@ -179,7 +166,7 @@ module _ (found : List (List ℕ)) (vs : List Value) (i : ℕ) (v : Value) where
   copy_refused lt is none h = sym (ap (λ o. onto found (option_and_then (λ t. option_map (λ ts. t ∷ ts) (all_texts (drop (i + 1) (map view vs)))) o)) none) ∙
       text_opened lt is h
 
-  pub copy_more : (t : List ℕ) → i < length vs → v ≡ get_or vs i v → as_str (view v) ≡ Some t →
+  pub copy_more : (t : Text) → i < length vs → v ≡ get_or vs i v → as_str (view v) ≡ Some t →
       onto found (all_texts (drop i (map view vs))) ≡ all_texts (map view vs)
       → onto (found ++ t ∷ []) (all_texts (drop (i + 1) (map view vs))) ≡ all_texts (map view vs)
   copy_more t lt is some h = sym (onto_cons found t (all_texts (drop (i + 1) (map view vs)))) ∙
@@ -187,7 +174,7 @@ module _ (found : List (List ℕ)) (vs : List Value) (i : ℕ) (v : Value) where
 
 -- ---- what a document's reader returns, from what the reader of its tree returns
 
-module _ {T V : Type 0} (see : T → V) (checks : Data → List Check) (means : Data → V → Type 0) (bytes : List ℕ) (tree : Data)
+module _ {T V : Type 0} (see : T → V) (checks : Data → List Check) (means : Data → V → Type 0) (bytes : Text) (tree : Data)
     (read : (length bytes ≤ document_limit) × IsTree bytes tree) where
   -- what follows from an accepted value holds of the result
   pub holds : (result : Result T (Failure DocFault)) → Answers (checks tree) (λ x. means tree (see x)) result →

@@ -1,28 +1,17 @@
 -- The text of an info is UTF-8, and it is read as that info.
 use Rattle.std.proofs.Common.{◌≡◌, ℕ, List, [], ◌∷◌, ◌++◌, map, true, false, codes, decimal, refl, ap, ◌∙◌, append_assoc, zero, suc, ◌+◌, ◌-◌, ◌<◌, length, Some, arith, Bool, None, option_map, IsUtf8, ◌&&◌, nat_lt, inl, inr, get_or, sym, subst, ltb-true, length-append}
 use Rattle.std.specs.Fmt.{digits}
-use Rattle.std.specs.List.{flat_map, AllZip, AllByRecursion}
-use Rattle.serde_json.specs.Data.{Data, Items, item, unsigned}
-use Rattle.serde_json.specs.View.{items_of}
-use Rattle.serde_json.specs.Sent.{number_token}
-use Rattle.serde_json.specs.Written.{compact_text, items_text, outline, items_outline, comma_if}
+use Rattle.scan_docs.specs.Prelude.{Text, flat_map, AllZip, AllByRecursion, Data, Items, item, unsigned, items_of, number_token, compact_text, items_text, outline, items_outline, comma_if, visibility_meaning, IsRequirement, IsModule, IsInfo, ModuleValue, InfoValue, number_of, of_json, of_items, read, Place, large, first_failure, IsSoundPair, IsSoundModule, IsSoundInfo}
 use Rattle.serde_json.proofs.OnLiterals.{serde_json_on_literals}
-use Rattle.scan_docs.specs.Info.{visibility_meaning, IsRequirement, IsModule, IsInfo}
-use Rattle.document_values.specs.Info.{ModuleValue, InfoValue}
 use Rattle.scan_docs.specs.InfoText.{requirement_tree, requirements_tree, visibility_text, module_tree, info_tree, info_text, ReadsBack}
 use Rattle.scan_docs.proofs.JsonStrings.{Token, tokens, tokens_after, tokens_next, begin_array, end_array, begin_object, end_object, key_token, string_token, escaped, value, items, string_read, as_it_is}
 use Rattle.std.proofs.lemmas.List.Elements.{recursion_from_All}
-use Rattle.serde_json.specs.Read.{number_of, of_json, of_items, read}
 use Rattle.serde_json.proofs.Numbers.{number_of-decimal}
-use Rattle.scan_docs.specs.declared.fault.Place.{Place}
 use Rattle.scan_docs.specs.declared.fault.Place.TheVariants as place
-use Rattle.scan_docs.specs.Document.{large}
 use Rattle.scan_docs.specs.Check.{version_checks, each_from}
-use Rattle.scan_docs.specs.inner.Reading.{first_failure}
 use Rattle.scan_docs.specs.Member.{key}
 use Rattle.scan_docs.specs.TargetChecks.{name_checks}
 use Rattle.scan_docs.specs.InfoChecks.{modules_check, entry_shape_checks, requires_check, visibility_check, named_file_checks, requirement_checks, all_requirement_checks, module_checks, all_module_checks, info_checks}
-use Rattle.scan_docs.specs.Sound.{IsSoundPair, IsSoundModule, IsSoundInfo}
 use Rattle.scan_docs.proofs.Each.{failure_first, none_refused, elements_items_of}
 use Rattle.std.proofs.lemmas.Bool.{and_parts, cases_eq, cases_lt}
 use Rattle.std.proofs.lemmas.List.{get_or-append-add}
@@ -33,11 +22,11 @@ use Rattle.std.proofs.Math.Utf8.{low_scalar}
 -- ---- the tokens of an info's text
 
 -- a string, and a comma or a closing brace
-before_comma : (s r : List ℕ) → tokens (34 ∷ (flat_map escaped s ++ 34 ∷ 44 ∷ r)) ≡ string_token s ∷ tokens_next r
+before_comma : (s r : Text) → tokens (34 ∷ (flat_map escaped s ++ 34 ∷ 44 ∷ r)) ≡ string_token s ∷ tokens_next r
 unfolding serde_json_on_literals
 before_comma s r = string_read s (44 ∷ r) (tokens_next r) refl
 
-before_brace : (s r : List ℕ) → tokens (34 ∷ (flat_map escaped s ++ 34 ∷ 125 ∷ r)) ≡ string_token s ∷ end_object ∷ tokens_after r
+before_brace : (s r : Text) → tokens (34 ∷ (flat_map escaped s ++ 34 ∷ 125 ∷ r)) ≡ string_token s ∷ end_object ∷ tokens_after r
 unfolding serde_json_on_literals
 before_brace s r = string_read s (125 ∷ r) (end_object ∷ tokens_after r) refl
 
@@ -49,15 +38,15 @@ list_tokens written [] ts = end_array ∷ ts
 list_tokens written (x ∷ xs) ts = written x (list_tokens written xs ts)
 
 module _ {X : Type 0} (tree : X → Data) (written : X → List Token → List Token)
-    (first : (x : X) (r : List ℕ) → tokens (compact_text (tree x) ++ r) ≡ written x (tokens_after r))
-    (next : (x : X) (r : List ℕ) → tokens_next (compact_text (tree x) ++ r) ≡ tokens (compact_text (tree x) ++ r)) where
-  later_entries : (xs : List X) (r : List ℕ) → tokens_after (items_text true (items_of (map tree xs)) ++ r) ≡ list_tokens written xs (tokens_after r)
+    (first : (x : X) (r : Text) → tokens (compact_text (tree x) ++ r) ≡ written x (tokens_after r))
+    (next : (x : X) (r : Text) → tokens_next (compact_text (tree x) ++ r) ≡ tokens (compact_text (tree x) ++ r)) where
+  later_entries : (xs : List X) (r : Text) → tokens_after (items_text true (items_of (map tree xs)) ++ r) ≡ list_tokens written xs (tokens_after r)
   unfolding serde_json_on_literals
   later_entries [] r = refl
   later_entries (x ∷ xs) r = ap tokens_next (append_assoc (compact_text (tree x)) (items_text true (items_of (map tree xs))) r) ∙ next x _ ∙ first x _ ∙
       ap (written x) (later_entries xs r)
 
-  entries : (xs : List X) (r : List ℕ) → tokens (items_text false (items_of (map tree xs)) ++ r) ≡ list_tokens written xs (tokens_after r)
+  entries : (xs : List X) (r : Text) → tokens (items_text false (items_of (map tree xs)) ++ r) ≡ list_tokens written xs (tokens_after r)
   unfolding serde_json_on_literals
   entries [] r = refl
   entries (x ∷ xs) r = ap tokens (append_assoc (compact_text (tree x)) (items_text true (items_of (map tree xs))) r) ∙ first x _ ∙
@@ -65,26 +54,26 @@ module _ {X : Type 0} (tree : X → Data) (written : X → List Token → List T
 
 -- ---- the parts of an info
 
-abbrev pub requirement_tokens : List ℕ × List ℕ → List Token → List Token
+abbrev pub requirement_tokens : Text × Text → List Token → List Token
 requirement_tokens p ts = begin_object ∷ key_token (codes "bmi") ∷ string_token p.1 ∷ key_token (codes "name") ∷ string_token p.0 ∷ end_object ∷ ts
 
 -- a member that is a text, before what comes after it
-abbrev pub member_text : List ℕ → List ℕ → List ℕ → List ℕ
+abbrev pub member_text : Text → Text → Text → Text
 member_text key s r = 34 ∷ key ++ 34 ∷ 58 ∷ 34 ∷ (flat_map escaped s ++ 34 ∷ r)
 
-pub requirement_text : (p : List ℕ × List ℕ) (r : List ℕ) →
+pub requirement_text : (p : Text × Text) (r : Text) →
     compact_text (requirement_tree p) ++ r ≡ 123 ∷ member_text (codes "bmi") p.1 (44 ∷ member_text (codes "name") p.0 (125 ∷ r))
 unfolding requirement_tree serde_json_on_literals
 requirement_text p r = simp append_assoc
 
-requirement_first : (p : List ℕ × List ℕ) (r : List ℕ) → tokens (compact_text (requirement_tree p) ++ r) ≡ requirement_tokens p (tokens_after r)
+requirement_first : (p : Text × Text) (r : Text) → tokens (compact_text (requirement_tree p) ++ r) ≡ requirement_tokens p (tokens_after r)
 unfolding serde_json_on_literals
 requirement_first p r =
     ap tokens (requirement_text p r)
     ∙ ap (λ ts. begin_object ∷ key_token (codes "bmi") ∷ ts) (before_comma p.1 _
     ∙ ap (λ ts. string_token p.1 ∷ key_token (codes "name") ∷ ts) (before_brace p.0 r))
 
-requirement_next : (p : List ℕ × List ℕ) (r : List ℕ) → tokens_next (compact_text (requirement_tree p) ++ r) ≡ tokens (compact_text (requirement_tree p) ++ r)
+requirement_next : (p : Text × Text) (r : Text) → tokens_next (compact_text (requirement_tree p) ++ r) ≡ tokens (compact_text (requirement_tree p) ++ r)
 unfolding requirement_tree serde_json_on_literals
 requirement_next p r = refl
 
@@ -94,16 +83,16 @@ module_tokens v ts =
     ∷ key_token (codes "requires") ∷ begin_array ∷ list_tokens requirement_tokens v.required
     (key_token (codes "visibility") ∷ string_token (visibility_text v.is_private) ∷ end_object ∷ ts)
 
-requirements_first : (ps : List (List ℕ × List ℕ)) (r : List ℕ) →
+requirements_first : (ps : List (Text × Text)) (r : Text) →
     tokens (items_text false (items_of (map requirement_tree ps)) ++ r) ≡ list_tokens requirement_tokens ps (tokens_after r)
 requirements_first = entries requirement_tree requirement_tokens requirement_first requirement_next
 
-module_ends : (list visibility r : List ℕ) →
+module_ends : (list visibility r : Text) →
     (list ++ 44 ∷ member_text (codes "visibility") visibility (125 ∷ [])) ++ r ≡ list ++ 44 ∷ member_text (codes "visibility") visibility (125 ∷ r)
 module_ends list visibility r = append_assoc list _ r ∙
     ap (λ l. list ++ (44 ∷ 34 ∷ (codes "visibility" ++ 34 ∷ 58 ∷ 34 ∷ l))) (append_assoc (flat_map escaped visibility) (34 ∷ 125 ∷ []) r)
 
-pub module_text : (v : ModuleValue) (r : List ℕ) →
+pub module_text : (v : ModuleValue) (r : Text) →
     compact_text (module_tree v) ++ r ≡
     123 ∷ member_text (codes "bmi") v.file
     (44 ∷ member_text (codes "name") v.name
@@ -115,7 +104,7 @@ module_text v r =
     (ap (λ l. 123 ∷ member_text (codes "bmi") v.file (44 ∷ member_text (codes "name") v.name (44 ∷ 34 ∷ codes "requires" ++ 34 ∷ 58 ∷ 91 ∷ l)))
     (module_ends (items_text false (items_of (map requirement_tree v.required))) (visibility_text v.is_private) r))
 
-module_first : (v : ModuleValue) (r : List ℕ) → tokens (compact_text (module_tree v) ++ r) ≡ module_tokens v (tokens_after r)
+module_first : (v : ModuleValue) (r : Text) → tokens (compact_text (module_tree v) ++ r) ≡ module_tokens v (tokens_after r)
 unfolding serde_json_on_literals
 module_first v r =
     ap tokens (module_text v r)
@@ -124,7 +113,7 @@ module_first v r =
     ∙ ap (λ ts. string_token v.name ∷ key_token (codes "requires") ∷ begin_array ∷ ts) (requirements_first v.required _
     ∙ ap (λ ts. list_tokens requirement_tokens v.required (key_token (codes "visibility") ∷ ts)) (before_brace (visibility_text v.is_private) r))))
 
-module_next : (v : ModuleValue) (r : List ℕ) → tokens_next (compact_text (module_tree v) ++ r) ≡ tokens (compact_text (module_tree v) ++ r)
+module_next : (v : ModuleValue) (r : Text) → tokens_next (compact_text (module_tree v) ++ r) ≡ tokens (compact_text (module_tree v) ++ r)
 unfolding module_tree serde_json_on_literals
 module_next v r = refl
 
@@ -133,7 +122,7 @@ info_tokens info =
     begin_object ∷ key_token (codes "modules") ∷ begin_array ∷ list_tokens module_tokens info.modules
     (key_token (codes "target") ∷ string_token info.target ∷ key_token (codes "version") ∷ number_token false (decimal 2) ∷ end_object ∷ [])
 
-modules_first : (vs : List ModuleValue) (r : List ℕ) →
+modules_first : (vs : List ModuleValue) (r : Text) →
     tokens (items_text false (items_of (map module_tree vs)) ++ r) ≡ list_tokens module_tokens vs (tokens_after r)
 modules_first = entries module_tree module_tokens module_first module_next
 
@@ -174,15 +163,15 @@ module _ {X : Type 0} (tree : X → Data) (written : X → List Token → List T
       items m (length us) us ≡ Some (items_outline (items_of (map tree xs)), ts)
   list_parsed xs ts = parsed_within xs _ ts (omega (arith, longer written more xs ts))
 
-requirement_more : (p : List ℕ × List ℕ) (ts : List Token) → length ts < length (requirement_tokens p ts)
+requirement_more : (p : Text × Text) (ts : List Token) → length ts < length (requirement_tokens p ts)
 requirement_more p ts = omega arith
 
-one_requirement : (m : ℕ) (p : List ℕ × List ℕ) (ds : Items) (n : ℕ) (ts rest : List Token) → items (suc (suc m)) n ts ≡ Some (items_outline ds, rest) →
+one_requirement : (m : ℕ) (p : Text × Text) (ds : Items) (n : ℕ) (ts rest : List Token) → items (suc (suc m)) n ts ≡ Some (items_outline ds, rest) →
     items (suc (suc m)) (suc n) (requirement_tokens p ts) ≡ Some (items_outline (item (requirement_tree p) ds), rest)
 unfolding requirement_tree serde_json_on_literals
 one_requirement m p ds n ts rest h = rw h
 
-requirements_parsed : (m : ℕ) (ps : List (List ℕ × List ℕ)) (ts : List Token) → let us : List Token = list_tokens requirement_tokens ps ts in
+requirements_parsed : (m : ℕ) (ps : List (Text × Text)) (ts : List Token) → let us : List Token = list_tokens requirement_tokens ps ts in
     items (suc (suc m)) (length us) us ≡ Some (items_outline (items_of (map requirement_tree ps)), ts)
 requirements_parsed m = list_parsed requirement_tree requirement_tokens (suc (suc m)) (one_requirement m) requirement_more
 
@@ -213,7 +202,7 @@ info_parsed m info =
 
 -- ---- the tree that is written for an info: its numbers are read as they were
 
-requirements_read : (ps : List (List ℕ × List ℕ)) → of_items (items_outline (items_of (map requirement_tree ps))) ≡ Some (items_of (map requirement_tree ps))
+requirements_read : (ps : List (Text × Text)) → of_items (items_outline (items_of (map requirement_tree ps))) ≡ Some (items_of (map requirement_tree ps))
 unfolding requirement_tree
 requirements_read [] = refl
 requirements_read (p ∷ ps) = ap (option_map (item (requirement_tree p))) (requirements_read ps)
@@ -231,15 +220,15 @@ info_read info =
 
 -- ---- all checks hold, and the meaning is the info
 
-requirement_passes : (p : List ℕ × List ℕ) (at : Place) → IsSoundPair p.0 p.1 → first_failure (requirement_checks at (requirement_tree p)) ≡ None
+requirement_passes : (p : Text × Text) (at : Place) → IsSoundPair p.0 p.1 → first_failure (requirement_checks at (requirement_tree p)) ≡ None
 unfolding requirement_checks entry_shape_checks named_file_checks requirement_tree key
 requirement_passes p at h = rw (h.named.accepted, h.canonical) refl
 
-requirement_means : (p : List ℕ × List ℕ) → IsSoundPair p.0 p.1 → IsRequirement (requirement_tree p) p
+requirement_means : (p : Text × Text) → IsSoundPair p.0 p.1 → IsRequirement (requirement_tree p) p
 unfolding requirement_tree key
 requirement_means p h = record { name = refl; file = h.canonical; is_text = h.is_text }
 
-requirements_pass : (ps : List (List ℕ × List ℕ)) (j k : ℕ) → AllByRecursion (λ p. IsSoundPair p.0 p.1) ps →
+requirements_pass : (ps : List (Text × Text)) (j k : ℕ) → AllByRecursion (λ p. IsSoundPair p.0 p.1) ps →
     first_failure (each_from (λ k d. requirement_checks (place.ModuleRequires j k) d) k (map requirement_tree ps)) ≡ None
 requirements_pass [] j k h = refl
 requirements_pass (p ∷ ps) j k h =
@@ -247,7 +236,7 @@ requirements_pass (p ∷ ps) j k h =
     (each_from (λ k d. requirement_checks (place.ModuleRequires j k) d) (k + 1) (map requirement_tree ps)) None
     (requirement_passes p (place.ModuleRequires j k) h.0) ∙ requirements_pass ps j (k + 1) h.1
 
-requirements_mean : (ps : List (List ℕ × List ℕ)) → AllByRecursion (λ p. IsSoundPair p.0 p.1) ps → AllZip IsRequirement (map requirement_tree ps) ps
+requirements_mean : (ps : List (Text × Text)) → AllByRecursion (λ p. IsSoundPair p.0 p.1) ps → AllZip IsRequirement (map requirement_tree ps) ps
 requirements_mean [] h = tt
 requirements_mean (p ∷ ps) h = (requirement_means p h.0, requirements_mean ps h.1)
 
@@ -295,7 +284,7 @@ info_means info h = record {
 }
 
 -- what is read as this tree is read as the info
-pub info_again : (info : InfoValue) (bytes : List ℕ) → IsSoundInfo info → IsUtf8 bytes → read bytes ≡ Some (info_tree info) → ReadsBack info bytes
+pub info_again : (info : InfoValue) (bytes : Text) → IsSoundInfo info → IsUtf8 bytes → read bytes ≡ Some (info_tree info) → ReadsBack info bytes
 info_again info bytes h utf8 is = record {
   same = λ small. record {
     small = small;
@@ -309,12 +298,12 @@ info_again info bytes h utf8 is = record {
 
 -- ---- the text of an info is UTF-8
 
-abbrev are_ascii : List ℕ → Bool
+abbrev are_ascii : Text → Bool
 are_ascii [] = true
 are_ascii (x ∷ xs) = nat_lt x 128 && are_ascii xs
 
 -- ASCII before what is UTF-8
-ascii_before : (xs r : List ℕ) → are_ascii xs ≡ true → IsUtf8 r → IsUtf8 (xs ++ r)
+ascii_before : (xs r : Text) → are_ascii xs ≡ true → IsUtf8 r → IsUtf8 (xs ++ r)
 ascii_before [] r e u = u
 ascii_before (x ∷ xs) r e u =
     let p = and_parts _ _ e in
@@ -322,7 +311,7 @@ ascii_before (x ∷ xs) r e u =
     IsUtf8-append (x ∷ []) (xs ++ r) (subst IsUtf8 (encode_ascii x small) (IsUtf8-encode x (low_scalar x (omega arith)))) (ascii_before xs r p.1 u)
 
 -- what is on either side of a byte of ASCII
-sides : (p s : List ℕ) (x : ℕ) → x < 128 → IsUtf8 (p ++ x ∷ s) → IsUtf8 p × IsUtf8 s
+sides : (p s : Text) (x : ℕ) → x < 128 → IsUtf8 (p ++ x ∷ s) → IsUtf8 p × IsUtf8 s
 sides p s x small u =
     let total : length (p ++ x ∷ s) ≡ length p + (1 + length s) = length-append p (x ∷ s) ∙ omega arith in
     let at : get_or (p ++ x ∷ s) (length p) 0 ≡ x = ap (λ n. get_or (p ++ x ∷ s) n 0) (omega arith) ∙ get_or-append-add p (x ∷ s) 0 0 in (
@@ -346,7 +335,7 @@ all_ascii : escapes_are_ascii 128 ≡ true
 unfolding serde_json_on_literals
 all_ascii = refl
 
-string_utf8 : (p s : List ℕ) → IsUtf8 (p ++ s) → IsUtf8 (p ++ flat_map escaped s)
+string_utf8 : (p s : Text) → IsUtf8 (p ++ s) → IsUtf8 (p ++ flat_map escaped s)
 string_utf8 p [] u = u
 string_utf8 p (x ∷ s) u = elim (cases_lt x 128) [
   | inl small ↦ let uu = sides p s x small u in
@@ -356,24 +345,24 @@ string_utf8 p (x ∷ s) u = elim (cases_lt x 128) [
       (subst IsUtf8 (append_assoc p (x ∷ []) (flat_map escaped s)) (string_utf8 (p ++ x ∷ []) s (subst IsUtf8 (sym (append_assoc p (x ∷ []) s)) u)))
 ]
 
-member_utf8 : (key s r : List ℕ) → are_ascii key ≡ true → IsUtf8 s → IsUtf8 r → IsUtf8 (member_text key s r)
+member_utf8 : (key s r : Text) → are_ascii key ≡ true → IsUtf8 s → IsUtf8 r → IsUtf8 (member_text key s r)
 member_utf8 key s r e u v =
     ascii_before (34 ∷ key) _ e
     (ascii_before (34 ∷ 58 ∷ 34 ∷ []) _ refl (IsUtf8-append (flat_map escaped s) (34 ∷ r) (string_utf8 [] s u) (ascii_before (34 ∷ []) r refl v)))
 
-comma_before : (later : Bool) (r : List ℕ) → IsUtf8 r → IsUtf8 (comma_if later ++ r)
+comma_before : (later : Bool) (r : Text) → IsUtf8 r → IsUtf8 (comma_if later ++ r)
 comma_before true r u = ascii_before (44 ∷ []) r refl u
 comma_before false r u = u
 
-module _ {X : Type 0} (tree : X → Data) (Good : X → Type 0) (one : (x : X) (r : List ℕ) → Good x → IsUtf8 r → IsUtf8 (compact_text (tree x) ++ r)) where
-  list_utf8 : (later : Bool) (xs : List X) (r : List ℕ) → AllByRecursion Good xs → IsUtf8 r → IsUtf8 (items_text later (items_of (map tree xs)) ++ r)
+module _ {X : Type 0} (tree : X → Data) (Good : X → Type 0) (one : (x : X) (r : Text) → Good x → IsUtf8 r → IsUtf8 (compact_text (tree x) ++ r)) where
+  list_utf8 : (later : Bool) (xs : List X) (r : Text) → AllByRecursion Good xs → IsUtf8 r → IsUtf8 (items_text later (items_of (map tree xs)) ++ r)
   list_utf8 later [] r h u = ascii_before (93 ∷ []) r refl u
   list_utf8 later (x ∷ xs) r h u =
       let rest = one x _ h.0 (list_utf8 true xs r h.1 u) in
       subst IsUtf8 (sym (append_assoc (comma_if later) _ r))
       (comma_before later _ (subst IsUtf8 (sym (append_assoc (compact_text (tree x)) (items_text true (items_of (map tree xs))) r)) rest))
 
-requirement_utf8 : (p : List ℕ × List ℕ) (r : List ℕ) → IsSoundPair p.0 p.1 → IsUtf8 r → IsUtf8 (compact_text (requirement_tree p) ++ r)
+requirement_utf8 : (p : Text × Text) (r : Text) → IsSoundPair p.0 p.1 → IsUtf8 r → IsUtf8 (compact_text (requirement_tree p) ++ r)
 requirement_utf8 p r h u =
     rw (requirement_text p r)
     (ascii_before (123 ∷ []) _ refl
@@ -384,7 +373,7 @@ visibility_utf8 : (b : Bool) → IsUtf8 (visibility_text b)
 visibility_utf8 true = ascii_before (codes "private") [] refl IsUtf8-nil
 visibility_utf8 false = ascii_before (codes "public") [] refl IsUtf8-nil
 
-module_utf8 : (v : ModuleValue) (r : List ℕ) → IsSoundModule v → IsUtf8 r → IsUtf8 (compact_text (module_tree v) ++ r)
+module_utf8 : (v : ModuleValue) (r : Text) → IsSoundModule v → IsUtf8 r → IsUtf8 (compact_text (module_tree v) ++ r)
 module_utf8 v r h u =
     let required = list_utf8 requirement_tree (λ p. IsSoundPair p.0 p.1) requirement_utf8 false v.required _
     (recursion_from_All (λ p. IsSoundPair p.0 p.1) v.required h.required)

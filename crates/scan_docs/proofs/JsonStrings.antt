@@ -1,10 +1,6 @@
 -- The lexer and the parser of serde_json, and strings that are printed and read back.
 use Rattle.std.proofs.Common.{◌≡◌, ℕ, suc, List, [], ◌∷◌, ◌++◌, true, false, length, Option, option_map, option_and_then, refl, ◌≢◌, zero, ◌<◌, ◌≤◌, inl, inr, Bool, ◌||◌, ◌==◌, sym, ap, ◌∙◌, subst, arith, append_assoc, ne_eqb}
-use Rattle.std.specs.List.{flat_map}
-use Rattle.serde_json.specs.Data.{Data, string}
-use Rattle.serde_json.specs.Read.{read}
-use Rattle.serde_json.specs.Sent.{with, text_token}
-use Rattle.serde_json.specs.Written.{IsInOrder, compact_text, outline, items_outline}
+use Rattle.scan_docs.specs.Prelude.{Text, flat_map, Data, string, read, with, text_token, IsInOrder, compact_text, outline, items_outline}
 use Rattle.serde_json.proofs.OnLiterals.{serde_json_on_literals}
 use Rattle.std.proofs.lemmas.Bool.{cases_eq, cases_lt, le-ltb}
 
@@ -26,8 +22,8 @@ result_of {A} {B} f = B
 abbrev pub Token : Type 0
 Token = entries_of with
 
-abbrev pub tokens : List ℕ → List Token
-tokens = the (λ f. (text : List ℕ) (d : Data) → IsInOrder text d → (ts : List Token) × (f text ≡ ts)) _ (λ text d h. (_, h.1))
+abbrev pub tokens : Text → List Token
+tokens = the (λ f. (text : Text) (d : Data) → IsInOrder text d → (ts : List Token) × (f text ≡ ts)) _ (λ text d h. (_, h.1))
 
 abbrev pub begin_array : Token
 unfolding serde_json_on_literals
@@ -45,25 +41,25 @@ abbrev pub end_object : Token
 unfolding serde_json_on_literals
 end_object = the (λ t. tokens (125 ∷ []) ≡ t ∷ []) _ refl
 
-abbrev pub key_token : List ℕ → Token
+abbrev pub key_token : Text → Token
 key_token = text_token true
 
-abbrev pub string_token : List ℕ → Token
+abbrev pub string_token : Text → Token
 string_token = text_token false
 
 -- the tokens after a value
-abbrev pub tokens_after : List ℕ → List Token
+abbrev pub tokens_after : Text → List Token
 unfolding serde_json_on_literals
-tokens_after = the (λ f. (xs : List ℕ) → tokens (93 ∷ xs) ≡ end_array ∷ f xs) _ (λ xs. refl)
+tokens_after = the (λ f. (xs : Text) → tokens (93 ∷ xs) ≡ end_array ∷ f xs) _ (λ xs. refl)
 
 -- the tokens after a comma
-abbrev pub tokens_next : List ℕ → List Token
+abbrev pub tokens_next : Text → List Token
 unfolding serde_json_on_literals
-tokens_next = the (λ f. (xs : List ℕ) → tokens_after (44 ∷ xs) ≡ f xs) _ (λ xs. refl)
+tokens_next = the (λ f. (xs : Text) → tokens_after (44 ∷ xs) ≡ f xs) _ (λ xs. refl)
 
 -- what is written in a string for a byte
-abbrev pub escaped : ℕ → List ℕ
-escaped = the (λ f. (s : List ℕ) → compact_text (string s) ≡ 34 ∷ (flat_map f s ++ 34 ∷ [])) _ (λ s. refl)
+abbrev pub escaped : ℕ → Text
+escaped = the (λ f. (s : Text) → compact_text (string s) ≡ 34 ∷ (flat_map f s ++ 34 ∷ [])) _ (λ s. refl)
 
 -- ---- the parser
 
@@ -96,7 +92,7 @@ ParsedItems = result_of items_outline × List Token
 
 -- a value, whose arrays and objects nest no deeper than the number
 abbrev pub value : ℕ → List Token → Option Parsed
-value = the (λ f. (text : List ℕ) (ts : List Token) (m : ℕ) → tokens text ≡ ts → 127 ≡ m →
+value = the (λ f. (text : Text) (ts : List Token) (m : ℕ) → tokens text ≡ ts → 127 ≡ m →
     (h : Json → Option Data) × (k : Parsed → Option Json) × (d : Option Data) × (then h (then k (f m ts)) ≡ d)) _
     (λ text ts m e l. (_, _, _, rw (e, l, is_then {A = Parsed}, is_then {A = Json}) at (same {A = Option Data} (read text))))
 
@@ -108,9 +104,9 @@ items = the (λ f. (m : ℕ) (ts : List Token) (n : ℕ) → length ts ≡ n →
 
 -- ---- a string that was printed is read back
 
--- what is read of a byte in a string, before the rest of it
-abbrev Passes : ℕ → Type 0
-Passes x = (s r : List ℕ) (ts : List Token) → tokens (34 ∷ r) ≡ text_token false s ∷ ts → tokens (34 ∷ (escaped x ++ r)) ≡ text_token false (x ∷ s) ∷ ts
+-- a byte in a string is read before the rest of it
+abbrev Passes : Text → Text → List Token → ℕ → Type 0
+Passes s r ts x = tokens (34 ∷ (escaped x ++ r)) ≡ text_token false (x ∷ s) ∷ ts
 
 abbrev Each : (ℕ → Type 0) → ℕ → Type 0
 Each P zero = Unit {0}
@@ -124,26 +120,6 @@ infixr 5 ◌also◌
 ◌also◌ : {A B : Type 0} → A → B → A × B
 (a also b) = (a, b)
 
-controls : Each Passes 32
-unfolding serde_json_on_literals
-controls =
-    (λ s r ts h. grind arith) also (λ s r ts h. grind arith) also (λ s r ts h. grind arith) also (λ s r ts h. grind arith)
-    also (λ s r ts h. grind arith) also (λ s r ts h. grind arith) also (λ s r ts h. grind arith) also (λ s r ts h. grind arith)
-    also (λ s r ts h. grind arith) also (λ s r ts h. grind arith) also (λ s r ts h. grind arith) also (λ s r ts h. grind arith)
-    also (λ s r ts h. grind arith) also (λ s r ts h. grind arith) also (λ s r ts h. grind arith) also (λ s r ts h. grind arith)
-    also (λ s r ts h. grind arith) also (λ s r ts h. grind arith) also (λ s r ts h. grind arith) also (λ s r ts h. grind arith)
-    also (λ s r ts h. grind arith) also (λ s r ts h. grind arith) also (λ s r ts h. grind arith) also (λ s r ts h. grind arith)
-    also (λ s r ts h. grind arith) also (λ s r ts h. grind arith) also (λ s r ts h. grind arith) also (λ s r ts h. grind arith)
-    also (λ s r ts h. grind arith) also (λ s r ts h. grind arith) also (λ s r ts h. grind arith) also (λ s r ts h. grind arith) also tt
-
-quote_passes : Passes 34
-unfolding serde_json_on_literals
-quote_passes s r ts h = grind arith
-
-backslash_passes : Passes 92
-unfolding serde_json_on_literals
-backslash_passes s r ts h = grind arith
-
 pub as_it_is : (x : ℕ) → x ≢ 34 → x ≢ 92 → 32 ≤ x → escaped x ≡ x ∷ []
 unfolding serde_json_on_literals
 as_it_is x q b le = grind arith
@@ -155,27 +131,44 @@ is_operator x = (x == 123) || (x == 125) || (x == 91) || (x == 93) || (x == 58) 
 abbrev is_space : ℕ → Bool
 is_space x = (x == 32) || (x == 9) || (x == 10) || (x == 13)
 
-reads_as_it_is : (x : ℕ) (o w : Bool) → is_operator x ≡ o → is_space x ≡ w → x ≢ 34 → x ≢ 92 → 32 ≤ x
-    → (s r : List ℕ) (ts : List Token) → tokens (34 ∷ r) ≡ text_token false s ∷ ts → tokens (34 ∷ x ∷ r) ≡ text_token false (x ∷ s) ∷ ts
-unfolding serde_json_on_literals
-reads_as_it_is x true w e f q b le s r ts h = rw (ne_eqb x 34 q, ne_eqb x 92 b, le-ltb x 32 le, e) (grind arith)
-reads_as_it_is x false true e f q b le s r ts h = rw (ne_eqb x 34 q, ne_eqb x 92 b, le-ltb x 32 le, e, f) (grind arith)
-reads_as_it_is x false false e f q b le s r ts h = rw (ne_eqb x 34 q, ne_eqb x 92 b, le-ltb x 32 le, e, f) (grind arith)
+module _ (s r : Text) (ts : List Token) (h : tokens (34 ∷ r) ≡ text_token false s ∷ ts) where
+  controls : Each (Passes s r ts) 32
+  unfolding serde_json_on_literals
+  controls =
+      (grind arith) also (grind arith) also (grind arith) also (grind arith) also (grind arith) also (grind arith) also (grind arith) also (grind arith) also
+      (grind arith) also (grind arith) also (grind arith) also (grind arith) also (grind arith) also (grind arith) also (grind arith) also (grind arith) also
+      (grind arith) also (grind arith) also (grind arith) also (grind arith) also (grind arith) also (grind arith) also (grind arith) also (grind arith) also
+      (grind arith) also (grind arith) also (grind arith) also (grind arith) also (grind arith) also (grind arith) also (grind arith) also (grind arith) also tt
 
-passes : (x : ℕ) → Passes x
-passes x = elim (cases_lt x 32) [
-  | inl lt ↦ each_below Passes 32 controls x lt
-  | inr le ↦ elim (cases_eq x 34) [
-    | inl e ↦ subst Passes (sym e) quote_passes
-    | inr q ↦ elim (cases_eq x 92) [
-      | inl e ↦ subst Passes (sym e) backslash_passes
-      | inr b ↦ λ s r ts h. rw (as_it_is x q b le) (reads_as_it_is x (is_operator x) (is_space x) refl refl q b le s r ts h)
+  quote_passes : Passes s r ts 34
+  unfolding serde_json_on_literals
+  quote_passes = grind arith
+
+  backslash_passes : Passes s r ts 92
+  unfolding serde_json_on_literals
+  backslash_passes = grind arith
+
+  reads_as_it_is : (x : ℕ) (o w : Bool) → is_operator x ≡ o → is_space x ≡ w → x ≢ 34 → x ≢ 92 → 32 ≤ x
+      → tokens (34 ∷ x ∷ r) ≡ text_token false (x ∷ s) ∷ ts
+  unfolding serde_json_on_literals
+  reads_as_it_is x true w e f q b le = rw (ne_eqb x 34 q, ne_eqb x 92 b, le-ltb x 32 le, e) (grind arith)
+  reads_as_it_is x false true e f q b le = rw (ne_eqb x 34 q, ne_eqb x 92 b, le-ltb x 32 le, e, f) (grind arith)
+  reads_as_it_is x false false e f q b le = rw (ne_eqb x 34 q, ne_eqb x 92 b, le-ltb x 32 le, e, f) (grind arith)
+
+  passes : (x : ℕ) → Passes s r ts x
+  passes x = elim (cases_lt x 32) [
+    | inl lt ↦ each_below (Passes s r ts) 32 controls x lt
+    | inr le ↦ elim (cases_eq x 34) [
+      | inl e ↦ subst (Passes s r ts) (sym e) quote_passes
+      | inr q ↦ elim (cases_eq x 92) [
+        | inl e ↦ subst (Passes s r ts) (sym e) backslash_passes
+        | inr b ↦ rw (as_it_is x q b le) (reads_as_it_is x (is_operator x) (is_space x) refl refl q b le)
+      ]
     ]
   ]
-]
 
 -- a string is read back if what follows makes it a value and not a key
-pub string_read : (s r : List ℕ) (ts : List Token) → tokens (34 ∷ 34 ∷ r) ≡ text_token false [] ∷ ts →
+pub string_read : (s r : Text) (ts : List Token) → tokens (34 ∷ 34 ∷ r) ≡ text_token false [] ∷ ts →
     tokens (34 ∷ (flat_map escaped s ++ 34 ∷ r)) ≡ text_token false s ∷ ts
 string_read [] r ts h = h
-string_read (x ∷ s) r ts h = ap (λ l. tokens (34 ∷ l)) (append_assoc (escaped x) (flat_map escaped s) (34 ∷ r)) ∙ passes x s _ ts (string_read s r ts h)
+string_read (x ∷ s) r ts h = ap (λ l. tokens (34 ∷ l)) (append_assoc (escaped x) (flat_map escaped s) (34 ∷ r)) ∙ passes s _ ts (string_read s r ts h) x

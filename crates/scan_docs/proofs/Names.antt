@@ -1,11 +1,12 @@
 -- The name of a file that is made of a module's name.
-use Rattle.std.proofs.Common.{◌≡◌, ℕ, suc, ◌<◌, ◌≤◌, ◌==◌, if◌then◌else◌, List, [], ◌∷◌, ◌++◌, map, Bool, true, false, IsUtf8, refl, sym, ap, ap₂, ◌∙◌, ◌⊎◌, inl, inr, ◌&&◌, ◌||◌, not, nat_le, append_assoc, Option, Some, None, arith, length}
+use Rattle.std.proofs.Common.{◌≡◌, ℕ, suc, ◌<◌, ◌≤◌, ◌==◌, if◌then◌else◌, [], ◌∷◌, ◌++◌, map, Bool, true, false, IsUtf8, refl, sym, ap, ap₂, ◌∙◌, ◌⊎◌, inl, inr, ◌&&◌, ◌||◌, not, append_assoc, Option, Some, None, arith, length}
+use Rattle.scan_docs.specs.Prelude.{Text}
 use Rattle.std.proofs.lemmas.List.{map-append}
 use Rattle.std.specs.Char.{encode_utf8}
 use Rattle.std.proofs.lemmas.Bool.{cases_lt}
 use lib.Utf8.{scalar, scalars, encodes}
 use Rattle.std.proofs.lemmas.Bool.Decides.{nat_tests}
-use Rattle.std.specs.List.{list_all, list_any, slice_split, count_by}
+use Rattle.std.specs.List.{list_all, list_any, slice_split}
 use Rattle.std.proofs.lemmas.Bool.{cases_Bool, and_parts, or_parts}
 use Rattle.std.proofs.lemmas.List.Splits.{slice_split-cons_yes}
 use Rattle.ninja_text.specs.Escapes.{is_unwritable}
@@ -40,21 +41,21 @@ each c (inr h) = at_high c h ∙ ap encode_utf8 (sym (high c (omega arith)))
 scalar_stays : (c : ℕ) → scalar c ≡ true → scalar (dashed c) ≡ true
 scalar_stays c h = grind (arith, nat_tests)
 
-all_encoded : (cs : List ℕ) → map dashed (encodes cs) ≡ encodes (map dashed cs)
+all_encoded : (cs : Text) → map dashed (encodes cs) ≡ encodes (map dashed cs)
 all_encoded [] = refl
 all_encoded (c ∷ cs) = map-append dashed (encode_utf8 c) (encodes cs) ∙ ap₂ (λ a b. a ++ b) (each c (cases_lt c 128)) (all_encoded cs)
 
-all_scalar : (cs : List ℕ) → scalars cs ≡ true → scalars (map dashed cs) ≡ true
+all_scalar : (cs : Text) → scalars cs ≡ true → scalars (map dashed cs) ≡ true
 all_scalar [] h = refl
-all_scalar (c ∷ cs) h = let both = and_parts (scalar c) (scalars cs) h in ap₂ (λ a b. a && b) (scalar_stays c both.0) (all_scalar cs both.1)
+all_scalar (c ∷ cs) h = let both = and_parts _ _ h in ap₂ (λ a b. a && b) (scalar_stays c both.0) (all_scalar cs both.1)
 
-pub dashed_text : (bs : List ℕ) → IsUtf8 bs → IsUtf8 (map dashed bs)
+pub dashed_text : (bs : Text) → IsUtf8 bs → IsUtf8 (map dashed bs)
 dashed_text bs h = (map dashed h.0, (all_scalar h.0 h.1.0, sym (all_encoded h.0) ∙ ap (map dashed) h.1.1))
 
 -- ---- a module's name begins the name of its file
 
 -- the first byte of a name separates nothing
-first_part : (b : ℕ) (bs : List ℕ) → list_all is_not_empty (slice_split is_separator (b ∷ bs)) ≡ true → is_separator b ≡ false
+first_part : (b : ℕ) (bs : Text) → list_all is_not_empty (slice_split is_separator (b ∷ bs)) ≡ true → is_separator b ≡ false
 first_part b bs h = elim (cases_Bool (is_separator b)) [
   | inl s ↦ let k : list_all is_not_empty ([] ∷ slice_split is_separator bs) ≡ true =
       ap (list_all is_not_empty) (sym (slice_split-cons_yes is_separator b bs s)) ∙ h in cc
@@ -65,10 +66,10 @@ first_part b bs h = elim (cases_Bool (is_separator b)) [
 plain_byte : (b : ℕ) → is_name_byte b ≡ true → ((dashed b == 47) || is_unwritable (dashed b)) ≡ false
 plain_byte b h = grind (arith, nat_tests)
 
-plain_bytes : (bs : List ℕ) → list_all is_name_byte bs ≡ true → list_any (λ b. b == 47 || is_unwritable b) (map dashed bs) ≡ false
+plain_bytes : (bs : Text) → list_all is_name_byte bs ≡ true → list_any (λ b. b == 47 || is_unwritable b) (map dashed bs) ≡ false
 plain_bytes [] h = refl
 plain_bytes (b ∷ bs) h =
-    let both = and_parts (is_name_byte b) (list_all is_name_byte bs) h in
+    let both = and_parts _ _ h in
     ap₂ (λ x y. x || y) (plain_byte b both.0) (plain_bytes bs both.1)
 
 -- what separates nothing is no dot, also with `-` for `:`
@@ -76,14 +77,12 @@ no_dot : (b : ℕ) → is_separator b ≡ false → (dashed b == 46) ≡ false
 no_dot b h = grind (arith, nat_tests)
 
 -- the tests of a name: of its parts and of its bytes
-name_tests : (name : List ℕ) → is_name name ≡ true
+name_tests : (name : Text) → is_name name ≡ true
     → (list_all is_not_empty (slice_split is_separator name) ≡ true) × (list_all is_name_byte name ≡ true)
 unfolding is_name
 name_tests name h =
-    let both = and_parts (nat_le 1 (length name) && nat_le (length name) 1024 && nat_le (count_by (λ b. b == 58) name) 1 && list_all is_not_empty
-    (slice_split is_separator name)) (list_all is_name_byte name) h in
-    let parts = and_parts (nat_le 1 (length name) && nat_le (length name) 1024 && nat_le (count_by (λ b. b == 58) name) 1)
-    (list_all is_not_empty (slice_split is_separator name)) both.0 in
+    let both = and_parts _ _ h in
+    let parts = and_parts _ _ both.0 in
     (parts.1, both.1)
 
 -- no name is empty
@@ -91,7 +90,7 @@ no_name : is_name [] ≡ true → ⊥
 unfolding is_name
 no_name h = cc
 
-pub name_begins : (name : List ℕ) → is_name name ≡ true → begins_component (map dashed name) ≡ true
+pub name_begins : (name : Text) → is_name name ≡ true → begins_component (map dashed name) ≡ true
 name_begins [] h = absurd (no_name h)
 name_begins (b ∷ bs) h =
     let tests = name_tests (b ∷ bs) h in
@@ -106,7 +105,7 @@ some_length : (n : ℕ) → (suc n == 0) ≡ false
 some_length n = grind arith
 
 -- the file of a module by its name is read in the directory
-pub made_in : (build : Option (List ℕ)) (dir name ext : List ℕ) → is_name name ≡ true
+pub made_in : (build : Option Text) (dir name ext : Text) → is_name name ≡ true
     → placed (Some dir) build (map dashed name ++ ext) ≡ placed None build (joined_file dir name ext)
 unfolding placed
 made_in build dir [] ext h = absurd (no_name h)
@@ -114,19 +113,13 @@ made_in build [] (b ∷ bs) ext h = refl
 made_in build (d ∷ ds) (b ∷ bs) ext h =
     let path = map dashed (b ∷ bs) ++ ext in
     let rooted : is_rooted path ≡ false =
-    (or_parts (dashed b == 47) (is_unwritable (dashed b))
-    (or_parts (dashed b == 47 || is_unwritable (dashed b)) (list_any (λ b. b == 47 || is_unwritable b) (map dashed bs))
-    (plain_bytes (b ∷ bs) (name_tests (b ∷ bs) h).1)).0).0 in
+    (or_parts _ _ (or_parts _ _ (plain_bytes (b ∷ bs) (name_tests (b ∷ bs) h).1)).0).0 in
     ap (λ t. canonical_of build (if t then path else (d ∷ ds) ++ 47 ∷ path)) (relative false (is_rooted path) rooted refl)
     ∙ ap (canonical_of build) (sym (append_assoc (d ∷ ds) (47 ∷ []) path) ∙ sym (append_assoc ((d ∷ ds) ++ 47 ∷ []) (map dashed (b ∷ bs)) ext))
     ∙ ap (λ t. placed None build (((if t then [] else (d ∷ ds) ++ 47 ∷ []) ++ map dashed (b ∷ bs)) ++ ext)) (sym (some_length (length ds)))
 
 -- so it is in the directory of a setting
-pub made_by : (s : SettingValue) (build : Option (List ℕ)) (dir own ext name : List ℕ) → dir ≡ s.module_dir → own ≡ map dashed name
+pub made_by : (s : SettingValue) (build : Option Text) (dir own ext name : Text) → dir ≡ s.module_dir → own ≡ map dashed name
     → ext ≡ s.module_ext → build ≡ s.build_dir → is_name name ≡ true
     → placed (Some dir) build (own ++ ext) ≡ placed None s.build_dir (made_file s name)
-made_by s build dir own ext name d o e b h =
-    ap (λ dir. placed (Some dir) build (own ++ ext)) d ∙ ap (λ own. placed (Some s.module_dir) build (own ++ ext)) o
-    ∙ ap (λ ext. placed (Some s.module_dir) build (map dashed name ++ ext)) e
-    ∙ ap (λ build. placed (Some s.module_dir) build (map dashed name ++ s.module_ext)) b
-    ∙ made_in s.build_dir s.module_dir name s.module_ext h
+made_by s build dir own ext name d o e b h = rw (d, o, e, b) (made_in s.build_dir s.module_dir name s.module_ext h)

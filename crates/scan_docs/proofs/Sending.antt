@@ -1,12 +1,7 @@
 -- What is sent for an array, and that an info has no float.
 use Rattle.std.proofs.Common.{◌≡◌, ℕ, suc, ◌+◌, ◌<◌, ◌≤◌, List, [], ◌∷◌, length, map, drop, get_or, false, Some, refl, sym, ap, subst}
 use Rattle.std.proofs.lemmas.List.{drop_more, drop_all}
-use Rattle.serde.specs.Event.{Log, Logs, seq_begins, seq_ends}
-use Rattle.serde_json.specs.Data.{Data, array}
-use Rattle.serde_json.specs.Events.{items_len, SendsValue, SendsItems}
-use Rattle.serde_json.specs.View.{items_of}
-use Rattle.serde_json.specs.Written.{has_float, items_have_float}
-use Rattle.document_values.specs.Info.{ModuleValue, InfoValue}
+use Rattle.scan_docs.specs.Prelude.{Text, Log, Logs, seq_begins, seq_ends, Data, array, items_len, SendsValue, SendsItems, items_of, has_float, items_have_float, ModuleValue, InfoValue}
 use Rattle.scan_docs.specs.InfoText.{requirement_tree, requirements_tree, module_tree, info_tree}
 
 -- ---- an array, entry by entry
@@ -35,7 +30,7 @@ array_sent f xs i old first last new le begun more ended = (
 
 -- ---- no float
 
-requirements_plain : (ps : List (List ℕ × List ℕ)) → items_have_float (items_of (map requirement_tree ps)) ≡ false
+requirements_plain : (ps : List (Text × Text)) → items_have_float (items_of (map requirement_tree ps)) ≡ false
 unfolding requirement_tree
 requirements_plain [] = refl
 requirements_plain (p ∷ ps) = requirements_plain ps

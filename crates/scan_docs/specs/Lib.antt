@@ -16,3 +16,4 @@ pub mod InfoText
 pub mod Sound
 pub mod Values
 pub mod inner
+pub mod Prelude

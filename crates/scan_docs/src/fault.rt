@@ -1,12 +1,8 @@
 //! Why a document is rejected.
 
 ghost use Rattle.std.specs.Prelude.{◌≡◌, Result, IfOk, IsUtf8};
-ghost use Rattle.ninja_text.specs.Bytes.{PathText};
-ghost use Rattle.ninja_text.specs.Failure.{Gives};
-ghost use Rattle.ninja_text.specs.declared.fault.PathFault.{PathFault};
-ghost use Rattle.document_values.specs.Name.{is_name, IsName};
-ghost use Rattle.scan_docs.specs.Check.{◌otherwise◌};
-ghost use Rattle.scan_docs.specs.inner.Reading.{AnswersPath, Tests};
+ghost use Rattle.scan_docs.specs.Prelude.{Gives, PathText, PathFault, ◌otherwise◌, AnswersPath};
+ghost use Rattle.scan_docs.specs.Prelude.{Tests, is_name, IsName};
 
 use crate::member::Member;
 use document_values::{Name, SharedNames};
@@ -34,8 +30,7 @@ pub enum Place {
 }
 
 impl fmt::Display for Place {
-    ghost use Rattle.std.specs.Prelude.{Some};
-    ghost use Rattle.scan_docs.specs.Place.{place_text};
+    ghost use Rattle.scan_docs.specs.Prelude.{Some, place_text};
 
     ghost output = { λ place. Some (place_text place) };
 
@@ -77,8 +72,7 @@ pub enum DocFault {
 }
 
 impl fmt::Display for DocFault {
-    ghost use Rattle.std.specs.Prelude.{Some};
-    ghost use Rattle.scan_docs.specs.FaultTexts.{doc_fault_text};
+    ghost use Rattle.scan_docs.specs.Prelude.{Some, doc_fault_text};
 
     ghost output = { λ fault. Some (doc_fault_text fault) };
 
@@ -99,6 +93,9 @@ impl fmt::Display for DocFault {
     }
 }
 
+/// What reading a part of a document returns.
+pub(crate) type Read<T> = Result<T, Failure<DocFault>>;
+
 /// Returns the fault of a value that has the wrong type or is missing.
 pub(crate) fn bad_shape(place: Place, member: Member) -> Failure<DocFault>
     ensures { result ≡ Failure.Fault (DocFault.BadShape place member) }
@@ -107,10 +104,7 @@ pub(crate) fn bad_shape(place: Place, member: Member) -> Failure<DocFault>
 }
 
 /// Returns the path, or its fault at the place.
-pub(crate) fn path_at(
-    place: Place,
-    read: Result<Path, Failure<PathFault>>,
-) -> Result<Path, Failure<DocFault>>
+pub(crate) fn path_at(place: Place, read: Result<Path, Failure<PathFault>>) -> Read<Path>
     requires { IfOk read IsUtf8 }
     ensures { (outcome : Result PathText PathFault) → Gives (λ path. path) read outcome
         → AnswersPath place outcome result }
@@ -119,15 +113,10 @@ pub(crate) fn path_at(
 }
 
 /// Returns the name of a string of the document, or its fault at the place.
-pub(crate) fn read_name(
-    alloc: Global,
-    names: &mut SharedNames,
-    text: &str,
-    place: Place,
-) -> Result<Name, Failure<DocFault>>
-    ensures { Tests (is_name text.now otherwise DocFault.BadName place)
+pub(crate) fn read_name(alloc: Global, names: &mut SharedNames, text: &str, at: Place) -> Read<Name>
+    ensures { Tests (is_name text.now otherwise DocFault.BadName at)
         (λ name. (name ≡ text.now) × IsName name) result }
 {
     let name = names.read(alloc, text)?;
-    name.ok_or(Failure::Fault(DocFault::BadName { place }))
+    name.ok_or(Failure::Fault(DocFault::BadName { place: at }))
 }

@@ -1,28 +1,26 @@
-//! Info documents: what a target tells the targets that link it.
+//! Info documents: what a target tells the targets that link it. They are read and written.
 
-ghost use Rattle.std.specs.Prelude.{◌≡◌, Some, Ok, IfOk, IfErr};
-ghost use Rattle.ninja_text.specs.Failure.{ForFault};
-ghost use Rattle.ninja_text.specs.Paths.{path_of};
-ghost use Rattle.serde_json.specs.View.{view};
-ghost use Rattle.scan_docs.specs.inner.Reading.{Answers};
-ghost use Rattle.scan_docs.specs.Document.{IsAccepted, IsRefused, HasOneAnswer};
-ghost use Rattle.scan_docs.specs.Shape.{text};
-ghost use Rattle.scan_docs.specs.Scan.{IsText};
-ghost use Rattle.scan_docs.specs.Info.{privacy, IsRequirement, IsModule, IsInfo};
-ghost use Rattle.scan_docs.specs.InfoChecks.{entry_shape_checks, visibility_check, named_file_checks, requirement_checks, module_checks, info_checks};
-ghost use Rattle.scan_docs.specs.InfoText.{IsInfoText};
-ghost use Rattle.scan_docs.specs.Values.{info_of};
+ghost use Rattle.std.specs.Prelude.{◌≡◌, Some, Ok, IfOk, IfErr, OnOk};
+ghost use Rattle.scan_docs.specs.Prelude.{ForFault, view, Answers, IsAccepted, IsRefused};
+ghost use Rattle.scan_docs.specs.Prelude.{HasOneAnswer, info_of, IsInfo, IsModule, IsRequirement};
+ghost use Rattle.scan_docs.specs.Prelude.{IsText, text, privacy, path_of, info_checks};
+ghost use Rattle.scan_docs.specs.Prelude.{module_checks, requirement_checks, entry_shape_checks};
+ghost use Rattle.scan_docs.specs.Prelude.{visibility_check, named_file_checks, IsInfoText};
+ghost use Rattle.scan_docs.specs.Prelude.{IsModuleText, ReadsBack, info_text, module_tree};
+ghost use Rattle.scan_docs.specs.Prelude.{IsSoundInfo, IsSoundModule, IsSoundPair, info_tree};
+ghost use Rattle.scan_docs.specs.Prelude.{SendsValue, SendsText, BeginsNamedFile};
 ghost use Rattle.scan_docs.specs.declared.member.Member.TheVariants as m;
 
-use crate::document::{read_tree, read_version};
-use crate::fault::{DocFault, Place, bad_shape, path_at, read_name};
+use crate::fault::{DocFault, Place, Read, bad_shape, path_at, read_name};
 use crate::member::Member;
-use crate::shape;
+use crate::shape::{self, read_tree, read_version};
 use crate::target_document::read_target_name;
-use document_values::{Info, InfoModule, Name, SharedNames};
+use document_values::{Info, InfoModule, Name, SharedNames, TargetName};
 use ninja_text::{Failure, Path};
+use serde::{Described, Serialize, Serializer};
 use serde_json::Value;
 use std::alloc::{AllocError, Global};
+use std::marker::Model;
 
 /// Returns the info of an info document.
 ///
@@ -44,7 +42,7 @@ pub fn info_read(alloc: Global, bytes: &[u8]) -> Result<Info, Failure<DocFault>>
 }
 
 #[tactic(auto, unfolding(crate::specs::InfoChecks::info_checks), using(crate::proofs::Each::both))]
-fn read_info(alloc: Global, tree: &Value) -> Result<Info, Failure<DocFault>>
+fn read_info(alloc: Global, tree: &Value) -> Read<Info>
     ensures { Answers (info_checks (view tree.now)) (λ info. IsInfo (view tree.now) info) result }
 {
     let version = read_version(tree, &[1, 2])?;
@@ -74,23 +72,20 @@ fn read_module(
     alloc: Global,
     names: &mut SharedNames,
     with_visibility: bool,
-    index: usize,
+    number: usize,
     value: &Value,
-) -> Result<InfoModule, Failure<DocFault>>
-    ensures { Answers (module_checks with_visibility index (view value.now))
+) -> Read<InfoModule>
+    ensures { Answers (module_checks with_visibility number (view value.now))
         (λ found. IsModule with_visibility (view value.now) found) result }
 {
-    let place = Place::Module { number: index };
+    let place = Place::Module { number };
     let texts = read_entry_texts(place, value)?;
     let requirements = shape::required_entries(value, Member::Requires, place)?;
     let is_private = read_visibility(with_visibility, place, value)?;
     let (name, file) = read_named_file(alloc, names, place, texts)?;
     let mut required = Vec::with_capacity(alloc, requirements.len())?;
     for (entry, requirement) in requirements.iter().enumerate() {
-        let place = Place::ModuleRequires {
-            number: index,
-            entry,
-        };
+        let place = Place::ModuleRequires { number, entry };
         let pair = read_requirement(alloc, names, place, requirement)?;
         required.push(pair)?;
     }
@@ -103,10 +98,7 @@ fn read_module(
 }
 
 #[tactic(auto, unfolding(crate::specs::InfoChecks::entry_shape_checks))]
-fn read_entry_texts<'v>(
-    place: Place,
-    value: &'v Value,
-) -> Result<(&'v str, &'v str), Failure<DocFault>>
+fn read_entry_texts(place: Place, value: &Value) -> Read<(&str, &str)>
     ensures { Answers (entry_shape_checks place (view value.now))
         (λ found. (text m.Name (view value.now) ≡ Some found.0.now)
         × (text m.Bmi (view value.now) ≡ Some found.1.now)) result }
@@ -119,11 +111,7 @@ fn read_entry_texts<'v>(
 
 /// Returns whether the module is private.
 #[tactic(auto, unfolding(crate::specs::InfoChecks::visibility_check))]
-fn read_visibility(
-    with_visibility: bool,
-    place: Place,
-    value: &Value,
-) -> Result<bool, Failure<DocFault>>
+fn read_visibility(with_visibility: bool, place: Place, value: &Value) -> Read<bool>
     ensures { Answers (visibility_check with_visibility place (view value.now))
         (λ is_private. privacy with_visibility (view value.now) ≡ Some is_private) result }
 {
@@ -143,7 +131,7 @@ fn read_requirement(
     names: &mut SharedNames,
     place: Place,
     value: &Value,
-) -> Result<(Name, Path), Failure<DocFault>>
+) -> Read<(Name, Path)>
     ensures { Answers (requirement_checks place (view value.now))
         (IsRequirement (view value.now)) result }
 {
@@ -158,7 +146,7 @@ fn read_named_file(
     names: &mut SharedNames,
     place: Place,
     texts: (&str, &str),
-) -> Result<(Name, Path), Failure<DocFault>>
+) -> Read<(Name, Path)>
     ensures { Answers (named_file_checks place texts.entry.0.now texts.entry.1.now)
         (λ pair. (pair.0 ≡ texts.entry.0.now) × (path_of texts.entry.1.now ≡ Ok pair.1)
         × IsText pair.1) result }
@@ -167,4 +155,180 @@ fn read_named_file(
     let name = read_name(alloc, names, name, place)?;
     let file = path_at(place, Path::of(alloc, path.as_bytes()))?;
     Ok((name, file))
+}
+
+/// A module of a [`LentInfo`].
+#[derive(Drop)]
+pub struct LentModule<'a> {
+    pub name: &'a Name,
+    pub file: &'a Path,
+    pub required: &'a [(Name, Path)],
+    pub is_private: bool,
+}
+
+impl<'a> Model for LentModule<'a> {
+    ghost use Rattle.scan_docs.specs.Prelude.{ModuleValue};
+
+    ghost Value = { ModuleValue };
+
+    ghost view = { λ v. record {
+      name = v.name.now;
+      file = v.file.now;
+      required = v.required.now;
+      is_private = v.is_private;
+    } };
+}
+
+/// An [`Info`] whose parts are borrowed, so that it is written without a copy of them.
+#[derive(Drop)]
+pub struct LentInfo<'a> {
+    pub target: &'a TargetName,
+    pub modules: Vec<LentModule<'a>>,
+}
+
+impl<'a> Model for LentInfo<'a> {
+    ghost use Rattle.scan_docs.specs.Prelude.{InfoValue};
+
+    ghost Value = { InfoValue };
+
+    ghost view = { λ i. record { target = i.target.now; modules = i.modules.items } };
+}
+
+impl LentInfo<'_> {
+    /// Returns the same info with parts of its own, or an error if an allocation fails.
+    pub fn to_info(&self, alloc: Global) -> Result<Info, AllocError>
+        ensures { IfOk result (λ info. info ≡ self.now) }
+    {
+        let mut modules = Vec::with_capacity(alloc, self.modules.len())?;
+        for entry in &self.modules {
+            modules.push(InfoModule {
+                name: entry.name.copy(alloc)?,
+                file: entry.file.copy(alloc)?,
+                required: entry.required.to_vec(alloc)?,
+                is_private: entry.is_private,
+            })?;
+        }
+        let target = self.target.copy(alloc)?;
+        Ok(Info { target, modules })
+    }
+}
+
+/// Returns the info as a document of version 2: compact JSON with keys in byte order, and without a
+/// line end. Returns an error if an allocation fails.
+///
+/// The document is read as the same info, unless it has more than 16,777,216 bytes: then reading it
+/// fails with S8. Each path has to be UTF-8, as the paths of a document are.
+pub fn info_write(alloc: Global, info: &Info) -> Result<Vec<u8>, AllocError>
+    requires { IsInfoText info.now }
+    ensures text { IfOk result (λ text. text.items ≡ info_text info.now) }
+    ensures reads_back { IfOk result (λ text. ReadsBack info.now text.items) }
+{
+    let mut modules = Vec::with_capacity(alloc, info.modules.len())?;
+    for entry in &info.modules {
+        modules.push(LentModule {
+            name: &entry.name,
+            file: &entry.file,
+            required: &entry.required,
+            is_private: entry.is_private,
+        })?;
+    }
+    let target = &info.target;
+    lent_info_write(alloc, &LentInfo { target, modules })
+}
+
+/// Returns the document that [`info_write`] returns for the same info, or an error if an allocation
+/// fails.
+pub fn lent_info_write(alloc: Global, info: &LentInfo<'_>) -> Result<Vec<u8>, AllocError>
+    requires { IsInfoText info.now }
+    ensures text { IfOk result (λ text. text.items ≡ info_text info.now) }
+    ensures reads_back { IfOk result (λ text. ReadsBack info.now text.items) }
+{
+    serde_json::to_vec(alloc, &InfoDocument { info }).map_err(|_| AllocError)
+}
+
+/// The document of an info whose paths are UTF-8.
+#[derive(Drop)]
+struct InfoDocument<'a> {
+    info: &'a LentInfo<'a>,
+}
+
+impl<'a> Model for InfoDocument<'a> {
+    ghost use Rattle.scan_docs.specs.Prelude.{InfoValue, IsInfoText};
+
+    ghost Value = { InfoValue };
+
+    ghost view = { λ d. d.info.now };
+
+    ghost invariant = { λ d. IsInfoText d.info.now };
+}
+
+impl Described for InfoDocument<'_> {
+    ghost writes = { λ d old new. SendsValue (info_tree d) old new × IsSoundInfo d };
+}
+
+impl Serialize for InfoDocument<'_> {
+    fn serialize<S: Serializer>(&self, out: &mut S) -> Result<(), S::Error> {
+        let info = self.info;
+        let modules = info.modules.as_slice();
+        out.begin_map(Some(3))?;
+        out.key("modules")?;
+        out.begin_seq(Some(modules.len()))?;
+        for entry in modules {
+            send_module(out, entry)?;
+        }
+        out.end_seq()?;
+        send_text(out, "target", info.target.text())?;
+        out.key("version")?;
+        out.u64(2)?;
+        out.end_map()
+    }
+}
+
+fn send_module<S: Serializer>(out: &mut S, entry: &LentModule<'_>) -> Result<(), S::Error>
+    requires { IsModuleText entry.now }
+    ensures sent { OnOk result
+        (SendsValue (module_tree entry.now) (S.written out.old) (S.written out.new)) }
+    ensures sound { OnOk result (IsSoundModule entry.now) }
+{
+    begin_named_file(out, 4, entry.name, entry.file)?;
+    let required = entry.required;
+    out.key("requires")?;
+    out.begin_seq(Some(required.len()))?;
+    for pair in required {
+        begin_named_file(out, 2, &pair.0, &pair.1)?;
+        out.end_map()?;
+    }
+    out.end_seq()?;
+    let is_private = entry.is_private;
+    let visibility = if is_private { "private" } else { "public" };
+    send_text(out, "visibility", visibility)?;
+    out.end_map()
+}
+
+/// Begins an object with the members that a module and a requirement have in common.
+fn begin_named_file<S: Serializer>(
+    out: &mut S,
+    members: usize,
+    name: &Name,
+    file: &Path,
+) -> Result<(), S::Error>
+    requires { IsText file.now }
+    ensures sent { OnOk result
+        (BeginsNamedFile members name.now file.now (S.written out.old) (S.written out.new)) }
+    ensures sound { OnOk result (IsSoundPair name.now file.now) }
+{
+    out.begin_map(Some(members))?;
+    let Ok(path) = std::str::from_utf8(file.bytes()) else {
+        unreachable!();
+    };
+    send_text(out, "bmi", path)?;
+    send_text(out, "name", name.text())
+}
+
+/// Sends a member that is a string.
+fn send_text<S: Serializer>(out: &mut S, key: &str, text: &str) -> Result<(), S::Error>
+    ensures { OnOk result (SendsText key.now text.now (S.written out.old) (S.written out.new)) }
+{
+    out.key(key)?;
+    out.str(text)
 }

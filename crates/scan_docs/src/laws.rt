@@ -1,21 +1,12 @@
 //! Laws of documents, for callers' proofs: each is the contract of a function that does nothing.
-ghost use Rattle.std.specs.Prelude.{◌≡◌, List, true, IsUtf8};
-ghost use Rattle.ninja_text.specs.Bytes.{Bytes};
-ghost use Rattle.document_values.specs.Name.{is_target_name};
-ghost use Rattle.scan_docs.specs.Document.{IsAccepted, HasOneAnswer};
-ghost use Rattle.scan_docs.specs.Scan.{SettingValue, AreRules};
-ghost use Rattle.document_values.specs.Rule.{RuleValue};
-ghost use Rattle.scan_docs.specs.ScanChecks.{scan_checks};
-ghost use Rattle.scan_docs.specs.Info.{IsInfo};
-ghost use Rattle.document_values.specs.Info.{InfoValue};
-ghost use Rattle.scan_docs.specs.InfoText.{info_text, ReadsBack};
-ghost use Rattle.scan_docs.specs.Sound.{IsSoundInfo};
-ghost use Rattle.scan_docs.specs.InfoChecks.{info_checks};
-ghost use Rattle.scan_docs.specs.Target.{TargetDocumentValue, IsTarget};
-ghost use Rattle.scan_docs.specs.TargetChecks.{target_checks};
-ghost use Rattle.scan_docs.specs.Project.{ProjectValue, IsProject};
-ghost use Rattle.scan_docs.specs.ProjectChecks.{project_checks};
-ghost use Rattle.scan_docs.specs.Values.{rules_of, info_of, spec_of, project_of};
+
+ghost use Rattle.std.specs.Prelude.{◌≡◌, true, List, IsUtf8};
+ghost use Rattle.scan_docs.specs.Prelude.{Bytes, IsAccepted, HasOneAnswer, SettingValue, RuleValue};
+ghost use Rattle.scan_docs.specs.Prelude.{scan_checks, AreRules, rules_of, InfoValue, info_checks};
+ghost use Rattle.scan_docs.specs.Prelude.{IsInfo, info_of, IsSoundInfo, info_text, ReadsBack};
+ghost use Rattle.scan_docs.specs.Prelude.{is_target_name, ProjectValue, project_checks, IsProject};
+ghost use Rattle.scan_docs.specs.Prelude.{project_of, target_checks, TargetDocumentValue, IsTarget};
+ghost use Rattle.scan_docs.specs.Prelude.{spec_of};
 
 use document_values::TargetName;
 

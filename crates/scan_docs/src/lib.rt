@@ -10,20 +10,17 @@
 //!   function of the bytes. The types of rules, of what an info file has, and of names are those of
 //!   the crate `document_values`.
 //! - [`scan_with`] does what [`scan`] does for a [`ReducedSetting`], which reduces the directory
-//!   and the ending of module files once for all scan documents of a target. `placing` reduces the
-//!   work directory of a rule once for all paths of the rule.
-//! - `document` makes a tree of a document's bytes by `serde_json` and reads its version, and
-//!   `shape` returns members of the tree that have a type. The names of a scan document or an info
-//!   document share one string (`SharedNames`), which is collected from the tree first.
-//!   The tree is dropped once the value is made.
+//!   and the ending of module files once for all scan documents of a target. The work directory of
+//!   a rule is reduced once for all paths of the rule.
+//! - `shape` makes a tree of a document's bytes by `serde_json`, and returns members of the tree
+//!   that have a type. The names of a scan document or an info document share one string
+//!   (`SharedNames`), which is collected from the tree first. The tree is dropped at the end.
 //! - [`info_write`] returns the one text of an info (`specs/InfoText.antt`), and
 //!   [`lent_info_write`] does so for an info whose parts are borrowed. The text is read as the same
 //!   info, which `proofs/InfoTexts.antt` proves over what `serde_json` says a text is read as.
 //! - [`laws`] proves that all bytes have one result at most, that the value of an accepted document
 //!   is the value of the function, and that the text of every sound info (`specs/Sound.antt`) is
 //!   read as that info.
-//! - [`DocFault`], [`Place`] and [`Member`] print themselves (`specs/FaultTexts.antt`,
-//!   `specs/Place.antt`, `specs/Member.antt`).
 //!
 //! `must-fail/` has a wrong body for each public function with these exceptions. Laws have no body.
 //! [`LentInfo::to_info`] returns its view, which its clause names. [`Member::key`] and the texts of
@@ -32,25 +29,20 @@
 //! `first_module_written_for_each` shows the clauses of both functions that write an info file.
 #![tactic(auto)]
 
-mod document;
 mod fault;
 mod info;
-mod info_text;
 pub mod laws;
 mod map_form;
 mod member;
-mod placing;
 mod scan_document;
 mod shape;
 mod target_document;
 
-pub use document::DOCUMENT_LIMIT;
 pub use document_values::{Info, InfoModule, Name, Rule, TargetName};
 pub use fault::{DocFault, Place};
-pub use info::info_read;
-pub use info_text::{LentInfo, LentModule, info_write, lent_info_write};
+pub use info::{LentInfo, LentModule, info_read, info_write, lent_info_write};
 pub use map_form::MapForm;
 pub use member::Member;
-pub use placing::ReducedSetting;
-pub use scan_document::{COUNT_LIMIT, scan, scan_with};
+pub use scan_document::{COUNT_LIMIT, ReducedSetting, scan, scan_with};
+pub use shape::DOCUMENT_LIMIT;
 pub use target_document::{ProjectSpec, Setting, TargetSpec, project_read, spec_read};

@@ -1,6 +1,7 @@
 //! The members of the documents.
 
 ghost use Rattle.std.specs.Prelude.{◌≡◌};
+ghost use Rattle.scan_docs.specs.Prelude.{key};
 
 use std::fmt;
 
@@ -42,8 +43,6 @@ pub enum Member {
 }
 
 impl Member {
-    ghost use Rattle.scan_docs.specs.Member.{key};
-
     /// Returns the member's key in a document, or a name for a value that is no member.
     #[tactic(auto, unfolding(crate::specs::Member::key))]
     pub fn key(self) -> &'static str
@@ -86,8 +85,7 @@ impl Member {
 }
 
 impl fmt::Display for Member {
-    ghost use Rattle.std.specs.Prelude.{Some};
-    ghost use Rattle.scan_docs.specs.Member.{key};
+    ghost use Rattle.scan_docs.specs.Prelude.{Some, key};
 
     ghost output = { λ member. Some (key member) };
 

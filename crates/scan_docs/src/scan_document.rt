@@ -1,26 +1,22 @@
-//! Scan documents (P1689R5).
+//! Scan documents (P1689R5), and the paths of the files of their rules and modules.
 
-ghost use Rattle.std.specs.Prelude.{◌≡◌, map, Some, Ok, IfOk, IfErr, IsUtf8, option_copied, ◌||◌};
-ghost use Rattle.std.specs.List.{All, AllZip};
-ghost use Rattle.ninja_text.specs.Failure.{ForFault};
-ghost use Rattle.ninja_text.specs.Paths.{placed};
-ghost use Rattle.serde_json.specs.View.{view};
-ghost use Rattle.scan_docs.specs.inner.Reading.{Answers, AnswersPath};
-ghost use Rattle.scan_docs.specs.Document.{IsAccepted, IsRefused, HasOneAnswer};
-ghost use Rattle.scan_docs.specs.Scan.{AreRules, IsRuleText, made_file, IsProvidedModule, IsRequired, IsRule};
-ghost use Rattle.scan_docs.specs.ScanChecks.{scan_checks, provided_checks, all_provided_checks, required_checks, all_required_checks, rule_checks};
-ghost use Rattle.scan_docs.specs.Values.{rules_of};
+ghost use Rattle.std.specs.Prelude.{◌≡◌, ◌||◌, true, Some, IfOk, IfErr, map, option_copied, All};
+ghost use Rattle.scan_docs.specs.Prelude.{AllZip, ForFault, placed, view, is_name, rules_of};
+ghost use Rattle.scan_docs.specs.Prelude.{IsAccepted, IsRefused, HasOneAnswer, AnswersPath};
+ghost use Rattle.scan_docs.specs.Prelude.{Answers, AreRules, IsRule, IsRuleText, IsProvidedModule};
+ghost use Rattle.scan_docs.specs.Prelude.{IsRequired, dashed, made_file, scan_checks, rule_checks};
+ghost use Rattle.scan_docs.specs.Prelude.{all_provided_checks, provided_checks};
+ghost use Rattle.scan_docs.specs.Prelude.{all_required_checks, required_checks};
 
-use crate::document::{read_tree, read_version};
-use crate::fault::{DocFault, Place, bad_shape, read_name};
+use crate::fault::{DocFault, Place, Read, bad_shape, path_at, read_name};
 use crate::member::Member;
-use crate::placing::{ReducedSetting, RuleDirectory};
-use crate::shape;
+use crate::shape::{self, read_tree, read_version};
 use crate::target_document::Setting;
 use document_values::{Name, Rule, SharedNames};
-use ninja_text::{Failure, Path};
+use ninja_text::{Failure, NameEnding, Path, WorkDirectory, place};
 use serde_json::Value;
 use std::alloc::{AllocError, Global};
+use std::marker::Model;
 
 /// The maximum number of rules in a document, and of entries in each list of a rule.
 pub const COUNT_LIMIT: usize = 65536;
@@ -36,8 +32,7 @@ pub const COUNT_LIMIT: usize = 65536;
 ///
 /// Returns the fault of the first check that fails, or [`Failure::Memory`] if an allocation fails.
 pub fn scan(alloc: Global, bytes: &[u8], setting: &Setting) -> Result<Vec<Rule>, Failure<DocFault>>
-    ensures accepted { IfOk result
-        (λ rules.
+    ensures accepted { IfOk result (λ rules.
         IsAccepted (scan_checks setting.now) (AreRules setting.now) bytes.now rules.items) }
     ensures refused { IfErr result (ForFault (IsRefused (scan_checks setting.now) bytes.now)) }
     ensures value { IfOk result (λ rules. rules.items ≡ rules_of setting.now bytes.now) }
@@ -48,18 +43,14 @@ pub fn scan(alloc: Global, bytes: &[u8], setting: &Setting) -> Result<Vec<Rule>,
     scan_with(alloc, bytes, &setting)
 }
 
-/// Does what [`scan`] does, for a setting that is reduced once for all scan documents of a target.
-///
-/// # Errors
-///
-/// Those of [`scan`].
+/// Does what [`scan`] does, with its errors, for a setting that is reduced once for all scan
+/// documents of a target.
 pub fn scan_with(
     alloc: Global,
     bytes: &[u8],
     setting: &ReducedSetting,
 ) -> Result<Vec<Rule>, Failure<DocFault>>
-    ensures accepted { IfOk result
-        (λ rules.
+    ensures accepted { IfOk result (λ rules.
         IsAccepted (scan_checks setting.now) (AreRules setting.now) bytes.now rules.items) }
     ensures refused { IfErr result (ForFault (IsRefused (scan_checks setting.now) bytes.now)) }
     ensures value { IfOk result (λ rules. rules.items ≡ rules_of setting.now bytes.now) }
@@ -71,11 +62,7 @@ pub fn scan_with(
 }
 
 #[tactic(auto, unfolding(crate::specs::ScanChecks::scan_checks), using(crate::proofs::Each::both))]
-fn read_rules(
-    alloc: Global,
-    setting: &ReducedSetting,
-    tree: &Value,
-) -> Result<Vec<Rule>, Failure<DocFault>>
+fn read_rules(alloc: Global, setting: &ReducedSetting, tree: &Value) -> Read<Vec<Rule>>
     ensures { Answers (scan_checks setting.now (view tree.now))
         (λ rules. AreRules setting.now (view tree.now) rules.items) result }
 {
@@ -111,7 +98,7 @@ fn read_rule(
     setting: &ReducedSetting,
     index: usize,
     rule: &Value,
-) -> Result<Rule, Failure<DocFault>>
+) -> Read<Rule>
     ensures { Answers (rule_checks setting.now index (view rule.now))
         (IsRule setting.now (view rule.now)) result }
 {
@@ -146,9 +133,8 @@ fn read_all_provided(
     work: &RuleDirectory,
     rule: usize,
     entries: &[Value],
-) -> Result<Vec<(Name, Path)>, Failure<DocFault>>
-    ensures { Answers
-        (all_provided_checks setting.now work.now rule (map view entries.now))
+) -> Read<Vec<(Name, Path)>>
+    ensures { Answers (all_provided_checks setting.now work.now rule (map view entries.now))
         (λ found. AllZip (IsProvidedModule setting.now work.now)
         (map view entries.now) found.items) result }
 {
@@ -169,9 +155,8 @@ fn read_provided(
     work: &RuleDirectory,
     place: Place,
     entry: &Value,
-) -> Result<(Name, Path), Failure<DocFault>>
-    ensures { Answers
-        (provided_checks setting.now work.now place (view entry.now))
+) -> Read<(Name, Path)>
+    ensures { Answers (provided_checks setting.now work.now place (view entry.now))
         (IsProvidedModule setting.now work.now (view entry.now)) result }
 {
     shape::check_object(entry, Member::Entry, place)?;
@@ -183,11 +168,10 @@ fn read_provided(
         return Err(Failure::Fault(DocFault::HeaderUnit { place }));
     }
     let name = read_name(alloc, names, text, place)?;
-    if let Some(path) = path {
-        let file = work.place(alloc, setting, path, place)?;
-        return Ok((name, file));
-    }
-    let file = setting.module_file(alloc, text, place)?;
+    let file = match path {
+        Some(path) => work.place(alloc, setting, path, place)?,
+        None => setting.module_file(alloc, text, place)?,
+    };
     Ok((name, file))
 }
 
@@ -197,7 +181,7 @@ fn read_all_required(
     names: &mut SharedNames,
     rule: usize,
     entries: &[Value],
-) -> Result<Vec<Name>, Failure<DocFault>>
+) -> Read<Vec<Name>>
     ensures { Answers (all_required_checks rule (map view entries.now))
         (λ found. AllZip IsRequired (map view entries.now) found.items) result }
 {
@@ -211,28 +195,127 @@ fn read_all_required(
 }
 
 #[tactic(auto, unfolding(crate::specs::ScanChecks::required_checks))]
-fn read_required(
-    alloc: Global,
-    names: &mut SharedNames,
-    place: Place,
-    entry: &Value,
-) -> Result<Name, Failure<DocFault>>
+fn read_required(alloc: Global, names: &mut SharedNames, place: Place, entry: &Value) -> Read<Name>
     ensures { Answers (required_checks place (view entry.now))
         (λ name. IsRequired (view entry.now) name) result }
 {
     shape::check_object(entry, Member::Entry, place)?;
     let name = shape::required_text(entry, Member::LogicalName, place)?;
     let unique = shape::flag(entry, Member::UniqueOnSourcePath, place)?;
-    let header = match shape::given(entry, Member::LookupMethod) {
-        None => false,
-        Some(method) => match method.as_str() {
-            Some("by-name") => false,
-            Some("include-angle" | "include-quote") => true,
-            _ => return Err(bad_shape(place, Member::LookupMethod)),
-        },
+    let header = match shape::given(entry, Member::LookupMethod).map(Value::as_str) {
+        None | Some(Some("by-name")) => false,
+        Some(Some("include-angle" | "include-quote")) => true,
+        _ => return Err(bad_shape(place, Member::LookupMethod)),
     };
     if unique == Some(true) || header {
         return Err(Failure::Fault(DocFault::HeaderUnit { place }));
     }
     read_name(alloc, names, name, place)
+}
+
+/// A setting whose directory and ending are reduced once, for all scan documents of a target. The
+/// path of a module's file then costs no more for a long directory or ending than for a short one.
+///
+/// The view is the setting.
+#[derive(Drop)]
+pub struct ReducedSetting<'s> {
+    setting: &'s Setting,
+    directory: WorkDirectory<'s>,
+    ending: NameEnding<'s>,
+}
+
+impl<'s> Model for ReducedSetting<'s> {
+    ghost use Rattle.std.specs.Prelude.{◌≡◌, IsUtf8};
+    ghost use Rattle.scan_docs.specs.Prelude.{SettingValue};
+
+    ghost Value = { SettingValue };
+
+    ghost view = { λ s. s.setting.now };
+
+    ghost invariant = { λ s.
+        (s.directory ≡ s.setting.now.module_dir) × (s.ending ≡ s.setting.now.module_ext)
+        × IsUtf8 s.setting.now.module_dir × IsUtf8 s.setting.now.module_ext };
+}
+
+impl<'s> ReducedSetting<'s> {
+    /// Reduces the directory and the ending of a setting. Returns an error if an allocation fails.
+    pub fn of(alloc: Global, setting: &'s Setting) -> Result<ReducedSetting<'s>, AllocError>
+        ensures { IfOk result (λ reduced. reduced ≡ setting.now) }
+    {
+        let directory = WorkDirectory::of(alloc, setting.module_dir.as_str().as_bytes())?;
+        let ending = NameEnding::of(alloc, setting.module_ext.as_str().as_bytes())?;
+        Ok(ReducedSetting {
+            setting,
+            directory,
+            ending,
+        })
+    }
+
+    /// Returns the path of a module's BMI if the document names none.
+    fn module_file(&self, alloc: Global, name: &str, at: Place) -> Read<Path>
+        requires { is_name name.now ≡ true }
+        ensures { AnswersPath at
+            (placed None self.now.build_dir (made_file self.now name.now)) result }
+    {
+        let setting = self.setting;
+        let build = setting.build_dir.as_ref();
+        let name = dashed(alloc, name)?;
+        let directory = &self.directory;
+        let file = directory.place_named(alloc, build, &name, &self.ending);
+        path_at(at, file)
+    }
+}
+
+/// Returns the string with `-` for each `:`.
+fn dashed(alloc: Global, text: &str) -> Result<Vec<u8>, AllocError>
+    ensures { IfOk result (λ path. path.items ≡ map dashed text.now) }
+{
+    let mut path = Vec::with_capacity(alloc, text.len())?;
+    for byte in text.as_bytes() {
+        path.push(if *byte == b':' { b'-' } else { *byte })?;
+    }
+    Ok(path)
+}
+
+/// The work directory of a rule, if it has one, reduced once for all paths of the rule.
+#[derive(Drop)]
+struct RuleDirectory<'t> {
+    directory: Option<WorkDirectory<'t>>,
+}
+
+impl<'t> Model for RuleDirectory<'t> {
+    ghost use Rattle.scan_docs.specs.Prelude.{Option, IsUtf8, ForSome, PathText};
+
+    ghost Value = { Option PathText };
+
+    ghost view = { λ d. d.directory };
+
+    ghost invariant = { λ d. ForSome d.directory IsUtf8 };
+}
+
+impl<'t> RuleDirectory<'t> {
+    /// Reduces the work directory of a rule.
+    fn of(alloc: Global, work: Option<&'t str>) -> Result<RuleDirectory<'t>, AllocError>
+        ensures { IfOk result (λ directory. directory ≡ option_copied work.entry) }
+    {
+        let directory = match work {
+            Some(work) => Some(WorkDirectory::of(alloc, work.as_bytes())?),
+            None => None,
+        };
+        Ok(RuleDirectory { directory })
+    }
+
+    /// Returns the canonical path of a path of the rule.
+    fn place(&self, alloc: Global, setting: &ReducedSetting, path: &str, at: Place) -> Read<Path>
+        ensures { AnswersPath at (placed self.now setting.now.build_dir path.now) result }
+    {
+        let setting = setting.setting;
+        let build = setting.build_dir.as_ref();
+        let path = path.as_bytes();
+        let file = match &self.directory {
+            Some(directory) => directory.place(alloc, build, path),
+            None => place(alloc, None, build, path),
+        };
+        path_at(at, file)
+    }
 }

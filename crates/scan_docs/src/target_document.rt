@@ -1,24 +1,17 @@
 //! Target documents, and project documents, which list them.
 
-ghost use Rattle.std.specs.Prelude.{◌≡◌, Some, None, Ok, IfOk, IfErr, map, string_bytes, option_map};
-ghost use Rattle.ninja_text.specs.Failure.{ForFault};
-ghost use Rattle.ninja_text.specs.Paths.{placed};
-ghost use Rattle.serde_json.specs.View.{view};
-ghost use Rattle.scan_docs.specs.inner.Reading.{Answers};
-ghost use Rattle.scan_docs.specs.Document.{IsAccepted, IsRefused, HasOneAnswer};
-ghost use Rattle.scan_docs.specs.Shape.{text, texts_of};
-ghost use Rattle.scan_docs.specs.Project.{IsProject};
-ghost use Rattle.scan_docs.specs.ProjectChecks.{project_checks};
-ghost use Rattle.scan_docs.specs.Target.{IsTarget, build_dir, map_form, restat};
-ghost use Rattle.scan_docs.specs.TargetChecks.{name_checks, directory_checks, kept_checks, dyndep_checks, file_checks, target_checks};
-ghost use Rattle.scan_docs.specs.Values.{spec_of, project_of};
+ghost use Rattle.std.specs.Prelude.{◌≡◌, Some, None, Ok, IfOk, IfErr, string_bytes, option_map};
+ghost use Rattle.scan_docs.specs.Prelude.{view, ForFault, placed, text, texts_of, Answers};
+ghost use Rattle.scan_docs.specs.Prelude.{IsAccepted, IsRefused, HasOneAnswer, IsTarget};
+ghost use Rattle.scan_docs.specs.Prelude.{target_checks, name_checks, directory_checks};
+ghost use Rattle.scan_docs.specs.Prelude.{kept_checks, dyndep_checks, file_checks, build_dir};
+ghost use Rattle.scan_docs.specs.Prelude.{map_form, spec_of, IsProject, project_checks, project_of};
 ghost use Rattle.scan_docs.specs.declared.member.Member.TheVariants as m;
 
-use crate::document::{read_tree, read_version};
-use crate::fault::{DocFault, Place, bad_shape, path_at};
+use crate::fault::{DocFault, Place, Read, bad_shape, path_at};
 use crate::map_form::MapForm;
 use crate::member::Member;
-use crate::shape;
+use crate::shape::{self, read_tree, read_version};
 use document_values::{Name, TargetName};
 use ninja_text::{Failure, Path, place};
 use serde_json::Value;
@@ -48,9 +41,7 @@ impl Drop for Setting {
 
 impl Model for Setting {
     ghost use Rattle.std.specs.Prelude.{◌≡◌, true, string_bytes};
-    ghost use Rattle.std.specs.Option.{ForSome};
-    ghost use Rattle.ninja_text.specs.Paths.{is_rooted};
-    ghost use Rattle.scan_docs.specs.Scan.{SettingValue};
+    ghost use Rattle.scan_docs.specs.Prelude.{ForSome, is_rooted, SettingValue};
 
     ghost Value = { SettingValue };
 
@@ -91,16 +82,15 @@ pub struct TargetSpec {
 }
 
 impl Model for TargetSpec {
-    ghost use Rattle.std.specs.Prelude.{map, option_map, string_bytes};
-    ghost use Rattle.scan_docs.specs.Target.{TargetDocumentValue};
+    ghost use Rattle.scan_docs.specs.Prelude.{map, option_map, string_bytes, TargetDocumentValue};
 
     ghost Value = { TargetDocumentValue };
 
     ghost view = { λ t. record {
       target = t.target;
       setting = t.setting;
-      scans = Rattle.std.specs.Prelude.map string_bytes t.scans.items;
-      linked = Rattle.std.specs.Prelude.map string_bytes t.linked.items;
+      scans = Rattle.scan_docs.specs.Prelude.map string_bytes t.scans.items;
+      linked = Rattle.scan_docs.specs.Prelude.map string_bytes t.linked.items;
       kept = t.kept.items;
       dyndep = string_bytes t.dyndep;
       dyndep_path = t.dyndep_path;
@@ -126,24 +116,21 @@ pub fn spec_read(alloc: Global, bytes: &[u8]) -> Result<TargetSpec, Failure<DocF
     read_spec(alloc, &tree)
 }
 
-#[tactic(auto, unfolding(crate::specs::TargetChecks::target_checks), using(crate::proofs::Each::both))]
-fn read_spec(alloc: Global, tree: &Value) -> Result<TargetSpec, Failure<DocFault>>
+#[tactic(auto, using(crate::proofs::Exact::target_parts))]
+fn read_spec(alloc: Global, tree: &Value) -> Read<TargetSpec>
     ensures { Answers (target_checks (view tree.now))
         (λ spec. IsTarget (view tree.now) spec) result }
 {
+    let place = Place::Document;
     read_version(tree, &[1])?;
     let target = read_target_name(alloc, tree)?;
     let setting = read_setting(alloc, tree)?;
-    let scans = shape::texts(alloc, tree, Member::Scans, Place::Document)?;
-    let linked = shape::texts(alloc, tree, Member::Linked, Place::Document)?;
+    let scans = shape::texts(alloc, tree, Member::Scans, place)?;
+    let linked = shape::texts(alloc, tree, Member::Linked, place)?;
     let kept = read_kept(alloc, tree)?;
     let (dyndep, dyndep_path) = read_dyndep(alloc, &setting, tree)?;
-    let OtherFiles {
-        info,
-        map,
-        edges,
-        restat,
-    } = read_other_files(alloc, tree)?;
+    let (info, map, edges) = read_files(alloc, tree)?;
+    let restat = shape::given(tree, Member::Restat).and_then(Value::as_bool);
     Ok(TargetSpec {
         target,
         setting,
@@ -155,13 +142,13 @@ fn read_spec(alloc: Global, tree: &Value) -> Result<TargetSpec, Failure<DocFault
         info,
         map,
         edges,
-        restat,
+        restat: restat.unwrap_or(false),
     })
 }
 
 /// Returns the target's name, in a target document or an info document.
 #[tactic(auto, unfolding(crate::specs::TargetChecks::name_checks))]
-pub(crate) fn read_target_name(alloc: Global, tree: &Value) -> Result<TargetName, Failure<DocFault>>
+pub(crate) fn read_target_name(alloc: Global, tree: &Value) -> Read<TargetName>
     ensures { Answers (name_checks (view tree.now))
         (λ name. text m.Target (view tree.now) ≡ Some name) result }
 {
@@ -171,7 +158,7 @@ pub(crate) fn read_target_name(alloc: Global, tree: &Value) -> Result<TargetName
 }
 
 #[tactic(auto, unfolding(crate::specs::TargetChecks::directory_checks))]
-fn read_setting(alloc: Global, tree: &Value) -> Result<Setting, Failure<DocFault>>
+fn read_setting(alloc: Global, tree: &Value) -> Read<Setting>
     ensures { Answers (directory_checks (view tree.now))
         (λ setting. (text m.ModuleDir (view tree.now) ≡ Some setting.module_dir)
         × (text m.ModuleExt (view tree.now) ≡ Some setting.module_ext)
@@ -197,7 +184,7 @@ fn read_setting(alloc: Global, tree: &Value) -> Result<Setting, Failure<DocFault
 
 /// Returns the names of the modules that the target keeps to itself.
 #[tactic(auto, unfolding(crate::specs::TargetChecks::kept_checks))]
-fn read_kept(alloc: Global, tree: &Value) -> Result<Vec<Name>, Failure<DocFault>>
+fn read_kept(alloc: Global, tree: &Value) -> Read<Vec<Name>>
     ensures { Answers (kept_checks (view tree.now))
         (λ kept. texts_of m.Private (view tree.now) ≡ kept.items) result }
 {
@@ -215,11 +202,7 @@ fn read_kept(alloc: Global, tree: &Value) -> Result<Vec<Name>, Failure<DocFault>
 
 /// Returns the dyndep file, and its path as Ninja sees it.
 #[tactic(auto, unfolding(crate::specs::TargetChecks::dyndep_checks))]
-fn read_dyndep(
-    alloc: Global,
-    setting: &Setting,
-    tree: &Value,
-) -> Result<(String, Path), Failure<DocFault>>
+fn read_dyndep(alloc: Global, setting: &Setting, tree: &Value) -> Read<(String, Path)>
     requires { build_dir (view tree.now) ≡ setting.now.build_dir }
     ensures { Answers (dyndep_checks (view tree.now))
         (λ found. (text m.Dyndep (view tree.now) ≡ Some (string_bytes found.0))
@@ -232,49 +215,30 @@ fn read_dyndep(
     Ok((dyndep, path))
 }
 
-/// The files besides the dyndep file, the form of the maps, and whether statements have `restat`.
-#[derive(Drop)]
-struct OtherFiles {
-    info: String,
-    map: Option<MapForm>,
-    edges: Option<String>,
-    restat: bool,
-}
-
-/// Returns the members `info`, `map`, `edges` and `restat`.
+/// Returns the info file, the form of the maps, and the edge list.
 #[tactic(auto, unfolding(crate::specs::TargetChecks::file_checks))]
-fn read_other_files(alloc: Global, tree: &Value) -> Result<OtherFiles, Failure<DocFault>>
+fn read_files(alloc: Global, tree: &Value) -> Read<(String, Option<MapForm>, Option<String>)>
     ensures { Answers (file_checks (view tree.now))
-        (λ files. (text m.Info (view tree.now) ≡ Some (string_bytes files.info))
-        × (map_form (view tree.now) ≡ files.map)
-        × (text m.Edges (view tree.now) ≡ option_map string_bytes files.edges)
-        × (restat (view tree.now) ≡ files.restat)) result }
+        (λ files. (text m.Info (view tree.now) ≡ Some (string_bytes files.0))
+        × (map_form (view tree.now) ≡ files.1)
+        × (text m.Edges (view tree.now) ≡ option_map string_bytes files.2)) result }
 {
-    let info = shape::owned_text(alloc, tree, Member::Info, Place::Document)?;
+    let place = Place::Document;
+    let info = shape::owned_text(alloc, tree, Member::Info, place)?;
     if info.is_empty() {
-        return Err(bad_shape(Place::Document, Member::Info));
+        return Err(bad_shape(place, Member::Info));
     }
-    let map = match shape::given(tree, Member::Map) {
+    let map = match shape::given(tree, Member::Map).map(Value::as_str) {
         None => None,
-        Some(value) => match value.as_str() {
-            Some("gcc") => Some(MapForm::Gcc),
-            Some("clang") => Some(MapForm::Clang),
-            _ => return Err(bad_shape(Place::Document, Member::Map)),
-        },
+        Some(Some("gcc")) => Some(MapForm::Gcc),
+        Some(Some("clang")) => Some(MapForm::Clang),
+        _ => return Err(bad_shape(place, Member::Map)),
     };
-    let edges = match shape::text(tree, Member::Edges, Place::Document)? {
+    let edges = match shape::text(tree, Member::Edges, place)? {
         Some(edges) => Some(String::from_str(alloc, edges)?),
         None => None,
     };
-    let restat = shape::given(tree, Member::Restat)
-        .and_then(Value::as_bool)
-        .unwrap_or(false);
-    Ok(OtherFiles {
-        info,
-        map,
-        edges,
-        restat,
-    })
+    Ok((info, map, edges))
 }
 
 /// The member of a project document. Strings are as in the document.
@@ -285,8 +249,7 @@ pub struct ProjectSpec {
 }
 
 impl Model for ProjectSpec {
-    ghost use Rattle.std.specs.Prelude.{map, string_bytes};
-    ghost use Rattle.scan_docs.specs.Project.{ProjectValue};
+    ghost use Rattle.scan_docs.specs.Prelude.{map, string_bytes, ProjectValue};
 
     ghost Value = { ProjectValue };
 
@@ -312,7 +275,7 @@ pub fn project_read(alloc: Global, bytes: &[u8]) -> Result<ProjectSpec, Failure<
 }
 
 #[tactic(auto, using(crate::proofs::Each::both))]
-fn read_project(alloc: Global, tree: &Value) -> Result<ProjectSpec, Failure<DocFault>>
+fn read_project(alloc: Global, tree: &Value) -> Read<ProjectSpec>
     ensures { Answers (project_checks (view tree.now))
         (λ project. IsProject (view tree.now) project) result }
 {

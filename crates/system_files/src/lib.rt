@@ -102,17 +102,13 @@ fn write_whole<R: Files + AllocGlobal>(
     permissions: Option<Permissions>,
     bytes: &[u8],
 ) -> io::Result<()> {
-    let Some(mark) = mark else {
-        return fs::write(rt, name, bytes);
-    };
-    let Ok(new) = format!(in rt.alloc(); "{name}.{mark:016x}.tmp") else {
-        return fs::write(rt, name, bytes);
-    };
-    if replace(rt, name, new.as_str(), permissions, bytes)? {
-        Ok(())
-    } else {
-        fs::write(rt, name, bytes)
+    if let Some(mark) = mark
+        && let Ok(new) = format!(in rt.alloc(); "{name}.{mark:016x}.tmp")
+        && replace(rt, name, new.as_str(), permissions, bytes)?
+    {
+        return Ok(());
     }
+    fs::write(rt, name, bytes)
 }
 
 /// Writes the bytes to the file `new`, and renames it. Returns whether it could be made and

@@ -17,8 +17,8 @@ use Rattle.build_effect.specs.ListingGrammar.{bound}
 use Rattle.build_effect.specs.ListingSteps.{ListingValue}
 use Rattle.build_effect.specs.declared.fault.LineCause.{LineCause}
 use Rattle.build_effect.specs.declared.fault.LineCause.TheVariants.{Lexical, Form, BadPath}
-use Rattle.build_effect.specs.declared.listing.state.Binding.{Binding}
-use Rattle.build_effect.specs.declared.listing.state.Binding.TheVariants.{Closed, Open}
+use Rattle.build_effect.specs.declared.listing.Binding.{Binding}
+use Rattle.build_effect.specs.declared.listing.Binding.TheVariants.{Closed, Open}
 
 -- ---- the tokens of a build line
 

@@ -3,7 +3,6 @@ use Rattle.std.specs.Prelude.{◌≢◌, ◌≤◌, ℕ, List, [], length, map, 
 use Rattle.ninja_text.specs.Bytes.{Name}
 use Rattle.build_effect.specs.ListingLines.{EdgeTexts}
 use Rattle.build_effect.specs.declared.strings.Span.{Span}
-use Rattle.build_effect.specs.declared.listing.rows.ListEnds.{ListEnds}
 
 -- the bytes of a span
 abbrev pub text_of : List ℕ → Span → List ℕ
@@ -21,21 +20,23 @@ IsWithin text span = (span.start ≤ span.end) × (span.end ≤ length text)
 abbrev pub AreWithin : List ℕ → List Span → Type 0
 AreWithin text spans = All (IsWithin text) spans
 
--- the five lists of strings come one after another, and the first is not empty
-pub record AreEnds (strings : List (List ℕ)) (ends : ListEnds) : Type 0 where
-  pub some : slice_range strings 0 ends.outputs ≢ []
-  pub implicit_outputs : ends.outputs ≤ ends.implicit_outputs
-  pub inputs : ends.implicit_outputs ≤ ends.inputs
-  pub implicit_inputs : ends.inputs ≤ ends.implicit_inputs
-  pub order_only : ends.implicit_inputs ≤ length strings
+-- Five lists of strings come one after another. The first four end at these indexes, and the first
+-- is not empty.
+pub record AreEnds (strings : List (List ℕ)) (outputs implicit_outputs inputs implicit_inputs : ℕ)
+    : Type 0 where
+  pub some : slice_range strings 0 outputs ≢ []
+  pub after_outputs : outputs ≤ implicit_outputs
+  pub after_implicit_outputs : implicit_outputs ≤ inputs
+  pub after_inputs : inputs ≤ implicit_inputs
+  pub within : implicit_inputs ≤ length strings
 
 -- the build line with this rule and these lists
-abbrev pub edge_texts_of : Name → List (List ℕ) → ListEnds → EdgeTexts
-edge_texts_of rule strings ends = record {
+abbrev pub edge_texts_of : Name → List (List ℕ) → ℕ → ℕ → ℕ → ℕ → EdgeTexts
+edge_texts_of rule strings outputs implicit_outputs inputs implicit_inputs = record {
   rule = rule;
-  outputs = slice_range strings 0 ends.outputs;
-  implicit_outputs = slice_range strings ends.outputs ends.implicit_outputs;
-  inputs = slice_range strings ends.implicit_outputs ends.inputs;
-  implicit_inputs = slice_range strings ends.inputs ends.implicit_inputs;
-  order_only = slice_range strings ends.implicit_inputs (length strings);
+  outputs = slice_range strings 0 outputs;
+  implicit_outputs = slice_range strings outputs implicit_outputs;
+  inputs = slice_range strings implicit_outputs inputs;
+  implicit_inputs = slice_range strings inputs implicit_inputs;
+  order_only = slice_range strings implicit_inputs (length strings);
 }

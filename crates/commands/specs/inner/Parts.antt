@@ -2,10 +2,10 @@
 use Rattle.std.specs.Prelude.{ℕ, List, map, Vec}
 use Rattle.std.specs.Global.{Global}
 
--- the bytes of a file
+-- the items of a list
 abbrev pub bytes_of : Vec ℕ Global → List ℕ
 bytes_of file = file.items
 
--- the bytes of these files
-abbrev pub contents : Vec (Vec ℕ Global) Global → List (List ℕ)
-contents files = map (λ (file : Vec ℕ Global). file.items) files.items
+-- the bytes that each of these values has
+abbrev pub contents : {D : Type 0} → (D → List ℕ) → Vec D Global → List (List ℕ)
+contents bytes_in files = map bytes_in files.items

@@ -2,13 +2,9 @@
 use Rattle.std.specs.Prelude.{◌≡◌, ℕ, ◌<◌, List, [], length, slice_get, All, Option, Some, String, Vec}
 use Rattle.std.specs.BTreeMap.{BTreeMap, get_by_text}
 use Rattle.std.specs.Global.{Global}
-use Rattle.dep_order.specs.Numbers.{Numbers}
 use Rattle.collate_core.specs.declared.fault.RefusedTarget.{RefusedTarget}
 use Rattle.ninja_text.specs.Bytes.{Text}
-use Rattle.scan_docs.specs.Target as document
-use Rattle.commands.specs.Files.{TargetFilesValue, FilesOf}
-use Rattle.commands.specs.Outcomes.{Part, Done, ◌>>=◌}
-use Rattle.commands.specs.ProjectCommand.{ReadTargetValue, At, FormOf, LinksOf, names_at, target_text}
+use Rattle.commands.specs.ProjectCommand.{ReadTargetValue, names_at, target_text}
 use Rattle.commands.specs.inner.Refusals.{refusal_line}
 
 -- the index that a table has for an info file
@@ -19,10 +15,6 @@ writer_of writers info = get_by_text writers info
 abbrev pub LinkEarlier : List ReadTargetValue → Type 0
 LinkEarlier targets = (index : ℕ) (t : ReadTargetValue) → slice_get targets index ≡ Some t →
     All (λ k. k < index) t.linked
-
--- the links and the files of a target, as they are read
-abbrev pub linked_files : Vec ℕ Global × TargetFilesValue → Numbers × TargetFilesValue
-linked_files read = (read.0.items, read.1)
 
 -- there is a target of this index, which links some that are there
 abbrev pub IsReportable : List ReadTargetValue → ℕ → Type 0
@@ -35,13 +27,3 @@ abbrev pub ReportsAt : List ReadTargetValue → ℕ → RefusedTarget → Text �
 ReportsAt targets index refused text = (t : ReadTargetValue) → slice_get targets index ≡ Some t →
     text ≡ target_text index (refusal_line refused.objects.items (names_at targets t.linked)
     refused.refusal)
-
--- The indexes of the targets that a target document with these members links, if it may come after
--- these earlier ones, and the files that it names.
-abbrev pub LinksAndFiles : List ReadTargetValue → document.TargetDocumentValue
-    → Part (Numbers × TargetFilesValue)
-LinksAndFiles earlier spec = do
-  _ ← At (length earlier) (FormOf earlier spec)
-  linked ← At (length earlier) (LinksOf earlier spec.linked)
-  files ← FilesOf spec []
-  Done (linked, files)

@@ -1,13 +1,14 @@
 -- The calls of a `Folder` whose files are passed in memory.
 use Rattle.std.specs.Prelude.{List, [], ◌∷◌, false, Ok}
+use Rattle.std.specs.Cow.{cow_slice_items}
 use Rattle.commands.specs.Folder.{FileCall, answer_of, reading, comparing, writing}
 use Rattle.in_memory.specs.Given.{GivenFile}
-use Rattle.in_memory.specs.declared.history.Call.{Call}
-use Rattle.in_memory.specs.declared.history.Call.TheVariants as call
+use Rattle.in_memory.specs.declared.files.Call.{Call}
+use Rattle.in_memory.specs.declared.files.Call.TheVariants as call
 
 -- a call, as it is added to the history
 abbrev pub call_of : Call → FileCall
-call_of (call.Read name most answer) = reading name.now (answer_of most answer.now)
+call_of (call.Read name most answer) = reading name.now (answer_of cow_slice_items most answer.now)
 call_of (call.Compared name bytes same) = comparing name.now bytes.now same
 call_of (call.Written name bytes answer) = writing name.now bytes.now answer.now
 

@@ -1,8 +1,8 @@
--- The tests that the checks make of modules, which are found by name, and the first element of a
--- list that fails a test.
-use Rattle.std.specs.Prelude.{◌≡◌, ◌≢◌, ℕ, ◌<◌, Bool, true, false, not, ◌||◌, List, slice_get, find, bytes_eq, nat_eq, Option, Some, None}
+-- What the checks ask of modules, which are found by name, and of all elements of a list.
+use Rattle.std.specs.Prelude.{◌≡◌, ◌≢◌, ℕ, Bool, true, false, List, slice_get, find, bytes_eq, nat_eq, Option, Some}
 use Rattle.document_values.specs.Rule.{RuleValue}
-use Rattle.module_table.specs.Modules.{Provision, InfoRequirement}
+use Rattle.module_table.specs.TableValue.{TableValue}
+use Rattle.module_table.specs.Modules.{Provision, provisions, InfoRequirement, info_requirements}
 use Rattle.module_table.specs.declared.fault.Maker.{Maker}
 use Rattle.module_table.specs.declared.fault.Maker.TheVariants.{Object, Info}
 
@@ -10,54 +10,14 @@ use Rattle.module_table.specs.declared.fault.Maker.TheVariants.{Object, Info}
 abbrev pub found : List Provision → List ℕ → Option Provision
 found modules name = find (λ p. bytes_eq name p.name) modules
 
--- ---- as functions
-
-abbrev pub is_info : Maker → Bool
-is_info (Object object) = false
-is_info (Info info) = true
-
-abbrev pub is_object : Maker → Bool
-is_object (Object object) = true
-is_object (Info info) = false
-
 -- the producer is the info file at this index
 abbrev pub is_info_at : Maker → ℕ → Bool
 is_info_at (Object object) index = false
 is_info_at (Info info) index = nat_eq info index
 
--- a module is found, and the test holds of it
-abbrev pub some_and : (Provision → Bool) → Option Provision → Bool
-some_and test None = false
-some_and test (Some p) = test p
-
--- no module is found, or the test holds of it
-abbrev pub none_or : (Provision → Bool) → Option Provision → Bool
-none_or test None = true
-none_or test (Some p) = test p
-
 -- a requirement, and the module with the required name, if there is one
 abbrev pub LookedUp : Type 0
 LookedUp = InfoRequirement × Option Provision
-
--- an info file provides the required name
-abbrev pub is_by_info : LookedUp → Bool
-is_by_info r = some_and (λ p. is_info p.maker) r.1
-
--- if there is a module with the required name, it has the required BMI
-abbrev pub agrees : LookedUp → Bool
-agrees r = none_or (λ p. bytes_eq p.file r.0.file) r.1
-
--- if there is a module with the required name, it is not private to another info file
-abbrev pub is_allowed : LookedUp → Bool
-is_allowed r = none_or (λ p. not p.is_private || is_info_at p.maker r.0.info) r.1
-
--- if there is a module at this index, it is not private
-abbrev pub is_public_at : List Provision → ℕ → Bool
-is_public_at modules index = none_or (λ p. not p.is_private) (slice_get modules index)
-
--- an object provides the name
-abbrev pub is_by_object : List Provision → List ℕ → Bool
-is_by_object modules name = some_and (λ p. is_object p.maker) (found modules name)
 
 -- ---- as relations, with their opposites
 
@@ -86,12 +46,6 @@ abbrev pub IsAllowed : List Provision → InfoRequirement → Type 0
 IsAllowed modules r =
     (k : ℕ) (p : Provision) → IsNamed modules r.name k p → p.is_private ≡ true
     → p.maker ≡ Info r.info
-
--- a private module with the required name is not one of the requiring info file
-abbrev pub IsNotAllowed : List Provision → InfoRequirement → Type 0
-IsNotAllowed modules r =
-    (k : ℕ) × (p : Provision) × IsNamed modules r.name k p × (p.is_private ≡ true)
-    × (p.maker ≢ Info r.info)
 
 -- no module with this name is private
 abbrev pub IsPublic : List Provision → List ℕ → Type 0
@@ -124,18 +78,32 @@ IsPrivateTo modules name info =
 
 -- ---- in a list
 
--- the element at this index is rejected, and those before it are accepted
-pub record RefusesAt {X : Type 0} (Accepted Refused : X → Type 0) (xs : List X) (index : ℕ)
-    : Type 0 where
-  pub x : X
-  pub here : slice_get xs index ≡ Some x
-  pub refused : Refused x
-  pub accepted : (k : ℕ) (y : X) → k < index → slice_get xs k ≡ Some y → Accepted y
-
 -- all elements are accepted
 pub record AcceptsAll {X : Type 0} (Accepted : X → Type 0) (xs : List X) : Type 0 where
   pub each : (k : ℕ) (y : X) → slice_get xs k ≡ Some y → Accepted y
 
+-- ---- what the checks M6, M7, M9 and M10 accept
+
+-- info files provide what the modules of info files require
+abbrev pub AreInfosKnown : TableValue → Type 0
+AreInfosKnown t = AcceptsAll (IsByInfo (provisions t)) (info_requirements t)
+
+-- they provide it with the required BMIs
+abbrev pub DoInfosAgree : TableValue → Type 0
+DoInfosAgree t = AcceptsAll (Agrees (provisions t)) (info_requirements t)
+
 -- the rule requires no private module
 abbrev pub RequiresPublic : List Provision → RuleValue → Type 0
 RequiresPublic modules rule = AcceptsAll (IsPublic modules) rule.required
+
+-- no object requires a private module
+abbrev pub AreObjectsAllowed : TableValue → Type 0
+AreObjectsAllowed t = AcceptsAll (RequiresPublic (provisions t)) t.objects
+
+-- no module of an info file requires a module that is private to another info file
+abbrev pub AreInfosAllowed : TableValue → Type 0
+AreInfosAllowed t = AcceptsAll (IsAllowed (provisions t)) (info_requirements t)
+
+-- an object provides each of these names
+abbrev pub AreByObjects : TableValue → List (List ℕ) → Type 0
+AreByObjects t kept = AcceptsAll (IsByObject (provisions t)) kept

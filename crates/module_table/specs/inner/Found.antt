@@ -7,7 +7,7 @@ use Rattle.module_table.specs.Modules.{Provision, provisions, InfoRequirement, i
 use Rattle.ninja_text.specs.Firsts.{AllDiffer}
 use Rattle.module_table.specs.inner.Views.{provision_of, requirement_of, names_of}
 use Rattle.module_table.specs.inner.Finds.{found, LookedUp}
-use Rattle.module_table.specs.declared.requirements.InfoRequired.{InfoRequired}
+use Rattle.module_table.specs.declared.modules.InfoRequired.{InfoRequired}
 
 -- a requirement, and the module that was found for it
 abbrev pub looked_up : InfoRequired → LookedUp

@@ -1,9 +1,11 @@
 -- The origin of each provided module: its producer, and its index in what the producer provides.
-use Rattle.std.specs.Prelude.{ℕ, List, ◌++◌, map}
+use Rattle.std.specs.Prelude.{◌≡◌, ℕ, List, ◌++◌, map}
 use Rattle.std.specs.List.{flat_map, enumerate_from}
 use Rattle.document_values.specs.Rule.{RuleValue}
 use Rattle.document_values.specs.Info.{InfoValue}
 use Rattle.module_table.specs.TableValue.{TableValue}
+use Rattle.module_table.specs.Modules.{provisions}
+use Rattle.module_table.specs.inner.Views.{provision_of, names_of, DoNamesDiffer}
 use Rattle.module_table.specs.declared.fault.Maker.{Maker}
 use Rattle.module_table.specs.declared.fault.Maker.TheVariants.{Object, Info}
 use Rattle.module_table.specs.declared.modules.Module.{Module}
@@ -26,3 +28,15 @@ origins_of t = flat_map object_origins (enumerate_from 0 t.objects)
 -- the origin of a borrowed module
 abbrev pub origin_of : Module → Origin
 origin_of p = (p.maker, p.index)
+
+-- these are the provided modules
+pub record AreProvided (t : TableValue) (provided : List Module) : Type 0 where
+  pub modules : map provision_of provided ≡ provisions t
+  pub origins : map origin_of provided ≡ origins_of t
+
+-- these are the provided modules and their names, which differ
+pub record AreNamed (t : TableValue) (provided : List Module) (names : List (List ℕ))
+    : Type 0 where
+  pub are_provided : AreProvided t provided
+  pub are_names : names ≡ names_of (provisions t)
+  pub differ : DoNamesDiffer t

@@ -10,7 +10,7 @@ use Rattle.module_table.specs.declared.pool.rows.ModuleAt.{ModuleAt}
 use Rattle.module_table.specs.declared.pool.rows.Row.{Row}
 use Rattle.module_table.specs.declared.pool.rows.Shared.{Shared}
 use Rattle.module_table.specs.declared.pool.rows.Listed.{Listed}
-use Rattle.module_table.specs.declared.pool.related.Related.{Related}
+use Rattle.module_table.specs.declared.pool.rows.Related.{Related}
 use Rattle.module_table.specs.Parts.{IsAlike}
 use Rattle.module_table.specs.Indexes.{Indexes}
 

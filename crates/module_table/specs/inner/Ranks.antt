@@ -1,10 +1,13 @@
 -- Modules in byte order of names.
-use Rattle.std.specs.Prelude.{◌≡◌, ℕ, ◌<◌, List, length, map, slice_get, slice_index, Some, AllPairs}
+use Rattle.std.specs.Prelude.{◌≡◌, ℕ, ◌+◌, ◌<◌, ◌^◌, List, length, map, slice_get, slice_index, Some, AllPairs}
 use Rattle.std.specs.Borrow.{Bor}
-use Rattle.module_table.specs.Modules.{Provision}
+use Rattle.module_table.specs.TableValue.{TableValue}
+use Rattle.module_table.specs.Modules.{Provision, provisions}
+use Rattle.module_table.specs.Sound.{IsSound}
 use Rattle.module_table.specs.Needed.{lent}
 use Rattle.ninja_text.specs.Bytes.{Precedes}
 use Rattle.module_table.specs.inner.Indexed.{pair_at}
+use Rattle.module_table.specs.inner.Graph.{IsModuleGraph}
 use Rattle.module_table.specs.declared.needed.Numbered.{Numbered}
 
 -- the name and the file of a module
@@ -51,3 +54,11 @@ pub record AreRanked (provided : List Provision) (ranks : List ℕ) (pairs : Lis
   pub each : (k : ℕ) (p : Provision) → slice_get provided k ≡ Some p → (r : ℕ)
       × (slice_get ranks k ≡ Some r) × (slice_get pairs r ≡ Some (p.name, p.file))
   pub rising : AllPairs (λ a b. Precedes a.0 b.0) pairs
+
+-- what finds the modules that the objects of a sound table need
+pub record AreNeeds (t : TableValue) (graph : List (List ℕ)) (ranks : List ℕ)
+    (modules : List Numbered) : Type 0 where
+  pub sound : IsSound t
+  pub is_graph : IsModuleGraph t graph
+  pub ranked : AreRanked (provisions t) ranks (map lent (pairs_of modules))
+  pub few : length (provisions t) + length t.objects < 2 ^ 64

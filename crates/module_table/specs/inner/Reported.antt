@@ -1,5 +1,8 @@
 -- What the check for one code reports.
-use Rattle.std.specs.Prelude.{◌≡◌, ℕ, List}
+use Rattle.std.specs.Prelude.{◌≡◌, ℕ, List, Box, Result, IfErr}
+use Rattle.std.specs.declared.alloc.Global.{Global}
+use Rattle.ninja_text.specs.Failure.{ForFault}
+use Rattle.ninja_text.specs.declared.failure.Failure.{Failure}
 use Rattle.module_table.specs.TableValue.{TableValue}
 use Rattle.module_table.specs.Faults.{IsFault, code_number}
 use Rattle.module_table.specs.declared.fault.TableFault.{TableFault}
@@ -9,3 +12,9 @@ pub record Reports (code : ℕ) (t : TableValue) (kept : List (List ℕ)) (fault
     : Type 0 where
   pub present : IsFault t kept fault
   pub coded : code_number fault ≡ code
+
+-- If a check fails, it is with such an error, whatever names are to be private.
+abbrev pub FailsWith : {A : Type 0} → ℕ → TableValue → Result A (Failure (Box TableFault Global))
+    → Type 0
+FailsWith code t result =
+    IfErr result (ForFault (λ fault. (kept : List (List ℕ)) → Reports code t kept fault.value))

@@ -1,13 +1,17 @@
 -- What contracts see of the values that the code borrows.
-use Rattle.std.specs.Prelude.{◌≡◌, ℕ, List, ◌++◌, map, slice_get, Some}
+use Rattle.std.specs.Prelude.{◌≡◌, ℕ, List, ◌++◌, map, slice_get, Some, Box}
 use Rattle.document_values.specs.Rule.{RuleValue}
 use Rattle.module_table.specs.TableValue.{TableValue}
 use Rattle.module_table.specs.Modules.{Provision, provisions, InfoRequirement}
 use Rattle.module_table.specs.Faults.{Claim, claims_of}
+use Rattle.ninja_text.specs.Firsts.{AllDiffer}
 use Rattle.module_table.specs.declared.modules.Module.{Module}
-use Rattle.module_table.specs.declared.requirements.InfoRequired.{InfoRequired}
+use Rattle.module_table.specs.declared.modules.InfoRequired.{InfoRequired}
 use Rattle.module_table.specs.declared.fault.TableFault.{TableFault}
-use Rattle.module_table.specs.declared.fault.TableFault.TheVariants.{ProvidedTwice, BmiTwice}
+use Rattle.module_table.specs.declared.fault.TableFault.TheVariants.{ProvidedTwice, BmiTwice, ModulePrivate}
+use Rattle.module_table.specs.declared.fault.Maker.{Maker}
+use Rattle.module_table.specs.declared.fault.Maker.TheVariants.{Info}
+use Rattle.std.specs.declared.alloc.Global.{Global}
 
 -- a provided module, as a contract sees it
 abbrev pub provision_of : Module → Provision
@@ -31,6 +35,10 @@ requirement_of r = record {
 abbrev pub names_of : List Provision → List (List ℕ)
 names_of provided = map (λ p. p.name) provided
 
+-- no two modules have the same name
+abbrev pub DoNamesDiffer : TableValue → Type 0
+DoNamesDiffer t = AllDiffer (names_of (provisions t))
+
 abbrev pub files_of : List Provision → List (List ℕ)
 files_of provided = map (λ p. p.file) provided
 
@@ -50,6 +58,15 @@ IsMadeTwice objects provided i j fault = (a : Claim) × (b : Claim)
     × (slice_get (claims_of objects provided) i ≡ Some a)
     × (slice_get (claims_of objects provided) j ≡ Some b)
     × (fault ≡ BmiTwice b.file a.maker b.maker)
+
+-- an info file provides it
+abbrev pub IsOfInfo : Maker → Type 0
+IsOfInfo maker = (info : ℕ) × (maker ≡ Info info)
+
+-- the error M9 of this module of an info file
+abbrev pub IsPrivateFault : Module → Maker → Box TableFault Global → Type 0
+IsPrivateFault m user fault = (info : ℕ) × (m.maker ≡ Info info)
+    × (fault.value ≡ ModulePrivate m.name.now info user)
 
 -- the name is not among the keys
 abbrev pub IsAbsent : List (List ℕ) → List ℕ → Type 0

@@ -1,22 +1,14 @@
-//! M5 to M8: what is required is provided, and not in a cycle. M5 and M8 are about objects, M6 and
-//! M7 about the modules of info files.
-ghost use Rattle.std.specs.Prelude.{◌≡◌, ◌<◌, List, Some, map, length, IfOk, IfErr, OnOk};
-ghost use Rattle.std.specs.List.{filter_map};
-ghost use Rattle.ninja_text.specs.Bytes.{Name};
-ghost use Rattle.ninja_text.specs.Failure.{ForFault};
-ghost use Rattle.dep_order.specs.Needs.{IsOrderable};
-ghost use Rattle.dep_order.specs.Rows.{rows};
-ghost use Rattle.module_table.specs.Modules.{provisions, info_requirements, DependsOn};
-ghost use Rattle.module_table.specs.inner.Finds.{IsByInfo, Agrees, AcceptsAll};
-ghost use Rattle.module_table.specs.inner.Found.{AreLookedUp};
-ghost use Rattle.module_table.specs.inner.Numbered.{AreRequiredIndexes, maker_at};
-ghost use Rattle.module_table.specs.inner.Views.{provision_of};
-ghost use Rattle.module_table.specs.inner.Reported.{Reports};
-ghost use Rattle.module_table.specs.declared.fault.TableFault.TheVariants.{ModuleUnknown};
+//! M5 to M10: what is required is provided, and not in a cycle, and what is private stays so. M5
+//! and M8 are about objects, M6 and M7 about the modules of info files, and M9 about both.
+ghost use Rattle.std.specs.Prelude.{◌≡◌, IfErr, IfOk, length, map, OnOk};
+ghost use Rattle.module_table.specs.Prelude.{AreByObjects, AreInfosAllowed, AreInfosKnown};
+ghost use Rattle.module_table.specs.Prelude.{AreLookedUp, AreObjectsAllowed, AreRequiredIndexes};
+ghost use Rattle.module_table.specs.Prelude.{DependsOn, DoInfosAgree, DoNamesDiffer, FailsWith};
+ghost use Rattle.module_table.specs.Prelude.{ForFault, IsOfInfo, IsOrderable, IsPrivateFault};
+ghost use Rattle.module_table.specs.Prelude.{maker_at, provision_of, Reports, rows};
 
 use crate::fault::{Maker, TableFault, failure_of};
-use crate::modules::{Module, Modules};
-use crate::requirements::InfoRequired;
+use crate::modules::{InfoRequired, Module, Modules, module_at};
 use dep_order::{Digraph, Sorting, order};
 use document_values::{Name, TargetName};
 use ninja_text::Failure;
@@ -29,8 +21,7 @@ pub(crate) fn check_objects_known(
     modules: &Modules,
 ) -> Result<Vec<Vec<usize>>, Failure<Box<TableFault>>>
     ensures ok { IfOk result (λ required. AreRequiredIndexes modules.now (rows required.items)) }
-    ensures fault { IfErr result (ForFault
-        (λ fault. (kept : List Name) → Reports 5 modules.now kept fault.value)) }
+    ensures fault { FailsWith 5 modules.now result }
 {
     let objects = modules.objects();
     let mut indexes = Vec::with_capacity(alloc, objects.len())?;
@@ -57,28 +48,24 @@ pub(crate) fn check_infos_known(
     all: &[InfoRequired],
 ) -> Result<(), Failure<Box<TableFault>>>
     requires { AreLookedUp modules.now all.now }
-    ensures ok { OnOk result
-        (AcceptsAll (IsByInfo (provisions modules.now)) (info_requirements modules.now)) }
-    ensures fault { IfErr result (ForFault
-        (λ fault. (kept : List Name) → Reports 6 modules.now kept fault.value)) }
+    ensures ok { OnOk result (AreInfosKnown modules.now) }
+    ensures fault { FailsWith 6 modules.now result }
 {
     for required in all {
-        let is_known = match required.module {
+        match required.module {
             Some((_, module)) => match module.maker {
-                Maker::Info(_) => true,
-                Maker::Object(_) => false,
+                Maker::Info(_) => continue,
+                Maker::Object(_) => {}
             },
-            None => false,
-        };
-        if !is_known {
-            let (target, module_name, name) = copy_names(alloc, required)?;
-            let fault = TableFault::InfoUnknown {
-                target,
-                module_name,
-                name,
-            };
-            return Err(failure_of(alloc, fault));
+            None => {}
         }
+        let (target, module_name, name) = copy_names(alloc, required)?;
+        let fault = TableFault::InfoUnknown {
+            target,
+            module_name,
+            name,
+        };
+        return Err(failure_of(alloc, fault));
     }
     Ok(())
 }
@@ -90,19 +77,15 @@ pub(crate) fn check_infos_agree(
     all: &[InfoRequired],
 ) -> Result<(), Failure<Box<TableFault>>>
     requires all { AreLookedUp modules.now all.now }
-    requires known { AcceptsAll (IsByInfo (provisions modules.now))
-        (info_requirements modules.now) }
-    ensures ok { OnOk result
-        (AcceptsAll (Agrees (provisions modules.now)) (info_requirements modules.now)) }
-    ensures fault { IfErr result (ForFault
-        (λ fault. (kept : List Name) → Reports 7 modules.now kept fault.value)) }
+    requires known { AreInfosKnown modules.now }
+    ensures ok { OnOk result (DoInfosAgree modules.now) }
+    ensures fault { FailsWith 7 modules.now result }
 {
     for required in all {
-        let agrees = match required.module {
-            Some((_, module)) => *module.file == *required.file,
-            None => true,
+        let Some((_, module)) = required.module else {
+            continue;
         };
-        if !agrees {
+        if *module.file != *required.file {
             let (target, module_name, name) = copy_names(alloc, required)?;
             let fault = TableFault::InfoDisagrees {
                 target,
@@ -139,8 +122,7 @@ pub(crate) fn check_rings(
 ) -> Result<(), Failure<Box<TableFault>>>
     requires { AreRequiredIndexes modules.now (rows required.now) }
     ensures ok { OnOk result (IsOrderable (length modules.now.objects) (DependsOn modules.now)) }
-    ensures fault { IfErr result (ForFault
-        (λ fault. (kept : List Name) → Reports 8 modules.now kept fault.value)) }
+    ensures fault { FailsWith 8 modules.now result }
 {
     let provided = modules.provided();
     let mut needs = Vec::with_capacity(alloc, required.len())?;
@@ -159,11 +141,96 @@ pub(crate) fn check_rings(
 fn maker_at(provided: &[Module], index: usize) -> Option<usize>
     ensures { result ≡ maker_at (map provision_of provided.now) index }
 {
-    match provided.get(index) {
-        Some(module) => match module.maker {
-            Maker::Object(object) => Some(object),
-            Maker::Info(_) => None,
-        },
-        None => None,
+    match provided.get(index)?.maker {
+        Maker::Object(object) => Some(object),
+        Maker::Info(_) => None,
+    }
+}
+
+/// M9: no object requires a module that is private to an info file. `indexes[i]` are the modules
+/// that object i requires.
+pub(crate) fn check_objects_allowed(
+    alloc: Global,
+    modules: &Modules,
+    required: &[Vec<usize>],
+) -> Result<(), Failure<Box<TableFault>>>
+    requires { AreRequiredIndexes modules.now (rows required.now) }
+    ensures ok { OnOk result (AreObjectsAllowed modules.now) }
+    ensures fault { FailsWith 9 modules.now result }
+{
+    let provided = modules.provided();
+    for (object, row) in required.iter().enumerate() {
+        for index in row {
+            let module = module_at(provided, *index);
+            if module.is_private {
+                return Err(requires_private(alloc, module, Maker::Object(object)));
+            }
+        }
+    }
+    Ok(())
+}
+
+/// M9: no module of an info file requires a module that is private to another info file.
+pub(crate) fn check_infos_allowed(
+    alloc: Global,
+    modules: &Modules,
+    all: &[InfoRequired],
+) -> Result<(), Failure<Box<TableFault>>>
+    requires all { AreLookedUp modules.now all.now }
+    requires public { AreObjectsAllowed modules.now }
+    ensures ok { OnOk result (AreInfosAllowed modules.now) }
+    ensures fault { FailsWith 9 modules.now result }
+{
+    for required in all {
+        let Some((_, module)) = required.module else {
+            continue;
+        };
+        let is_own = match module.maker {
+            Maker::Info(info) => info == required.info,
+            Maker::Object(_) => false,
+        };
+        if module.is_private && !is_own {
+            return Err(requires_private(alloc, module, Maker::Info(required.info)));
+        }
+    }
+    Ok(())
+}
+
+/// M10: an object provides each name that is declared private.
+pub(crate) fn check_kept(
+    alloc: Global,
+    modules: &Modules,
+    kept: &[Name],
+) -> Result<(), Failure<Box<TableFault>>>
+    requires { DoNamesDiffer modules.now }
+    ensures ok { OnOk result (AreByObjects modules.now kept.now) }
+    ensures fault { IfErr result (ForFault (λ fault. Reports 10 modules.now kept.now fault.value)) }
+{
+    for name in kept {
+        match modules.find(name) {
+            Some((_, module)) => match module.maker {
+                Maker::Object(_) => continue,
+                Maker::Info(_) => {}
+            },
+            None => {}
+        }
+        let name = name.copy(alloc)?;
+        return Err(failure_of(alloc, TableFault::PrivateUnknown { name }));
+    }
+    Ok(())
+}
+
+/// Returns the failure that a module of an info file is private to it and is required.
+fn requires_private(alloc: Global, module: &Module, user: Maker) -> Failure<Box<TableFault>>
+    requires { IsOfInfo module.now.maker }
+    ensures { ForFault (IsPrivateFault module.now user) result }
+{
+    let info = match module.maker {
+        Maker::Info(info) => info,
+        Maker::Object(_) => unreachable!(),
+    };
+    match module.name.copy(alloc) {
+        Ok(name) => failure_of(alloc, TableFault::ModulePrivate { name, info, user }),
+        Err(_) => Failure::Memory,
     }
 }

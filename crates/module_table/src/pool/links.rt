@@ -1,11 +1,13 @@
 //! The links of a target, and whether a part of the linked info files is enough for its table.
-ghost use Rattle.std.specs.Prelude.{◌≡◌, ℕ, IfSome, IfNone, IsTrue, slice_get, Some, true, false};
-ghost use Rattle.document_values.specs.Rule.{RuleValue};
-ghost use Rattle.module_table.specs.inner.Pools.{Has, AreIndexes, AreFit, IsApart, IsRowUnlinked};
+ghost use Rattle.std.specs.Prelude.{◌≡◌, false, IfNone, IfOk, IfSome, IsTrue, List, slice_get, ℕ};
+ghost use Rattle.module_table.specs.Prelude.{AreFit, AreIndexes, AreLinked, Has, InfoValue};
+ghost use Rattle.module_table.specs.Prelude.{IsAlike, IsApart, IsPartOf, IsRowUnlinked, IsUnused};
+ghost use Rattle.module_table.specs.Prelude.{KeepsRequired, Kept, RuleValue, Some, true};
 
-use crate::pool::related::Related;
-use crate::pool::rows::{Listed, ModuleAt, Row};
-use document_values::Rule;
+use crate::pool::requirements::Requirements;
+use crate::pool::rows::{Listed, ModuleAt, Related, Row};
+use document_values::{Info, InfoModule, Rule};
+use std::alloc::{AllocError, Global};
 
 /// The info files that a target links.
 #[derive(Clone, Copy)]
@@ -22,8 +24,14 @@ pub(crate) struct Links<'a> {
 }
 
 /// Puts the index in `linked` of each linked info file into `indexes`, by the index of the info
-/// file. Returns false if an index is too high or if an info file is linked twice.
-pub(crate) fn put_indexes(linked: &[usize], indexes: &mut Vec<usize>) -> bool
+/// file, and the module of each of its shared names and files into `stamps`, by number. Returns
+/// false if an index is too high or if an info file is linked twice.
+pub(crate) fn put_links(
+    linked: &[usize],
+    related: &[Option<Related>],
+    indexes: &mut Vec<usize>,
+    stamps: &mut Vec<ModuleAt>,
+) -> bool
     ensures { IsTrue result → AreIndexes linked.now indexes.new.items }
 {
     for (index, info) in linked.iter().enumerate() {
@@ -35,17 +43,6 @@ pub(crate) fn put_indexes(linked: &[usize], indexes: &mut Vec<usize>) -> bool
         if *info >= indexes.len() || indexes[*info] != index {
             return false;
         }
-    }
-    true
-}
-
-/// Puts the module of each shared name or file of a linked info file into `stamps`, by number.
-pub(crate) fn put_stamps(
-    linked: &[usize],
-    related: &[Option<Related>],
-    stamps: &mut Vec<ModuleAt>,
-) {
-    for info in linked {
         if let Some(Some(relations)) = related.get(*info) {
             for shared in &relations.shared {
                 if shared.number < stamps.len() {
@@ -57,6 +54,7 @@ pub(crate) fn put_stamps(
             }
         }
     }
+    true
 }
 
 impl Links<'_> {
@@ -133,4 +131,155 @@ impl Links<'_> {
         }
         true
     }
+}
+
+/// What [`crate::Pool::part`] keeps from one target to the next, so that its work for a target does
+/// not grow with the project. It is never cleared. An index counts only if the entry at that index
+/// is the one that was looked up, and a stamp counts only if its info file is linked.
+#[derive(Drop)]
+pub struct Scratch {
+    /// The index of an info file in the list of links.
+    pub(crate) indexes: Vec<usize>,
+    /// The linked module of each shared name or file, by its number.
+    pub(crate) stamps: Vec<ModuleAt>,
+    pub(crate) picked: Picked,
+}
+
+impl Scratch {
+    /// Returns an empty scratch.
+    pub fn new(alloc: Global) -> Scratch
+        ensures { IsUnused result }
+    {
+        Scratch {
+            indexes: Vec::new(alloc),
+            stamps: Vec::new(alloc),
+            picked: Picked {
+                modules: Vec::new(alloc),
+                indexes: Vec::new(alloc),
+            },
+        }
+    }
+}
+
+/// The modules that are picked for a target, each once.
+#[derive(Drop)]
+pub(crate) struct Picked {
+    pub(crate) modules: Vec<ModuleAt>,
+    /// The index of a module in `modules`, by info file and by module.
+    indexes: Vec<Vec<usize>>,
+}
+
+impl Picked {
+    /// Picks the linked modules that the objects require, in place of what was picked before. If
+    /// `requirements` are kept, also picks what these require, directly or through others.
+    pub(crate) fn pick(
+        &mut self,
+        alloc: Global,
+        objects: &[Rule],
+        links: &Links<'_>,
+        listed: &Listed,
+        infos: &[Option<Info>],
+        related: &[Option<Related>],
+        requirements: Requirements,
+    ) -> Result<(), AllocError> {
+        self.modules.clear();
+        self.indexes.resize_with(infos.len(), || Vec::new(alloc))?;
+        for rule in objects {
+            for name in &rule.required {
+                if let Some(at) = links.module_of(listed.names.get(name)) {
+                    self.add(at, infos)?;
+                }
+            }
+        }
+        if requirements == Requirements::Omitted {
+            return Ok(());
+        }
+        for next in 0..usize::MAX {
+            let Some(at) = self.modules.get(next).copied() else {
+                break;
+            };
+            if let Some(Some(relations)) = related.get(at.info)
+                && let Some(required) = relations.required.get(at.module)
+            {
+                for other in required {
+                    self.add(*other, infos)?;
+                }
+            }
+        }
+        Ok(())
+    }
+
+    /// Adds a module of a known info file, if it is not picked.
+    fn add(&mut self, at: ModuleAt, infos: &[Option<Info>]) -> Result<(), AllocError> {
+        if let Some(Some(info)) = infos.get(at.info)
+            && at.info < self.indexes.len()
+        {
+            let indexes = &mut self.indexes[at.info];
+            indexes.resize(info.modules.len(), 0)?;
+            if at.module < indexes.len() && self.modules.get(indexes[at.module]) != Some(&at) {
+                indexes[at.module] = self.modules.len();
+                self.modules.push(at)?;
+            }
+        }
+        Ok(())
+    }
+}
+
+/// Returns the linked info files with only the picked modules. Each module has what it requires if
+/// that is kept. Returns `None` if a linked info file is not known.
+pub(crate) fn part_of(
+    alloc: Global,
+    infos: &[Option<Info>],
+    links: &Links<'_>,
+    picked: &[ModuleAt],
+    requirements: Requirements,
+) -> Result<Option<Vec<Info>>, AllocError>
+    ensures { IfOk result (λ found. IfSome found (λ part. (known : List InfoValue)
+        × AreLinked infos.now links.now.linked.now known × IsPartOf part.items known
+        × (requirements ≡ Kept → KeepsRequired part.items known))) }
+{
+    let mut part = Vec::with_capacity(alloc, links.linked.len())?;
+    for number in links.linked {
+        let Some(Some(info)) = infos.get(*number) else {
+            return Ok(None);
+        };
+        part.push(Info {
+            target: info.target.copy(alloc)?,
+            modules: Vec::new(alloc),
+        })?;
+    }
+    for at in picked {
+        if let Some(index) = links.indexes.get(at.info)
+            && links.linked.get(*index) == Some(&at.info)
+            && let Some(Some(info)) = infos.get(at.info)
+            && let Some(module) = info.modules.get(at.module)
+        {
+            let copy = copy_module(alloc, module, requirements)?;
+            part[*index].modules.push(copy)?;
+        }
+    }
+    Ok(Some(part))
+}
+
+/// Returns a copy of the module, with what it requires or without.
+fn copy_module(
+    alloc: Global,
+    source: &InfoModule,
+    requirements: Requirements,
+) -> Result<InfoModule, AllocError>
+    ensures alike { IfOk result (λ copy. IsAlike copy source.now) }
+    ensures kept { requirements ≡ Kept → IfOk result (λ copy. copy ≡ source.now) }
+{
+    let mut required = Vec::new(alloc);
+    if requirements == Requirements::Kept {
+        for pair in &source.required {
+            required.push((pair.0.copy(alloc)?, pair.1.copy(alloc)?))?;
+        }
+    }
+    Ok(InfoModule {
+        name: source.name.copy(alloc)?,
+        file: source.file.copy(alloc)?,
+        required,
+        is_private: source.is_private,
+    })
 }

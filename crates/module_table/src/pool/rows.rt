@@ -1,8 +1,8 @@
 //! The modules of all info files, by name and by file.
-ghost use Rattle.std.specs.Prelude.{◌≡◌, IfOk, OnOk, bytes_eq};
-ghost use Rattle.indexmap.specs.IndexMap.{get, hasher_of};
-ghost use Rattle.module_table.specs.declared.pool.rows.Shared.{Shared};
-ghost use Rattle.module_table.specs.inner.Pools.{Has, By, key_of, rows_of, IsKeyed, StillKeyed, IsPut, AreListed, StillListed};
+ghost use Rattle.std.specs.Prelude.{◌++◌, ◌∷◌, ◌≡◌, [], IfOk, IfSome, length, OnOk, Some};
+ghost use Rattle.module_table.specs.Prelude.{AreListed, By, get, Has, hasher_of, IsKeyed, IsPut};
+ghost use Rattle.module_table.specs.Prelude.{IsRelated, IsSource, key_of, rows_of, Shared};
+ghost use Rattle.module_table.specs.Prelude.{StillKeyed, StillListed};
 
 use document_values::{Info, Name};
 use indexmap::IndexMap;
@@ -30,7 +30,6 @@ pub(crate) struct Row {
 /// A name or a file that a module of an info file shares with an earlier module.
 #[derive(Clone, Copy)]
 pub(crate) struct Shared {
-    /// The number of the name or file.
     pub number: usize,
     /// The index of the module in its info file.
     pub module: usize,
@@ -38,7 +37,7 @@ pub(crate) struct Shared {
     pub first: usize,
 }
 
-/// The modules of the info files.
+#[derive(Drop)]
 pub(crate) struct Listed {
     pub names: IndexMap<Name, Row, TableKey>,
     pub files: IndexMap<Path, Row, TableKey>,
@@ -48,20 +47,7 @@ pub(crate) struct Listed {
     pub numbers: usize,
 }
 
-// Not derived, because the prover expands a derived `Drop` at every return.
-impl Drop for Listed {
-    fn drop(self) {
-        let Listed {
-            names: _,
-            files: _,
-            sharing: _,
-            numbers: _,
-        } = self;
-    }
-}
-
 impl Listed {
-    /// Returns empty lists. Names and files are hashed under the key.
     pub(crate) fn new(alloc: Global, key: TableKey) -> Listed
         ensures { IsKeyed key result }
     {
@@ -155,4 +141,83 @@ fn add<K: Eq + Hash + Drop>(
         first: row.first.info,
     })?;
     Ok(true)
+}
+
+/// How an info file is related to the others.
+#[derive(Drop)]
+pub(crate) struct Related {
+    /// The modules that each of its modules requires.
+    pub required: Vec<Vec<ModuleAt>>,
+    /// The info files with the modules that it requires, by index, each once.
+    pub sources: Vec<usize>,
+    /// The names and files that it shares with earlier modules.
+    pub shared: Vec<Shared>,
+}
+
+impl Related {
+    /// Lists the modules of an info file and returns its relations. Returns `None` if it finds no
+    /// info file with a module that is required.
+    pub(crate) fn of(
+        alloc: Global,
+        infos: &[Option<Info>],
+        info: &Info,
+        listed: &mut Listed,
+    ) -> Result<Option<Related>, AllocError>
+        ensures still { OnOk result (StillListed listed.old listed.new) }
+        ensures key { OnOk result (StillKeyed listed.old listed.new) }
+        ensures related { IfOk result (λ found. IfSome found
+            (IsRelated infos.now info.now listed.new)) }
+    {
+        let shared = list_modules(alloc, infos.len(), info, listed)?;
+        let mut required = Vec::with_capacity(alloc, info.modules.len())?;
+        let mut sources = Vec::new(alloc);
+        for module in &info.modules {
+            let mut row = Vec::with_capacity(alloc, module.required.len())?;
+            for pair in &module.required {
+                let Some(at) = source_of(infos, info, listed, pair) else {
+                    return Ok(None);
+                };
+                sources.push(at.info)?;
+                row.push(at)?;
+            }
+            required.push(row)?;
+        }
+        sources.sort_unstable();
+        sources.dedup();
+        Ok(Some(Related {
+            required,
+            sources,
+            shared,
+        }))
+    }
+}
+
+/// Returns the module of this name and this file that the info file may require: it is public, or
+/// of the info file itself, whose modules come last in their rows.
+fn source_of(
+    infos: &[Option<Info>],
+    info: &Info,
+    listed: &Listed,
+    pair: &(Name, Path),
+) -> Option<ModuleAt>
+    ensures { IfSome result (λ at.
+        IsSource (infos.now ++ Some info.now ∷ []) (length infos.now) pair.now at.info) }
+{
+    let row = listed.files.get(&pair.1)?;
+    let sharing = listed.sharing.get(pair).copied().unwrap_or(row.last);
+    for at in [row.last, row.first, sharing] {
+        // the info file comes after the known ones
+        let is_own = at.info == infos.len();
+        let other = match infos.get(at.info) {
+            Some(Some(other)) => other,
+            None if is_own => info,
+            _ => continue,
+        };
+        if let Some(module) = other.modules.get(at.module) {
+            if module.name == pair.0 && module.file == pair.1 && (is_own || !module.is_private) {
+                return Some(at);
+            }
+        }
+    }
+    None
 }

@@ -4,8 +4,8 @@ use Rattle.std.specs.List.{list_any}
 use Rattle.ninja_text.specs.Bytes.{dot}
 use Rattle.ninja_text.specs.Escapes.{is_unwritable}
 use Rattle.ninja_text.specs.Reduction.{components, is_current, is_parent, reduced}
-use Rattle.ninja_text.specs.declared.plain.Begun.{Begun}
-use Rattle.ninja_text.specs.declared.plain.Begun.TheVariants.{Nothing, Dot, TwoDots, Name}
+use Rattle.ninja_text.specs.declared.reduction.Begun.{Begun}
+use Rattle.ninja_text.specs.declared.reduction.Begun.TheVariants.{Nothing, Dot, TwoDots, Name}
 
 -- No step applies to the components, and each byte can be escaped.
 pub record IsReducedList (list : List ℕ) : Type 0 where

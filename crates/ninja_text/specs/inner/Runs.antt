@@ -3,7 +3,7 @@ use Rattle.std.specs.Prelude.{◌≡◌, ℕ, ◌+◌, Bool, ◌==◌, if◌then
 use Rattle.ninja_text.specs.Bytes.{space}
 use Rattle.ninja_text.specs.Units.{units}
 use Rattle.ninja_text.specs.Assignments.{after_run}
-use Rattle.ninja_text.specs.declared.unit.LineUnit.{LineUnit}
+use Rattle.ninja_text.specs.declared.lexing.LineUnit.{LineUnit}
 
 -- The longest run of units that pass the test extends from one offset to the other.
 abbrev pub Run : (LineUnit → Bool) → List ℕ → ℕ → ℕ → Type 0

@@ -3,8 +3,8 @@ use Rattle.std.specs.Prelude.{◌≡◌, ℕ, ◌+◌, ◌<◌, true, false, Lis
 use Rattle.ninja_text.specs.Bytes.{vertical_bar}
 use Rattle.ninja_text.specs.Units.{units}
 use Rattle.ninja_text.specs.Tokens.{is_blank, is_piece, tokens_at}
-use Rattle.ninja_text.specs.declared.unit.LineUnit.{LineUnit}
-use Rattle.ninja_text.specs.declared.unit.LineUnit.TheVariants.{Byte}
+use Rattle.ninja_text.specs.declared.lexing.LineUnit.{LineUnit}
+use Rattle.ninja_text.specs.declared.lexing.LineUnit.TheVariants.{Byte}
 use Rattle.ninja_text.specs.declared.token.TokenKind.{TokenKind}
 
 -- A unit with this property begins at this offset.

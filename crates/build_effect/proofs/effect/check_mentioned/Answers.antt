@@ -1,6 +1,6 @@
 use Rattle.std.proofs.Common.{◌∙◌, true, false, refl, ap, sym}
-use Rattle.std.specs.Prelude.{not}
 use Rattle.std.proofs.lemmas.Option.{slice_get_read}
+use Rattle.build_effect.specs.Prelude.{not}
 use Rattle.build_effect.proofs.StatementChecks.{more_have, is_there}
 use Rattle.build_effect.proofs.effect.check_mentioned.Goals as goal
 use Rattle.build_effect.proofs.effect.check_mentioned.Goals.{else-is_none-via-then-is_none+else-names, else-is_none-via-else-is_none}

@@ -1,7 +1,5 @@
 use Rattle.std.proofs.Common.{◌≡◌, ℕ, ◌<◌, Some, slice_get}
-use Rattle.build_effect.specs.EdgeValue.{EdgeValue}
-use Rattle.build_effect.specs.Graphs.{Names}
-use Rattle.build_effect.specs.inner.StatementEdges.{statement_on}
+use Rattle.build_effect.specs.Prelude.{EdgeValue, Names, statement_on}
 use Rattle.build_effect.proofs.effect.check_mentioned.Given as goal
 
 abbrev pub invariant-loop-edge_index : goal.invariant-loop-edge_index

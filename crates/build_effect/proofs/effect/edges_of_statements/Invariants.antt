@@ -1,5 +1,5 @@
 use Rattle.std.proofs.Common.{take}
-use Rattle.build_effect.specs.inner.StatementEdges.{AreEdgesOf}
+use Rattle.build_effect.specs.Prelude.{AreEdgesOf}
 use Rattle.build_effect.proofs.effect.edges_of_statements.Given as goal
 
 abbrev pub invariant-loop-addition : goal.invariant-loop-addition

@@ -1,7 +1,7 @@
 use Rattle.std.proofs.Common.{true, false, ◌∙◌, ◌<◌, length, get_or, None, refl, ap, sym, arith}
 use Rattle.std.proofs.lemmas.Option.{slice_get_read, slice_get-get_or}
 use Rattle.std.proofs.lemmas.List.{get_or_read}
-use Rattle.build_effect.specs.declared.fault.EffectFault.TheVariants.{StatementTwice}
+use Rattle.build_effect.specs.Prelude.{StatementTwice}
 use Rattle.build_effect.proofs.StatementChecks.{more_inverse, still_differ, repeated_on, is_there}
 use Rattle.build_effect.proofs.effect.statements_of_edges.Goals as goal
 
@@ -21,7 +21,7 @@ returns-then-is_some-clause-fault c =
       some.0,
       i,
       a,
-      repeated_on c.args.count edge_of i some.0 edge statement_of at c.loop-statement_index.invariant.inverse c.loop-statement_index.invariant.differ
+      repeated_on edge_of i at c.loop-statement_index.invariant.inverse c.loop-statement_index.invariant.differ
           (sym read ∙ some.1),
       slice_get_read c.args.additions.now _ i a refl within c.index-additions-statement_index.is,
       ap StatementTwice (c.in_ok-output.ensures ∙ c.output.ensures),

@@ -1,6 +1,5 @@
 use Rattle.std.proofs.Common.{take}
-use Rattle.ninja_text.specs.Firsts.{AllDiffer}
-use Rattle.build_effect.specs.inner.StatementEdges.{AreInverse}
+use Rattle.build_effect.specs.Prelude.{AllDiffer, AreInverse}
 use Rattle.build_effect.proofs.effect.statements_of_edges.Given as goal
 
 abbrev pub invariant-loop-statement_index : goal.invariant-loop-statement_index

@@ -1,11 +1,7 @@
 use Rattle.std.proofs.Common.{rules, tests, ◌<◌, ℕ, List, Option, length, refl, subst, arith}
-use Rattle.std.specs.Prelude.{MatchOption}
-use Rattle.std.specs.List.{AllWithin, HoldsAt}
 use Rattle.std.proofs.lemmas.Iterator.{IsFirst-from_position, YieldsList-from_slice}
 use Rattle.std.proofs.lemmas.Option.{slice_get_read, slice_get_within, get_or_from_slice_get}
-use Rattle.build_effect.specs.EdgeValue.{EdgeValue}
-use Rattle.build_effect.specs.Faults.{NamesUnread}
-use Rattle.build_effect.specs.inner.Inputs.{NamesInput}
+use Rattle.build_effect.specs.Prelude.{MatchOption, HoldsAt, AllWithin, EdgeValue, NamesUnread, NamesInput}
 use Rattle.build_effect.proofs.graph.check_dyndeps.Goals as goal
 
 -- what a search for an edge that does not read its dyndep file finds
@@ -14,22 +10,22 @@ Found g r = MatchOption r (AllWithin NamesInput g 0 (length g)) (λ i. (i < leng
 
 pub returns-in_default-clause-ok : goal.returns-in_default-clause-ok
 returns-in_default-clause-ok c = λ i e file at names.
-    let g : List EdgeValue = c.args.edges.now in
-    let found : Found g c.position.result =
+    let g = c.args.edges.now in
+    let found =
     IsFirst-from_position _ _ c.position.result NamesUnread NamesInput c.position.ensures.ran (YieldsList-from_slice g c.iter.ensures.rest)
     (λ x q k. search (rules, tests)) (λ x q k. search (rules, tests)) in
-    let all : AllWithin NamesInput g 0 (length g) = subst (Found g) c.in_default.is found in
+    let all = subst (Found g) c.in_default.is found in
     subst NamesInput (get_or_from_slice_get g i e e at) (all i e (omega arith) (slice_get_within g i e at)) file names
 
 pub returns-clause-fault : goal.returns-clause-fault
 returns-clause-fault c =
-    let g : List EdgeValue = c.args.edges.now in
-    let i : ℕ = c.in-Some.edge in
-    let found : Found g c.position.result =
+    let g = c.args.edges.now in
+    let i = c.in-Some.edge in
+    let found =
     IsFirst-from_position _ _ c.position.result NamesUnread NamesInput c.position.ensures.ran (YieldsList-from_slice g c.iter.ensures.rest)
     (λ x q k. search (rules, tests)) (λ x q k. search (rules, tests)) in
-    let first : (i < length g) × HoldsAt NamesUnread g i × AllWithin NamesInput g 0 i = subst (Found g) c.in-Some.is found in
-    let e : EdgeValue = c.index-edges-edge.result in
+    let first = subst (Found g) c.in-Some.is found in
+    let e = c.index-edges-edge.result in
     let at = slice_get_read g _ i e refl first.0 c.index-edges-edge.is in (
       e,
       c.requires.made_once,

@@ -1,6 +1,5 @@
 use Rattle.std.proofs.Common.{◌≡◌, take}
-use Rattle.build_effect.specs.Graphs.{made_by}
-use Rattle.build_effect.specs.inner.Makers.{numbered}
+use Rattle.build_effect.specs.Prelude.{made_by, numbered}
 use Rattle.build_effect.proofs.graph.makers_of.Given as goal
 
 abbrev pub invariant-loop-index : goal.invariant-loop-index

@@ -1,19 +1,6 @@
 use Rattle.std.proofs.Common.{◌≡◌, List, [], map, None, Ok, refl, ap, subst, All, sym}
 use Rattle.std.proofs.lemmas.Result.{err_from_is_err_and}
-use Rattle.dyndep_file.specs.StatementValue.{StatementValue}
-use Rattle.dyndep_file.specs.WriteFaults.{text_or_fault}
-use Rattle.dyndep_file.specs.Reading.{StandsForOnly}
-use Rattle.document_values.specs.Name.{IsTargetName}
-use Rattle.document_values.specs.Info.{InfoValue}
-use Rattle.scan_docs.specs.InfoText.{info_text}
-use Rattle.module_table.specs.TableValue.{TableValue}
-use Rattle.collate_core.specs.Values.{TargetValue, CollatedValue}
-use Rattle.collate_core.specs.Statements.{statements_of}
-use Rattle.collate_core.specs.Infos.{info_of_table}
-use Rattle.collate_core.specs.Collation.{HasPaths, Collates}
-use Rattle.collate_core.specs.inner.Parts.{HasSpelled}
-use Rattle.collate_core.specs.Refusals.{IsRefusal}
-use Rattle.collate_core.specs.declared.fault.RefusedTarget.{RefusedTarget}
+use Rattle.collate_core.specs.Prelude.{StatementValue, text_or_fault, StandsForOnly, IsTargetName, InfoValue, info_text, TableValue, TargetValue, CollatedValue, statements_of, info_of_table, HasPaths, Collates, HasSpelled, IsRefusal, RefusedTarget}
 use Rattle.collate_core.proofs.Parts.{collates, any_style, has_paths, texts_refused, write_refused, turned}
 use Rattle.collate_core.proofs.Documents.{info_is_sound}
 use Rattle.collate_core.proofs.collating.collate_dyndep_or_refused.Goals as goal

@@ -1,11 +1,6 @@
 use Rattle.std.proofs.Common.{rules, ◌≡◌, Option, ◌∙◌, subst, sym, option_copied, option_map}
 use Rattle.std.proofs.lemmas.Result.{err_from_is_err_and}
-use Rattle.module_table.specs.TableValue.{TableValue, table_with}
-use Rattle.module_table.specs.Sound.{IsSound}
-use Rattle.module_maps.specs.Maps.{Written}
-use Rattle.collate_core.specs.Refusals.{IsRefusal, WasRead}
-use Rattle.collate_core.specs.inner.Parts.{IsTextsRefusal}
-use Rattle.collate_core.specs.declared.fault.RefusedTarget.{RefusedTarget}
+use Rattle.collate_core.specs.Prelude.{TableValue, table_with, IsSound, Written, IsRefusal, WasRead, IsTextsRefusal, RefusedTarget}
 use Rattle.collate_core.proofs.Parts.{any_style, collates, was_read, turned, turns_weaker, texts_refused}
 use Rattle.collate_core.proofs.collating.collate_or_refused.Goals as goal
 

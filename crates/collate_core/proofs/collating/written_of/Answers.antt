@@ -1,11 +1,6 @@
 use Rattle.std.proofs.Common.{◌≡◌, List, Ok, ap, subst, sym, All}
 use Rattle.std.proofs.lemmas.Result.{err_from_is_err_and}
-use Rattle.dyndep_file.specs.StatementValue.{StatementValue}
-use Rattle.dyndep_file.specs.WriteFaults.{text_or_fault}
-use Rattle.dyndep_file.specs.Reading.{StandsForOnly}
-use Rattle.collate_core.specs.Statements.{statements_of}
-use Rattle.collate_core.specs.inner.Parts.{HasSpelled}
-use Rattle.scan_docs.specs.InfoText.{IsInfoText}
+use Rattle.collate_core.specs.Prelude.{StatementValue, text_or_fault, StandsForOnly, statements_of, HasSpelled, IsInfoText}
 use Rattle.collate_core.proofs.Documents.{info_is_text}
 use Rattle.collate_core.proofs.Effects.{collated_text}
 use Rattle.collate_core.proofs.Parts.{write_refused, maps_refused, has_paths, no_fault}
@@ -29,8 +24,8 @@ lent_info_write-requires g c =
     subst IsInfoText (sym c.in_ok-info.ensures)
     (info_is_text c.args.table.now c.requires.text c.added_files_can_be_ordered.ensures.required c.target.inside.name.now c.target.inside.kept.now)
 
-pub new-requires : goal.new-requires
-new-requires g c =
+pub invariant_of-result : goal.invariant_of-result
+invariant_of-result g c =
     let are = ap statements_of c.resolved.ensures in (
       statements_of c.args.table.now,
       collated_text c.args.table.now c.requires.sound c.added_files_can_be_ordered.ensures.orderable c.added_files_can_be_ordered.ensures.once
@@ -42,8 +37,7 @@ new-requires g c =
 pub returns-clause-written : goal.returns-clause-written
 returns-clause-written g c =
     let are = ap statements_of c.resolved.ensures in
-    rw c.new.ensures
-    (record {
+    record {
       spelled = subst (All HasSpelled) are c.in_ok-text.ensures.spelled;
       stands = subst (StandsForOnly c.in_ok-text.text.items) are c.in_ok-text.ensures.meaning;
       text = subst (λ (ss : List StatementValue). text_or_fault ss ≡ Ok c.in_ok-text.text.items) are c.in_ok-text.ensures.text;
@@ -51,4 +45,4 @@ returns-clause-written g c =
       info = rw (← c.target.view_is, ← c.in_ok-info.ensures) c.in_ok-info-2.ensures.text;
       reads = rw (← c.target.view_is, ← c.in_ok-info.ensures) c.in_ok-info-2.ensures.reads_back;
       maps = c.in_ok-maps.ensures.maps;
-    })
+    }

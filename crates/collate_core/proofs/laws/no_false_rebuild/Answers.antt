@@ -1,8 +1,7 @@
 use Rattle.std.proofs.Common.{[], ◌∷◌}
+use Rattle.collate_core.specs.Prelude.{table_of, tables_of}
 use Rattle.collate_core.proofs.BuildLemmas.{no_false_rebuild}
 use Rattle.collate_core.proofs.Gains.{gained_after_target, gained_after_project}
-use Rattle.collate_core.specs.Documents.{table_of}
-use Rattle.collate_core.specs.BuildLaws.{tables_of}
 use Rattle.collate_core.proofs.laws.no_false_rebuild.Goals as goal
 
 pub returns-clause-target : goal.returns-clause-target

@@ -1,8 +1,7 @@
 use Rattle.std.proofs.Common.{[], ◌∷◌}
+use Rattle.collate_core.specs.Prelude.{table_of, tables_of}
 use Rattle.collate_core.proofs.BuildLemmas as build
 use Rattle.collate_core.proofs.Gains.{gained_after_target, gained_after_project, all_made}
-use Rattle.collate_core.specs.Documents.{table_of}
-use Rattle.collate_core.specs.BuildLaws.{tables_of}
 use Rattle.collate_core.proofs.laws.no_race.Goals as goal
 
 pub returns-clause-target : goal.returns-clause-target

@@ -2,22 +2,10 @@ use Rattle.ninja_text.proofs.ForCallers.{take_next}
 use Rattle.std.proofs.Common.{rules, ◌≡◌, ℕ, List, take, length, Option, Some, None, Vec, Global, IsTrue, ◌∙◌, is_some, true, refl, subst, sym, slice_get, option_copied, option_map}
 use Rattle.std.proofs.lemmas.List.{take_all}
 use Rattle.std.proofs.lemmas.Option.{slice_get_read}
-use Rattle.ninja_text.specs.Failure.{ForFault}
-use Rattle.module_maps.specs.Maps.{Written}
-use Rattle.collate_core.specs.Values.{CollatedValue, ProjectTargetValue}
-use Rattle.module_table.specs.TableValue.{TableValue, table_with}
-use Rattle.collate_core.specs.Refusals.{WasRead}
-use Rattle.collate_core.specs.Projects.{CollatesProject, IsLinkedRefusal, IsProjectRefusal, WasReadAt, target_of}
-use Rattle.collate_core.specs.declared.fault.RefusedTarget.{RefusedTarget}
-use Rattle.collate_core.specs.inner.Parts.{CollatesLinked}
-use Rattle.collate_core.specs.inner.ReadInfos.{AreKnown}
+use Rattle.collate_core.specs.Prelude.{ForFault, Written, CollatedValue, ProjectTargetValue, TableValue, table_with, WasRead, CollatesProject, IsLinkedRefusal, IsProjectRefusal, WasReadAt, target_of, RefusedTarget, CollatesLinked, AreKnown, into_iter_items, IsKeyOf, RuleValue, AreRulesOfEach, project_entries}
 use Rattle.collate_core.proofs.Lists.{known_added, of_none}
 use Rattle.collate_core.proofs.Outcomes.{maps_of_style, project_push, refused_here}
 use Rattle.collate_core.proofs.Parts.{turned, turns_weaker}
-use Rattle.std.specs.Vec.Iter.{into_iter_items}
-use Rattle.table_keys.specs.Keys.{IsKeyOf}
-use Rattle.document_values.specs.Rule.{RuleValue}
-use Rattle.collate_core.specs.inner.ReadTargets.{AreRulesOfEach, project_entries}
 use Rattle.collate_core.proofs.ReadTargetLemmas.{own_rules, own_covered, own_info, may_be_added, taken_next, held_added, known_read}
 use Rattle.collate_core.proofs.projects.project_or_refused.Goals as goal
 use Rattle.collate_core.proofs.projects.project_or_refused.Goals.{then-is_some, else-is_some}
@@ -28,7 +16,8 @@ loop-index-init g c =
       collated = rw c.new-outs.ensures.items (record { count = refl; earlier = λ n p at. absurd (cc); each = λ n p out at also. absurd (cc) });
       known = rw (c.new-outs.ensures.items, c.new-pool.ensures.infos) (record { count = refl; each = λ n out info at also. absurd (cc) });
       rules = refl;
-      made = rw c.new-pool.ensures.key (subst (λ (rs : List (Vec RuleValue Global)). IsKeyOf c.in_ok-read.read.key (project_entries (take (length rs) c.args.targets.now)))
+      made = rw c.new-pool.ensures.key
+          (subst (λ (rs : List (Vec RuleValue Global)). IsKeyOf c.in_ok-read.read.key (project_entries (take (length rs) c.args.targets.now)))
           (sym c.into_iter-rules.ensures.rest) c.in_ok-read.ensures.key);
       held = rw c.new-pool.ensures.infos (λ k info at. absurd (cc));
     }
@@ -50,7 +39,7 @@ returns-in-Err-clause-outcome g c =
     c.in-Err.failure c.map.result
     (turns_weaker _ (λ refused (found : ℕ × RefusedTarget). found ≡ (n, refused)) (λ refused found post. search rules) c.in-Err.failure c.map.result
     c.map.ensures) (subst (λ os. ForFault (λ (refused : RefusedTarget). IsLinkedRefusal style os (length os) p refused.refusal) c.in-Err.failure)
-    c.as_slice.ensures.value c.in-Err.ensures.refused) in
+    c.deref-in-loop-index.ensures.value c.in-Err.ensures.refused) in
     record { collated = tt; orders = tt; numbered = tt; maps = tt; orderable = tt; refused = refused }
 
 pub returns-in-Err-clause-read : goal.returns-in-Err-clause-read
@@ -70,7 +59,7 @@ returns-in-Err-clause-read g c =
     c.in-Err.failure c.map.result
     (turns_weaker _ (λ refused (found : ℕ × RefusedTarget). found ≡ (n, refused)) (λ refused found post. search rules) c.in-Err.failure c.map.result
     c.map.ensures) (subst (λ os. ForFault (λ (refused : RefusedTarget). WasRead (target_of os p) refused.refusal (read refused)) c.in-Err.failure)
-    c.as_slice.ensures.value c.in-Err.ensures.read)
+    c.deref-in-loop-index.ensures.value c.in-Err.ensures.read)
 
 pub collate_linked-requires-clause-rules : goal.collate_linked-requires-clause-rules
 collate_linked-requires-clause-rules g c =
@@ -103,7 +92,7 @@ push-requires g c =
     let here : slice_get targets n ≡ Some p = slice_get_read targets _ n _ refl c.loop-index-test.true c.index-targets-index.is in
     let outs : List CollatedValue = c.loop-index.outs.items in
     let linked : CollatesLinked style outs p c.in-Ok.out =
-    subst (λ (os : List CollatedValue). CollatesLinked style os p c.in-Ok.out) c.as_slice.ensures.value c.in-Ok.ensures.collated in
+    subst (λ (os : List CollatedValue). CollatesLinked style os p c.in-Ok.out) c.deref-in-loop-index.ensures.value c.in-Ok.ensures.collated in
     let all = into_iter_items c.into_iter-rules.result in
     let each = subst (AreRulesOfEach targets) (sym c.into_iter-rules.ensures.rest) c.in_ok-read.ensures.rules in
     let read : IsTrue c.if-is_some.is_read →
@@ -122,7 +111,7 @@ loop-index-preserved g c =
     let here : slice_get targets n ≡ Some p = slice_get_read targets _ n _ refl c.loop-index-test.true c.index-targets-index.is in
     let outs : List CollatedValue = c.loop-index.outs.items in
     let linked : CollatesLinked style outs p c.in-Ok.out =
-    subst (λ (os : List CollatedValue). CollatesLinked style os p c.in-Ok.out) c.as_slice.ensures.value c.in-Ok.ensures.collated in
+    subst (λ (os : List CollatedValue). CollatesLinked style os p c.in-Ok.out) c.deref-in-loop-index.ensures.value c.in-Ok.ensures.collated in
     let all = into_iter_items c.into_iter-rules.result in
     let each = subst (AreRulesOfEach targets) (sym c.into_iter-rules.ensures.rest) c.in_ok-read.ensures.rules in
     let none : c.next-own.result ≡ None → length (into_iter_items c.loop-index.rules) ≡ 0 = λ is. sym c.loop-index.rules.rest.ok.0 ∙

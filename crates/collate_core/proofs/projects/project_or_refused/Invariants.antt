@@ -1,9 +1,5 @@
 use Rattle.std.proofs.Common.{◌≡◌, length, drop, take, option_copied, option_map}
-use Rattle.std.specs.Vec.Iter.{into_iter_items}
-use Rattle.table_keys.specs.Keys.{IsKeyOf}
-use Rattle.collate_core.specs.inner.ReadTargets.{AreInfosHeld, project_entries}
-use Rattle.collate_core.specs.Projects.{CollatesProject}
-use Rattle.collate_core.specs.inner.ReadInfos.{AreKnown}
+use Rattle.collate_core.specs.Prelude.{into_iter_items, IsKeyOf, AreInfosHeld, project_entries, CollatesProject, AreKnown}
 use Rattle.collate_core.proofs.projects.project_or_refused.Given as goal
 
 -- the targets so far collate, it is known what their info files are read as, and the key of the pool is

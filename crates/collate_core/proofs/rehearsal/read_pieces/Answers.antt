@@ -1,18 +1,19 @@
 use Rattle.std.proofs.Common.{◌≡◌, ℕ, List, [], ◌++◌, ap, sym, ◌∙◌, append_assoc, append-nil}
 use Rattle.std.proofs.lemmas.List.{take-append-drop}
 use Rattle.std.proofs.lemmas.Result.{err_from_is_err_and}
+use Rattle.ninja_text.specs.Bytes.{Text}
 use Rattle.collate_core.proofs.Parts.{reported}
 use Rattle.collate_core.proofs.rehearsal.read_pieces.Goals as goal
 
 -- a piece of the rest, and what comes after it
-whole : (text fed rest piece more : List ℕ) → text ≡ fed ++ rest → rest ≡ piece ++ more → text ≡ (fed ++ piece) ++ more
+whole : (text fed rest piece more : Text) → text ≡ fed ++ rest → rest ≡ piece ++ more → text ≡ (fed ++ piece) ++ more
 whole text fed rest piece more first second = first ∙ ap (λ x. fed ++ x) second ∙ sym (append_assoc fed piece more)
 
 pub returns-in_err-feed-clause-refused : goal.returns-in_err-feed-clause-refused
 returns-in_err-feed-clause-refused c =
     let fed = c.loop-cut.invariant in
-    let piece : List ℕ = c.split_at.result.0.now in
-    let more : List ℕ = c.split_at.result.1.now in
+    let piece : Text = c.split_at.result.0.now in
+    let more : Text = c.split_at.result.1.now in
     let parts : c.loop-cut.rest.now ≡ piece ++ more =
     rw (c.split_at.ensures.front, c.split_at.ensures.back) (sym (take-append-drop c.if-cut-rest.len c.loop-cut.rest.now)) in
     let reads = c.in_err-feed.ensures.all fed.0 fed.2 in
@@ -23,8 +24,8 @@ returns-in_err-feed-clause-refused c =
 pub loop-cut-preserved : goal.loop-cut-preserved
 loop-cut-preserved c =
     let fed = c.loop-cut.invariant in
-    let piece : List ℕ = c.split_at.result.0.now in
-    let more : List ℕ = c.split_at.result.1.now in
+    let piece : Text = c.split_at.result.0.now in
+    let more : Text = c.split_at.result.1.now in
     let parts : c.loop-cut.rest.now ≡ piece ++ more =
     rw (c.split_at.ensures.front, c.split_at.ensures.back) (sym (take-append-drop c.if-cut-rest.len c.loop-cut.rest.now)) in
     (fed.0 ++ piece, whole c.args.text.now fed.0 c.loop-cut.rest.now piece more fed.1 parts, c.in_ok-feed.ensures.all fed.0 fed.2)

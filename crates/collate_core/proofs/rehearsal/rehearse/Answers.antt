@@ -1,30 +1,17 @@
 use Rattle.std.proofs.Common.{rules, ℕ, List, IfOk, IfErr, subst, sym}
 use Rattle.std.proofs.lemmas.Result.{IfOk-weaker, IfErr-weaker}
-use Rattle.ninja_text.specs.Failure.{ForFault}
-use Rattle.ninja_text.specs.declared.failure.Failure.{Failure}
-use Rattle.ninja_text.specs.declared.failure.Failure.TheVariants.{Memory, Fault}
-use Rattle.dyndep_file.specs.StatementValue.{StatementValue}
-use Rattle.dyndep_file.specs.Reading.{StandsFor, StandsForOnly}
-use Rattle.dyndep_file.specs.Reader.{IsReadFaultOf}
-use Rattle.dyndep_file.specs.Laws.{OneList, NotBoth}
-use Rattle.dyndep_file.specs.declared.fault.ReadFault.{ReadFault}
-use Rattle.dyndep_file.specs.declared.fault.ReadFault.TheVariants.{AtLine, Io}
-use Rattle.build_effect.specs.EdgeValue.{EdgeValue}
-use Rattle.build_effect.specs.Effect.{OnlyEffect}
-use Rattle.collate_core.specs.Rehearsal.{HasEffect, IsWithoutEffect, IsRehearseFault}
-use Rattle.collate_core.specs.inner.Parts.{ForEffect}
-use Rattle.collate_core.specs.declared.fault.RehearseFault.{RehearseFault}
-use Rattle.collate_core.specs.declared.fault.RehearseFault.TheVariants.{Read, Effect}
+use Rattle.collate_core.specs.Prelude.{Text, ForFault, Failure, Memory, Fault, StatementValue, StandsFor, StandsForOnly, IsReadFaultOf, OneList, NotBoth, ReadFault, AtLine, Io, EdgeValue, OnlyEffect, HasEffect, IsWithoutEffect, IsRehearseFault, ForEffect, RehearseFault, Read}
+use Rattle.collate_core.specs.declared.fault.RehearseFault.TheVariants.{Effect}
 use Rattle.collate_core.proofs.rehearsal.rehearse.Goals as goal
 
-only : OneList → (text : List ℕ) (statements : List StatementValue) → StandsFor text statements → StandsForOnly text statements
+only : OneList → (text : Text) (statements : List StatementValue) → StandsFor text statements → StandsForOnly text statements
 only one text statements h = record { stands = h; only = λ others k. one text others statements k h }
 
-none : NotBoth → (text : List ℕ) (fault : ReadFault) → IsReadFaultOf text fault → (statements : List StatementValue) → StandsFor text statements → ⊥
+none : NotBoth → (text : Text) (fault : ReadFault) → IsReadFaultOf text fault → (statements : List StatementValue) → StandsFor text statements → ⊥
 none not_both text (AtLine line fault) reported statements h = not_both text statements (record { line = line; fault = fault }) h reported
 none not_both text Io reported statements h = reported
 
-lacks : (text name : List ℕ) (old : List EdgeValue) (statements : List StatementValue) → StandsForOnly text statements → (failure : Failure RehearseFault) →
+lacks : (text name : Text) (old : List EdgeValue) (statements : List StatementValue) → StandsForOnly text statements → (failure : Failure RehearseFault) →
     ForFault (ForEffect (IsWithoutEffect old name statements)) failure → ForFault (IsRehearseFault text name old) failure
 lacks text name old statements stands Memory h = tt
 lacks text name old statements stands (Fault (Effect fault)) h = (statements, stands, h)

@@ -1,11 +1,6 @@
 use Rattle.std.proofs.Common.{rules, ◌≡◌, ℕ, List, Option, Result, Ok, Err, inl, inr, subst, codes, refl, MatchResult, Bor}
-use Rattle.std.specs.declared.alloc.AllocError.{AllocError}
-use Rattle.ninja_text.specs.Counting.{IsWritten, IsCutShort}
-use Rattle.ninja_text.specs.declared.counting.Counted.{Counted}
-use Rattle.ninja_text.specs.declared.counting.Stopped.{Stopped}
-use Rattle.commands.specs.Answers.{line}
+use Rattle.commands.specs.Prelude.{AllocError, IsWritten, IsCutShort, Counted, Stopped, line, status_of, out_of, err_of, IsPut}
 use Rattle.commands.specs.declared.answer.Answer.{Answer}
-use Rattle.commands.specs.Printing.{status_of, out_of, err_of, IsPut}
 use Rattle.commands.proofs.answer.print.Goals as goal
 use Rattle.commands.proofs.answer.print.Goals.{in-Ok, in-Err}
 

@@ -5,5 +5,6 @@ use Rattle.commands.proofs.edges.effect.Goals as goal
 
 pub returns : goal.returns
 returns c =
-    goes_on c.of.result [] [] refl (refl, whole_listing _ c.of.result (search rules) c.of.ensures.graph c.of.ensures.fault)
-    (goes_on c.of-2.result [] [] refl (refl, whole_dyndep _ c.of-2.result c.of-2.ensures.statements c.of-2.ensures.fault) c.effect_of_read.ensures)
+    goes_on c.of-listing.result [] [] refl (refl, whole_listing _ c.of-listing.result (search rules) c.of-listing.ensures.graph c.of-listing.ensures.fault)
+    (goes_on c.of-dyndep.result [] [] refl (refl, whole_dyndep _ c.of-dyndep.result c.of-dyndep.ensures.statements c.of-dyndep.ensures.fault)
+    c.effect_of_read.ensures)

@@ -1,14 +1,6 @@
 use Rattle.std.proofs.Common.{List, ℕ, refl}
-use Rattle.ninja_text.specs.Failure.{ForFault}
-use Rattle.ninja_text.specs.declared.failure.Failure.{Failure}
+use Rattle.commands.specs.Prelude.{ForFault, Failure, StatementValue, EdgeValue, HasNoEffect, OnlyEffect, IsEffectFault, EffectFault, IsWithoutEffect, effect_text}
 use Rattle.ninja_text.specs.declared.failure.Failure.TheVariants.{Memory, Fault}
-use Rattle.dyndep_file.specs.StatementValue.{StatementValue}
-use Rattle.build_effect.specs.EdgeValue.{EdgeValue}
-use Rattle.build_effect.specs.Effect.{HasNoEffect, OnlyEffect}
-use Rattle.build_effect.specs.Faults.{IsEffectFault}
-use Rattle.build_effect.specs.declared.fault.EffectFault.{EffectFault}
-use Rattle.collate_core.specs.Rehearsal.{IsWithoutEffect}
-use Rattle.commands.specs.EdgeFaults.{effect_text}
 use Rattle.commands.proofs.Outcomes.{fault_reported}
 use Rattle.commands.proofs.edges.graph_after.Goals as goal
 

@@ -1,7 +1,6 @@
 use Rattle.std.proofs.Common.{rules, ◌≡◌, refl, Ok, Err, IfOk}
-use Rattle.build_effect.specs.ListingWriting.{listing_text_or_fault}
+use Rattle.commands.specs.Prelude.{listing_text_or_fault, listing_write_text}
 use Rattle.build_effect.specs.declared.fault.ListingWriteFault.TheVariants.{ListingTooLong}
-use Rattle.commands.specs.EdgeFaults.{listing_write_text}
 use Rattle.commands.proofs.Outcomes.{its_line, said}
 use Rattle.commands.proofs.edges.listing_text.Goals as goal
 

@@ -1,12 +1,5 @@
 use Rattle.std.proofs.Common.{rules, ◌≡◌, ◌∙◌, ◌++◌, ◌∷◌, [], List, append_assoc, get_or, map, refl, ap, ap₂, subst, sym, length, ℕ, Vec, Global}
-use Rattle.ninja_text.specs.Failure.{ForFault}
-use Rattle.dep_order.specs.Sortings.{IsSortingOf}
-use Rattle.build_effect.specs.Graphs.{EdgeNeeds}
-use Rattle.ninja_text.specs.Bytes.{line_feed}
-use Rattle.commands.specs.Answers.{visible}
-use Rattle.commands.specs.EdgeFaults.{cycle_text, first_output}
-use Rattle.commands.specs.Order.{order_text, PrintsOrder}
-use Rattle.commands.specs.Outcomes.{refusal, printed}
+use Rattle.commands.specs.Prelude.{ForFault, IsSortingOf, EdgeNeeds, line_feed, visible, cycle_text, first_output, order_text, PrintsOrder, refusal, printed}
 use Rattle.commands.proofs.Outcomes.{its_line, of_all, next, last, said, text_next}
 use Rattle.commands.proofs.edges.order_of_read.Goals as goal
 

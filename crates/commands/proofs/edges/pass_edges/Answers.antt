@@ -1,18 +1,6 @@
 use Rattle.std.proofs.Common.{◌≡◌, ◌∙◌, ℕ, List, [], Option, Some, length, refl, ap, ap₂, subst, Ok, Err, Vec, Global}
-use Rattle.ninja_text.specs.Failure.{ForFault}
-use Rattle.ninja_text.specs.declared.failure.Failure.{Failure}
-use Rattle.dep_order.specs.Needs.{IsOrderable}
-use Rattle.dep_order.specs.Sortings.{IsSortingOf}
-use Rattle.dep_order.specs.declared.Sorting.{Sorting}
+use Rattle.commands.specs.Prelude.{ForFault, Failure, IsOrderable, IsSortingOf, Sorting, EdgeValue, EdgeNeeds, ListFault, HasEffect, LacksEffect, EdgesPass, GraphPasses, edges_fault_text, effect_text, cycle_text, ListingRead, Outcome, goes_on, stops, refusal, Reports}
 use Rattle.dep_order.specs.declared.Sorting.TheVariants.{Order, Cycle}
-use Rattle.build_effect.specs.EdgeValue.{EdgeValue}
-use Rattle.build_effect.specs.Graphs.{EdgeNeeds}
-use Rattle.build_effect.specs.declared.fault.ListFault.{ListFault}
-use Rattle.collate_core.specs.Rehearsal.{HasEffect, LacksEffect}
-use Rattle.commands.specs.EdgeChecks.{EdgesPass, GraphPasses}
-use Rattle.commands.specs.EdgeFaults.{edges_fault_text, effect_text, cycle_text}
-use Rattle.commands.specs.Listings.{ListingRead}
-use Rattle.commands.specs.Outcomes.{Outcome, goes_on, stops, refusal, Reports}
 use Rattle.commands.proofs.Outcomes.{its_line, said, fault_reported, held_fault, Stop}
 use Rattle.commands.proofs.edges.pass_edges.Goals as goal
 

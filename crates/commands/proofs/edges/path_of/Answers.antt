@@ -1,7 +1,5 @@
 use Rattle.std.proofs.Common.{ℕ, List, [], refl, Ok, codes, Err}
-use Rattle.ninja_text.specs.FaultTexts.{path_fault_text}
-use Rattle.commands.specs.EdgeFaults.{name_fault_text}
-use Rattle.commands.specs.Effect.{NameOf}
+use Rattle.commands.specs.Prelude.{path_fault_text, name_fault_text, NameOf}
 use Rattle.commands.proofs.Outcomes.{by_print, unwritten}
 use Rattle.commands.proofs.edges.path_of.Goals as goal
 

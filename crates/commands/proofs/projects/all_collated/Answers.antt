@@ -1,15 +1,6 @@
 use Rattle.std.proofs.Common.{◌∙◌, ℕ, List, [], map, Option, refl, ap, subst, IfOk, Err, Result, Vec, Global}
-use Rattle.std.specs.declared.alloc.AllocError.{AllocError}
+use Rattle.commands.specs.Prelude.{AllocError, ForFault, Written, table_with, CollatesProject, IsProjectRefusal, WasReadAt, RefusedTarget, style_of, ReadTargetValue, ProjectOf, RejectedAt, IsRejectedAt, project_target, form_of, names_at, rejected_text, target_text, LinkEarlier, ReportsAt, IsStoppedWith}
 use Rattle.std.proofs.lemmas.Result.{IfOk-weaker}
-use Rattle.ninja_text.specs.Failure.{ForFault}
-use Rattle.module_maps.specs.Maps.{Written}
-use Rattle.module_table.specs.TableValue.{table_with}
-use Rattle.collate_core.specs.Projects.{CollatesProject, IsProjectRefusal, WasReadAt}
-use Rattle.collate_core.specs.declared.fault.RefusedTarget.{RefusedTarget}
-use Rattle.commands.specs.CollateCommand.{style_of}
-use Rattle.commands.specs.ProjectCommand.{ReadTargetValue, ProjectOf, RejectedAt, IsRejectedAt, project_target, form_of, names_at, rejected_text, target_text}
-use Rattle.commands.specs.inner.ProjectTargets.{LinkEarlier, ReportsAt}
-use Rattle.commands.specs.inner.Stops.{IsStoppedWith}
 use Rattle.commands.proofs.Outcomes.{its_line, said, Stop}
 use Rattle.commands.proofs.Targets.{reported, line_is}
 use Rattle.commands.proofs.projects.all_collated.Goals as goal

@@ -1,6 +1,5 @@
 use Rattle.std.proofs.Common.{[], drop, zip}
-use Rattle.commands.specs.Outcomes.{Outcome}
-use Rattle.commands.specs.ProjectCommand.{AllEdgesPass}
+use Rattle.commands.specs.Prelude.{Outcome, AllEdgesPass}
 use Rattle.commands.proofs.projects.all_pass.Given as goal
 
 -- what the others lead to, all lead to

@@ -1,15 +1,6 @@
 use Rattle.std.proofs.Common.{◌≡◌, ◌∙◌, ℕ, List, map, Option, Some, None, Result, ap, sym, IfOk, IfErr}
-use Rattle.ninja_text.specs.Failure.{ForFault}
-use Rattle.ninja_text.specs.declared.failure.Failure.{Failure}
-use Rattle.scan_docs.specs.declared.map_form.MapForm.{MapForm}
+use Rattle.commands.specs.Prelude.{ForFault, Failure, MapForm, table_with, ProjectTargetValue, CollatesProject, IsProjectRefusal, WasReadAt, RefusedTarget, ProjectOut, style_of, ReadTargetValue, form_of, project_target}
 use Rattle.scan_docs.specs.declared.map_form.MapForm.TheVariants.{Gcc, Clang}
-use Rattle.module_table.specs.TableValue.{table_with}
-use Rattle.collate_core.specs.Values.{ProjectTargetValue}
-use Rattle.collate_core.specs.Projects.{CollatesProject, IsProjectRefusal, WasReadAt}
-use Rattle.collate_core.specs.declared.fault.RefusedTarget.{RefusedTarget}
-use Rattle.collate_core.specs.declared.projects.ProjectOut.{ProjectOut}
-use Rattle.commands.specs.CollateCommand.{style_of}
-use Rattle.commands.specs.ProjectCommand.{ReadTargetValue, form_of, project_target}
 use Rattle.commands.proofs.projects.collate_all.Goals as goal
 
 -- what the project of this form and these targets collates to, or the rejection of a target and

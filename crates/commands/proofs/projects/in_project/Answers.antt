@@ -1,6 +1,5 @@
 use Rattle.std.proofs.Common.{rules, ◌≡◌, ◌∙◌, ◌+◌, ◌<◌, ℕ, List, ◌∷◌, [], ◌++◌, length, take, map, ap, ap₂, sym, arith, take_all, Vec, Global, Bor}
-use Rattle.collate_core.specs.Values.{ProjectTargetValue}
-use Rattle.commands.specs.ProjectCommand.{ReadTargetValue, project_target}
+use Rattle.commands.specs.Prelude.{ProjectTargetValue, ReadTargetValue, project_target}
 use Rattle.commands.proofs.Targets.{same_at, same_length}
 use Rattle.commands.proofs.Outcomes.{at_index, mapped_next}
 use Rattle.commands.proofs.projects.in_project.Goals as goal

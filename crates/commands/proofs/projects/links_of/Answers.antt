@@ -1,8 +1,7 @@
 use Rattle.std.proofs.Common.{rules, ◌≡◌, ℕ, ◌+◌, ◌<◌, List, [], ◌∷◌, ◌++◌, length, take, get_or, map, string_bytes, Option, Some, None, codes, refl, ap, ap₂, sym, ◌∙◌, String, Global}
 use Rattle.std.proofs.lemmas.List.{map_push, take_all}
 use Rattle.ninja_text.proofs.ForCallers.{to_map}
-use Rattle.commands.specs.ProjectCommand.{ReadTargetValue, last_with, LinksLater, LinksTo}
-use Rattle.commands.specs.inner.ProjectTargets.{writer_of}
+use Rattle.commands.specs.Prelude.{ReadTargetValue, last_with, LinksLater, LinksTo, writer_of}
 use Rattle.commands.proofs.Outcomes.{at_index, its_line, mapped_next, said}
 use Rattle.commands.proofs.projects.links_of.Goals as goal
 

@@ -1,13 +1,10 @@
 use Rattle.std.proofs.Common.{rules, ◌≡◌, ◌∙◌, ◌==◌, List, [], ◌∷◌, length, true, false, codes, refl, ap, sym}
 use Rattle.ninja_text.specs.declared.failure.Failure.TheVariants.{Fault}
 use Rattle.scan_docs.specs.Target as document
-use Rattle.scan_docs.specs.FaultTexts.{doc_fault_text}
-use Rattle.scan_docs.specs.declared.fault.DocFault.{DocFault}
+use Rattle.commands.specs.Prelude.{doc_fault_text, DocFault, spec_text, ReadTargetValue, HasFormOf, form_of}
 use Rattle.scan_docs.specs.declared.fault.DocFault.TheVariants.{BadShape}
 use Rattle.scan_docs.specs.declared.fault.Place.TheVariants.{Document}
 use Rattle.scan_docs.specs.declared.member.Member.TheVariants.{Map}
-use Rattle.commands.specs.CollateCommand.{spec_text}
-use Rattle.commands.specs.ProjectCommand.{ReadTargetValue, HasFormOf, form_of}
 use Rattle.commands.proofs.Outcomes.{by_print, fault_reported}
 use Rattle.commands.proofs.projects.pass_form.Goals as goal
 

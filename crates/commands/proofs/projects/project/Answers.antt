@@ -1,14 +1,6 @@
 use Rattle.std.proofs.Common.{◌≡◌, ◌∙◌, List, [], length, map, string_bytes, zip, codes, refl, ap, Ok, Err}
 use Rattle.std.proofs.lemmas.List.{length-map}
-use Rattle.scan_docs.specs.FaultTexts.{doc_fault_text}
-use Rattle.scan_docs.specs.Document.{IsRefused}
-use Rattle.scan_docs.specs.Project.{ProjectValue}
-use Rattle.scan_docs.specs.ProjectChecks.{project_checks}
-use Rattle.collate_core.specs.Values.{CollatedValue}
-use Rattle.commands.specs.CollateCommand.{style_of}
-use Rattle.commands.specs.Outcomes.{Outcome, OutputValue, Part, Runs, Writes, stops, ◌>>=◌}
-use Rattle.commands.specs.ProjectCommand.{ReadTargetValue, AllEdgesPass, HasProject, ProjectOf, ProjectRun, ReadsTargets, all_files, form_of, project_target, project_text}
-use Rattle.commands.specs.inner.ProjectTargets.{LinkEarlier}
+use Rattle.commands.specs.Prelude.{doc_fault_text, IsRefused, ProjectValue, project_checks, CollatedValue, style_of, Outcome, OutputValue, Part, Runs, Writes, stops, ◌>>=◌, ReadTargetValue, AllEdgesPass, HasProject, ProjectOf, ProjectRun, ReadsTargets, all_files, form_of, project_target, project_text, LinkEarlier}
 use Rattle.commands.proofs.Outcomes.{by_print, fault_reported, last, next, none_made, pure_next, run_once, run_last}
 use Rattle.commands.proofs.Targets.{objects_are_text}
 use Rattle.commands.proofs.projects.project.Given as given

@@ -1,7 +1,6 @@
 use Rattle.std.proofs.Common.{◌≡◌, Some, slice_get, ◌+◌, ◌≤◌, ◌∷◌, [], ◌++◌, drop, length, map, string_bytes, refl, arith}
 use Rattle.std.proofs.lemmas.List.{length-map}
-use Rattle.commands.specs.Outcomes.{Each, Runs, stops}
-use Rattle.commands.specs.ProjectCommand.{ReadsTarget, ReadsTargets}
+use Rattle.commands.specs.Prelude.{Each, Runs, stops, ReadsTarget, ReadsTargets}
 use Rattle.commands.proofs.Outcomes.{Leads, each_done, each_last, each_next, leads_none, mapped_at, passed, run_once}
 use Rattle.commands.proofs.projects.read_targets.Given as given
 use Rattle.commands.proofs.projects.read_targets.Goals as goal
@@ -20,7 +19,7 @@ returns-in_err-target g c =
     let names = map string_bytes c.args.names.now in
     let (calls, made, failed) = c.in_err-target.ensures.read in
     rw (passed c.from_residual.ensures)
-    (each_last ReadsTarget names (ReadsTargets names) _ c.loop-name.name-index c.as_str.result.now _ _ _ _
+    (each_last ReadsTarget names (ReadsTargets names) _ c.loop-name.name-index
     (here g (goal.at.returns-in_err-target g c).After-read_target) c.loop-name.invariant (calls, made, stops _ failed refl))
 
 -- memory ran out after a target was read
@@ -28,7 +27,7 @@ pub returns-in_err-targets : goal.returns-in_err-targets
 returns-in_err-targets g c =
     let names = map string_bytes c.args.names.now in
     rw (passed c.from_residual-in_err-targets.ensures)
-    (each_last ReadsTarget names (ReadsTargets names) _ c.loop-name.name-index c.as_str.result.now _ _ _ _
+    (each_last ReadsTarget names (ReadsTargets names) _ c.loop-name.name-index
     (here g (goal.at.returns-in_err-targets g c).After-read_target) c.loop-name.invariant (run_once _ _ c.in_ok-target.ensures.read refl))
 
 pub loop-name-preserved : goal.loop-name-preserved
@@ -36,7 +35,7 @@ loop-name-preserved g c =
     let names = map string_bytes c.args.names.now in
     let targets = c.loop-name.targets in
     rw c.in_ok-targets.ensures
-    (each_next ReadsTarget names (ReadsTargets names) _ c.loop-name.name-index c.as_str.result.now targets (targets ++ c.in_ok-target.target ∷ []) _ _
+    (each_next ReadsTarget names (ReadsTargets names) _ c.loop-name.name-index
     (here g (goal.at.loop-name-preserved g c).After-read_target) c.loop-name.invariant
     (run_once _ _ c.in_ok-target.ensures.read (refl, refl)))
 
@@ -44,4 +43,4 @@ pub returns : goal.returns
 returns g c =
     let names = map string_bytes c.args.names.now in
     let past : length names ≤ c.loop-name.name-index = let e = length-map c.args.names.now string_bytes in omega (arith, e, c.loop-name-test.false) in
-    each_done ReadsTarget names (ReadsTargets names) _ _ c.loop-name.targets _ past c.loop-name.invariant
+    each_done ReadsTarget names (ReadsTargets names) _ _ past c.loop-name.invariant

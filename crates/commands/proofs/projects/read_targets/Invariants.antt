@@ -1,6 +1,5 @@
 use Rattle.std.proofs.Common.{drop, map, string_bytes}
-use Rattle.commands.specs.Outcomes.{Each}
-use Rattle.commands.specs.ProjectCommand.{ReadsTarget, ReadsTargets}
+use Rattle.commands.specs.Prelude.{Each, ReadsTarget, ReadsTargets}
 use Rattle.commands.proofs.Outcomes.{Leads}
 use Rattle.commands.proofs.projects.read_targets.Given as goal
 

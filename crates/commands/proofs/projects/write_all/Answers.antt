@@ -4,10 +4,7 @@ use Rattle.std.proofs.lemmas.Iterator.Adapters.{YieldsList-from_vec}
 use Rattle.std.proofs.lemmas.Iterator.Consumers.{YieldsList-turn, YieldsList-end}
 use Rattle.std.proofs.lemmas.List.{length_push, take_all}
 use Rattle.std.proofs.lemmas.List.Elements.{All-get_or}
-use Rattle.collate_core.specs.Values.{CollatedValue}
-use Rattle.commands.specs.CollateCommand.{files_of}
-use Rattle.commands.specs.Outcomes.{written}
-use Rattle.commands.specs.ProjectCommand.{ReadTargetValue, all_files}
+use Rattle.commands.specs.Prelude.{CollatedValue, files_of, written, ReadTargetValue, all_files}
 use Rattle.commands.proofs.Outcomes.{at_index}
 use Rattle.commands.proofs.Targets.{second_all, files_next}
 use Rattle.commands.proofs.projects.write_all.Goals as goal

@@ -1,6 +1,5 @@
 use Rattle.std.proofs.Common.{◌≡◌, length, take, map, zip}
-use Rattle.commands.specs.Answers.{file_value}
-use Rattle.commands.specs.ProjectCommand.{all_files}
+use Rattle.commands.specs.Prelude.{file_value, all_files}
 use Rattle.commands.proofs.projects.write_all.Given as goal
 
 -- the files of the targets so far

@@ -1,6 +1,5 @@
 use Rattle.std.proofs.Common.{◌≡◌, ◌++◌, take, codes}
-use Rattle.std.specs.List.{flat_map}
-use Rattle.commands.specs.EdgeFaults.{first_output}
+use Rattle.commands.specs.Prelude.{flat_map, first_output}
 use Rattle.commands.proofs.refusal.cycle_text.Given as goal
 
 -- the edges so far are after the first one

@@ -1,8 +1,6 @@
 use Rattle.std.proofs.Common.{◌≡◌, ℕ, List, ◌∷◌, ◌++◌, ap, codes, map, sym, ◌∙◌}
-use Rattle.std.specs.Fmt.{decimal}
+use Rattle.commands.specs.Prelude.{decimal, doc_fault_text, refusal_line}
 use Rattle.std.proofs.lemmas.List.{append_assoc}
-use Rattle.scan_docs.specs.FaultTexts.{doc_fault_text}
-use Rattle.commands.specs.inner.Refusals.{refusal_line}
 use Rattle.commands.proofs.refusal.refusal_line.Goals as goal
 
 -- the text as it is put together

@@ -1,6 +1,5 @@
 use Rattle.std.proofs.Common.{◌≡◌, ◌++◌, take, codes}
-use Rattle.std.specs.List.{flat_map}
-use Rattle.commands.specs.TableFaults.{object_path}
+use Rattle.commands.specs.Prelude.{flat_map, object_path}
 use Rattle.commands.proofs.refusal.ring_text.Given as goal
 
 -- the objects so far are after the first one

@@ -1,14 +1,7 @@
 use Rattle.std.proofs.Common.{rules, ◌≡◌, ℕ, List, [], codes, Option, Some, None, Result, map, string_bytes, refl, ap, sym, Ok, Err, IfOk, String, Vec, option_map, Global}
-use Rattle.std.specs.IoError.{error_kind}
-use Rattle.std.specs.declared.alloc.AllocError.{AllocError}
-use Rattle.std.specs.declared.io.Error.{Error}
+use Rattle.commands.specs.Prelude.{error_kind, AllocError, Error, AreCallOf, task_value, Task, failed, stops, AreTask, ArgumentsOf, Words, words_of, IsStoppedWith}
 use Rattle.std.specs.declared.io.ErrorKind.TheVariants.{OutOfMemory}
 use Rattle.ninja_text.specs.declared.failure.Failure.TheVariants.{Memory}
-use Rattle.command_line.specs.Tasks.{AreCallOf, task_value}
-use Rattle.command_line.specs.declared.arguments.Task.{Task}
-use Rattle.commands.specs.Outcomes.{failed, stops}
-use Rattle.commands.specs.Program.{AreTask, ArgumentsOf, Words, words_of}
-use Rattle.commands.specs.inner.Stops.{IsStoppedWith}
 use Rattle.commands.proofs.Outcomes.{none_made, pure_next, pure_last, run_next, run_once, run_last, Stop}
 use Rattle.commands.proofs.run.arguments_run.Goals as goal
 use Rattle.commands.proofs.run.arguments_run.Given as given

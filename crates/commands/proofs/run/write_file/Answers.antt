@@ -1,11 +1,5 @@
 use Rattle.std.proofs.Common.{rules, ◌≡◌, ◌++◌, ◌∷◌, [], List, codes, refl, if◌then◌else◌, inl, inr, Result, Ok, Err, true, false}
-use Rattle.std.specs.declared.io.Error.{Error}
-use Rattle.ninja_text.specs.Bytes.{Bytes, PathText}
-use Rattle.ninja_text.specs.Failure.{ForFault}
-use Rattle.commands.specs.Answers.{file_value}
-use Rattle.commands.specs.Files.{writes}
-use Rattle.commands.specs.Folder.{FileCall, Adds, MakesCalls, comparing, writing}
-use Rattle.commands.specs.Outcomes.{FileValue, failed}
+use Rattle.commands.specs.Prelude.{Error, Bytes, PathText, ForFault, file_value, writes, FileCall, Adds, MakesCalls, comparing, writing, FileValue, failed}
 use Rattle.commands.proofs.Outcomes.{both_made, none_made, Known}
 use Rattle.commands.proofs.run.write_file.Given as given
 use Rattle.commands.proofs.run.write_file.Goals as goal

@@ -1,8 +1,6 @@
 use Rattle.std.proofs.Common.{◌≡◌, ◌∙◌, ◌≤◌, List, Some, length, map, ap, subst, sym, arith, slice_get, refl}
 use Rattle.std.proofs.lemmas.List.{length-map}
-use Rattle.commands.specs.Answers.{file_value}
-use Rattle.commands.specs.Files.{WritesFile, WritesFiles}
-use Rattle.commands.specs.Outcomes.{FileValue, OutputValue, Runs}
+use Rattle.commands.specs.Prelude.{file_value, WritesFile, WritesFiles, FileValue, OutputValue, Runs}
 use Rattle.commands.proofs.Outcomes.{each_done, each_last, each_next, leads_none, mapped_at, passed}
 use Rattle.commands.proofs.run.write_files.Given as given
 use Rattle.commands.proofs.run.write_files.Goals as goal
@@ -22,14 +20,14 @@ pub returns-in_err-write_file : goal.returns-in_err-write_file
 returns-in_err-write_file g c =
     let files = c.args.output.now.files in
     rw (passed c.from_residual.ensures)
-    (each_last (λ done. WritesFile) files (WritesFiles files) _ c.loop-file.file-index _ tt _ _ _
+    (each_last (λ done. WritesFile) files (WritesFiles files) _ c.loop-file.file-index
     (here g (goal.at.returns-in_err-write_file g c).After-write_file) c.loop-file.invariant
     c.in_err-write_file.ensures)
 
 pub loop-file-preserved : goal.loop-file-preserved
 loop-file-preserved g c =
     let files = c.args.output.now.files in
-    each_next (λ done. WritesFile) files (WritesFiles files) _ c.loop-file.file-index _ tt tt _ _ (here g (goal.at.loop-file-preserved g c).After-write_file)
+    each_next (λ done. WritesFile) files (WritesFiles files) _ c.loop-file.file-index (here g (goal.at.loop-file-preserved g c).After-write_file)
     c.loop-file.invariant
     c.in_ok-write_file.ensures
 
@@ -41,4 +39,4 @@ returns g c =
     let same : map file_value items ≡ files = ap (map file_value) c.deref-file-items.ensures.value ∙ ap (λ (o : OutputValue). o.files) c.output.view_is in
     let past : length files ≤ c.loop-file.file-index =
     let e : length files ≡ length items = ap length (sym same) ∙ length-map items file_value in omega (arith, e, c.loop-file-test.false) in
-    each_done (λ done. WritesFile) files (WritesFiles files) _ _ tt _ past c.loop-file.invariant
+    each_done (λ done. WritesFile) files (WritesFiles files) _ _ past c.loop-file.invariant

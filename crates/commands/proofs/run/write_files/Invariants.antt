@@ -1,6 +1,5 @@
 use Rattle.std.proofs.Common.{drop}
-use Rattle.commands.specs.Files.{WritesFile, WritesFiles}
-use Rattle.commands.specs.Outcomes.{Each}
+use Rattle.commands.specs.Prelude.{WritesFile, WritesFiles, Each}
 use Rattle.commands.proofs.Outcomes.{Leads}
 use Rattle.commands.proofs.run.write_files.Given as goal
 

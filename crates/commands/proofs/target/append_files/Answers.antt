@@ -1,10 +1,6 @@
 use Rattle.std.proofs.Common.{rules, ◌≡◌, List, [], ◌∷◌, ◌++◌, map, append_assoc, ap, ap₂, string_bytes, ◌∙◌, Ok, false}
-use Rattle.std.specs.declared.alloc.AllocError.{AllocError}
+use Rattle.commands.specs.Prelude.{AllocError, TargetDocumentValue, file_value, output_file, map_files, FileValue}
 use Rattle.std.proofs.lemmas.Result.{on_ok_weaker}
-use Rattle.scan_docs.specs.Target.{TargetDocumentValue}
-use Rattle.commands.specs.Answers.{file_value}
-use Rattle.commands.specs.CollateCommand.{output_file, map_files}
-use Rattle.commands.specs.Outcomes.{FileValue}
 use Rattle.commands.proofs.Targets.{file_more}
 use Rattle.commands.proofs.target.append_files.Goals as goal
 
@@ -17,10 +13,10 @@ returns c =
     let before : List FileValue = map file_value c.args.files.now.items in
     let maps : List FileValue = map_files spec.restat collated.objects collated.maps in
     let keeps : c.spec.inside.restat ≡ spec.restat = ap (λ (t : TargetDocumentValue). t.restat) c.spec.view_is in
-    let info : output_file c.spec.inside.restat (string_bytes c.in_ok-from_str.field-0) c.into_parts-dyndep_text.result.info.items ≡
+    let info : output_file c.spec.inside.restat (string_bytes c.in_ok-name.name) c.into_parts-dyndep_text.result.info.items ≡
     output_file spec.restat spec.info collated.info =
     ap₂ (output_file c.spec.inside.restat) (search rules) parts.info ∙ ap (λ k. output_file k spec.info collated.info) keeps in
-    let dyndep : output_file false (string_bytes c.in_ok-from_str-2.field-0) c.into_parts-dyndep_text.result.dyndep.items ≡
+    let dyndep : output_file false (string_bytes c.in_ok-name-2.name) c.into_parts-dyndep_text.result.dyndep.items ≡
     output_file false spec.dyndep collated.dyndep =
     ap₂ (output_file false) (search rules) parts.dyndep in
     let maps_in = c.in_ok-append_maps.ensures ∙

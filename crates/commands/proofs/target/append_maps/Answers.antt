@@ -1,14 +1,10 @@
 use Rattle.std.proofs.Common.{rules, ◌≡◌, ℕ, List, ◌∷◌, [], ◌++◌, append_assoc, length, map, zip, ap, string_bytes, sym, subst, ◌∙◌, arith, IsUtf8, Ok, Vec, Global}
-use Rattle.std.specs.Vec.Iter.{into_iter_items, into_iter_len}
-use Rattle.std.specs.declared.alloc.AllocError.{AllocError}
+use Rattle.commands.specs.Prelude.{into_iter_items, into_iter_len, AllocError, file_value, map_name, output_file, FileValue}
 use Rattle.std.proofs.lemmas.Iterator.{YieldsList-from_slice, YieldsList-from_zip}
 use Rattle.std.proofs.lemmas.Iterator.Adapters.{YieldsList-from_vec}
 use Rattle.std.proofs.lemmas.Iterator.Consumers.{YieldsList-turn, YieldsList-end}
 use Rattle.std.proofs.lemmas.List.{length_push, take_all}
 use Rattle.std.proofs.lemmas.List.Elements.{All-get_or}
-use Rattle.commands.specs.Answers.{file_value}
-use Rattle.commands.specs.CollateCommand.{map_name, output_file}
-use Rattle.commands.specs.Outcomes.{FileValue}
 use Rattle.commands.proofs.Targets.{file_more, first_all, map_file, zip_map}
 use Rattle.commands.proofs.Outcomes.{mapped_next}
 use Rattle.commands.proofs.target.append_maps.Goals as goal

@@ -1,14 +1,6 @@
 use Rattle.std.proofs.Common.{rules, ◌≡◌, Option, Some, None, Result, IfOk, IfErr}
-use Rattle.ninja_text.specs.Failure.{ForFault}
-use Rattle.ninja_text.specs.declared.failure.Failure.{Failure}
-use Rattle.scan_docs.specs.declared.map_form.MapForm.{MapForm}
+use Rattle.commands.specs.Prelude.{ForFault, Failure, MapForm, table_with, TargetValue, CollatedValue, Collates, IsRefusal, WasRead, RefusedTarget, style_of}
 use Rattle.scan_docs.specs.declared.map_form.MapForm.TheVariants.{Gcc, Clang}
-use Rattle.module_table.specs.TableValue.{table_with}
-use Rattle.collate_core.specs.Values.{TargetValue, CollatedValue}
-use Rattle.collate_core.specs.Collation.{Collates}
-use Rattle.collate_core.specs.Refusals.{IsRefusal, WasRead}
-use Rattle.collate_core.specs.declared.fault.RefusedTarget.{RefusedTarget}
-use Rattle.commands.specs.CollateCommand.{style_of}
 use Rattle.commands.proofs.target.collate_as.Goals as goal
 
 -- what a target collates to with maps of a form, or its rejection and what was read of it

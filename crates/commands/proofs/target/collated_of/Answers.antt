@@ -1,11 +1,6 @@
-use Rattle.std.proofs.Common.{◌≡◌, ◌∙◌, ℕ, List, [], Ok, Err, map, refl, ap, Vec, Global, Bor}
-use Rattle.scan_docs.specs.Scan.{SettingValue}
+use Rattle.std.proofs.Common.{◌≡◌, ◌∙◌, ℕ, List, [], Ok, Err, map, refl, ap, Bor}
+use Rattle.commands.specs.Prelude.{SettingValue, TargetValue, CollatedValue, style_of, target_with, TargetFilesValue, Outcome, TargetOf, cow_slice_items}
 use Rattle.scan_docs.specs.Target as document
-use Rattle.collate_core.specs.Values.{TargetValue, CollatedValue}
-use Rattle.commands.specs.CollateCommand.{style_of, target_with}
-use Rattle.commands.specs.Files.{TargetFilesValue}
-use Rattle.commands.specs.Outcomes.{Outcome}
-use Rattle.commands.specs.Targets.{TargetOf}
 use Rattle.commands.proofs.Targets.{target_rejected}
 use Rattle.commands.proofs.target.collated_of.Goals as goal
 use Rattle.commands.proofs.target.collated_of.Goals.{After-collate_as}
@@ -25,9 +20,6 @@ of_document spec view files scans infos kept s v d i k h = rw (d, i, k, v) at h
 abbrev texts : List (Bor (List ℕ)) → List (List ℕ)
 texts lent = map (λ text. text.now) lent
 
-abbrev items_of : List (Vec ℕ Global) → List (List ℕ)
-items_of files = map (λ (file : Vec ℕ Global). file.items) files
-
 -- the target that was collated is the document's
 its_target : (c : After-collate_as) (s : Outcome CollatedValue) →
     TargetOf (target_of c.spec.inside.target c.spec.inside.setting (texts c.deref-3.result.now) (texts c.deref-4.result.now) c.deref-5.result.now)
@@ -35,8 +27,10 @@ its_target : (c : After-collate_as) (s : Outcome CollatedValue) →
     TargetOf (target_with c.args.spec.now c.args.files.now) (style_of c.args.spec.now.map_form) [] s
 its_target c s =
     of_document c.args.spec.now _ c.args.files.now _ _ _ s c.spec.view_is
-    (ap texts c.deref-3.ensures.value ∙ c.in_ok-scans.ensures ∙ ap items_of c.deref.ensures.value ∙ ap (λ (f : TargetFilesValue). f.scans) c.files.view_is)
-    (ap texts c.deref-4.ensures.value ∙ c.in_ok-infos.ensures ∙ ap items_of c.deref-2.ensures.value ∙ ap (λ (f : TargetFilesValue). f.infos) c.files.view_is)
+    (ap texts c.deref-3.ensures.value ∙ c.in_ok-scans.ensures ∙ ap (map cow_slice_items) c.deref.ensures.value
+    ∙ ap (λ (f : TargetFilesValue). f.scans) c.files.view_is)
+    (ap texts c.deref-4.ensures.value ∙ c.in_ok-infos.ensures ∙ ap (map cow_slice_items) c.deref-2.ensures.value
+    ∙ ap (λ (f : TargetFilesValue). f.infos) c.files.view_is)
     c.deref-5.ensures.value
 
 pub returns-in-Ok : goal.returns-in-Ok

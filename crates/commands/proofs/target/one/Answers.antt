@@ -1,11 +1,7 @@
 use Rattle.std.proofs.Common.{rules, ◌≡◌, ◌∙◌, ℕ, List, [], ◌∷◌, IsTrue, codes, Option, Some, None, refl, ap, ap₂, subst, sym, Ok, Err}
 use Rattle.ninja_text.specs.declared.failure.Failure.TheVariants.{Memory}
-use Rattle.std.specs.Option.{SomeIff}
+use Rattle.commands.specs.Prelude.{SomeIff, SettingValue, TargetValue, PrintsDyndep, one_setting, one_target, printed, goes_on, stops}
 use Rattle.document_values.specs.Name.{is_target_name}
-use Rattle.scan_docs.specs.Scan.{SettingValue}
-use Rattle.collate_core.specs.Values.{TargetValue}
-use Rattle.commands.specs.One.{PrintsDyndep, one_setting, one_target}
-use Rattle.commands.specs.Outcomes.{printed, goes_on, stops}
 use Rattle.commands.proofs.Targets.{target_rejected}
 use Rattle.commands.proofs.target.one.Goals as goal
 

@@ -1,8 +1,5 @@
 use Rattle.std.proofs.Common.{codes, refl}
-use Rattle.scan_docs.specs.FaultTexts.{doc_fault_text}
-use Rattle.scan_docs.specs.Document.{IsRefused}
-use Rattle.scan_docs.specs.TargetChecks.{target_checks}
-use Rattle.commands.specs.CollateCommand.{HasSpec, spec_text}
+use Rattle.commands.specs.Prelude.{doc_fault_text, IsRefused, target_checks, HasSpec, spec_text}
 use Rattle.commands.proofs.Outcomes.{by_print, fault_reported}
 use Rattle.commands.proofs.target.read_spec.Goals as goal
 

@@ -1,14 +1,15 @@
-use Rattle.std.proofs.Common.{◌≡◌, ◌∙◌, ℕ, List, [], ◌++◌, map, refl, ap}
-use Rattle.scan_docs.specs.Target.{TargetDocumentValue}
-use Rattle.commands.specs.Answers.{file_value}
-use Rattle.commands.specs.CollateCommand.{files_of, style_of, target_with}
-use Rattle.commands.specs.EdgeChecks.{EdgesPass}
-use Rattle.commands.specs.Files.{TargetFilesValue}
-use Rattle.commands.specs.Outcomes.{Outcome, written}
+use Rattle.std.proofs.Common.{◌≡◌, ◌∙◌, ℕ, List, [], ◌++◌, map, refl, ap, string_bytes}
+use Rattle.commands.specs.Prelude.{TargetDocumentValue, file_value, files_of, style_of, target_with, EdgesPass, TargetFilesValue, Outcome, written}
 use Rattle.commands.specs.declared.stop.OutputFile.{OutputFile}
 use Rattle.commands.proofs.Targets.{objects_text}
 use Rattle.commands.proofs.Outcomes.{next, last, no_value, run_once, run_last}
+use Rattle.commands.proofs.target.target_run.Given as given
 use Rattle.commands.proofs.target.target_run.Goals as goal
+use Rattle.commands.proofs.target.target_run.Goals.{After-read}
+
+-- the info files are those that the document links
+linked : (g : given.Over) (c : After-read g) → map string_bytes c.deref.result.now ≡ c.args.spec.now.linked
+linked g c = ap (map string_bytes) c.deref.ensures.value ∙ ap (λ (s : TargetDocumentValue). s.linked) c.spec.view_is
 
 -- the edge list and the path of the target
 passes_as : (spec view : TargetDocumentValue) (files inside : TargetFilesValue) (dyndep : List ℕ) (s : Outcome (Unit {0})) → inside ≡ files → view ≡ spec →
@@ -21,20 +22,22 @@ append_files-requires g c =
     objects_text (target_with spec c.in_ok-files.files) (style_of spec.map_form) c.in_ok-collated.collated c.in_ok-collated.ensures.1
 
 pub returns-in_err-files : goal.returns-in_err-files
-returns-in_err-files g c = run_last _ _ c.in_err-files.ensures c.from_residual.ensures
+returns-in_err-files g c = run_last _ _ (rw (linked g (goal.at.returns-in_err-files g c).After-read) at c.in_err-files.ensures) c.from_residual.ensures
 
 pub returns-in_err-collated : goal.returns-in_err-collated
-returns-in_err-collated g c = run_once _ _ c.in_ok-files.ensures (last _ c.in_err-collated.ensures c.from_residual-in_err-collated.ensures)
+returns-in_err-collated g c =
+    run_once _ _ (rw (linked g (goal.at.returns-in_err-collated g c).After-read) at c.in_ok-files.ensures)
+    (last _ c.in_err-collated.ensures c.from_residual-in_err-collated.ensures)
 
 pub returns-in_err-pass_edges : goal.returns-in_err-pass_edges
 returns-in_err-pass_edges g c =
-    run_once _ _ c.in_ok-files.ensures (next _ c.in_ok-collated.ensures
+    run_once _ _ (rw (linked g (goal.at.returns-in_err-pass_edges g c).After-read) at c.in_ok-files.ensures) (next _ c.in_ok-collated.ensures
     (last _ (passes_as c.args.spec.now _ c.in_ok-files.files _ _ _ c.files.view_is c.spec.view_is c.in_err-pass_edges.ensures)
     c.from_residual-in_err-pass_edges.ensures))
 
 pub returns-in_err-append_files : goal.returns-in_err-append_files
 returns-in_err-append_files g c =
-    run_once _ _ c.in_ok-files.ensures (next _ c.in_ok-collated.ensures
+    run_once _ _ (rw (linked g (goal.at.returns-in_err-append_files g c).After-read) at c.in_ok-files.ensures) (next _ c.in_ok-collated.ensures
     (next _ (passes_as c.args.spec.now _ c.in_ok-files.files _ _ _ c.files.view_is c.spec.view_is c.in_ok-pass_edges.ensures)
     (no_value _ _ c.from_residual-in_err-append_files.ensures)))
 
@@ -42,6 +45,6 @@ pub returns : goal.returns
 returns g c =
     let made = c.in_ok-append_files.ensures ∙
     ap (λ (fs : List OutputFile). map file_value fs ++ files_of c.args.spec.now c.in_ok-collated.collated) c.new-written.ensures.items in
-    run_once _ _ c.in_ok-files.ensures (next _ c.in_ok-collated.ensures
+    run_once _ _ (rw (linked g (goal.at.returns g c).After-read) at c.in_ok-files.ensures) (next _ c.in_ok-collated.ensures
     (next _ (passes_as c.args.spec.now _ c.in_ok-files.files _ _ _ c.files.view_is c.spec.view_is c.in_ok-pass_edges.ensures)
     (refl, c.files-2.ensures ∙ ap written made)))

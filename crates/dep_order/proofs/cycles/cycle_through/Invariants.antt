@@ -1,7 +1,5 @@
 use Rattle.std.proofs.Common.{Some}
-use Rattle.dep_order.specs.Rows.{lists}
-use Rattle.dep_order.specs.Needs.{needs_of}
-use Rattle.dep_order.specs.inner.Steps.{IsFewest}
+use Rattle.dep_order.specs.Prelude.{lists, needs_of, IsFewest}
 use Rattle.dep_order.proofs.Greedy.{IsChosen}
 use Rattle.dep_order.proofs.cycles.cycle_through.Given as goal
 

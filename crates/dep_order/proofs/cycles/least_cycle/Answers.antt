@@ -1,9 +1,6 @@
 use Rattle.std.proofs.Common.{subst, None, ◌∷◌, refl}
 use Rattle.std.proofs.lemmas.Bool.{false≢true}
-use Rattle.dep_order.specs.Rows.{lists}
-use Rattle.dep_order.specs.Needs.{NodeNeeds, needs_of}
-use Rattle.dep_order.specs.inner.Components.{SharesComponent}
-use Rattle.dep_order.specs.inner.CyclesFrom.{IsLeastFromIfAny}
+use Rattle.dep_order.specs.Prelude.{lists, NodeNeeds, needs_of, SharesComponent, IsLeastFromIfAny}
 use Rattle.dep_order.proofs.Answered.{least_of_all, none_from}
 use Rattle.dep_order.proofs.Connected.{shared_from, cycle_from_shared}
 use Rattle.dep_order.proofs.cycles.least_cycle.Goals as goal
@@ -16,8 +13,8 @@ pub unreachable-requires : goal.unreachable-requires
 unreachable-requires c =
     let own : SharesComponent (needs_of (lists c.args.needs.now) c.loop-first.first) c.in_ok-components.components.items c.loop-first.first =
     rw (← c.row_of.ensures) (rw (← c.as_slice.ensures.value) (c.shares_component.ensures.0 c.if-shares_component.true)) in
-    let cycle = cycle_from_shared c.loop-first.first c.requires.nodes c.in_ok-components.ensures own in
-    let none : IsLeastFromIfAny (NodeNeeds (lists c.args.needs.now)) c.loop-first.first None =
+    let cycle = cycle_from_shared c.requires.nodes c.in_ok-components.ensures own in
+    let none =
     subst (IsLeastFromIfAny (NodeNeeds (lists c.args.needs.now)) c.loop-first.first) c.in-None.is c.in_ok-cycle-2.ensures in
     absurd (none (c.loop-first.first ∷ cycle.0) cycle.1 refl)
 
@@ -28,11 +25,9 @@ returns-then-shares_component c =
 
 pub loop-first-preserved : goal.loop-first-preserved
 loop-first-preserved c =
-    none_from (NodeNeeds (lists c.args.needs.now)) c.loop-first.first
+    none_from
     (λ cycle h begins.
-    let own : SharesComponent (needs_of (lists c.args.needs.now) c.loop-first.first) c.in_ok-components.components.items c.loop-first.first =
-    shared_from (lists c.args.needs.now) c.in_ok-components.components.items c.loop-first.first cycle c.requires.nodes c.in_ok-components.ensures h begins in
     let seen : SharesComponent c.row_of.result.now c.as_slice.result.now c.loop-first.first =
-    rw c.row_of.ensures (rw c.as_slice.ensures.value own) in
+    rw c.row_of.ensures (rw c.as_slice.ensures.value (shared_from cycle c.requires.nodes c.in_ok-components.ensures h begins)) in
     false≢true (c.if-shares_component.ensures.1 seen))
     c.loop-first.invariant

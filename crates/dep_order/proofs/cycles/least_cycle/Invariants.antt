@@ -1,7 +1,5 @@
 use Rattle.std.proofs.Common.{◌≤◌}
-use Rattle.dep_order.specs.Rows.{lists}
-use Rattle.dep_order.specs.Needs.{NodeNeeds}
-use Rattle.dep_order.specs.Cycles.{IsCycle, first_of}
+use Rattle.dep_order.specs.Prelude.{lists, NodeNeeds, IsCycle, first_of}
 use Rattle.dep_order.proofs.Words.{Numbers}
 use Rattle.dep_order.proofs.cycles.least_cycle.Given as goal
 

@@ -11,10 +11,10 @@ loop-node-preserved c =
       | then-is_none+in_ok-push w ↦
           rw w.marks-is (rw (ap (λ (v : Vec ℕ Global). v.items) w.next-is ∙ w.in_ok-push.ensures.items)
           (visited_new c.args.row.now c.loop-node.node-index c.loop-node-test.true lt
-          (read_none c.loop-node.marks.items (slice_index c.args.row.now c.loop-node.node-index) c.index.result.now c.is_none.result lt c.index.ensures
+          (read_none c.loop-node.marks.items (slice_index c.args.row.now c.loop-node.node-index) lt c.index.ensures
           c.is_none.ensures w.if-is_none.true) c.loop-node.invariant))
       | else-is_none w ↦
-          let old = read_some c.loop-node.marks.items (slice_index c.args.row.now c.loop-node.node-index) c.index.result.now c.is_none.result lt c.index.ensures
+          let old = read_some c.loop-node.marks.items (slice_index c.args.row.now c.loop-node.node-index) lt c.index.ensures
           c.is_none.ensures w.if-is_none.false in
-          rw w.marks-is (rw w.next-is (visited_old c.args.row.now c.loop-node.node-index c.loop-node-test.true old.0 old.1 c.loop-node.invariant))
+          rw w.marks-is (rw w.next-is (visited_old c.args.row.now c.loop-node.node-index c.loop-node-test.true old.1 c.loop-node.invariant))
     ]

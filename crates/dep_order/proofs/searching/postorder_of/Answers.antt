@@ -1,13 +1,9 @@
 use Rattle.std.proofs.Common.{◌≡◌, ◌<◌, ◌+◌, ◌++◌, ◌∷◌, [], ℕ, List, Bool, ⊎_elim, length, arith, subst, sym, ◌∙◌, set, slice_index, true, false, Some, None, ap, not, get_or}
-use Rattle.std.specs.List.{All, count_by}
 use Rattle.std.proofs.lemmas.Bool.{cases_lt, false≢true}
 use Rattle.std.proofs.lemmas.List.{get_or_read, get_or-set_same, length_push}
 use Rattle.std.proofs.lemmas.List.Sums.{sum_by-set}
 use Rattle.std.proofs.lemmas.List.Elements.{Contains-push}
-use Rattle.dep_order.specs.Needs.{needs_of, NeedsAreNodes}
-use Rattle.dep_order.specs.Rows.{lists}
-use Rattle.dep_order.specs.inner.Users.{one_if}
-use Rattle.dep_order.specs.inner.Postorders.{is_seen, IsInDepth, IsFirstUnseen, SeesMore}
+use Rattle.dep_order.specs.Prelude.{All, count_by, needs_of, NeedsAreNodes, lists, one_if, is_seen, IsInDepth, IsFirstUnseen, SeesMore}
 use Rattle.dep_order.proofs.Releases.{length_lists}
 use Rattle.dep_order.proofs.Answered.{row_nodes}
 use Rattle.dep_order.proofs.Searches.{emptied_by}
@@ -24,26 +20,25 @@ seen_next before seen root old more at node lt =
 -- the last node of the path is a node
 last_in : {needs : Graph} {seen : List Bool} {scanned : Numbers} (rest : Numbers) {path left : Numbers} (node : ℕ) → path ≡ rest ++ node ∷ [] →
     IsInDepth needs seen scanned path left → node < length needs
-last_in {needs} {seen} {scanned} rest {path} {left} node e h = omega (arith, seen_in_range seen node (path_seen node h (rw e (Contains-push rest node))))
+last_in {needs} {seen} {scanned} rest {path} {left} node e h = omega (arith, seen_in_range seen node (path_seen h (rw e (Contains-push rest node))))
 
 -- and so are the nodes of its row
-row_in : {needs : Graph} {seen : List Bool} {scanned : Numbers} (rest : Numbers) {path left : Numbers} (node : ℕ) (row : Numbers) → path ≡ rest ++ node ∷ [] →
+row_in : {needs : Graph} {seen : List Bool} {scanned path left row : Numbers} (rest : Numbers) (node : ℕ) → path ≡ rest ++ node ∷ [] →
     row ≡ needs_of needs node → NeedsAreNodes needs → IsInDepth needs seen scanned path left → All (λ x. x < length seen) row
-row_in {needs} {seen} {scanned} rest {path} {left} node row e is nodes h =
+row_in {needs} {seen} rest node e is nodes h =
     rw is (row_nodes needs node (length seen) (omega arith) (last_in rest node e h) nodes)
 
 -- one node fewer is not seen
 one_fewer : (seen : List Bool) (next : ℕ) → next < length seen → is_seen seen next ≡ false → count_by not (set seen next true) + 1 ≡ count_by not seen
-one_fewer seen next lt e = let before : one_if (not (get_or seen next false)) ≡ 1 = ap (λ b. one_if (not b)) e in
-    omega (arith, sum_by-set (λ b. one_if (not b)) seen next true false lt)
+one_fewer seen next lt e = omega (arith, ap (λ b. one_if (not b)) e, sum_by-set (λ b. one_if (not b)) seen next true false lt)
 
 pub loop-node-init : goal.loop-node-init
 loop-node-init c =
     let lt : c.loop-root.root < length c.loop-root.seen.items = omega (arith, length_lists c.args.needs.now) in
-    let unseen : is_seen c.loop-root.seen.items c.loop-root.root ≡ false =
+    let unseen =
     sym (get_or_read c.loop-root.seen.items c.loop-root.root c.index.result.now lt c.index.ensures false) ∙ c.if-index.false in
     record {
-      in_depth = begun c.push.new.self.items c.loop-root.root
+      in_depth = begun c.loop-root.root
           (c.in_ok-push.ensures.items ∙ ap (λ xs. xs ++ c.loop-root.root ∷ []) c.loop-root.invariant.no_path) (omega (arith, length_lists c.args.needs.now))
           unseen c.loop-root.invariant.in_depth;
       root_seen = get_or-set_same c.loop-root.seen.items c.loop-root.root true false lt;
@@ -60,19 +55,19 @@ index-requires-in-Some c = omega (arith, last_in c.pop.new.self.items c.in-Some.
 pub first_unseen-requires : goal.first_unseen-requires
 first_unseen-requires c =
     rw c.as_slice.ensures.value
-    (row_in c.pop.new.self.items c.in-Some.node c.row_of-row.result.now c.in-Some.ensures.items c.row_of-row.ensures c.requires c.loop-node.invariant.in_depth)
+    (row_in c.pop.new.self.items c.in-Some.node c.in-Some.ensures.items c.row_of-row.ensures c.requires c.loop-node.invariant.in_depth)
 
 pub loop-node-smaller : goal.loop-node-smaller
 loop-node-smaller c = omega (arith, ap length c.in-Some.ensures.items, length_push c.pop.new.self.items c.in-Some.node)
 
 pub loop-node-smaller-in-Continue-branch-5 : goal.loop-node-smaller-in-Continue-branch-5
 loop-node-smaller-in-Continue-branch-5 c =
-    let fewer = one_fewer c.loop-node.seen.items (slice_index c.row_of-row.result.now c.in-Some-first_unseen.index)
-    (row_in c.pop.new.self.items c.in-Some.node c.row_of-row.result.now c.in-Some.ensures.items c.row_of-row.ensures c.requires
-    c.loop-node.invariant.in_depth c.in-Some-first_unseen.index 0 c.in-Some-first_unseen.ensures.1)
-    (rw (← c.as_slice.ensures.value) c.in-Some-first_unseen.ensures.2) in
     omega (
       arith,
+      one_fewer c.loop-node.seen.items (slice_index c.row_of-row.result.now c.in-Some-first_unseen.index)
+          (row_in c.pop.new.self.items c.in-Some.node c.in-Some.ensures.items c.row_of-row.ensures c.requires
+          c.loop-node.invariant.in_depth c.in-Some-first_unseen.index 0 c.in-Some-first_unseen.ensures.1)
+          (rw (← c.as_slice.ensures.value) c.in-Some-first_unseen.ensures.2),
       ap length c.in-Some.ensures.items,
       ap length c.in_ok-push-in-Some-first_unseen.ensures.items,
       ap length c.in_ok-push-in-Some-first_unseen-2.ensures.items,
@@ -89,8 +84,8 @@ loop-node-preserved-in-Continue-branch-5 c =
     get_or_read c.loop-node.scanned.items c.in-Some.node c.index-in-Some.result.now (omega arith) c.index-in-Some.ensures 0 in
     let found : IsFirstUnseen (needs_of (lists c.args.needs.now) c.in-Some.node) c.loop-node.seen.items (slice_index c.loop-node.scanned.items c.in-Some.node)
     (Some c.in-Some-first_unseen.index) =
-    first_unseen_at c.row_of-row.result.now (needs_of (lists c.args.needs.now) c.in-Some.node) c.as_slice.result.now c.loop-node.seen.items
-    c.index-in-Some.result.now (slice_index c.loop-node.scanned.items c.in-Some.node) (Some c.in-Some-first_unseen.index) c.row_of-row.ensures
+    first_unseen_at
+    (Some c.in-Some-first_unseen.index) c.row_of-row.ensures
     c.as_slice.ensures.value from_is c.in-Some-first_unseen.ensures in
     let at : slice_index (needs_of (lists c.args.needs.now) c.in-Some.node) c.in-Some-first_unseen.index ≡
     slice_index c.row_of-row.result.now c.in-Some-first_unseen.index =
@@ -116,16 +111,15 @@ loop-node-preserved-in-Continue-branch-5 c =
 
 pub loop-node-preserved : goal.loop-node-preserved
 loop-node-preserved c =
-    let from_is : c.index-in-Some.result.now ≡ slice_index c.loop-node.scanned.items c.in-Some.node =
+    let from_is =
     get_or_read c.loop-node.scanned.items c.in-Some.node c.index-in-Some.result.now
     (omega (arith, last_in c.pop.new.self.items c.in-Some.node c.in-Some.ensures.items c.loop-node.invariant.in_depth)) c.index-in-Some.ensures 0 in
-    let none : IsFirstUnseen (needs_of (lists c.args.needs.now) c.in-Some.node) c.loop-node.seen.items (slice_index c.loop-node.scanned.items c.in-Some.node)
-    None = first_unseen_at c.row_of-row.result.now (needs_of (lists c.args.needs.now) c.in-Some.node) c.as_slice.result.now c.loop-node.seen.items
-    c.index-in-Some.result.now (slice_index c.loop-node.scanned.items c.in-Some.node) None c.row_of-row.ensures c.as_slice.ensures.value from_is
+    let none = first_unseen_at
+    None c.row_of-row.ensures c.as_slice.ensures.value from_is
     c.in-None.ensures in
     record {
       in_depth =
-          rw c.in_ok-push-in-None.ensures.items (left_behind c.pop.new.self.items c.in-Some.node c.in-Some.ensures.items none c.loop-node.invariant.in_depth);
+          rw c.in_ok-push-in-None.ensures.items (left_behind c.in-Some.node c.in-Some.ensures.items none c.loop-node.invariant.in_depth);
       root_seen = c.loop-node.invariant.root_seen;
       kept = c.loop-node.invariant.kept;
     }
@@ -144,7 +138,7 @@ loop-root-preserved-then-index c =
 pub loop-root-preserved : goal.loop-root-preserved
 loop-root-preserved c =
     let lt : c.loop-root.root < length c.loop-root.seen.items = omega (arith, length_lists c.args.needs.now) in
-    let none : c.loop-node.path.items ≡ [] = emptied_by c.loop-node.path (λ lt. false≢true (c.in_default.ensures.variant.1 lt)) in
+    let none = emptied_by c.loop-node.path (λ lt. false≢true (c.in_default.ensures.variant.1 lt)) in
     record {
       in_depth = subst (λ xs. IsInDepth (lists c.args.needs.now) c.loop-node.seen.items c.loop-node.scanned.items xs c.loop-node.left.items) none
           c.loop-node.invariant.in_depth;

@@ -1,7 +1,5 @@
 use Rattle.std.proofs.Common.{◌≡◌, ℕ, ◌+◌, ◌*◌, ◌<◌, [], length, not, true}
-use Rattle.std.specs.List.{count_by}
-use Rattle.dep_order.specs.Rows.{lists}
-use Rattle.dep_order.specs.inner.Postorders.{IsInDepth, SeesMore, is_seen}
+use Rattle.dep_order.specs.Prelude.{count_by, lists, IsInDepth, SeesMore, is_seen}
 use Rattle.dep_order.proofs.searching.postorder_of.Given as goal
 
 -- the roots so far are seen, and the search has left all that is

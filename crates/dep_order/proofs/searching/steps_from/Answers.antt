@@ -1,7 +1,6 @@
-use Rattle.std.proofs.Common.{rules, ◌≡◌, ◌<◌, ◌∙◌, ap, arith, replicate, sym, length, slice_index, None}
-use Rattle.std.specs.List.{All}
+use Rattle.std.proofs.Common.{rules, ◌<◌, ◌∙◌, ap, arith, replicate, sym, length, slice_index, None}
 use Rattle.std.proofs.lemmas.List.{take_all}
-use Rattle.dep_order.specs.Rows.{lists}
+use Rattle.dep_order.specs.Prelude.{All, lists}
 use Rattle.dep_order.proofs.Releases.{length_lists}
 use Rattle.dep_order.proofs.Answered.{row_nodes}
 use Rattle.dep_order.proofs.Searches.{search_begun, next_level, all_levels, nonempty, emptied, frontier_in_range, advanced_more}
@@ -10,21 +9,20 @@ use Rattle.dep_order.proofs.searching.steps_from.Goals.{After-deref-node-items}
 
 pub levels-init : goal.levels-init
 levels-init c =
-    let none : c.in_ok-steps.steps.items ≡ replicate (length c.args.slices.now) None = c.in_ok-steps.ensures.items_if_clones_equal (search rules) in
     rw c.in_ok-frontier.ensures.items
-    (search_begun (lists c.args.slices.now) c.args.start c.in_ok-steps.steps.items (omega (arith, length_lists c.args.slices.now))
-    (none ∙ ap (λ n. replicate n None) (sym (length_lists c.args.slices.now))))
+    (search_begun (omega (arith, length_lists c.args.slices.now))
+    ((c.in_ok-steps.ensures.items_if_clones_equal (search rules)) ∙ ap (λ n. replicate n None) (sym (length_lists c.args.slices.now))))
 
 -- the nodes of the frontier are nodes
 in_range : (c : After-deref-node-items) → All (λ node. node < length c.args.slices.now) c.deref-node-items.result.now
-in_range c = rw c.deref-node-items.ensures.value (frontier_in_range (length c.args.slices.now) (length_lists c.args.slices.now) c.levels.invariant)
+in_range c = rw c.deref-node-items.ensures.value (frontier_in_range (length_lists c.args.slices.now) c.levels.invariant)
 
 pub mark_row-requires : goal.mark_row-requires
 mark_row-requires c =
     let in' = in_range (goal.at.mark_row-requires c).After-deref-node-items c.loop-node.node-index 0 c.loop-node-test.true in
     rw c.row_of.ensures (row_nodes (lists c.args.slices.now) (slice_index c.deref-node-items.result.now c.loop-node.node-index) (length c.loop-node.steps.items)
     (omega (arith, length_lists c.args.slices.now))
-    (omega (arith, in', length_lists c.args.slices.now)) c.requires.nodes)
+    (omega (arith, length_lists c.args.slices.now)) c.requires.nodes)
 
 pub loop-node-preserved : goal.loop-node-preserved
 loop-node-preserved c =

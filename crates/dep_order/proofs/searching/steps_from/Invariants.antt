@@ -1,7 +1,5 @@
 use Rattle.std.proofs.Common.{◌+◌, length, take}
-use Rattle.dep_order.specs.Rows.{lists}
-use Rattle.dep_order.specs.inner.Marks.{unmarked}
-use Rattle.dep_order.specs.inner.Steps.{AreAdvanced}
+use Rattle.dep_order.specs.Prelude.{lists, unmarked, AreAdvanced}
 use Rattle.dep_order.proofs.Searches.{IsSearching}
 use Rattle.dep_order.proofs.searching.steps_from.Given as goal
 

@@ -1,13 +1,7 @@
 use Rattle.std.proofs.Common.{◌≡◌, ◌<◌, ◌-◌, Bool, true, false, List, [], ◌∷◌, refl, sym, ap, subst, ◌∙◌, slice_index_or, arith}
-use Rattle.std.specs.Prelude.{codes, option_map, nat_lt, not, length}
-use Rattle.std.specs.Vec.{vec_len}
 use Rattle.std.proofs.lemmas.Bool.{false≢true}
-use Rattle.ninja_text.specs.Tokens.{value_of}
-use Rattle.ninja_text.specs.AssignmentViews.{seen_assignment}
-use Rattle.dyndep_file.specs.StatementValue.{StatementValue}
-use Rattle.dyndep_file.specs.contracts.statement.Statement.{the_view}
-use Rattle.dyndep_file.specs.Classes.{Binding}
-use Rattle.dyndep_file.specs.Steps.{ProgressValue, with_last_restat}
+use Rattle.dyndep_file.specs.Prelude.{not, length, nat_lt, codes, option_map, vec_len, seen_assignment, value_of, Binding, StatementValue, ProgressValue, with_last_restat}
+use Rattle.dyndep_file.specs.contracts.text.Statement.{the_view}
 use Rattle.dyndep_file.proofs.LineLemmas.{has_name, binds, last_set, not_empty}
 use Rattle.dyndep_file.proofs.progress.indented_line.Goals as goal
 use Rattle.dyndep_file.proofs.progress.indented_line.Goals.{in-Some-last_mut, in_default-last_mut}
@@ -20,7 +14,7 @@ none_last (s ∷ ss) flag none = absurd (false≢true (none (omega arith)))
 pub returns : goal.returns
 returns c =
     let a = seen_assignment c.in-Some.binding in
-    let named = has_name (codes "restat") (option_map seen_assignment c.args.assignment) a c.in-Some.ensures in
+    let named = has_name (codes "restat") (option_map seen_assignment c.args.found) a c.in-Some.ensures in
     let bytes = value_of a.raw_value in
     let value = c.in_ok-value.value in
     let old = c.progress.inside.statements in

@@ -1,13 +1,5 @@
 use Rattle.std.proofs.Common.{sym, ap, subst, None, Some, Option, ◌∙◌}
-use Rattle.std.specs.Prelude.{codes, is_some}
-use Rattle.ninja_text.specs.Assignments.{SeenAssignment, assignment_of}
-use Rattle.ninja_text.specs.LineViews.{seen_line}
-use Rattle.ninja_text.specs.TokenViews.{symbols_left}
-use Rattle.dyndep_file.specs.Classes.{Blank, IsDyndepLine}
-use Rattle.dyndep_file.specs.Faults.{value_assigned, indented_fault, unindented_fault}
-use Rattle.dyndep_file.specs.Steps.{ProgressValue}
-use Rattle.dyndep_file.specs.declared.progress.Stage.TheVariants.{NoneOpen}
-use Rattle.dyndep_file.specs.inner.LineReading.{PassesOr, IsBuildOf, IsBindingOf, IsVersionLineOf}
+use Rattle.dyndep_file.specs.Prelude.{is_some, codes, SeenAssignment, assignment_of, seen_line, symbols_left, Blank, IsDyndepLine, indented_fault, value_assigned, unindented_fault, ProgressValue, PassesOr, IsBuildOf, IsBindingOf, IsVersionLineOf, NoneOpen}
 use Rattle.dyndep_file.proofs.LineLemmas.{passes_as, blank_stays, build_line_fault, build_line_class, indented_line_fault, binding_class, unindented_line_fault, version_class}
 use Rattle.dyndep_file.proofs.progress.read_text.Goals as goal
 

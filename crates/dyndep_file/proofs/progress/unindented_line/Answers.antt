@@ -1,17 +1,12 @@
 use Rattle.std.proofs.Common.{◌≡◌, ◌∙◌, sym, ap, refl, None, Some}
-use Rattle.std.specs.Prelude.{codes, option_map}
-use Rattle.ninja_text.specs.Tokens.{value_of}
-use Rattle.ninja_text.specs.AssignmentViews.{seen_assignment}
-use Rattle.dyndep_file.specs.Classes.{Version, is_version_one}
-use Rattle.dyndep_file.specs.Steps.{ProgressValue}
-use Rattle.dyndep_file.specs.declared.progress.Stage.TheVariants.{BeforeVersion, NoneOpen}
+use Rattle.dyndep_file.specs.Prelude.{codes, option_map, seen_assignment, value_of, Version, is_version_one, ProgressValue, BeforeVersion, NoneOpen}
 use Rattle.dyndep_file.proofs.LineLemmas.{has_name, unindented_version}
 use Rattle.dyndep_file.proofs.progress.unindented_line.Goals as goal
 use Rattle.dyndep_file.proofs.progress.unindented_line.Goals.{After-is_version_one}
 
 -- the assignment begins at the first byte of the line, and is to the version
 assigned : (c : After-is_version_one) → let a = seen_assignment c.in-Some.version in
-    ((option_map seen_assignment c.args.assignment ≡ Some a) × (a.name ≡ codes "ninja_dyndep_version")) × (a.name_start ≡ 0) ×
+    ((option_map seen_assignment c.args.found ≡ Some a) × (a.name ≡ codes "ninja_dyndep_version")) × (a.name_start ≡ 0) ×
     (is_version_one (value_of a.raw_value) ≡ c.is_version_one.result)
 assigned c = (
   has_name (codes "ninja_dyndep_version") _ _ c.in-Some.ensures,

@@ -1,8 +1,6 @@
 use Rattle.std.proofs.Common.{◌≡◌, ◌∙◌, length, Ok, Err, refl, ap, subst, take, arith}
-use Rattle.std.specs.Io.KnownBytes.{Consumes}
 use Rattle.std.proofs.lemmas.Result.{err_from_is_err_and}
-use Rattle.ninja_text.specs.Counting.{held, one_more}
-use Rattle.dyndep_file.specs.ReadingAll.{buffer_len, AtEnd, Failed, Refused, NotMade}
+use Rattle.dyndep_file.specs.Prelude.{Consumes, held, one_more, buffer_len, AtEnd, Failed, Refused, NotMade}
 use Rattle.dyndep_file.proofs.ReadLemmas.{consumes_nothing, keeps_consumes, no_call, one_more_call, ended}
 use Rattle.dyndep_file.proofs.reader.read_all.Goals as goal
 

@@ -1,6 +1,5 @@
 use Rattle.std.proofs.Common.{◌≡◌, length}
-use Rattle.ninja_text.specs.Counting.{held, failures}
-use Rattle.dyndep_file.specs.ReadingAll.{buffer_len}
+use Rattle.dyndep_file.specs.Prelude.{held, failures, buffer_len}
 use Rattle.dyndep_file.proofs.ReadLemmas.{ReadSoFar}
 use Rattle.dyndep_file.proofs.reader.read_all.Given as goal
 

@@ -1,5 +1,5 @@
 use Rattle.std.proofs.Common.{◌≡◌, take}
-use Rattle.dyndep_file.specs.inner.Paths.{texts, lent_texts}
+use Rattle.dyndep_file.specs.Prelude.{texts, lent_texts}
 use Rattle.dyndep_file.proofs.text.lend.Given as goal
 
 -- the paths so far

@@ -1,6 +1,5 @@
 use Rattle.std.proofs.Common.{ℕ, ◌<◌, List, Bor, ◌∷◌, [], ◌++◌, codes, get_or, append_assoc, ap, sym, subst, ◌∙◌}
-use Rattle.ninja_text.specs.Escapes.{escaped, IsWritable}
-use Rattle.dyndep_file.specs.Writing.{spaced}
+use Rattle.dyndep_file.specs.Prelude.{escaped, IsWritable, spaced}
 use Rattle.dyndep_file.proofs.Parts.{text_at, same_length, path_more}
 use Rattle.dyndep_file.proofs.text.push_part.Goals as goal
 

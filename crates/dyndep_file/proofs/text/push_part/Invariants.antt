@@ -1,7 +1,5 @@
 use Rattle.std.proofs.Common.{◌≡◌, ◌++◌, take, codes}
-use Rattle.std.specs.List.{flat_map}
-use Rattle.dyndep_file.specs.Writing.{spaced}
-use Rattle.dyndep_file.specs.inner.Paths.{lent_texts}
+use Rattle.dyndep_file.specs.Prelude.{flat_map, spaced, lent_texts}
 use Rattle.dyndep_file.proofs.text.push_part.Given as goal
 
 -- the paths so far are after what was there

@@ -1,8 +1,6 @@
 use Rattle.std.proofs.Common.{length, subst, ◌∙◌}
 use Rattle.std.proofs.lemmas.Result.{err_from_is_err_and}
-use Rattle.ninja_text.specs.Counting.{held, IsWritten, IsTakenInTurn, IsStoppedInTurn}
-use Rattle.dyndep_file.specs.Writing.{dyndep_text}
-use Rattle.dyndep_file.specs.Reading.{StandsForOnly}
+use Rattle.dyndep_file.specs.Prelude.{held, IsWritten, IsTakenInTurn, IsStoppedInTurn, StandsForOnly, dyndep_text}
 use Rattle.dyndep_file.proofs.WriteLemmas.{failed, made}
 use Rattle.dyndep_file.proofs.text.write.Goals as goal
 

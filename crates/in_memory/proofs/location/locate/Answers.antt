@@ -1,8 +1,6 @@
 use Rattle.std.proofs.Common.{◌≡◌, ◌∙◌, ℕ, refl}
-use Rattle.ninja_text.specs.Bytes.{Text}
-use Rattle.in_memory.specs.Locations.{Spot, location_of}
+use Rattle.in_memory.specs.Prelude.{Text, Spot, location_of, code, document, from_space, lined, spot, targeted, without_program}
 use Rattle.in_memory.specs.declared.location.Location.{Location}
-use Rattle.in_memory.specs.inner.Lines.{code, document, from_space, lined, spot, targeted, without_program}
 use Rattle.in_memory.proofs.ErrorLines.{reads_back}
 use Rattle.in_memory.proofs.location.locate.Goals as goal
 

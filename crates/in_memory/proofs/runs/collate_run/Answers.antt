@@ -1,10 +1,7 @@
 use Rattle.std.proofs.Common.{rules, [], refl}
 use Rattle.std.proofs.lemmas.List.Elements.{All-nil}
 use Rattle.ninja_text.specs.declared.failure.Failure.TheVariants.{Memory}
-use Rattle.std.specs.Prelude.{Err}
-use Rattle.commands.specs.CollateCommand.{CollateRun}
-use Rattle.commands.specs.Outcomes.{stops}
-use Rattle.in_memory.specs.Given.{IsCallOf}
+use Rattle.in_memory.specs.Prelude.{Err, CollateRun, stops, IsCallOf}
 use Rattle.in_memory.proofs.Folders.{run_over}
 use Rattle.in_memory.proofs.runs.collate_run.Goals as goal
 

@@ -1,9 +1,5 @@
 use Rattle.std.proofs.Common.{ap}
-use Rattle.ninja_text.specs.Failure.{ForFault}
-use Rattle.scan_docs.specs.Document.{IsRefused}
-use Rattle.scan_docs.specs.Project.{ProjectValue}
-use Rattle.scan_docs.specs.ProjectChecks.{project_checks}
-use Rattle.in_memory.specs.Runs.{accepted, rejected}
+use Rattle.in_memory.specs.Prelude.{ForFault, IsRefused, ProjectValue, project_checks, accepted, rejected}
 use Rattle.in_memory.proofs.runs.project_names.Goals as goal
 
 pub returns-in-Ok : goal.returns-in-Ok

@@ -1,6 +1,5 @@
 use Rattle.std.proofs.Common.{◌≡◌, ℕ, List, [], ◌∷◌, Option, Some, None, MatchOption, Bor}
-use Rattle.module_maps.specs.MapLines.{cut, lines_of}
-use Rattle.module_maps.specs.map_laws.LineLemmas.{lines-cut, lines-whole}
+use Rattle.module_maps.specs.Prelude.{cut, lines_of, lines-cut, lines-whole}
 use Rattle.module_maps.proofs.map_lines.cut_line.Goals as goal
 
 lines : (text : List ℕ) (r : Option (Bor (List ℕ) × Bor (List ℕ))) → MatchOption r (cut 10 text ≡ None) (λ c. cut 10 text ≡ Some (c.0.now, c.1.now))

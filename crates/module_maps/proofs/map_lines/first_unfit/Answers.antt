@@ -1,6 +1,5 @@
 use Rattle.std.proofs.Common.{ap, sym, ◌∙◌}
-use Rattle.module_maps.specs.MapLines.{first_unfit}
-use Rattle.module_maps.specs.map_laws.LineLemmas.{unfit-front, unfit-back}
+use Rattle.module_maps.specs.Prelude.{first_unfit, unfit-front, unfit-back}
 use Rattle.module_maps.proofs.map_lines.first_unfit.Goals as goal
 
 pub returns-in-Some : goal.returns-in-Some

@@ -1,6 +1,5 @@
 use Rattle.std.proofs.Common.{◌≡◌, take}
-use Rattle.std.specs.List.{list_all}
-use Rattle.module_maps.specs.MapLines.{is_map_byte}
+use Rattle.module_maps.specs.Prelude.{list_all, is_map_byte}
 use Rattle.module_maps.proofs.map_lines.is_fit.Given as goal
 
 abbrev pub invariant-loop-b : goal.invariant-loop-b

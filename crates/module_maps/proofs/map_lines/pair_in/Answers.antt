@@ -1,10 +1,5 @@
 use Rattle.std.proofs.Common.{◌≡◌, ℕ, Some, None, Option, ap₂, sym, ◌∙◌, refl, IsTrue}
-use Rattle.ninja_text.specs.Bytes.{Text}
-use Rattle.std.specs.Prelude.{IsUtf8}
-use Rattle.std.specs.Option.{SomeIff}
-use Rattle.document_values.specs.Name.{is_name}
-use Rattle.module_maps.specs.MapLines.{cut, both, name_in, path_in, pair_in}
-use Rattle.module_maps.specs.map_laws.LineLemmas.{pair-of, name-text, name-other}
+use Rattle.module_maps.specs.Prelude.{Text, IsUtf8, SomeIff, is_name, cut, both, name_in, path_in, pair_in, pair-of, name-text, name-other}
 use Rattle.module_maps.proofs.map_lines.pair_in.Goals as goal
 
 -- the module in a text, of what its parts are

@@ -1,6 +1,5 @@
 use Rattle.std.proofs.Common.{◌≡◌, ◌++◌, ◌∷◌, take}
-use Rattle.std.specs.List.{flat_map}
-use Rattle.module_maps.specs.MapLines.{ended_line}
+use Rattle.module_maps.specs.Prelude.{flat_map, ended_line}
 use Rattle.module_maps.proofs.map_lines.push_lines.Given as goal
 
 -- the lines so far

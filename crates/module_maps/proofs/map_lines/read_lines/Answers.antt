@@ -1,6 +1,5 @@
 use Rattle.std.proofs.Common.{◌≡◌, ◌+◌, Some, None, ap, sym, ◌∙◌, arith}
-use Rattle.module_maps.specs.MapLines.{read_lines, lines_of}
-use Rattle.module_maps.specs.map_laws.LineLemmas.{line-read, line-bad}
+use Rattle.module_maps.specs.Prelude.{read_lines, lines_of, line-read, line-bad}
 use Rattle.module_maps.proofs.map_lines.read_lines.Goals as goal
 
 pub returns-in-None : goal.returns-in-None

@@ -1,6 +1,5 @@
 use Rattle.std.proofs.Common.{◌≡◌, drop}
-use Rattle.module_maps.specs.Maps.{lent_pairs}
-use Rattle.module_maps.specs.MapLines.{first_unfit}
+use Rattle.module_maps.specs.Prelude.{lent_pairs, first_unfit}
 use Rattle.module_maps.proofs.map_lines.unfit_in.Given as goal
 
 abbrev pub invariant-loop-pair : goal.invariant-loop-pair

@@ -1,17 +1,10 @@
-use Rattle.std.proofs.Common.{◌≡◌, List, arith, map, refl, subst, sym}
+use Rattle.std.proofs.Common.{◌≡◌, ◌∙◌, List, Result, Ok, Err, ap, map, refl, subst, sym}
 use Rattle.std.proofs.lemmas.Result.{err_from_is_err_and}
-use Rattle.module_table.specs.TableValue.{TableValue, table_with}
-use Rattle.module_table.specs.Modules.{provisions}
-use Rattle.module_table.specs.Faults.{IsReported}
-use Rattle.module_table.specs.inner.LookUps.{AreLookUps}
-use Rattle.module_table.specs.inner.Passed.{Passed}
-use Rattle.ninja_text.specs.Firsts.{AllDiffer}
-use Rattle.module_table.specs.inner.Views.{names_of}
+use Rattle.module_table.specs.Prelude.{TableValue, IsIndex, paths_of, HasNoFault, OnOk, IfOk, IfErr, ForFault, table_with, provisions, IsReported, Passed, AllDiffer, names_of, Name}
 use Rattle.module_table.proofs.Found.{for_fault}
-use Rattle.module_table.proofs.Passing.{code_within, reported, fails, none_passed, after_objects, after_infos, after_names, after_files}
+use Rattle.module_table.proofs.Passing.{reported, fails, none_passed, after_objects, after_infos, after_names, after_files}
 use Rattle.module_table.proofs.checks.check_all.Goals as goal
 use Rattle.module_table.proofs.Words.{path_of}
-use Rattle.ninja_text.specs.Bytes.{Name}
 
 pub returns-in_err-check_objects-clause-fault : goal.returns-in_err-check_objects-clause-fault
 returns-in_err-check_objects-clause-fault c =
@@ -67,19 +60,21 @@ check_requirements-requires c =
     (three_passed (table_with c.args.objects.now c.args.infos.now) u kept c.in_ok-modules.ensures.modules c.in_ok-check_objects.ensures.differ
     c.in_ok-check_infos.ensures.ok c.in_ok-modules.ensures.differ)
 
-pub returns-in_err-needs-clause-fault : goal.returns-in_err-needs-clause-fault
-returns-in_err-needs-clause-fault c =
-    let p = err_from_is_err_and c.from_residual-in_err-needs.result c.from_residual-in_err-needs.ensures.1 in
-    rw (p.1, p.2) (for_fault _ (λ fault is. subst (λ t. IsReported t c.args.kept.now fault.value) c.in_ok-modules.ensures.modules is)
-    c.in_err-needs.ensures.fault)
+always : {A E : Type 0} (P : Type 0) (r : Result A E) → P → OnOk r P
+always P (Ok x) h = h
+always P (Err e) h = tt
+
+pub returns-clause-paths : goal.returns-clause-paths
+returns-clause-paths c = always _ c.check_requirements.result (c.in_ok-check_files.ensures.files ∙ ap paths_of c.in_ok-modules.ensures.modules)
+
+pub returns-clause-fault : goal.returns-clause-fault
+returns-clause-fault c =
+    subst (λ t. IfErr c.check_requirements.result (ForFault (λ fault. IsReported t c.args.kept.now fault.value))) c.in_ok-modules.ensures.modules
+    c.check_requirements.ensures.fault
 
 pub returns-clause-no_fault : goal.returns-clause-no_fault
-returns-clause-no_fault c = λ fault is.
-    let passed = subst (λ (t : TableValue). Passed 11 t c.args.kept.now) c.in_ok-modules.ensures.modules c.in_ok-needs.ensures.passed in
-    omega (arith, passed fault is, code_within fault)
+returns-clause-no_fault c =
+    subst (λ t. OnOk c.check_requirements.result (HasNoFault t c.args.kept.now)) c.in_ok-modules.ensures.modules c.check_requirements.ensures.no_fault
 
 pub returns-clause-index : goal.returns-clause-index
-returns-clause-index c =
-    let index = c.in_ok-index.index in
-    subst (λ (t : TableValue). AreLookUps t index.names.keys index.origins.items index.graph (map (λ row. row.items) index.required.items))
-    c.in_ok-modules.ensures.modules c.in_ok-index.ensures
+returns-clause-index c = subst (λ t. IfOk c.check_requirements.result (IsIndex t)) c.in_ok-modules.ensures.modules c.check_requirements.ensures.index

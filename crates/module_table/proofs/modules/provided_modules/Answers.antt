@@ -1,11 +1,5 @@
 use Rattle.std.proofs.Common.{◌∙◌, ◌+◌, ◌++◌, [], ap, map, refl, take, ℕ, take_all}
-use Rattle.std.specs.List.{enumerate_from}
-use Rattle.document_values.specs.Rule.{RuleValue}
-use Rattle.document_values.specs.Info.{ModuleValue, InfoValue}
-use Rattle.module_table.specs.Modules.{Provision, object_provisions, info_provisions}
-use Rattle.module_table.specs.inner.Views.{provision_of}
-use Rattle.module_table.specs.inner.Origins.{Origin, origin_of, object_origins, info_origins}
-use Rattle.module_table.specs.declared.fault.Maker.TheVariants.{Object, Info}
+use Rattle.module_table.specs.Prelude.{enumerate_from, RuleValue, ModuleValue, InfoValue, Provision, object_provisions, info_provisions, provision_of, Origin, origin_of, object_origins, info_origins, Object, Info}
 use Rattle.module_table.proofs.Lists.{numbered_next, gathers_next, pushes_next, read_at}
 use Rattle.module_table.proofs.modules.provided_modules.Goals as goal
 use Rattle.ninja_text.proofs.ForCallers.{take_next}

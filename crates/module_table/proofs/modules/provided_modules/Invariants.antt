@@ -1,8 +1,5 @@
 use Rattle.std.proofs.Common.{◌≡◌, ◌++◌, [], map, take}
-use Rattle.std.specs.List.{flat_map, enumerate_from}
-use Rattle.module_table.specs.Modules.{object_provisions, info_provisions}
-use Rattle.module_table.specs.inner.Views.{provision_of}
-use Rattle.module_table.specs.inner.Origins.{object_origins, info_origins, origin_of}
+use Rattle.module_table.specs.Prelude.{flat_map, enumerate_from, object_provisions, info_provisions, provision_of, object_origins, info_origins, origin_of}
 use Rattle.module_table.proofs.modules.provided_modules.Given as goal
 
 abbrev pub invariant-loop-object : goal.invariant-loop-object

@@ -1,14 +1,8 @@
 use Rattle.std.proofs.Common.{◌≡◌, ◌<◌, ◌+◌, ◌∙◌, ◌++◌, ◌∷◌, [], ap, arith, get_or, length, map, set, subst, sym, take, Some, ℕ, take_all}
-use Rattle.std.specs.List.{filter_map}
-use Rattle.std.specs.Option.{option_map}
+use Rattle.module_table.specs.Prelude.{filter_map, option_map, rows, Provision, provisions, first_mentions, pair_of, pair_at, names_of, provision_of, name_in, ArePairsSoFar}
 use Rattle.std.proofs.lemmas.List.{get_or-replicate, length-replicate, length-set, map-append}
 use Rattle.std.proofs.lemmas.Option.{slice_get-get_or, get_or_from_slice_get}
-use Rattle.dep_order.specs.Rows.{rows}
-use Rattle.module_table.specs.Modules.{Provision, provisions}
-use Rattle.module_table.specs.Added.{first_mentions, pair_of, required_of}
-use Rattle.module_table.specs.inner.Indexed.{pair_at}
-use Rattle.module_table.specs.inner.Views.{names_of, provision_of}
-use Rattle.module_table.specs.inner.Mentioned.{name_in, ArePairsSoFar}
+use Rattle.module_table.specs.Added.{required_of}
 use Rattle.module_table.proofs.IndexRows.{length_mapped, many_rows, rule_of, index_within}
 use Rattle.module_table.proofs.Mentions.{row_names, pairs_found, no_pairs, pairs_new, pairs_old}
 use Rattle.module_table.proofs.needed.all_pairs.Goals as goal
@@ -47,7 +41,7 @@ module_at-module-requires c =
       arith,
       c.loop-index.invariant.within c.loop-index.index-index c.loop-index-test.true,
       length_mapped provision_of c.provided-provided.result.now,
-      ap length c.provided-provided.ensures.provisions,
+      ap length c.provided-provided.ensures.all.modules,
     )
 
 pub loop-index-preserved : goal.loop-index-preserved
@@ -67,7 +61,7 @@ loop-index-preserved c =
       | then-index-object+in_ok-copy_pair+in_ok-push w ↦
           let marks_now : c.if-index-object.marks.items ≡ set marks v mark = ap (λ u. u.items) w.marks-is in
           let copied = w.in_ok-copy_pair.field-0 in
-          let found = same_reads v (sym c.provided-provided.ensures.provisions) ∙
+          let found = same_reads v (sym c.provided-provided.ensures.all.modules) ∙
           to_map provision_of c.provided-provided.result.now v _ w.module_at-module.ensures in
           let same : Some copied ≡ pair_at ps v =
           ap (λ n. Some (n, copied.1)) w.in_ok-copy_pair.ensures.name ∙
@@ -133,7 +127,7 @@ loop-object-init c =
     let provided = c.provided-provided.result.now in
     let zeros = c.in_ok-marks.ensures.items_if_clones_equal (λ y same. same) in
     record {
-      as_many = omega (arith, c.in_ok-marks.ensures.len, length_mapped provision_of provided, ap length c.provided-provided.ensures.provisions);
+      as_many = omega (arith, c.in_ok-marks.ensures.len, length_mapped provision_of provided, ap length c.provided-provided.ensures.all.modules);
       at_most = λ k d lt.
           let within : k < length provided = omega (arith, lt, ap length zeros, length-replicate {A = ℕ} (length provided) 0) in
           omega (arith, ap (λ xs. get_or xs k d) zeros, get_or-replicate {A = ℕ} (length provided) k 0 d within);

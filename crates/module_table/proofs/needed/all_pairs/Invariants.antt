@@ -1,8 +1,5 @@
 use Rattle.std.proofs.Common.{◌≡◌, ◌≤◌, ◌<◌, ◌+◌, ℕ, get_or, length, map, take}
-use Rattle.std.specs.Prelude.{All}
-use Rattle.module_table.specs.Modules.{provisions}
-use Rattle.module_table.specs.Added.{required_of}
-use Rattle.module_table.specs.inner.Mentioned.{ArePairsSoFar}
+use Rattle.module_table.specs.Prelude.{All, provisions, required_of, ArePairsSoFar}
 use Rattle.module_table.proofs.needed.all_pairs.Given as goal
 
 abbrev pub invariant-loop-object : goal.invariant-loop-object

@@ -1,7 +1,6 @@
 use Rattle.std.proofs.Common.{[], sym, get_or, take, slice_get, Some, ℕ, List}
-use Rattle.std.specs.Borrow.{Bor}
+use Rattle.module_table.specs.Prelude.{Bor, pair_in, pairs_of}
 use Rattle.std.proofs.lemmas.Option.{slice_get-get_or}
-use Rattle.module_table.specs.inner.Ranks.{pair_in, pairs_of}
 use Rattle.module_table.proofs.Lists.{pushes_next, read_at}
 use Rattle.module_table.proofs.needed.pairs_at.Goals as goal
 use Rattle.ninja_text.proofs.ForCallers.{take_next, to_map}

@@ -1,5 +1,5 @@
 use Rattle.std.proofs.Common.{◌≡◌, take, map, slice_get, Some}
-use Rattle.module_table.specs.inner.Ranks.{pairs_of}
+use Rattle.module_table.specs.Prelude.{pairs_of}
 use Rattle.module_table.proofs.needed.pairs_at.Given as goal
 
 abbrev pub invariant-loop-index : goal.invariant-loop-index

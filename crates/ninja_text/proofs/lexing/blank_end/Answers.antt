@@ -1,6 +1,6 @@
 use Rattle.std.proofs.Common.{arith, rules, ◌∙◌, refl}
 use Rattle.std.proofs.lemmas.Grind.{common_steps}
-use Rattle.ninja_text.specs.declared.unit.LineUnit.TheVariants.{Byte, Continuation}
+use Rattle.ninja_text.specs.declared.lexing.LineUnit.TheVariants.{Byte, Continuation}
 use Rattle.ninja_text.proofs.Units.{stands, blank_adds_none}
 use Rattle.ninja_text.proofs.lexing.blank_end.Goals as goal
 

@@ -2,7 +2,7 @@ use Rattle.std.proofs.Common.{arith, ◌≡◌, ◌∙◌, refl, true, get_or}
 use Rattle.std.proofs.lemmas.Grind.{common_steps}
 use Rattle.ninja_text.specs.Tokens.{is_piece}
 use Rattle.ninja_text.specs.inner.PlainTexts.{is_plain_piece}
-use Rattle.ninja_text.specs.declared.unit.LineUnit.TheVariants.{Byte, Continuation}
+use Rattle.ninja_text.specs.declared.lexing.LineUnit.TheVariants.{Byte, Continuation}
 use Rattle.ninja_text.proofs.Units.{stands, blank_adds_none, word_begins, word_goes_on, word_waits, piece_at, plain_stands, plain_piece}
 use Rattle.ninja_text.proofs.lexing.word_end.Goals as goal
 use Rattle.ninja_text.proofs.lexing.word_end.Goals.{in-36, in_default}

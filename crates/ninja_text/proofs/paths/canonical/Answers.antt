@@ -1,5 +1,4 @@
-use Rattle.std.proofs.Common.{◌≡◌, refl, inl, inr, not, false, is_some, Bor, Option, None, Some, option_copied, Ok, ap, subst, sym, ◌∙◌}
-use Rattle.ninja_text.specs.Paths.{IsPath}
+use Rattle.std.proofs.Common.{◌≡◌, refl, inl, inr, not, false, is_some, Bor, Option, None, Some, option_copied, Ok, ap, sym, ◌∙◌}
 use Rattle.ninja_text.proofs.Canonical.{path-alone}
 use Rattle.ninja_text.proofs.Shape.{result-text}
 use Rattle.ninja_text.proofs.paths.canonical.Goals as goal
@@ -8,17 +7,14 @@ no_build : {X : Type 0} (build : Option (Bor X)) → is_some build ≡ false →
 no_build None h = refl
 no_build (Some b) h = cc
 
-pub whole-requires : goal.whole-requires
-whole-requires c = subst IsPath (sym c.in_ok-from_slice.ensures.ok) (c.is_plain.ensures c.if-is_plain.true)
-
 pub returns-then-is_plain-clause-meaning : goal.returns-then-is_plain-clause-meaning
 returns-then-is_plain-clause-meaning c =
     path-alone (option_copied c.args.build) c.args.text.now
     (elim c.if-not-rooted.either [ inl h ↦ inl (no_build c.args.build (c.is_none.ensures ∙ ap not h)) | inr h ↦ inr (sym c.is_rooted-rooted.ensures ∙ h.1) ])
-    (c.is_plain.ensures c.if-is_plain.true) ∙ ap Ok (sym (c.whole.ensures ∙ c.in_ok-from_slice.ensures.ok))
+    (c.is_plain.ensures c.if-is_plain.true) ∙ ap Ok (sym c.in_ok-of.ensures)
 
 pub returns-then-is_plain-clause-text : goal.returns-then-is_plain-clause-text
-returns-then-is_plain-clause-text c = result-text (option_copied c.args.build) c.args.text.now (Ok c.whole.result) (returns-then-is_plain-clause-meaning c)
+returns-then-is_plain-clause-text c = result-text (option_copied c.args.build) c.args.text.now (Ok c.in_ok-of.field-0) (returns-then-is_plain-clause-meaning c)
 
 pub finished-requires-clause-some : goal.finished-requires-clause-some
 finished-requires-clause-some c =

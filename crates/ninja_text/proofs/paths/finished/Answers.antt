@@ -1,5 +1,4 @@
 use Rattle.std.proofs.Common.{rules, ◌≡◌, ◌≤◌, ℕ, ◌&&◌, Bool, false, List, length, Option, None, Ok, position, ap, sym, ◌∙◌, option_copied}
-use Rattle.std.specs.Rc.{rc_slice_items}
 use Rattle.std.specs.List.{list_any}
 use Rattle.ninja_text.specs.Escapes.{is_unwritable}
 use Rattle.ninja_text.specs.Reduction.{is_parent}
@@ -11,7 +10,7 @@ use Rattle.ninja_text.proofs.Directories.{nothing}
 use Rattle.ninja_text.proofs.Joins.{leads-text}
 use Rattle.ninja_text.specs.inner.Joins.{IsListOf}
 use Rattle.ninja_text.proofs.paths.finished.Goals as goal
-use Rattle.ninja_text.proofs.paths.finished.Goals.{In_ok-from_vec}
+use Rattle.ninja_text.proofs.paths.finished.Goals.{After-whole}
 
 -- the tests of a list and of its text agree
 above : (text list : List ℕ) (rooted found : Bool) → rooted ≡ is_rooted text → list ≡ reduced_text text → found ≡ (rooted && leads_up list) →
@@ -51,10 +50,10 @@ canonical-is : (build : Option (List ℕ)) (text last shared : List ℕ) → sha
 canonical-is build text last shared same h k m e le = is-path build text last h k m e le ∙ ap Ok (sym same)
 
 -- the path that is returned
-found : (c : In_ok-from_vec) (text : List ℕ) → IsListOf text c.args.rooted c.args.unwritable c.args.list.items →
-    canonical_of (option_copied c.args.build) text ≡ Ok (rc_slice_items c.in_ok-from_vec.field-0)
+found : (c : After-whole) (text : List ℕ) → IsListOf text c.args.rooted c.args.unwritable c.args.list.items →
+    canonical_of (option_copied c.args.build) text ≡ Ok c.whole.result
 found c text of =
-    canonical-is _ text c.in_ok-text.text.items (rc_slice_items c.in_ok-from_vec.field-0) (c.in_ok-from_vec.ensures ∙ c.shrink_to_fit.ensures.items)
+    canonical-is _ text c.in_ok-text.text.items c.whole.result (c.whole.ensures ∙ c.in_ok-from_vec.ensures ∙ c.shrink_to_fit.ensures.items)
     (nothing text c.args.list c.is_empty.result of.list_is c.is_empty.ensures ∙ c.if-is_empty.false)
     (above text c.deref.result.now c.args.rooted c.is_above_root.result of.rooted_is (c.deref.ensures.value ∙ of.list_is) c.is_above_root.ensures ∙
     c.if-is_above_root.false)
@@ -62,8 +61,9 @@ found c text of =
     (c.in_ok-text.ensures text of.list_is ∙ ap (λ b. seen_from (option_copied c.args.build) b (parts text)) of.rooted_is)
     (search rules)
 
-pub whole-requires : goal.whole-requires
-whole-requires c = canonical-path (option_copied c.args.build) c.requires.some.0 _ (found c c.requires.some.0 c.requires.some.1)
+pub invariant_of-result : goal.invariant_of-result
+invariant_of-result c = canonical-path (option_copied c.args.build) c.requires.some.0 _ (found (goal.at.invariant_of-result c).After-whole c.requires.some.0
+    c.requires.some.1)
 
 pub returns : goal.returns
-returns c text of = found (goal.at.returns c).In_ok-from_vec text of ∙ ap Ok (sym c.whole.ensures)
+returns c text of = found (goal.at.returns c).After-whole text of

@@ -1,10 +1,5 @@
 use Rattle.std.proofs.Common.{◌≡◌}
-use Rattle.serde_json.specs.View.{view}
-use Rattle.scan_docs.specs.Document.{IsAccepted}
-use Rattle.scan_docs.specs.Info.{IsInfo}
-use Rattle.scan_docs.specs.InfoChecks.{info_checks}
-use Rattle.scan_docs.specs.InfoText.{IsInfoText}
-use Rattle.scan_docs.specs.Values.{info_of}
+use Rattle.scan_docs.specs.Prelude.{view, IsAccepted, IsInfo, info_checks, IsInfoText, info_of}
 use Rattle.scan_docs.proofs.Exact.{info_value, info_one_answer, info_text}
 use Rattle.scan_docs.proofs.Each.{refused, holds}
 use Rattle.scan_docs.proofs.info.info_read.Goals as goal

@@ -1,7 +1,5 @@
 use Rattle.std.proofs.Common.{◌≡◌, Bool, List, refl}
-use Rattle.serde_json.specs.Data.{Data}
-use Rattle.serde_json.specs.View.{view}
-use Rattle.scan_docs.specs.Check.{each_from}
+use Rattle.scan_docs.specs.Prelude.{Data, view, each_from}
 use Rattle.scan_docs.specs.InfoChecks.{modules_check, module_checks, all_module_checks, info_checks}
 use Rattle.scan_docs.proofs.Each.{failure_of_both, one_more, refused_at, all_read, stopped}
 use Rattle.scan_docs.proofs.info.read_info.Goals as goal
@@ -50,3 +48,7 @@ returns c =
         modules = rw (c.in_ok-version.ensures.1, c.in_ok-values.ensures.1) modules.1;
       },
     )
+
+pub returns-in_err-push : goal.returns-in_err-push
+returns-in_err-push c =
+    stopped (info_checks (view c.args.tree.now)) _ c.from_residual-in_err-push.result _ c.from_residual-in_err-push.ensures.1 (λ ne. absurd (ne refl))

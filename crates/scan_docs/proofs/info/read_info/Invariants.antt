@@ -1,7 +1,5 @@
 use Rattle.std.proofs.Common.{◌==◌}
-use Rattle.serde_json.specs.View.{view}
-use Rattle.scan_docs.specs.Info.{IsModule}
-use Rattle.scan_docs.specs.InfoChecks.{module_checks}
+use Rattle.scan_docs.specs.Prelude.{view, IsModule, module_checks}
 use Rattle.scan_docs.proofs.Each.{SoFar}
 use Rattle.scan_docs.proofs.info.read_info.Given as goal
 

@@ -7,7 +7,7 @@ use Rattle.scan_docs.proofs.info.read_module.Goals as goal
 pub returns-in_err-pair : goal.returns-in_err-pair
 unfolding requires_check module_checks all_requirement_checks
 returns-in_err-pair c =
-    stopped (module_checks c.args.with_visibility c.args.index (view c.args.value.now)) _ c.from_residual-in_err-pair.result _
+    stopped (module_checks c.args.with_visibility c.args.number (view c.args.value.now)) _ c.from_residual-in_err-pair.result _
     c.from_residual-in_err-pair.ensures.1
     (λ ne. rw (
       failure_of_both,

@@ -1,6 +1,4 @@
-use Rattle.serde_json.specs.View.{view}
-use Rattle.scan_docs.specs.Scan.{IsProvidedModule}
-use Rattle.scan_docs.specs.ScanChecks.{provided_checks}
+use Rattle.scan_docs.specs.Prelude.{view, IsProvidedModule, provided_checks}
 use Rattle.scan_docs.specs.declared.fault.Place.TheVariants as place
 use Rattle.scan_docs.proofs.Each.{SoFar}
 use Rattle.scan_docs.proofs.scan_document.read_all_provided.Given as goal

@@ -1,6 +1,4 @@
-use Rattle.serde_json.specs.View.{view}
-use Rattle.scan_docs.specs.Scan.{IsRequired}
-use Rattle.scan_docs.specs.ScanChecks.{required_checks}
+use Rattle.scan_docs.specs.Prelude.{view, IsRequired, required_checks}
 use Rattle.scan_docs.specs.declared.fault.Place.TheVariants as place
 use Rattle.scan_docs.proofs.Each.{SoFar}
 use Rattle.scan_docs.proofs.scan_document.read_all_required.Given as goal

@@ -1,26 +1,17 @@
-use Rattle.std.proofs.Common.{◌≡◌, ◌≤◌, ◌<◌, List, [], ◌∷◌, length, Option, Some, None, map, option_copied, refl, sym, ap, ◌∙◌, ℕ, arith}
+use Rattle.std.proofs.Common.{◌≡◌, ◌≤◌, ◌<◌, List, length, Option, Some, None, map, option_copied, refl, sym, ap, ◌∙◌, ℕ, arith}
 use Rattle.std.proofs.lemmas.Bool.Decides.{nat_tests}
 use Rattle.std.proofs.lemmas.List.{length-map}
-use Rattle.std.specs.Option.{option_or}
-use Rattle.serde_json.specs.Data.{Data}
-use Rattle.serde_json.specs.View.{view}
-use Rattle.ninja_text.specs.Paths.{placed}
-use Rattle.ninja_text.specs.declared.failure.Failure.TheVariants.{Fault}
+use Rattle.scan_docs.specs.Prelude.{Text, option_or, Data, view, placed, Fault, Place, path_checks, text, entries_of, SettingValue, object_of, first_failure}
 use Rattle.scan_docs.specs.declared.fault.DocFault.TheVariants.{TooLarge}
-use Rattle.scan_docs.specs.declared.fault.Place.{Place}
 use Rattle.scan_docs.specs.declared.fault.Place.TheVariants as place
 use Rattle.scan_docs.specs.declared.member.Member.TheVariants as m
-use Rattle.scan_docs.specs.Check.{shape_check, path_checks}
-use Rattle.scan_docs.specs.Shape.{is_object, text, entries, entries_of, fits}
-use Rattle.scan_docs.specs.Scan.{SettingValue, object_of}
-use Rattle.scan_docs.specs.ScanChecks.{object_checks, count_checks, count_limit, all_provided_checks, all_required_checks, rule_checks}
-use Rattle.scan_docs.specs.inner.Reading.{first_failure}
+use Rattle.scan_docs.specs.ScanChecks.{rule_shape_checks, object_checks, count_checks, count_limit, all_provided_checks, all_required_checks, rule_checks}
 use Rattle.scan_docs.proofs.Each.{failure_of_both, stopped}
 use Rattle.scan_docs.proofs.scan_document.read_rule.Goals as goal
 use Rattle.scan_docs.proofs.scan_document.read_rule.Goals.{In_ok-object, then-provides-gt-COUNT_LIMIT-via-then-provides-gt-COUNT_LIMIT, then-provides-gt-COUNT_LIMIT-via-else-provides-gt-COUNT_LIMIT+then-requirements-gt-COUNT_LIMIT}
 
 -- the object file of a rule that has an output
-module _ (s : SettingValue) (p : Place) (d : Data) (output : List ℕ) (work : Option (List ℕ)) (has : Some output ≡ text m.PrimaryOutput d)
+module _ (s : SettingValue) (p : Place) (d : Data) (output : Text) (work : Option Text) (has : Some output ≡ text m.PrimaryOutput d)
     (at : work ≡ text m.WorkDirectory d) where
   object_is : object_of s d ≡ placed work s.build_dir output
   object_is = rw (← has, ← at) refl
@@ -44,10 +35,7 @@ second_long p ps rs h = grind (arith, nat_tests)
 -- the checks of a rule, part by part
 parts : (s : SettingValue) (i : ℕ) (d : Data) →
     first_failure (rule_checks s i d) ≡
-    option_or (first_failure
-    (shape_check (place.Rule i) m.Rule (is_object d) ∷ shape_check (place.Rule i) m.PrimaryOutput (fits text m.PrimaryOutput d) ∷ shape_check (place.Rule i)
-    m.WorkDirectory (fits text m.WorkDirectory d) ∷ shape_check (place.Rule i) m.Provides (fits entries m.Provides d) ∷ shape_check (place.Rule i) m.Requires
-    (fits entries m.Requires d) ∷ []))
+    option_or (first_failure (rule_shape_checks (place.Rule i) d))
     (option_or (first_failure (object_checks s (place.Rule i) d))
     (option_or (first_failure (count_checks (place.Rule i) (entries_of m.Provides d) (entries_of m.Requires d)))
     (option_or (first_failure (all_provided_checks s (text m.WorkDirectory d) i (entries_of m.Provides d)))

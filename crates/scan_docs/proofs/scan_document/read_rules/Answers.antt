@@ -1,8 +1,7 @@
 use Rattle.std.proofs.Common.{◌≡◌, ◌≤◌, ◌<◌, List, length, map, true, false, refl, arith}
 use Rattle.std.proofs.lemmas.Bool.Decides.{nat_tests}
 use Rattle.std.proofs.lemmas.List.{length-map}
-use Rattle.serde_json.specs.Data.{Data}
-use Rattle.serde_json.specs.View.{view}
+use Rattle.scan_docs.specs.Prelude.{Data, view}
 use Rattle.scan_docs.specs.ScanChecks.{count_limit, is_short, head_checks, all_rule_checks, scan_checks}
 use Rattle.scan_docs.proofs.Each.{failure_of_both, one_more, refused_at, all_read, stopped}
 use Rattle.scan_docs.proofs.scan_document.read_rules.Goals as goal

@@ -1,6 +1,4 @@
-use Rattle.serde_json.specs.View.{view}
-use Rattle.scan_docs.specs.Scan.{IsRule}
-use Rattle.scan_docs.specs.ScanChecks.{rule_checks}
+use Rattle.scan_docs.specs.Prelude.{view, IsRule, rule_checks}
 use Rattle.scan_docs.proofs.Each.{SoFar}
 use Rattle.scan_docs.proofs.scan_document.read_rules.Given as goal
 

@@ -1,10 +1,5 @@
 use Rattle.std.proofs.Common.{◌≡◌}
-use Rattle.std.specs.List.{All}
-use Rattle.serde_json.specs.View.{view}
-use Rattle.scan_docs.specs.Document.{IsAccepted}
-use Rattle.scan_docs.specs.Scan.{AreRules, IsRuleText}
-use Rattle.scan_docs.specs.ScanChecks.{scan_checks}
-use Rattle.scan_docs.specs.Values.{rules_of}
+use Rattle.scan_docs.specs.Prelude.{All, view, IsAccepted, AreRules, IsRuleText, scan_checks, rules_of}
 use Rattle.scan_docs.proofs.Exact.{scan_value, scan_one_answer, rules_text}
 use Rattle.scan_docs.proofs.Each.{refused, holds}
 use Rattle.scan_docs.proofs.scan_document.scan_with.Goals as goal

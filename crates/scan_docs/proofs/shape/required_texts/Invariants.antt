@@ -1,6 +1,5 @@
 use Rattle.std.proofs.Common.{◌≡◌, map, drop, string_bytes}
-use Rattle.serde_json.specs.View.{view}
-use Rattle.scan_docs.specs.Shape.{all_texts}
+use Rattle.scan_docs.specs.Prelude.{view, all_texts}
 use Rattle.scan_docs.proofs.Each.{onto}
 use Rattle.scan_docs.proofs.shape.required_texts.Given as goal
 

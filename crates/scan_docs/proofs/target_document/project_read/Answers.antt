@@ -1,9 +1,5 @@
 use Rattle.std.proofs.Common.{◌≡◌}
-use Rattle.serde_json.specs.View.{view}
-use Rattle.scan_docs.specs.Document.{IsAccepted}
-use Rattle.scan_docs.specs.Project.{IsProject}
-use Rattle.scan_docs.specs.ProjectChecks.{project_checks}
-use Rattle.scan_docs.specs.Values.{project_of}
+use Rattle.scan_docs.specs.Prelude.{view, IsAccepted, IsProject, project_checks, project_of}
 use Rattle.scan_docs.proofs.Exact.{project_value, project_one_answer}
 use Rattle.scan_docs.proofs.Each.{refused, holds}
 use Rattle.scan_docs.proofs.target_document.project_read.Goals as goal

@@ -1,6 +1,5 @@
 use Rattle.std.proofs.Common.{◌≡◌, map, take, drop, string_bytes}
-use Rattle.std.specs.List.{list_all}
-use Rattle.document_values.specs.Name.{is_name}
+use Rattle.scan_docs.specs.Prelude.{list_all, is_name}
 use Rattle.scan_docs.proofs.target_document.read_kept.Given as goal
 
 abbrev pub invariant-loop-text : goal.invariant-loop-text

@@ -1,10 +1,8 @@
-use Rattle.std.proofs.Common.{sym}
-use Rattle.scan_docs.specs.TargetChecks.{list_checks}
+use Rattle.std.proofs.Common.{rules, sym}
 use Rattle.scan_docs.proofs.Exact.{target_parts}
 use Rattle.scan_docs.proofs.target_document.read_spec.Goals as goal
 
 pub returns : goal.returns
-unfolding list_checks
 returns c =
     let setting = c.in_ok-setting.ensures.1 in
     let dyndep = c.in_ok-dyndep.ensures in
@@ -32,6 +30,6 @@ returns c =
         info = files.1.0;
         form = files.1.1;
         edges = files.1.2;
-        restat = files.1.3;
+        restat = search rules;
       },
     )

@@ -1,9 +1,5 @@
 use Rattle.std.proofs.Common.{◌≡◌}
-use Rattle.serde_json.specs.View.{view}
-use Rattle.scan_docs.specs.Document.{IsAccepted}
-use Rattle.scan_docs.specs.Target.{IsTarget}
-use Rattle.scan_docs.specs.TargetChecks.{target_checks}
-use Rattle.scan_docs.specs.Values.{spec_of}
+use Rattle.scan_docs.specs.Prelude.{view, IsAccepted, IsTarget, target_checks, spec_of}
 use Rattle.scan_docs.proofs.Exact.{target_value, target_one_answer}
 use Rattle.scan_docs.proofs.Each.{refused, holds}
 use Rattle.scan_docs.proofs.target_document.spec_read.Goals as goal

@@ -1,7 +1,5 @@
 use Rattle.std.proofs.Common.{◌≢◌, [], sym, subst, ap, ◌∙◌, slice_get}
-use Rattle.build_effect.specs.EdgeValue.{EdgeValue}
-use Rattle.build_effect.specs.Graphs.{MadeOnce}
-use Rattle.build_effect.specs.inner.Makers.{AreMade}
+use Rattle.build_effect.specs.Prelude.{EdgeValue, MadeOnce, AreMade}
 use Rattle.build_effect.proofs.Lists.{all_at}
 use Rattle.build_effect.proofs.graph.Graph.new.Goals as goal
 

@@ -1,5 +1,5 @@
 use Rattle.std.proofs.Common.{◌≡◌, ◌++◌, drop}
-use Rattle.build_effect.specs.ListingWriting.{listing_text, too_long_from}
+use Rattle.build_effect.specs.Prelude.{listing_text, too_long_from}
 use Rattle.build_effect.proofs.graph.Graph.to_text.Given as goal
 
 -- the text so far and that of the edges to come are the whole text, and the first build line that is too long is to come

@@ -1,5 +1,5 @@
 use Rattle.std.proofs.Common.{rules}
-use Rattle.build_effect.specs.ListingGrammar.{listing_end}
+use Rattle.build_effect.specs.Prelude.{listing_end}
 use Rattle.build_effect.proofs.listing.ListingReader.new.Goals as goal
 
 pub returns : goal.returns

@@ -1,5 +1,5 @@
-use Rattle.std.specs.Prelude.{◌≡◌, slice_range}
-use Rattle.build_effect.specs.inner.ListingWalk.{paths_of}
+use Rattle.std.specs.Prelude.{◌≡◌}
+use Rattle.build_effect.specs.Prelude.{slice_range, paths_of}
 use Rattle.build_effect.proofs.ListingLaws.{behind}
 use Rattle.build_effect.proofs.strings.SharedStrings.paths.Given as goal
 

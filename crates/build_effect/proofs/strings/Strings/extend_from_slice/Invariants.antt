@@ -1,5 +1,5 @@
 use Rattle.std.proofs.Common.{◌≡◌, ◌++◌, take}
-use Rattle.dep_order.specs.Rows.{rows}
+use Rattle.build_effect.specs.Prelude.{rows}
 use Rattle.build_effect.proofs.strings.Strings.extend_from_slice.Given as goal
 
 abbrev pub invariant-loop-text : goal.invariant-loop-text

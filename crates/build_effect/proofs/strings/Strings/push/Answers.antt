@@ -1,5 +1,5 @@
 use Rattle.std.proofs.Common.{◌∙◌, ◌++◌, ◌∷◌, [], ap, arith}
-use Rattle.build_effect.specs.inner.Strings.{texts_of}
+use Rattle.build_effect.specs.Prelude.{texts_of}
 use Rattle.build_effect.proofs.StringTexts.{texts_push}
 use Rattle.build_effect.proofs.strings.Strings.push.Goals as goal
 

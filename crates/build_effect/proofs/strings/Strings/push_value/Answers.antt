@@ -1,6 +1,5 @@
 use Rattle.std.proofs.Common.{◌∙◌, ◌++◌, ◌∷◌, [], ap, arith}
-use Rattle.ninja_text.specs.Tokens.{value_of}
-use Rattle.build_effect.specs.inner.Strings.{texts_of}
+use Rattle.build_effect.specs.Prelude.{value_of, texts_of}
 use Rattle.build_effect.proofs.StringTexts.{texts_push}
 use Rattle.build_effect.proofs.strings.Strings.push_value.Goals as goal
 

@@ -1,8 +1,7 @@
 use Rattle.std.proofs.Common.{rules, ◌≡◌, ◌∙◌, ◌<◌, List, length, get_or, ap, sym, string_bytes, Some, All}
 use Rattle.std.proofs.lemmas.List.{get_or_push}
 use Rattle.std.proofs.lemmas.Map.Text.{btree_map_updates_text}
-use Rattle.commands.specs.ProjectCommand.{ReadTargetValue}
-use Rattle.commands.specs.inner.ProjectTargets.{writer_of}
+use Rattle.commands.specs.Prelude.{ReadTargetValue, writer_of}
 use Rattle.commands.proofs.Targets.{links_push, writer_push}
 use Rattle.commands.proofs.projects.Targets.with.Goals as goal
 

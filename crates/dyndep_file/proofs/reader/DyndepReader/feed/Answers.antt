@@ -1,5 +1,5 @@
 use Rattle.std.proofs.Common.{◌++◌, sym, subst}
-use Rattle.dyndep_file.specs.Reader.{HasReadDyndep}
+use Rattle.dyndep_file.specs.Prelude.{HasReadDyndep}
 use Rattle.dyndep_file.proofs.LawLemmas.{fed}
 use Rattle.dyndep_file.proofs.reader.DyndepReader.feed.Goals as goal
 

@@ -1,13 +1,6 @@
 use Rattle.std.proofs.Common.{◌≡◌, ℕ, inl, inr, sym, subst, Ok, Err}
 use Rattle.std.proofs.lemmas.Result.{err_from_is_err_and}
-use Rattle.dyndep_file.specs.Reader.{HasReadDyndep, EndsDyndepFile}
-use Rattle.ninja_text.specs.Bytes.{Bytes}
-use Rattle.ninja_text.specs.declared.failure.Failure.TheVariants.{Fault}
-use Rattle.dyndep_file.specs.declared.fault.ReadFault.{ReadFault}
-use Rattle.dyndep_file.specs.Steps.{ProgressValue}
-use Rattle.dyndep_file.specs.inner.LineStates.{answer_at_end}
-use Rattle.dyndep_file.specs.declared.progress.Stage.{Stage}
-use Rattle.dyndep_file.specs.declared.progress.Stage.TheVariants.{BeforeVersion, NoneOpen, Open}
+use Rattle.dyndep_file.specs.Prelude.{Bytes, Fault, HasReadDyndep, EndsDyndepFile, ProgressValue, answer_at_end, ReadFault, Stage, BeforeVersion, NoneOpen, Open}
 use Rattle.dyndep_file.specs.contracts.progress.Progress.{the_view}
 use Rattle.dyndep_file.proofs.LawLemmas.{ended}
 use Rattle.dyndep_file.proofs.reader.DyndepReader.finish.Goals as goal

@@ -1,11 +1,8 @@
 use Rattle.std.proofs.Common.{rules, tests, ◌≡◌, ◌∷◌, [], not, Some, sym, ap, ◌∙◌}
-use Rattle.std.specs.Prelude.{position}
 use Rattle.std.proofs.lemmas.Iterator.{YieldsList-from_slice}
 use Rattle.std.proofs.lemmas.Iterator.Consumers.{YieldsList-at, YieldsList-from_chain}
 use Rattle.std.proofs.lemmas.Iterator.Search.{position_from_yields_List}
-use Rattle.ninja_text.specs.Escapes.{is_writable}
-use Rattle.dyndep_file.specs.WriteFaults.{paths_of}
-use Rattle.dyndep_file.specs.declared.fault.WriteFault.TheVariants.{Unwritable}
+use Rattle.dyndep_file.specs.Prelude.{position, is_writable, paths_of, Unwritable}
 use Rattle.dyndep_file.proofs.Parts.{position-paths}
 use Rattle.dyndep_file.proofs.WriteLemmas.{paths_written, unwritable}
 use Rattle.dyndep_file.proofs.text.DyndepText.add.Goals as goal

@@ -1,12 +1,6 @@
 use Rattle.std.proofs.Common.{subst, ◌≡◌, ◌++◌, length, Some, refl, sym, ap, ◌∙◌, arith, append_assoc}
-use Rattle.std.specs.Prelude.{All}
 use Rattle.std.proofs.lemmas.List.{append-nil}
-use Rattle.ninja_text.specs.Escapes.{IsWritable}
-use Rattle.dyndep_file.specs.StatementValue.{StatementValue}
-use Rattle.dyndep_file.specs.Writing.{build_line, binding_line}
-use Rattle.dyndep_file.specs.WriteFaults.{paths_of}
-use Rattle.dyndep_file.specs.declared.fault.WriteFault.TheVariants.{StatementTooLong}
-use Rattle.dyndep_file.specs.inner.Paths.{lent_texts}
+use Rattle.dyndep_file.specs.Prelude.{All, IsWritable, StatementValue, paths_of, build_line, binding_line, lent_texts, StatementTooLong}
 use Rattle.dyndep_file.proofs.Parts.{parts_writable, line_written}
 use Rattle.dyndep_file.proofs.WriteLemmas.{all_found, added, counted, too_long}
 use Rattle.dyndep_file.proofs.text.DyndepText.add_writable.Goals as goal

@@ -1,11 +1,7 @@
 use Rattle.std.proofs.Common.{◌≡◌, ◌∙◌, ◌+◌, ◌-◌, ◌<◌, ◌∷◌, ℕ, List, length, drop, ap, ap₂, sym, arith, option_copied, Some, cond, bytes_eq, Option, Bool, true, false, refl, Bor}
-use Rattle.std.specs.BTreeMap.{BTreeMap, get_by}
-use Rattle.std.specs.Cmp.Lexicographic.{slice_cmp}
-use Rattle.std.specs.Ordering.{nat_cmp}
+use Rattle.in_memory.specs.Prelude.{BTreeMap, get_by, slice_cmp, nat_cmp, GivenFile, bytes_named, first_named, AreFirst}
 use Rattle.std.proofs.lemmas.List.{drop_more}
 use Rattle.std.proofs.lemmas.Map.Text.{btree_map_updates_str}
-use Rattle.in_memory.specs.Given.{GivenFile, bytes_named}
-use Rattle.in_memory.specs.inner.FirstFiles.{first_named, AreFirst}
 use Rattle.in_memory.proofs.files.Files.new.Goals as goal
 
 copied : (b : Bool) (value : Bor (List ℕ)) (other : Option (Bor (List ℕ))) →

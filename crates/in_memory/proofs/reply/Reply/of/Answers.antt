@@ -1,6 +1,5 @@
 use Rattle.std.proofs.Common.{rules, ◌≡◌, ◌∙◌, ◌∷◌, ◌++◌, [], length, ap, ap₂, sym, append-nil, append_assoc}
-use Rattle.commands.specs.Answers.{file_value}
-use Rattle.in_memory.specs.Replies.{file_numbers, file_text}
+use Rattle.in_memory.specs.Prelude.{file_value, file_numbers, file_text}
 use Rattle.in_memory.proofs.Replies.{told_more}
 use Rattle.in_memory.proofs.reply.Reply.of.Goals as goal
 

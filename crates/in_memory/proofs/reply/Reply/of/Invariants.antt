@@ -1,7 +1,5 @@
 use Rattle.std.proofs.Common.{◌≡◌, ◌∷◌, ◌++◌, length, take, map}
-use Rattle.std.specs.List.{flat_map}
-use Rattle.commands.specs.Answers.{file_value}
-use Rattle.in_memory.specs.Replies.{file_numbers, file_text}
+use Rattle.in_memory.specs.Prelude.{flat_map, file_value, file_numbers, file_text}
 use Rattle.in_memory.proofs.reply.Reply.of.Given as goal
 
 -- the parts of the files so far

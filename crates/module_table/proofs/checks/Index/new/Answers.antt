@@ -1,11 +1,8 @@
 use Rattle.std.proofs.Common.{rules, tests, Ok, ◌≡◌, ◌∙◌, ◌++◌, ap, sym, subst, List, ℕ, Vec, Global}
 use Rattle.std.proofs.lemmas.List.{map-append}
-use Rattle.std.specs.declared.alloc.AllocError.{AllocError}
+use Rattle.module_table.specs.Prelude.{AllocError, NeedsAreNodes, rows, origin_of}
 use Rattle.std.proofs.lemmas.Iterator.{items_from_collect, YieldsList-from_map, YieldsList-from_slice}
 use Rattle.std.proofs.lemmas.Iterator.Consumers.{YieldsList-at}
-use Rattle.dep_order.specs.Needs.{NeedsAreNodes}
-use Rattle.dep_order.specs.Rows.{rows}
-use Rattle.module_table.specs.inner.Origins.{origin_of}
 use Rattle.module_table.proofs.Graph.{are_nodes, is_graph}
 use Rattle.module_table.proofs.checks.Index.new.Goals as goal
 use Rattle.module_table.proofs.Words.{items_of}
@@ -25,7 +22,7 @@ returns c = record {
       items_from_collect {E = AllocError} (Ok c.in_ok-origins.origins) c.in_ok-origins.ensures.ran
       (YieldsList-from_map _ origin_of (YieldsList-at c.map-origins.ensures.source (YieldsList-from_slice c.provided.result.now c.iter.ensures.rest))
       c.map-origins.ensures.closure (λ x r q k. search (rules, tests)))
-      ∙ c.provided.ensures.origins;
+      ∙ c.provided.ensures.all.origins;
   is_graph = is_graph c.args.modules (rows c.args.needs.items) (rows c.args.indexes.items) c.requires.needs c.requires.indexes _
       (c.new.ensures ∙ rows_of_append c.args.needs.items c.args.indexes.items _ c.in_ok-append.ensures.items);
   all_required = c.in_ok-required.ensures;

@@ -1,6 +1,5 @@
 use Rattle.std.proofs.Common.{take}
-use Rattle.module_table.specs.Modules.{provisions, info_requirements}
-use Rattle.module_table.specs.inner.Finds.{IsByInfo, AcceptsAll}
+use Rattle.module_table.specs.Prelude.{provisions, info_requirements, IsByInfo, AcceptsAll}
 use Rattle.module_table.proofs.checks.required.check_infos_known.Given as goal
 
 abbrev pub invariant-loop-required : goal.invariant-loop-required

@@ -1,16 +1,11 @@
 use Rattle.std.proofs.Common.{◌∙◌, [], ap, map, sym, refl, slice_get, take, Some, List, Vec, ℕ, take_all}
-use Rattle.std.specs.declared.alloc.Global.{Global}
-use Rattle.module_table.specs.Modules.{provisions}
-use Rattle.module_table.specs.inner.Views.{names_of}
-use Rattle.module_table.specs.inner.Reported.{Reports}
-use Rattle.module_table.specs.declared.fault.TableFault.TheVariants.{ModuleUnknown}
+use Rattle.module_table.specs.Prelude.{Global, provisions, names_of, Reports, ModuleUnknown, Name}
 use Rattle.module_table.proofs.IndexRows.{are_indexes}
 use Rattle.module_table.proofs.Found.{none_named, for_boxed, in_row, reports_unknown}
 use Rattle.module_table.proofs.Lists.{finds, pushes_next, same_reads, read_at}
 use Rattle.module_table.proofs.checks.required.check_objects_known.Goals as goal
 use Rattle.ninja_text.proofs.ForCallers.{in_take, take_next, from_map}
 use Rattle.module_table.proofs.Words.{name_of, items_of, required_by, names_wanted}
-use Rattle.ninja_text.specs.Bytes.{Name}
 
 pub returns-in-None-clause-fault : goal.returns-in-None-clause-fault
 returns-in-None-clause-fault c =

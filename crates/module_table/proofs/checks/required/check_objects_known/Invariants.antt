@@ -1,6 +1,5 @@
 use Rattle.std.proofs.Common.{◌≡◌, map, take, slice_get, Some}
-use Rattle.module_table.specs.Modules.{provisions}
-use Rattle.module_table.specs.inner.Views.{names_of}
+use Rattle.module_table.specs.Prelude.{provisions, names_of}
 use Rattle.module_table.proofs.checks.required.check_objects_known.Given as goal
 
 abbrev pub invariant-loop-object : goal.invariant-loop-object

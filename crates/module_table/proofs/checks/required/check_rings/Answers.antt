@@ -1,23 +1,14 @@
 use Rattle.std.proofs.Common.{rules, tests, Ok, ◌≡◌, ◌∙◌, ap, length, map, refl, subst, sym, List}
-use Rattle.std.specs.List.{filter_map}
+use Rattle.module_table.specs.Prelude.{filter_map, AllocError, NeedsAreNodes, rows, IsSortingOf, DependsOn, provisions, maker_at, provision_of, Reports, Name}
 use Rattle.std.proofs.lemmas.List.{map-append}
-use Rattle.std.specs.declared.alloc.AllocError.{AllocError}
 use Rattle.std.proofs.lemmas.Iterator.{items_from_collect, YieldsList-from_slice}
 use Rattle.std.proofs.lemmas.Iterator.Consumers.{YieldsList-at, YieldsList-from_filter_map}
-use Rattle.dep_order.specs.Needs.{NeedsAreNodes}
-use Rattle.dep_order.specs.Rows.{rows}
-use Rattle.dep_order.specs.Sortings.{IsSortingOf}
-use Rattle.module_table.specs.Modules.{DependsOn, provisions}
-use Rattle.module_table.specs.inner.Numbered.{maker_at}
-use Rattle.module_table.specs.inner.Views.{provision_of}
-use Rattle.module_table.specs.inner.Reported.{Reports}
 use Rattle.module_table.proofs.IndexRows.{numbered, map_take_all, sorting_of, are_nodes}
 use Rattle.module_table.proofs.Lists.{maps_next, read_at}
 use Rattle.module_table.proofs.Found.{for_boxed}
 use Rattle.module_table.proofs.checks.required.check_rings.Goals as goal
 use Rattle.module_table.proofs.checks.required.check_rings.Goals.{After-loop-row}
 use Rattle.ninja_text.proofs.ForCallers.{to_map}
-use Rattle.ninja_text.specs.Bytes.{Name}
 use Rattle.module_table.proofs.Words.{items_of}
 
 pub loop-row-preserved : goal.loop-row-preserved
@@ -40,7 +31,7 @@ made c =
     c.loop-row.invariant ∙
     ap (map (filter_map (maker_at (map provision_of c.provided-provided.result.now))))
     (map_take_all items_of required c.loop-row.row-index c.loop-row-test.false) ∙
-    ap (λ ps. map (filter_map (maker_at ps)) (rows required)) c.provided-provided.ensures.provisions
+    ap (λ ps. map (filter_map (maker_at ps)) (rows required)) c.provided-provided.ensures.all.modules
 
 pub new-graph-requires : goal.new-graph-requires
 new-graph-requires c =

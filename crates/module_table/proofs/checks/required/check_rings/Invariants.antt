@@ -1,8 +1,5 @@
 use Rattle.std.proofs.Common.{◌≡◌, map, take}
-use Rattle.std.specs.List.{filter_map}
-use Rattle.dep_order.specs.Rows.{rows}
-use Rattle.module_table.specs.inner.Numbered.{maker_at}
-use Rattle.module_table.specs.inner.Views.{provision_of}
+use Rattle.module_table.specs.Prelude.{filter_map, rows, maker_at, provision_of}
 use Rattle.module_table.proofs.checks.required.check_rings.Given as goal
 
 abbrev pub invariant-loop-row : goal.invariant-loop-row

@@ -1,9 +1,6 @@
 use Rattle.std.proofs.Common.{◌≡◌, ◌∙◌, ap, arith, length, subst, sym, map, Some, None}
 use Rattle.std.proofs.lemmas.Option.{slice_get_within}
-use Rattle.module_table.specs.TableValue.{TableValue, table_with}
-use Rattle.module_table.specs.inner.Finds.{found}
-use Rattle.module_table.specs.Modules.{provisions}
-use Rattle.module_table.specs.inner.Views.{provision_of, IsAbsent}
+use Rattle.module_table.specs.Prelude.{TableValue, table_with, found, provisions, provision_of, IsAbsent}
 use Rattle.module_table.proofs.IndexRows.{length_mapped}
 use Rattle.module_table.proofs.Found.{named_found, absent_found}
 use Rattle.module_table.proofs.modules.Modules.find.Goals as goal
@@ -16,23 +13,23 @@ module_at-requires c =
     omega (
       arith,
       (slice_get_within c.self.inside.names.keys c.in-Some.index c.args.name.now c.in-Some.ensures.found),
-      (ap length c.self.invariant.2 ∙ length_mapped name_of (provisions (table_with c.self.inside.objects.now c.self.inside.infos.now))),
+      (ap length c.self.invariant.are_names ∙ length_mapped name_of (provisions (table_with c.self.inside.objects.now c.self.inside.infos.now))),
       (length_mapped provision_of c.as_slice.result.now),
-      (ap length (ap (map provision_of) c.as_slice.ensures.value ∙ c.self.invariant.0)),
+      (ap length (ap (map provision_of) c.as_slice.ensures.value ∙ c.self.invariant.are_provided.modules)),
     )
 
 pub returns-in-Some-clause-module : goal.returns-in-Some-clause-module
 returns-in-Some-clause-module c =
     let ps = provisions (table_with c.self.inside.objects.now c.self.inside.infos.now) in
     let k = c.in-Some.index in
-    let at = same_reads k (sym (ap (map provision_of) c.as_slice.ensures.value ∙ c.self.invariant.0)) ∙
+    let at = same_reads k (sym (ap (map provision_of) c.as_slice.ensures.value ∙ c.self.invariant.are_provided.modules)) ∙
     to_map provision_of c.as_slice.result.now k _ c.module_at.ensures in
-    let named_so = one_value (sym (to_map name_of ps k _ at) ∙ same_reads k (sym c.self.invariant.2) ∙ c.in-Some.ensures.found) in
+    let named_so = one_value (sym (to_map name_of ps k _ at) ∙ same_reads k (sym c.self.invariant.are_names) ∙ c.in-Some.ensures.found) in
     subst (λ (u : TableValue). Some (provision_of c.module_at.result.now) ≡ found (provisions u) c.args.name.now) c.self.view_is
-    (sym (named_found ps c.args.name.now c.self.invariant.3 k _ (at, named_so)))
+    (sym (named_found ps c.args.name.now c.self.invariant.differ k _ (at, named_so)))
 
 pub returns-in-None-clause-module : goal.returns-in-None-clause-module
 returns-in-None-clause-module c =
     subst (λ (u : TableValue). None ≡ found (provisions u) c.args.name.now) c.self.view_is
     (sym (absent_found (provisions (table_with c.self.inside.objects.now c.self.inside.infos.now)) c.args.name.now
-    (subst (λ keys. IsAbsent keys c.args.name.now) c.self.invariant.2 c.in-None.ensures.none)))
+    (subst (λ keys. IsAbsent keys c.args.name.now) c.self.invariant.are_names c.in-None.ensures.none)))

@@ -1,17 +1,11 @@
 use Rattle.std.proofs.Common.{◌≡◌, ◌+◌, ◌<◌, ◌^◌, ap, sym, subst, refl, length, map, get_or, List, arith}
 use Rattle.std.proofs.lemmas.Option.{slice_get-get_or}
-use Rattle.module_table.specs.TableValue.{table_with}
-use Rattle.module_table.specs.Modules.{provisions}
-use Rattle.module_table.specs.Needed.{lent}
-use Rattle.module_table.specs.inner.Graph.{IsModuleGraph}
-use Rattle.module_table.specs.inner.Ranks.{pairs_of, AreByNumber, AreByName, AreNumbers, AreRanks}
-use Rattle.module_table.specs.declared.fault.Maker.TheVariants.{Object}
+use Rattle.module_table.specs.Prelude.{table_with, provisions, lent, IsModuleGraph, pairs_of, AreByNumber, AreByName, AreNumbers, AreRanks, Object, Numbered}
 use Rattle.module_table.proofs.Lists.{read_at}
 use Rattle.module_table.proofs.Graph.{named_there, pair_there, many_origins}
 use Rattle.module_table.proofs.Pairs.{are_numbers, are_ranked, by_name, lent_modules, listed_more, ranks_more}
 use Rattle.module_table.proofs.needed.Needs.new.Goals as goal
 use Rattle.module_table.proofs.needed.Needs.new.Goals.{After-sort_unstable}
-use Rattle.module_table.specs.declared.needed.Numbered.{Numbered}
 
 pub named_at-requires : goal.named_at-requires
 named_at-requires c =
@@ -80,4 +74,4 @@ invariant_of-result c =
     let ranked = are_ranked (provisions t) modules by c.loop-rank.ranks.items ranks (map lent (pairs_of modules)) (lent_modules modules) in
     let bound : length (provisions t) + length t.objects < 2 ^ 64 =
     omega (arith, (many_origins t), ap length c.requires.origins) in
-    (c.requires.sound, subst (IsModuleGraph t) (sym c.in_ok-reaching.ensures) c.requires.graph, ranked, bound)
+    record { sound = c.requires.sound; is_graph = subst (IsModuleGraph t) (sym c.in_ok-reaching.ensures) c.requires.graph; ranked = ranked; few = bound }

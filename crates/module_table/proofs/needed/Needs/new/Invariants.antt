@@ -1,5 +1,4 @@
-use Rattle.module_table.specs.Modules.{provisions}
-use Rattle.module_table.specs.inner.Ranks.{AreByNumber, AreRanks}
+use Rattle.module_table.specs.Prelude.{provisions, AreByNumber, AreRanks}
 use Rattle.module_table.proofs.needed.Needs.new.Given as goal
 
 abbrev pub invariant-loop-index : goal.invariant-loop-index

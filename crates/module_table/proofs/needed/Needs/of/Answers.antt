@@ -1,19 +1,14 @@
 use Rattle.std.proofs.Common.{◌≡◌, ◌+◌, ◌<◌, ◌∙◌, ap, get_or, sym, subst, length, map, arith, slice_get, Some, List, take_all}
-use Rattle.std.specs.List.{All, filter_map}
-use Rattle.std.specs.List.Sorted.{IsPermutation}
+use Rattle.module_table.specs.Prelude.{filter_map, IsPermutation, NodeNeeds, AreReached, TableValue, table_with, ArePairs, IsNeeded, lent, pair_in, pairs_of, Numbered}
+use Rattle.std.specs.List.{All}
 use Rattle.std.proofs.lemmas.Option.{slice_get-get_or, slice_get_past}
 use Rattle.std.proofs.lemmas.Result.{IfOk-weaker}
-use Rattle.dep_order.specs.Needs.{NodeNeeds, AreReached}
-use Rattle.module_table.specs.TableValue.{TableValue, table_with}
-use Rattle.module_table.specs.Needed.{ArePairs, IsNeeded, lent}
-use Rattle.module_table.specs.inner.Ranks.{pair_in, pairs_of}
 use Rattle.module_table.proofs.Lists.{same_reads, read_at}
 use Rattle.module_table.proofs.Graph.{node_within, many_origins}
 use Rattle.module_table.proofs.IndexRows.{length_mapped, takes_some, takes_none}
 use Rattle.module_table.proofs.NeededPairs.{all_in_range, needed_lent}
 use Rattle.module_table.proofs.needed.Needs.of.Goals as goal
 use Rattle.module_table.proofs.needed.Needs.of.Goals.{in-Some+in_ok-push-in-Some, in-None, After-sort_unstable}
-use Rattle.module_table.specs.declared.needed.Numbered.{Numbered}
 
 pub from-requires : goal.from-requires
 from-requires c =
@@ -21,9 +16,9 @@ from-requires c =
     let within = subst (λ (t : TableValue). c.args.object < length t.objects) (sym c.self.view_is) c.requires in
     omega (
       arith,
-      (node_within t c.self.inside.reaching c.self.invariant.1 c.args.object within),
+      (node_within t c.self.inside.reaching c.self.invariant.is_graph c.args.object within),
       (many_origins t),
-      c.self.invariant.2.as_many,
+      c.self.invariant.ranked.as_many,
       c.len.ensures,
       c.self.inside.ranks.ok.0,
     )
@@ -67,8 +62,8 @@ pairs_at-requires c =
     let t = table_with c.self.inside.objects.now c.self.inside.infos.now in
     let ranks = c.self.inside.ranks.items in
     let f = found (goal.at.pairs_at-requires c).After-sort_unstable in
-    let all = all_in_range t c.self.invariant.0 c.self.inside.reaching c.self.invariant.1 ranks (pairs_of c.self.inside.modules.items) c.self.invariant.2
-    c.args.object f.0 _ f.1 _ f.2 c.sort_unstable.ensures.sorted in
+    let all = all_in_range t c.self.invariant.sound c.self.inside.reaching c.self.invariant.is_graph ranks (pairs_of c.self.inside.modules.items)
+    c.self.invariant.ranked c.args.object f.0 _ f.1 _ f.2 c.sort_unstable.ensures.sorted in
     let long = length_mapped pair_in c.self.inside.modules.items in
     subst (λ n. All (λ rank. rank < n) c.as_slice-2.result.now) (long ∙ sym (ap length c.as_slice.ensures.value))
     (subst (All (λ rank. rank < length (pairs_of c.self.inside.modules.items))) (sym c.as_slice-2.ensures.value) all)
@@ -80,8 +75,8 @@ returns-clause-pairs c =
     let f = found (goal.at.returns-clause-pairs c).After-sort_unstable in
     IfOk-weaker c.pairs_at.result (λ out. map Some out.items ≡ map (slice_get (pairs_of c.as_slice.result.now)) c.as_slice-2.result.now) _
     (λ out is. subst (λ (t : TableValue). ArePairs (IsNeeded t c.args.object) (map lent out.items)) c.self.view_is
-    (needed_lent t c.self.invariant.0 c.self.inside.reaching c.self.invariant.1 ranks (pairs_of c.self.inside.modules.items) c.self.invariant.2 c.args.object
-    f.0 _ f.1 _ f.2 c.sort_unstable.ensures.sorted out.items
+    (needed_lent t c.self.invariant.sound c.self.inside.reaching c.self.invariant.is_graph ranks (pairs_of c.self.inside.modules.items)
+    c.self.invariant.ranked c.args.object f.0 _ f.1 _ f.2 c.sort_unstable.ensures.sorted out.items
     (is ∙ ap (λ (xs : List Numbered). map (slice_get (pairs_of xs)) c.as_slice-2.result.now) c.as_slice.ensures.value ∙
     ap (map (slice_get (pairs_of c.self.inside.modules.items))) c.as_slice-2.ensures.value)))
     c.pairs_at.ensures
@@ -90,7 +85,7 @@ pub overflow_add-len : goal.overflow_add-len
 overflow_add-len c =
     let t = table_with c.self.inside.objects.now c.self.inside.infos.now in
     let within = subst (λ (t : TableValue). c.args.object < length t.objects) (sym c.self.view_is) c.requires in
-    omega (arith, within, c.self.invariant.3, c.self.invariant.2.as_many, c.len.ensures, c.self.inside.ranks.ok.0)
+    omega (arith, within, c.self.invariant.few, c.self.invariant.ranked.as_many, c.len.ensures, c.self.inside.ranks.ok.0)
 
 -- the invariant, once the workspace has been used
 pub invariant_of-self : goal.invariant_of-self

@@ -1,5 +1,5 @@
 use Rattle.std.proofs.Common.{◌≡◌, take, slice_get}
-use Rattle.std.specs.List.{filter_map}
+use Rattle.module_table.specs.Prelude.{filter_map}
 use Rattle.module_table.proofs.needed.Needs.of.Given as goal
 
 abbrev pub invariant-loop-node : goal.invariant-loop-node

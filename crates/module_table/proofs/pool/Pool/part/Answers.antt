@@ -1,11 +1,6 @@
 use Rattle.std.proofs.Common.{◌≡◌, List, ℕ, Option, subst, sym, IfOk, IfSome}
 use Rattle.std.proofs.lemmas.Result.{IfOk-weaker}
-use Rattle.document_values.specs.Rule.{RuleValue}
-use Rattle.document_values.specs.Info.{InfoValue}
-use Rattle.module_table.specs.Parts.{IsEnough, IsPartOf, KeepsRequired}
-use Rattle.module_table.specs.Pool.{PoolValue, AreLinked}
-use Rattle.module_table.specs.declared.pool.requirements.Requirements.TheVariants.{Kept}
-use Rattle.module_table.specs.inner.Pools.{AreFit, IsApart}
+use Rattle.module_table.specs.Prelude.{RuleValue, InfoValue, IsEnough, IsPartOf, KeepsRequired, PoolValue, AreLinked, Kept, AreFit, IsApart}
 use Rattle.module_table.proofs.PoolLemmas.{enough}
 use Rattle.module_table.proofs.pool.Pool.part.Goals as goal
 use Rattle.module_table.proofs.Words.{At}
@@ -17,16 +12,16 @@ returns c =
     let objects = c.args.objects.now in
     let pool = c.self.inside in
     let stamps = c.deref-3.result.now in
-    let are = c.put_indexes.ensures c.if-not-put_indexes.false in
+    let are = c.put_links.ensures c.if-not-put_links.false in
     let fit : AreFit linked pool.related.items stamps = rw (sym c.deref-4.ensures.value) (c.are_fit.ensures c.if-not-are_fit.false) in
     let apart : (o : ℕ) (rule : RuleValue) → At objects o rule
     → IsApart linked stamps pool.listed rule = c.are_apart.ensures c.if-not-are_apart.false in
     let Found : List (Option InfoValue) → List InfoValue → Type 0 = λ known part.
     (infos : List InfoValue) × AreLinked known linked infos × IsEnough objects part infos × (c.args.requirements ≡ Kept → KeepsRequired part infos) in
-    let Copied : List InfoValue → Type 0 = λ part. (infos : List InfoValue) × AreLinked c.deref-6.result.now linked infos × IsPartOf part infos ×
+    let Copied : List InfoValue → Type 0 = λ part. (infos : List InfoValue) × AreLinked c.deref-7.result.now linked infos × IsPartOf part infos ×
     (c.args.requirements ≡ Kept → KeepsRequired part infos) in
     let each : (part : List InfoValue) → Copied part → Found pool.infos.items part = λ part h.
-    let linked_infos = subst (λ known. AreLinked known linked h.0) c.deref-6.ensures.value h.1 in (
+    let linked_infos = subst (λ known. AreLinked known linked h.0) c.deref-7.ensures.value h.1 in (
       h.0,
       linked_infos,
       enough pool.infos.items linked h.0 linked_infos pool.listed pool.related.items c.self.invariant.0 _ are stamps fit objects apart part h.2,

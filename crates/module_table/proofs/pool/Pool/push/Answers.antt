@@ -1,10 +1,6 @@
 use Rattle.std.proofs.Common.{◌≡◌, ◌∙◌, ◌++◌, ◌∷◌, [], ap, inl, inr, refl, sym, subst, true, Option, Some, None, is_some}
-use Rattle.indexmap.specs.IndexMap.{hasher_of}
+use Rattle.module_table.specs.Prelude.{hasher_of, InfoValue, PoolValue, IsKeyed, StillListed, IsRelated, Related}
 use Rattle.table_keys.specs.declared.TableKey.{TableKey}
-use Rattle.document_values.specs.Info.{InfoValue}
-use Rattle.module_table.specs.Pool.{PoolValue}
-use Rattle.module_table.specs.inner.Pools.{IsKeyed, StillListed, IsRelated}
-use Rattle.module_table.specs.declared.pool.related.Related.{Related}
 use Rattle.module_table.proofs.PoolLemmas.{pool_grown, same_row, there_is}
 use Rattle.ninja_text.proofs.ForCallers.{same_some}
 use Rattle.module_table.proofs.pool.Pool.push.Goals as goal

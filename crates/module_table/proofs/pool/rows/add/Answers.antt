@@ -1,8 +1,5 @@
 use Rattle.std.proofs.Common.{rules, ◌≡◌, ◌∙◌, sym, ap, inl, inr, refl, Some, None, unwrap_or}
-use Rattle.indexmap.specs.IndexMap.{get}
-use Rattle.module_table.specs.declared.pool.rows.Row.{Row}
-use Rattle.module_table.specs.declared.pool.rows.Shared.{Shared}
-use Rattle.module_table.specs.inner.Pools.{IsSameRow}
+use Rattle.module_table.specs.Prelude.{get, Row, Shared, IsSameRow}
 use Rattle.module_table.proofs.PoolLemmas.{has_grown, has_new, first_of, number_of}
 use Rattle.module_table.proofs.pool.rows.add.Goals as goal
 use Rattle.module_table.proofs.pool.rows.add.Goals.{in-Some, in-None}

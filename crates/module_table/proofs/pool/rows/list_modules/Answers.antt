@@ -1,9 +1,7 @@
 use Rattle.std.proofs.Common.{◌≡◌, ◌∙◌, ap, refl, sym, subst, slice_get, take, length, bytes_eq, arith}
 use Rattle.std.proofs.lemmas.Option.{slice_get_read}
 use Rattle.std.proofs.lemmas.List.{take_all, length-take-le}
-use Rattle.indexmap.specs.IndexMap.{get, hasher_of}
-use Rattle.document_values.specs.Info.{ModuleValue}
-use Rattle.module_table.specs.inner.Pools.{by_name, key_of, rows_of, module_at, AreListed}
+use Rattle.module_table.specs.Prelude.{get, hasher_of, ModuleValue, by_name, key_of, rows_of, module_at, AreListed}
 use Rattle.module_table.proofs.PoolLemmas.{row_kept, row_of_row, module_listed, put_more, each_put, modules_of}
 use Rattle.ninja_text.proofs.ForCallers.{take_next}
 use Rattle.module_table.proofs.pool.rows.list_modules.Goals as goal

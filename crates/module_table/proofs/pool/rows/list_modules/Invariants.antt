@@ -1,5 +1,5 @@
 use Rattle.std.proofs.Common.{take}
-use Rattle.module_table.specs.inner.Pools.{By, key_of, rows_of, AreListed, StillListed, StillKeyed}
+use Rattle.module_table.specs.Prelude.{By, key_of, rows_of, AreListed, StillListed, StillKeyed}
 use Rattle.module_table.proofs.pool.rows.list_modules.Given as goal
 
 abbrev pub invariant-loop-index : goal.invariant-loop-index

@@ -1,5 +1,5 @@
 use Rattle.std.proofs.Common.{◌∙◌, ap}
-use Rattle.module_table.specs.Added.{required_of}
+use Rattle.module_table.specs.Prelude.{required_of}
 use Rattle.module_table.proofs.Lists.{row_is}
 use Rattle.module_table.proofs.table.Resolved.required.Goals as goal
 use Rattle.module_table.proofs.Words.{At}

@@ -1,5 +1,5 @@
 use Rattle.std.proofs.Common.{rules}
-use Rattle.module_table.specs.TableValue.{TableValue}
+use Rattle.module_table.specs.Prelude.{TableValue}
 use Rattle.ninja_text.proofs.ForCallers.{with_other_error}
 use Rattle.module_table.proofs.table.Table.build.Goals as goal
 

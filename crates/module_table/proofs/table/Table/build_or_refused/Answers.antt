@@ -1,19 +1,11 @@
-use Rattle.std.proofs.Common.{◌≡◌, ◌∙◌, refl, sym, subst, map, arith}
+use Rattle.std.proofs.Common.{◌≡◌, ◌∙◌, List, refl, sym, subst, arith}
 use Rattle.std.proofs.lemmas.List.Elements.{All-contains_itself}
-use Rattle.table_keys.specs.Keys.{Covers, IsKeyOf}
-use Rattle.module_table.specs.TableValue.{TableValue, table_with}
-use Rattle.module_table.specs.Entries.{table_entries}
-use Rattle.module_table.specs.Added.{first_mentions, required_of}
-use Rattle.module_table.specs.Modules.{provisions}
-use Rattle.module_table.specs.Outcomes.{HasNoFault}
-use Rattle.module_table.specs.inner.LookUps.{AreLookUps}
-use Rattle.module_table.specs.inner.Mentioned.{mentioned_names}
-use Rattle.module_table.specs.inner.Views.{names_of, paths_of}
+use Rattle.module_table.specs.Prelude.{Name, Covers, IsKeyOf, TableValue, table_with, table_entries, first_mentions, AreRequired, provisions, HasNoFault, IsIndex, IsSound, PrivateAreProvided, mentioned_names, names_of, paths_of}
 use Rattle.module_table.proofs.Mentions.{all_names}
 use Rattle.module_table.proofs.IndexRows.{same_table}
 use Rattle.module_table.proofs.Faultless.{faultless_is_sound}
 use Rattle.module_table.proofs.table.Table.build_or_refused.Goals as goal
-use Rattle.module_table.proofs.table.Table.build_or_refused.Goals.{in-Some, in-None}
+use Rattle.module_table.proofs.table.Table.build_or_refused.Goals.{In-Ok, in-Some, in-None}
 
 -- the key that was passed covers the table, and its own key is made of all that it holds
 pub check_all-checked-requires-clause-key : goal.check_all-checked-requires-clause-key
@@ -28,41 +20,44 @@ check_all-checked-requires-clause-key c =
           subst (λ key. Covers key (table_entries (table_with c.args.objects.items c.args.infos.items))) (sym w.key-is) (_, own, All-contains_itself _)
     ]
 
+-- the table has no fault, and so it is sound
+abbrev IsChecked : TableValue → List Name → Type 0
+IsChecked t kept = IsSound t × PrivateAreProvided t kept × HasNoFault t kept
+
+checked : (c : In-Ok) → IsChecked (table_with c.args.objects.items c.args.infos.items) c.args.kept.now
+checked c =
+    let t = table_with c.args.objects.items c.args.infos.items in
+    let faultless = subst (λ u. HasNoFault u c.args.kept.now) (same_table _ _ _ _ c.as_slice-2.ensures.value c.as_slice-3.ensures.value)
+    c.in-Ok.ensures.no_fault in
+    let sound = faultless_is_sound t c.args.kept.now (omega (arith, c.args.objects.ok.0, c.args.objects.ok.1, c.args.objects.small)) faultless in
+    (sound.0, sound.1, faultless)
+
 pub new-requires-clause-sound : goal.new-requires-clause-sound
-new-requires-clause-sound c =
-    (faultless_is_sound (table_with c.args.objects.items c.args.infos.items) c.args.kept.now
-    (omega (arith, c.args.objects.ok.0, c.args.objects.ok.1, c.args.objects.small))
-    (subst (λ u. HasNoFault u c.args.kept.now) (same_table _ _ _ _ c.as_slice-2.ensures.value c.as_slice-3.ensures.value) c.in-Ok.ensures.no_fault)).0
+new-requires-clause-sound c = (checked (goal.at.new-requires-clause-sound c).In-Ok).0
 
 pub new-requires-clause-required : goal.new-requires-clause-required
 new-requires-clause-required c =
-    subst (λ (u : TableValue). map (λ row. row.items) c.in-Ok.index.required.items ≡ map (required_of u) u.objects)
-    (same_table _ _ _ _ c.as_slice-2.ensures.value c.as_slice-3.ensures.value) c.in-Ok.ensures.index.all_required
+    subst (λ u. AreRequired u c.in-Ok.index.required.items) (same_table _ _ _ _ c.as_slice-2.ensures.value c.as_slice-3.ensures.value)
+    c.in-Ok.ensures.index.all_required
 
 pub invariant_of-result : goal.invariant_of-result
 invariant_of-result c =
     let same = same_table _ _ _ _ c.as_slice-2.ensures.value c.as_slice-3.ensures.value ∙ sym c.new.ensures in
-    let index = c.in-Ok.index in
-    let h = subst (λ u. AreLookUps u index.names.keys index.origins.items index.graph (map (λ row. row.items) index.required.items)) same c.in-Ok.ensures.index
-    in
-    let t = table_with c.args.objects.items c.args.infos.items in
-    let sound = (faultless_is_sound t c.args.kept.now (omega (arith, c.args.objects.ok.0, c.args.objects.ok.1, c.args.objects.small))
-    (subst (λ u. HasNoFault u c.args.kept.now) (same_table _ _ _ _ c.as_slice-2.ensures.value c.as_slice-3.ensures.value) c.in-Ok.ensures.no_fault)).0 in
-    let names = subst (λ (u : TableValue). names_of (provisions u) ≡ first_mentions (mentioned_names u)) (sym c.new.ensures) (all_names t sound) in (
-      h.all_names,
-      h.all_origins,
-      h.is_graph,
-      subst (λ (u : TableValue). c.check_all-checked.new.paths.keys ≡ paths_of u) same c.in-Ok.ensures.paths,
-      h.all_names ∙ names,
-    )
+    let h = subst (λ u. IsIndex u c.in-Ok.index) same c.in-Ok.ensures.index in
+    let t = checked (goal.at.invariant_of-result c).In-Ok in
+    let names = subst (λ (u : TableValue). names_of (provisions u) ≡ first_mentions (mentioned_names u)) (sym c.new.ensures) (all_names _ t.0) in
+    record {
+      all_names = h.all_names;
+      all_origins = h.all_origins;
+      is_graph = h.is_graph;
+      all_paths = subst (λ (u : TableValue). c.check_all-checked.new.paths.keys ≡ paths_of u) same c.in-Ok.ensures.paths;
+      mentioned = h.all_names ∙ names;
+    }
 
 pub returns-in-Ok-clause-builds : goal.returns-in-Ok-clause-builds
 returns-in-Ok-clause-builds c =
-    let faultless = subst (λ u. HasNoFault u c.args.kept.now) (same_table _ _ _ _ c.as_slice-2.ensures.value c.as_slice-3.ensures.value)
-    c.in-Ok.ensures.no_fault in
-    let sound = faultless_is_sound (table_with c.args.objects.items c.args.infos.items) c.args.kept.now
-    (omega (arith, c.args.objects.ok.0, c.args.objects.ok.1, c.args.objects.small)) faultless in
-    rw c.new.ensures (record { table = refl; sound = sound.0; kept = sound.1; no_fault = faultless; fault = tt })
+    let t = checked (goal.at.returns-in-Ok-clause-builds c).In-Ok in
+    rw c.new.ensures (record { table = refl; sound = t.0; kept = t.1; no_fault = t.2; fault = tt })
 
 -- said here, so that a body which does something else is rejected soon
 pub returns-in-Err-Fault-clause-given : goal.returns-in-Err-Fault-clause-given

@@ -1,8 +1,5 @@
 use Rattle.std.proofs.Common.{subst, sym, arith}
-use Rattle.module_table.specs.TableValue.{TableValue}
-use Rattle.module_table.specs.Modules.{IsProvidedBy}
-use Rattle.module_table.specs.Faults.{IsUnknown}
-use Rattle.module_table.specs.inner.Views.{IsAbsent}
+use Rattle.module_table.specs.Prelude.{TableValue, IsProvidedBy, IsUnknown, IsAbsent}
 use Rattle.module_table.proofs.Found.{absent_unknown}
 use Rattle.module_table.proofs.Graph.{within_places, found_there, provided_there, same_place}
 use Rattle.module_table.proofs.table.Table.lookup.Goals as goal
@@ -12,8 +9,8 @@ use Rattle.module_table.proofs.Lists.{read_at}
 pub index-origin-requires : goal.index-origin-requires
 index-origin-requires c =
     let t = c.self.inside.resolved in
-    let within = within_places t c.self.inside.names.keys c.self.inside.origins.items c.self.invariant.0 c.self.invariant.1 c.in-Some.index c.args.name.now
-    c.in-Some.ensures.found in
+    let within = within_places t c.self.inside.names.keys c.self.inside.origins.items c.self.invariant.all_names c.self.invariant.all_origins
+    c.in-Some.index c.args.name.now c.in-Some.ensures.found in
     omega (arith, c.self.inside.origins.ok.0)
 
 pub named_at-requires : goal.named_at-requires
@@ -24,8 +21,8 @@ named_at-requires c =
     let index = c.in-Some.index in
     let name = c.args.name.now in
     let origin = c.index-origin.result.now in
-    let found = found_there t names origins c.self.invariant.0 c.self.invariant.1 index name c.in-Some.ensures.found origin
-    (read_at origins index (within_places t names origins c.self.invariant.0 c.self.invariant.1 index name c.in-Some.ensures.found)
+    let found = found_there t names origins c.self.invariant.all_names c.self.invariant.all_origins index name c.in-Some.ensures.found origin
+    (read_at origins index (within_places t names origins c.self.invariant.all_names c.self.invariant.all_origins index name c.in-Some.ensures.found)
     c.index-origin.ensures) in (
       name,
       found.0,
@@ -44,11 +41,11 @@ returns-in-Some-clause-found c =
     let pair : Pair = (c.named_at.result.0.now, c.named_at.result.1.now) in
     let named = same_place c.objects.result.now t.objects c.infos.result.now t.infos origin pair c.objects.ensures.objects c.infos.ensures c.named_at.ensures in
     subst (λ (s : TableValue). IsProvidedBy s origin.0 name c.named_at.result.1.now) c.self.view_is
-    (provided_there t names origins c.self.invariant.0 c.self.invariant.1 index name c.in-Some.ensures.found origin
-    (read_at origins index (within_places t names origins c.self.invariant.0 c.self.invariant.1 index name c.in-Some.ensures.found)
+    (provided_there t names origins c.self.invariant.all_names c.self.invariant.all_origins index name c.in-Some.ensures.found origin
+    (read_at origins index (within_places t names origins c.self.invariant.all_names c.self.invariant.all_origins index name c.in-Some.ensures.found)
     c.index-origin.ensures) pair named)
 
 pub returns-in-None-clause-none : goal.returns-in-None-clause-none
 returns-in-None-clause-none c =
     subst (λ (s : TableValue). IsUnknown s c.args.name.now) c.self.view_is
-    (absent_unknown c.self.inside.resolved c.args.name.now (subst (λ names. IsAbsent names c.args.name.now) c.self.invariant.0 c.in-None.ensures.none))
+    (absent_unknown c.self.inside.resolved c.args.name.now (subst (λ names. IsAbsent names c.args.name.now) c.self.invariant.all_names c.in-None.ensures.none))

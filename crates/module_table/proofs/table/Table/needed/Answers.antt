@@ -1,6 +1,5 @@
 use Rattle.std.proofs.Common.{◌∙◌, ap, map, subst, sym, take_all}
-use Rattle.module_table.specs.TableValue.{TableValue}
-use Rattle.module_table.specs.Needed.{ArePairs, IsNeeded, lent}
+use Rattle.module_table.specs.Prelude.{TableValue, ArePairs, IsNeeded, lent}
 use Rattle.module_table.proofs.Lists.{maps_next, read_at}
 use Rattle.module_table.proofs.table.Table.needed.Goals as goal
 

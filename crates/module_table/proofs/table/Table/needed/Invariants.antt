@@ -1,5 +1,5 @@
 use Rattle.std.proofs.Common.{◌≡◌, take, map}
-use Rattle.module_table.specs.Needed.{lent}
+use Rattle.module_table.specs.Prelude.{lent}
 use Rattle.module_table.proofs.table.Table.needed.Given as goal
 
 abbrev pub invariant-loop-pair : goal.invariant-loop-pair

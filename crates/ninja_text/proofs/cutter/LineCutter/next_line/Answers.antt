@@ -6,8 +6,8 @@ use Rattle.ninja_text.specs.Phases.{PhaseFits}
 use Rattle.ninja_text.specs.CutterViews.{state_in, IsKept}
 use Rattle.ninja_text.specs.declared.cutter.LineCutter.TheInside.{Inside}
 use Rattle.ninja_text.specs.declared.cutter.Phase.TheVariants.{Waiting}
-use Rattle.ninja_text.specs.declared.scan.ScanState.TheVariants.{Start}
-use Rattle.ninja_text.specs.declared.scan.Scanned.TheVariants.{End}
+use Rattle.ninja_text.specs.declared.cutter.ScanState.TheVariants.{Start}
+use Rattle.ninja_text.specs.declared.cutter.Scanned.TheVariants.{End}
 use Rattle.ninja_text.proofs.CutLemmas.{lends_all, text_scanned}
 use Rattle.ninja_text.proofs.Scans.{scan_end_fits}
 use Rattle.ninja_text.proofs.cutter.LineCutter.next_line.Goals as goal

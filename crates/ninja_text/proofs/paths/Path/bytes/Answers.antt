@@ -1,9 +1,7 @@
-use Rattle.std.proofs.Common.{◌-◌, drop, subst, sym, take}
+use Rattle.std.proofs.Common.{subst, sym}
 use Rattle.ninja_text.proofs.Shape.{writable}
 use Rattle.ninja_text.specs.Escapes.{IsWritable}
 use Rattle.ninja_text.proofs.paths.Path.bytes.Goals as goal
 
 pub returns-clause-writable : goal.returns-clause-writable
-returns-clause-writable c =
-    let path = c.self.inside in
-    subst (λ text. IsWritable (take (path.end - path.start) (drop path.start text))) (sym c.as_slice.ensures.value) (writable _ c.self.invariant.2)
+returns-clause-writable c = subst IsWritable (sym c.bytes.ensures) (writable _ c.self.invariant)

@@ -2,7 +2,7 @@ use Rattle.std.proofs.Common.{ap, sym, ◌∙◌, subst, arith, length, take}
 use Rattle.ninja_text.specs.inner.Joins.{IsDirectory}
 use Rattle.ninja_text.proofs.Directories.{directory-front, directory-none}
 use Rattle.ninja_text.proofs.work_directory.WorkDirectory.without_last.Goals as goal
-use Rattle.ninja_text.proofs.work_directory.WorkDirectory.without_last.Goals.{After-index, After-len}
+use Rattle.ninja_text.proofs.work_directory.WorkDirectory.without_last.Goals.{After-len}
 
 -- what is kept of the directory, as it is seen
 kept : (c : After-len) → IsDirectory c.args.self.now c.self.inside.list.items c.self.inside.slashes.items c.self.inside.names c.self.inside.unwritable

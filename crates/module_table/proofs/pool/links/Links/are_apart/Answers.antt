@@ -1,7 +1,6 @@
 use Rattle.std.proofs.Common.{◌≡◌, ◌∙◌, ap, sym, refl, subst, List}
 use Rattle.std.proofs.lemmas.Option.{slice_get_read}
-use Rattle.document_values.specs.Rule.{RuleValue}
-use Rattle.module_table.specs.inner.Pools.{Has, by_name, by_file, rows_of, IsUnlinked, IsApart}
+use Rattle.module_table.specs.Prelude.{RuleValue, Has, by_name, by_file, rows_of, IsUnlinked, IsApart}
 use Rattle.module_table.proofs.PoolLemmas.{below_next, below_all, if_none, unlinked}
 use Rattle.module_table.proofs.pool.links.Links.are_apart.Goals as goal
 use Rattle.module_table.proofs.Words.{Pair}

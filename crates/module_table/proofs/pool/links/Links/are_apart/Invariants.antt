@@ -1,5 +1,5 @@
 use Rattle.std.proofs.Common.{List, ℕ}
-use Rattle.module_table.specs.inner.Pools.{Below, by_name, by_file, rows_of, IsApart, IsUnlinked}
+use Rattle.module_table.specs.Prelude.{Below, by_name, by_file, rows_of, IsApart, IsUnlinked}
 use Rattle.module_table.proofs.pool.links.Links.are_apart.Given as goal
 
 abbrev pub invariant-loop-rule : goal.invariant-loop-rule

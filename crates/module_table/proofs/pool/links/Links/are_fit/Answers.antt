@@ -1,9 +1,7 @@
 use Rattle.std.proofs.Common.{rules, tests, ◌∙◌, ◌≡◌, ap, Some, get_or, refl, subst, sym, List, Bool, true, nat_eq, ◌&&◌}
 use Rattle.std.proofs.lemmas.Iterator.{YieldsList-from_slice, cases_from_all}
 use Rattle.std.proofs.lemmas.Option.{slice_get-get_or, slice_get_read}
-use Rattle.module_table.specs.declared.pool.rows.ModuleAt.{ModuleAt}
-use Rattle.module_table.specs.declared.pool.rows.Shared.{Shared}
-use Rattle.module_table.specs.inner.Pools.{Has, IsAlone, IsFitAt}
+use Rattle.module_table.specs.Prelude.{ModuleAt, Shared, Has, IsAlone, IsFitAt}
 use Rattle.module_table.proofs.PoolLemmas.{below_next, below_all, all_true, all_fit, same_at}
 use Rattle.module_table.proofs.pool.links.Links.are_fit.Goals as goal
 

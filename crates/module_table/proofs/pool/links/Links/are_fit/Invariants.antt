@@ -1,5 +1,5 @@
 use Rattle.std.proofs.Common.{get_or}
-use Rattle.module_table.specs.inner.Pools.{Below, IsAlone, IsFitAt}
+use Rattle.module_table.specs.Prelude.{Below, IsAlone, IsFitAt}
 use Rattle.module_table.proofs.pool.links.Links.are_fit.Given as goal
 
 abbrev pub invariant-loop-info : goal.invariant-loop-info

@@ -1,8 +1,6 @@
 use Rattle.std.proofs.Common.{Option, ◌∙◌, ap, refl, subst, sym, slice_get, IfSome, Bor}
 use Rattle.std.proofs.lemmas.Option.{slice_get_read}
-use Rattle.module_table.specs.declared.pool.rows.ModuleAt.{ModuleAt}
-use Rattle.module_table.specs.inner.Pools.{Has, IsRowUnlinked}
-use Rattle.module_table.specs.declared.pool.rows.Row.{Row}
+use Rattle.module_table.specs.Prelude.{ModuleAt, Has, IsRowUnlinked, Row}
 use Rattle.ninja_text.proofs.ForCallers.{same_some}
 use Rattle.module_table.proofs.pool.links.Links.module_of.Goals as goal
 

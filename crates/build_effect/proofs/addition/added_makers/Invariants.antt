@@ -1,6 +1,0 @@
-use Rattle.std.proofs.Common.{◌≡◌, take}
-use Rattle.build_effect.specs.inner.Added.{added_files}
-use Rattle.build_effect.proofs.addition.added_makers.Given as goal
-
-abbrev pub invariant-loop-index : goal.invariant-loop-index
-invariant-loop-index l = l.files ≡ added_files l.edge_of (take l.index l.additions)

@@ -1,6 +1,0 @@
-use Rattle.std.proofs.Common.{take}
-use Rattle.build_effect.specs.Effect.{AreCanonical}
-use Rattle.build_effect.proofs.addition.canonical_statements.Given as goal
-
-abbrev pub invariant-loop-index : goal.invariant-loop-index
-invariant-loop-index l = AreCanonical (take l.index l.statements) l.additions.items

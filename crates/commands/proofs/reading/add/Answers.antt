@@ -1,4 +1,0 @@
-use Rattle.commands.proofs.reading.add.Goals as goal
-
-pub returns : goal.returns
-returns g c = c.in_ok-push.ensures.items

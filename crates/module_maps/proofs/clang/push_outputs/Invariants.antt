@@ -1,8 +1,0 @@
-use Rattle.std.proofs.Common.{◌≡◌, ◌++◌, take}
-use Rattle.std.specs.List.{flat_map}
-use Rattle.module_maps.specs.ClangMaps.{output_text}
-use Rattle.module_maps.proofs.clang.push_outputs.Given as goal
-
--- the lines so far
-abbrev pub invariant-loop-pair : goal.invariant-loop-pair
-invariant-loop-pair l = l.text.items ≡ l.initial.text.items ++ flat_map (λ pair. output_text (pair.0.now, pair.1.now)) (take l.pair-index l.pairs)

@@ -1,6 +1,0 @@
-use Rattle.std.proofs.Common.{rules}
-use Rattle.module_maps.proofs.gcc.GccMapStyle.fits.Goals as goal
-
--- stated here, so that a body which does something else is rejected soon
-pub returns : goal.returns
-returns c = search rules

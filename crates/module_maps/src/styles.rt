@@ -1,0 +1,210 @@
+//! The styles of GCC and of Clang.
+
+ghost use Rattle.std.specs.Prelude.{◌≡◌, ◌++◌, ◌-◌, length, slice_get, IfOk, OnOk, flat_map};
+ghost use Rattle.module_maps.specs.Prelude.{Gives, IsWrittenText, lent_pairs, lines_of};
+ghost use Rattle.module_maps.specs.Prelude.{output_text, rises_behind, read_provided};
+
+use crate::fault::MapFault;
+use crate::map_lines::{
+    LineEntry, LineForm, cut_line, first_unfit, pair_in, path_in, push_lines, push_named,
+    push_nameless, read_lines,
+};
+use crate::module_map::{MapEntry, MapStyle, ModuleMap};
+use document_values::Name;
+use ninja_text::{Failure, Path};
+use std::alloc::{AllocError, Global};
+
+/// The style of GCC's module mapper files (GCC manual, "C++ Module Mapper").
+///
+/// The map has a line with name, space and path for each module. All names are kept. A map fits if
+/// no path has a byte below 33, 127, or one of `'`, `"`, `\`.
+pub struct Gcc;
+
+impl MapStyle for Gcc {
+    ghost use Rattle.module_maps.specs.Prelude.{gcc_written, gcc_kept, gcc_entries};
+    ghost use Rattle.module_maps.specs.map_laws.GccLemmas.{gcc-faults, gcc-back, gcc-pairs};
+
+    ghost written = { λ _ m. gcc_written m };
+
+    ghost kept = { λ _ m. gcc_kept m };
+
+    ghost entries = { λ _ text. gcc_entries text };
+
+    ghost faults_of_maps = { λ s m line is. gcc-faults m line };
+
+    ghost reads_back = { λ s m text is e. gcc-back m text is e };
+
+    ghost keeps_pairs = { λ s m is. gcc-pairs m };
+
+    fn fits(&self, map: &ModuleMap<'_>) -> bool {
+        first_unfit(map).is_none()
+    }
+
+    fn keeps(&self, alloc: Global, map: &ModuleMap<'_>) -> Result<Vec<MapEntry>, AllocError> {
+        let mut entries = Vec::new(alloc);
+        push_named(alloc, &mut entries, map.provided())?;
+        push_named(alloc, &mut entries, map.needed())?;
+        Ok(entries)
+    }
+
+    fn write(&self, alloc: Global, map: &ModuleMap<'_>) -> Result<Vec<u8>, Failure<MapFault>> {
+        if let Some(path) = first_unfit(map) {
+            let path = path.copy(alloc)?;
+            return Err(Failure::Fault(MapFault::MapPath { path }));
+        }
+        let mut text = Vec::with_capacity(alloc, map.text_len(b" \n", b" \n"))?;
+        push_lines(&mut text, b"", b' ', map.provided())?;
+        push_lines(&mut text, b"", b' ', map.needed())?;
+        Ok(text)
+    }
+
+    /// Returns the entries of a text, or K4 with the first bad line if no map is written as it.
+    fn read(&self, alloc: Global, text: &[u8]) -> Result<Vec<MapEntry>, Failure<MapFault>>
+        ensures entries { Gives (λ found. found.items) result (gcc_entries text.now) }
+        // The text was written for a map of which these entries are kept.
+        ensures written { IfOk result (λ found.
+            IsWrittenText gcc_written gcc_kept text.now found.items) }
+    {
+        read_lines(alloc, self, Vec::new(alloc), 1, text)
+    }
+}
+
+impl LineForm for Gcc {
+    ghost use Rattle.module_maps.specs.Prelude.{gcc_form};
+
+    ghost form = { λ _. gcc_form };
+
+    fn entry(&self, alloc: Global, _entries: &[MapEntry], line: &[u8]) -> LineEntry {
+        Ok(pair_in(alloc, b' ', line)?.map(|(name, path)| MapEntry {
+            name: Some(name),
+            path,
+        }))
+    }
+}
+
+/// The style of Clang, for a response file (Clang documentation, "Standard C++ Modules").
+///
+/// If the object provides a module, the map has the lines `-x c++-module` and
+/// `-fmodule-output=PATH`. For each needed module it has a line `-fmodule-file=NAME=PATH`. The name
+/// of the provided module is not kept. A map fits if no path needs quotes and at most one module is
+/// provided.
+pub struct Clang;
+
+impl MapStyle for Clang {
+    ghost use Rattle.module_maps.specs.Prelude.{clang_written, clang_kept, clang_entries};
+    ghost use Rattle.module_maps.specs.map_laws.ClangLemmas.{clang-faults, clang-back, clang-pairs};
+
+    ghost written = { λ _ m. clang_written m };
+
+    ghost kept = { λ _ m. clang_kept m };
+
+    ghost entries = { λ _ text. clang_entries text };
+
+    ghost faults_of_maps = { λ s m line is. clang-faults m line };
+
+    ghost reads_back = { λ s m text is e. clang-back m text is e };
+
+    ghost keeps_pairs = { λ s m is. clang-pairs m };
+
+    fn fits(&self, map: &ModuleMap<'_>) -> bool {
+        map.provided().len() <= 1 && first_unfit(map).is_none()
+    }
+
+    fn keeps(&self, alloc: Global, map: &ModuleMap<'_>) -> Result<Vec<MapEntry>, AllocError> {
+        let mut kept = Vec::new(alloc);
+        push_nameless(alloc, &mut kept, map.provided())?;
+        push_named(alloc, &mut kept, map.needed())?;
+        Ok(kept)
+    }
+
+    fn write(&self, alloc: Global, map: &ModuleMap<'_>) -> Result<Vec<u8>, Failure<MapFault>> {
+        if let Some(path) = first_unfit(map) {
+            let path = path.copy(alloc)?;
+            return Err(Failure::Fault(MapFault::MapPath { path }));
+        }
+        if map.provided().len() > 1 {
+            return Err(Failure::Fault(MapFault::TwoProvided));
+        }
+        let len = map.text_len(b"-x c++-module\n-fmodule-output=\n", b"-fmodule-file==\n");
+        let mut text = Vec::with_capacity(alloc, len)?;
+        push_outputs(&mut text, map.provided())?;
+        push_lines(&mut text, b"-fmodule-file=", b'=', map.needed())?;
+        Ok(text)
+    }
+
+    /// Returns the entries of a text, or K4 with the first bad line if no map is written as it.
+    fn read(&self, alloc: Global, text: &[u8]) -> Result<Vec<MapEntry>, Failure<MapFault>>
+        ensures entries { Gives (λ found. found.items) result (clang_entries text.now) }
+        // The text was written for a map of which these entries are kept.
+        ensures written { IfOk result (λ found.
+            IsWrittenText clang_written clang_kept text.now found.items) }
+    {
+        match cut_line(text) {
+            Some((first, rest)) => {
+                if first == b"-x c++-module".as_slice() {
+                    read_provided(alloc, rest)
+                } else {
+                    read_lines(alloc, &Clang, Vec::new(alloc), 1, text)
+                }
+            }
+            None => read_lines(alloc, &Clang, Vec::new(alloc), 1, text),
+        }
+    }
+}
+
+/// The form of the lines of needed modules.
+impl LineForm for Clang {
+    ghost use Rattle.module_maps.specs.Prelude.{clang_form};
+
+    ghost form = { λ _. clang_form };
+
+    fn entry(&self, alloc: Global, entries: &[MapEntry], line: &[u8]) -> LineEntry {
+        let Some(rest) = line.strip_prefix(b"-fmodule-file=") else {
+            return Ok(None);
+        };
+        match pair_in(alloc, b'=', rest)? {
+            Some((name, path)) if rises_behind(entries, &name) => Ok(Some(MapEntry {
+                name: Some(name),
+                path,
+            })),
+            _ => Ok(None),
+        }
+    }
+}
+
+/// Reads the lines after `-x c++-module`.
+fn read_provided(alloc: Global, text: &[u8]) -> Result<Vec<MapEntry>, Failure<MapFault>>
+    ensures { Gives (λ found. found.items) result (read_provided (lines_of text.now)) }
+{
+    if let Some((line, rest)) = cut_line(text)
+        && let Some(output) = line.strip_prefix(b"-fmodule-output=")
+        && let Some(path) = path_in(alloc, output)?
+    {
+        let mut entries = Vec::new(alloc);
+        entries.push(MapEntry { name: None, path })?;
+        return read_lines(alloc, &Clang, entries, 3, rest);
+    }
+    Err(Failure::Fault(MapFault::BadMapLine { line: 2 }))
+}
+
+/// Returns whether a name comes after the name of the last entry, if it has one.
+fn rises_behind(entries: &[MapEntry], name: &Name) -> bool
+    ensures { result ≡ rises_behind (slice_get entries.now (length entries.now - 1)) name.now }
+{
+    match entries.last().and_then(|entry| entry.name.as_ref()) {
+        Some(before) => before < name,
+        None => true,
+    }
+}
+
+fn push_outputs(text: &mut Vec<u8>, pairs: &[(&Name, &Path)]) -> Result<(), AllocError>
+    ensures { OnOk result
+        (text.new.items ≡ text.old.items ++ flat_map output_text (lent_pairs pairs.now)) }
+{
+    for pair in pairs {
+        text.extend_from_slice(b"-x c++-module\n-fmodule-output=")?;
+        text.extend_from_slice(pair.1.bytes())?;
+        text.push(b'\n')?;
+    }
+    Ok(())
+}

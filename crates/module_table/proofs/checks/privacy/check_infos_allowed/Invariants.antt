@@ -1,7 +1,0 @@
-use Rattle.std.proofs.Common.{take}
-use Rattle.module_table.specs.Modules.{provisions, info_requirements}
-use Rattle.module_table.specs.inner.Finds.{IsAllowed, AcceptsAll}
-use Rattle.module_table.proofs.checks.privacy.check_infos_allowed.Given as goal
-
-abbrev pub invariant-loop-required : goal.invariant-loop-required
-invariant-loop-required l = AcceptsAll (IsAllowed (provisions l.modules)) (take l.required-index (info_requirements l.modules))

@@ -1,7 +1,0 @@
-use Rattle.std.proofs.Common.{◌≡◌, map, take}
-use Rattle.ninja_text.specs.Firsts.{AllDiffer}
-use Rattle.module_table.proofs.checks.repeated.check_objects.Given as goal
-
-abbrev pub invariant-loop-index : goal.invariant-loop-index
-invariant-loop-index l =
-    record { same : l.paths.keys ≡ take l.index (map (λ rule. rule.object) l.objects); differ : AllDiffer (take l.index (map (λ rule. rule.object) l.objects)) }

@@ -1,9 +1,0 @@
-use Rattle.std.proofs.Common.{[], ◌∷◌, ◌++◌, take}
-use Rattle.std.specs.List.{flat_map}
-use Rattle.table_keys.specs.Entries.{TableEntries}
-use Rattle.table_keys.specs.Keys.{HasAdded}
-use Rattle.module_table.proofs.keys.add_object.Given as goal
-
-abbrev pub invariant-loop-pair : goal.invariant-loop-pair
-invariant-loop-pair l = (entries : TableEntries) → HasAdded l.fn.digest entries →
-    HasAdded l.digest ((entries ++ l.rule.object ∷ []) ++ flat_map (λ pair. pair.0 ∷ pair.1 ∷ []) (take l.pair-index l.pair-items))

@@ -1,0 +1,59 @@
+use Rattle.std.proofs.Common.{◌∙◌, ◌≤◌, ℕ, List, length, slice_get, refl, ap, sym, subst, arith, eqb}
+use Rattle.std.proofs.lemmas.Option.{slice_get_read}
+use Rattle.document_values.specs.Info.{ModuleValue}
+use Rattle.module_table.specs.inner.Pools.{Has}
+use Rattle.module_table.proofs.PoolLemmas.{IsSourced, below_next, below_all, below_map, has_grown, has_new, modules_of}
+use Rattle.ninja_text.proofs.ForCallers.{contained, placed}
+use Rattle.std.proofs.lemmas.List.Filters.{dedup_is}
+use Rattle.std.proofs.lemmas.List.Kept.{Contains-dedup_nat}
+use Rattle.std.proofs.lemmas.List.Sorted.{Contains-permutation}
+use Rattle.module_table.proofs.pool.rows.Related.of.Goals as goal
+use Rattle.module_table.proofs.Words.{Pair}
+
+pub loop-pair-preserved : goal.loop-pair-preserved
+loop-pair-preserved c =
+    let required = c.deref-pair-items.result.now in
+    let i = c.loop-pair.pair-index in
+    let old = c.loop-pair.sources.items in
+    let new = c.push.new.self.items in
+    let pushed = c.in_ok-push.ensures.items in
+    let Found = IsSourced c.args.infos.now c.args.info.now in
+    record {
+      still = λ k h. has_grown old new c.in-Some.at.info k pushed (c.loop-pair.invariant.still k h);
+      all = below_next (Found new) required i c.pair-item.result (slice_get_read required _ i c.pair-item.result refl c.loop-pair-test.true c.pair-item.is)
+          (below_map (Found old) (Found new) required i (λ pair f. (f.0, has_grown old new c.in-Some.at.info f.0 pushed f.1, f.2)) c.loop-pair.invariant.all)
+          (c.in-Some.at.info, has_new old new c.in-Some.at.info pushed, c.in-Some.ensures);
+    }
+
+pub loop-module-preserved : goal.loop-module-preserved
+loop-module-preserved c =
+    let modules = c.args.info.now.modules in
+    let m = c.module-item.result in
+    let i = c.loop-module.module-index in
+    let at = ap (λ xs. slice_get xs i) (sym (c.deref-module-items.ensures.value ∙ ap modules_of c.info.view_is))
+    ∙ slice_get_read c.deref-module-items.result.now _ i m refl c.loop-module-test.true c.module-item.is in
+    let Source = IsSourced c.args.infos.now c.args.info.now in
+    let Found : List ℕ → ModuleValue → Type 0 = λ sources m. (pair : Pair) → Has m.required pair → Source sources pair in
+    let new = c.loop-pair.sources.items in
+    let pairs = c.deref-pair-items.ensures.value ∙ ap (λ (m : ModuleValue). m.required) c.module.view_is in
+    let here = subst (λ (xs : List Pair). (pair : Pair) → Has xs pair → Source new pair) pairs
+    (below_all (Source new) c.deref-pair-items.result.now c.loop-pair.pair-index c.loop-pair-test.false c.loop-pair.invariant.all) in
+    below_next (Found new) modules i m at (below_map (Found c.loop-module.sources.items) (Found new) modules i (λ m found pair h. let f = found pair h in
+    (f.0, c.loop-pair.invariant.still f.0 f.1, f.2)) c.loop-module.invariant) here
+
+pub returns-clause-related : goal.returns-clause-related
+returns-clause-related c = record {
+  are_listed = c.in_ok-shared.ensures.listed;
+  sources = λ j m pair at h.
+      let modules = c.args.info.now.modules in
+      let list = c.deref-module-items.ensures.value ∙ ap modules_of c.info.view_is in
+      let Found : List ℕ → ModuleValue → Type 0 = λ sources m. (pair : Pair) → Has m.required pair
+      → IsSourced c.args.infos.now c.args.info.now sources pair in
+      let all : length modules ≤ c.loop-module.module-index = omega (arith, c.loop-module-test.false, ap length list) in
+      let f = below_all (Found c.loop-module.sources.items) modules c.loop-module.module-index all c.loop-module.invariant m (j, at) pair h in
+      let once : Has c.dedup.new.self.items f.0 =
+      placed _ f.0 (rw (dedup_is eqb _ _ c.dedup.ensures.filtered)
+      (Contains-dedup_nat c.sort_unstable.new.self.items f.0
+      (Contains-permutation _ _ f.0 c.sort_unstable.ensures.permutation (contained c.loop-module.sources.items f.0 f.1)))) in
+      (f.0, once, f.2);
+}

@@ -1,0 +1,7 @@
+use Rattle.std.proofs.Common.{◌++◌, take}
+use Rattle.module_table.specs.Prelude.{flat_map, TableEntries, HasAdded, object_entries}
+use Rattle.module_table.proofs.table.add_objects.Given as goal
+
+abbrev pub invariant-loop-rule : goal.invariant-loop-rule
+invariant-loop-rule l = (entries : TableEntries) → HasAdded l.fn.digest entries →
+    HasAdded l.digest (entries ++ flat_map object_entries (take l.rule-index l.objects))

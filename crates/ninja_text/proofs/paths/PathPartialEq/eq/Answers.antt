@@ -1,4 +1,0 @@
-use Rattle.ninja_text.proofs.paths.PathPartialEq.eq.Goals as goal
-
-pub returns : goal.returns
-returns c = cc
