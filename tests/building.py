@@ -44,7 +44,7 @@ while [ $# -gt 0 ]; do
   shift
 done
 echo "$name $jobs" >> "$CONTROL/begun"
-echo $$ > "$CONTROL/$name.process"
+echo $$ > "$CONTROL/$name.number" && mv "$CONTROL/$name.number" "$CONTROL/$name.process"
 while [ -e "$CONTROL/$name.waits" ]; do sleep 0.02; done
 if [ -e "$CONTROL/$name.killed" ] && { [ "$jobs" -gt 1 ] || grep -q one "$CONTROL/$name.killed"; }; then kill -KILL $$; fi
 if [ -e "$CONTROL/$name.changes" ]; then rm "$CONTROL/$name.changes"; echo more >> src/lib.rt; fi
