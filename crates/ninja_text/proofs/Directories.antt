@@ -47,21 +47,15 @@ pub nothing : (text : Bytes) (list : Vec ℕ Global) (empty : Bool) → list.ite
 nothing text list empty same e =
     grind (arith, nothing-is, parts-fixed)
 
--- an empty list has no component
-pub none-of : (list : Components) → is_empty list ≡ true → length list ≡ 0
-none-of [] h = refl
-none-of (x ∷ xs) h = cc
+-- one slash less than components, if there are any
+count-of : (list : Components) → EachLacksSlash list → length (slashes_from 0 (list_text list)) + cond (is_empty list) 0 1 ≡ length list
+count-of [] h = refl
+count-of (x ∷ xs) h = grind (arith, slashes-count)
 
--- one slash less than components
-pub count-of : (list : Components) → EachLacksSlash list → is_empty list ≡ false → length (slashes_from 0 (list_text list)) + 1 ≡ length list
-count-of [] h e = cc
-count-of (x ∷ xs) h e = grind (arith, slashes-count)
-
--- how many slashes there are, and how many components
+-- the same of the list of a directory
 pub directory-count : (text list slashes : List ℕ) → list ≡ reduced_text text → slashes ≡ slashes_from 0 list
-    → is_empty (parts text) ≡ false → length slashes + 1 ≡ length (parts text)
-directory-count text list slashes l s e =
-    grind (arith, count-of, parts-lack)
+    → length slashes + cond (is_empty (parts text)) 0 1 ≡ length (parts text)
+directory-count text list slashes l s = rw (s, l) (count-of (parts text) (parts-lack text))
 
 -- the `..` are components
 pub up-within : (list : Components) → up list ≤ length list
@@ -75,17 +69,20 @@ some-of (x ∷ xs) n some le = refl
 -- what is known of a directory from which as many components as this are removed
 module _ {text list slashes : List ℕ} {names : ℕ} {unwritable : Option ℕ} (d : IsDirectory text list slashes names unwritable) (count : ℕ)
     (some : count ≡ 0 → ⊥) (le : count ≤ length (parts text)) where
+  slashes-count-is : length slashes + 1 ≡ length (parts text)
+  slashes-count-is = rw (some-of (parts text) count some le) at (directory-count text list slashes d.list_is d.slashes_are)
+
   -- the first components of its list, up to a slash
   pub directory-front : (index z : ℕ) → count ≤ length slashes → index ≡ length slashes - count
       → (get_or slashes index z ≡ length (list_text (take (length (parts text) - count) (parts text)))) ×
       (take (get_or slashes index z) list ≡ list_text (take (length (parts text) - count) (parts text)))
   directory-front index z has e =
-      grind (arith, directory-count, some-of, slash-offset, parts-lack, cut-list)
+      grind (arith, slashes-count-is, slash-offset, parts-lack, cut-list)
 
   -- no component is left
   pub directory-none : (count ≤ length slashes → ⊥) → [] ≡ list_text (take (length (parts text) - count) (parts text))
   directory-none none =
-      grind (arith, directory-count, some-of)
+      grind (arith, slashes-count-is)
 
 -- ---- the list of what is read in a directory
 

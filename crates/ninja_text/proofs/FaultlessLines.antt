@@ -1,7 +1,7 @@
 -- The bytes that a text's units are, and the units of a line without a lexical fault.
 use Rattle.std.proofs.lemmas.Grind.{common_steps}
 use Rattle.ninja_text.specs.Bytes.{Bytes}
-use Rattle.std.proofs.Common.{inl, inr, ◌≡◌, ℕ, suc, zero, ◌+◌, ◌-◌, Bool, true, false, [], ◌∷◌, ◌++◌, length, take, drop, replicate, refl, sym, ap, ◌∙◌, subst, arith, ◌==◌, ◌&&◌, length-append, append_assoc, not, Some, None, rules}
+use Rattle.std.proofs.Common.{inl, inr, ◌≡◌, ℕ, suc, zero, ◌+◌, Bool, true, false, [], ◌∷◌, ◌++◌, length, take, drop, replicate, refl, sym, ap, ◌∙◌, subst, arith, ◌==◌, ◌&&◌, length-append, append_assoc, not, Some, None, rules}
 use Rattle.std.specs.Prelude.{slice_range, Option}
 use Rattle.std.specs.List.{list_all}
 use Rattle.std.proofs.lemmas.List.{drop_at, take_at}

@@ -279,8 +279,31 @@ byte_is c (Continuation len) h = cc
 byte_is c (Escape b) h = cc
 byte_is c (Byte b) h = ap Byte (eqb-true b c h)
 
-pub at_bar : (text : Bytes) (s : ℕ) (u : LineUnit) → units (drop s text) ≡ u ∷ units (drop (s + unit_len u) text) → is_byte 124 u ≡ true → BeginsBar text s
-at_bar text s u e bar = grind (arith, common_steps)
+-- a byte other than `$` is a unit
+pub byte_at : (c : ℕ) (text : Bytes) (index : ℕ) → index < length text → get_or text index 0 ≡ c → (c == 36) ≡ false →
+    units (drop index text) ≡ Byte c ∷ units (drop (index + 1) text)
+byte_at c text index in_text is other = grind (arith, common_steps)
+
+-- whether this byte is the first unit
+abbrev pub first_is : ℕ → LineUnits → Bool
+first_is c [] = false
+first_is c (u ∷ us) = is_byte c u
+
+continued_first : (c len : ℕ) (us : LineUnits) → first_is c (with_continuation len us) ≡ false
+continued_first c len [] = refl
+continued_first c len (Byte b ∷ us) = grind (arith, common_steps, continued_first c (len + 1) us)
+continued_first c len (Escape b ∷ us) = refl
+continued_first c len (Continuation more ∷ us) = refl
+
+dollar_first : (c : ℕ) (bytes : Bytes) → (36 == c) ≡ false → first_is c (units (36 ∷ bytes)) ≡ false
+dollar_first c [] other = other
+dollar_first c (b ∷ []) other = grind (arith, common_steps)
+dollar_first c (b ∷ d ∷ bytes) other = grind (arith, common_steps, continued_first)
+
+-- it is not, if the first byte is another
+pub not_first : (c : ℕ) (bytes : Bytes) → (36 == c) ≡ false → (0 < length bytes → get_or bytes 0 0 ≡ c → ⊥) → first_is c (units bytes) ≡ false
+not_first c [] other differs = refl
+not_first c (b ∷ bytes) other differs = grind (arith, common_steps, eqb-true, units_byte, dollar_first, differs)
 
 -- the token that a bar begins, by the unit after it
 module _ (text : Bytes) (s : ℕ) (begins : BeginsBar text s) where
@@ -294,6 +317,9 @@ module _ (text : Bytes) (s : ℕ) (begins : BeginsBar text s) where
     pub bar_with_at : is_byte 64 v ≡ true → tokens_at text s ≡ token_of BarAt s 2 ∷ tokens_at text (s + 2)
     bar_with_at h = cc (after 64 h)
 
-    pub bar_single : is_byte 124 v ≡ false → is_byte 64 v ≡ false → tokens_at text s ≡ token_of Bar s 1 ∷ tokens_at text (s + 1)
-    bar_single bar at = ap (tokens_from s) (begins ∙ ap (λ us. Byte 124 ∷ us) e) ∙ rw (bar, at) refl ∙
-        ap (λ us. token_of Bar s 1 ∷ tokens_from (s + 1) us) (sym e)
+  pub bar_single : first_is 124 (units (drop (s + 1) text)) ≡ false → first_is 64 (units (drop (s + 1) text)) ≡ false →
+      tokens_at text s ≡ token_of Bar s 1 ∷ tokens_at text (s + 1)
+  bar_single bar at = ap (tokens_from s) begins ∙ alone (units (drop (s + 1) text)) bar at where
+    alone : (us : LineUnits) → first_is 124 us ≡ false → first_is 64 us ≡ false → tokens_from s (Byte 124 ∷ us) ≡ token_of Bar s 1 ∷ tokens_from (s + 1) us
+    alone [] bar at = refl
+    alone (u ∷ us) bar at = rw (bar, at) refl

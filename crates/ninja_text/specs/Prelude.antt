@@ -1,5 +1,5 @@
 -- The names that most clauses cite, passed on from one place. Declares nothing.
-pub use Rattle.std.specs.Prelude.{[], All, Err, IfOk, IfSome, IsTrue, IsUtf8, List, MatchOption, MatchResult, None, Ok, OnErr, OnOk, Option, Result, Some, drop, false, is_err, length, not, option_copied, option_map, position, slice_index, slice_range, take, true, ℕ, ⊤}
+pub use Rattle.std.specs.Prelude.{[], All, Err, IfOk, IfSome, IsTrue, IsUtf8, List, MatchOption, MatchResult, None, Ok, OnErr, OnOk, Option, Result, Some, drop, false, is_err, length, not, option_copied, option_map, position, slice_range, take, true, ℕ, ⊤}
 pub use Rattle.std.specs.List.{AllByRecursion, list_any, prefix_len}
 pub use Rattle.std.specs.Option.{ForSome}
 pub use Rattle.std.specs.Rc.{rc_slice_items}
@@ -12,10 +12,10 @@ pub use Rattle.ninja_text.specs.Reduction.{ReducesTo, components, is_current, is
 pub use Rattle.ninja_text.specs.Paths.{IsPath, below, canonical_of, is_rooted, path_of, placed, seen_from}
 pub use Rattle.ninja_text.specs.PathShape.{IsShaped, parts}
 pub use Rattle.ninja_text.specs.NameBeginnings.{begins_component}
-pub use Rattle.ninja_text.specs.Units.{is_byte, unit_len, units}
+pub use Rattle.ninja_text.specs.Units.{unit_len, units}
 pub use Rattle.ninja_text.specs.Lines.{Divides, LogicalLine, is_comment, line_feeds_in, text_of_line}
 pub use Rattle.ninja_text.specs.Lexical.{lexical_fault, unit_fault}
-pub use Rattle.ninja_text.specs.Tokens.{IsSlice, RiseFrom, TokenAt, is_blank, is_keyword, is_literal, seen_tokens, tokens, tokens_at, value_of}
+pub use Rattle.ninja_text.specs.Tokens.{IsSlice, RiseFrom, TokenAt, is_blank, is_keyword, seen_tokens, tokens, tokens_at, value_of}
 pub use Rattle.ninja_text.specs.Symbols.{SignTaken, WordTaken}
 pub use Rattle.ninja_text.specs.TokenLists.{AreTokens}
 pub use Rattle.ninja_text.specs.TokenViews.{IsWords, seen_token, symbols_left, tokens_left}
@@ -28,4 +28,4 @@ pub use Rattle.ninja_text.specs.Cutting.{Cuts, Feeds, FeedsAll, Finishes, new_cu
 pub use Rattle.ninja_text.specs.LineViews.{Lends, seen_line}
 pub use Rattle.ninja_text.specs.LineReading.{EndsLines, FeedsLines, HasLent, HasLentAll, LinesRead, ReadsLine, StaysRefused}
 pub use Rattle.ninja_text.specs.Phases.{PhaseFits}
-pub use Rattle.ninja_text.specs.Counting.{Counts, IsCutShort, IsStoppedInTurn, IsTakenInTurn, IsWritten, failures, held, one_more, write_failed}
+pub use Rattle.ninja_text.specs.Counting.{Counts, IsCutShort, IsStoppedInTurn, IsTakenInTurn, IsWritten, failures, held, write_failed}

@@ -1,5 +1,5 @@
 //! Logical lines, and a cutter that divides bytes which arrive in pieces into them.
-ghost use Rattle.std.specs.Prelude.{◌+◌, ◌<◌, ◌^◌, ◌≡◌, ◌≤◌, [], IfOk, List, Some, false, length};
+ghost use Rattle.std.specs.Prelude.{◌+◌, ◌<◌, ◌^◌, ◌≡◌, ◌≤◌, [], IfOk, List, false, length};
 ghost use Rattle.ninja_text.specs.Prelude.{PhaseFits, is_comment, line_feeds_in, scan_from};
 ghost use Rattle.ninja_text.specs.Prelude.{seen_line, step_of};
 ghost use Rattle.ninja_text.specs.inner.Reaching.{Reaches};
@@ -174,11 +174,10 @@ impl LineCutter {
         requires { self.now.waits ≡ false }
         ensures { Finishes self.now result }
     {
+        let line = self.number;
         match self.phase {
-            Phase::Failed => Err(CutFault::LineTooLong { line: self.number }),
-            Phase::Gathering(_) if !self.buffer.is_empty() => Err(CutFault::Truncated {
-                line: self.number,
-            }),
+            Phase::Failed => Err(CutFault::LineTooLong { line }),
+            Phase::Gathering(_) if !self.buffer.is_empty() => Err(CutFault::Truncated { line }),
             _ => Ok(()),
         }
     }
@@ -202,12 +201,7 @@ fn reach_of(buffer: &[u8], state: ScanState, piece: &[u8]) -> Option<(usize, Pha
 fn begins_comment(bytes: &[u8]) -> bool
     ensures { result ≡ is_comment bytes.now }
 {
-    for byte in bytes {
-        if *byte != b' ' {
-            return *byte == b'#';
-        }
-    }
-    false
+    matches!(bytes.iter().find(|byte| **byte != b' '), Some(b'#'))
 }
 
 fn line_feeds(bytes: &[u8]) -> u64
@@ -259,10 +253,8 @@ pub(crate) fn scan_bytes(index: usize, from: ScanState, bytes: &[u8]) -> Scanned
                 ScanState::Return | ScanState::CommentReturn => at.saturating_sub(1),
                 _ => at,
             };
-            return Scanned::End {
-                text_len,
-                line_len: at + 1,
-            };
+            let line_len = at + 1;
+            return Scanned::End { text_len, line_len };
         };
         state = next;
     }

@@ -1,5 +1,5 @@
 //! What a line is by how it begins, and how an assignment is parsed: a name, `=` and a value.
-ghost use Rattle.std.specs.Prelude.{◌<◌, ◌≡◌, ◌≤◌, IfOk, IfSome, false, length};
+ghost use Rattle.std.specs.Prelude.{◌≡◌, ◌≤◌, IfOk, IfSome, false, length};
 ghost use Rattle.ninja_text.specs.Prelude.{IsAssignment, IsLineForm, LiesIn, is_name_unit};
 ghost use Rattle.ninja_text.specs.Prelude.{seen_assignment, seen_line};
 ghost use Rattle.ninja_text.specs.inner.Runs.{Run};

@@ -1,12 +1,11 @@
 //! Laws about lines, tokens, escapes and paths. A law is the contract of a function that does
 //! nothing; callers call it to use the law in a proof.
 ghost use Rattle.std.specs.Prelude.{◌↔◌, ◌≡◌, [], All, Err, List, Ok};
-ghost use Rattle.ninja_text.specs.Prelude.{AreTokens, Bytes, Component, Divides, ForSome};
-ghost use Rattle.ninja_text.specs.Prelude.{IsFaultless, IsPath, IsReadAsSpelled, IsShaped};
-ghost use Rattle.ninja_text.specs.Prelude.{IsValueAsSpelled, PathText, ReducesTo, Spells};
-ghost use Rattle.ninja_text.specs.Prelude.{SpellsValue, Text, TokenAt, assignment_of, components};
-ghost use Rattle.ninja_text.specs.Prelude.{is_rooted, parts, path_of, reduced, seen_tokens};
-ghost use Rattle.ninja_text.specs.Prelude.{text_of_line, tokens};
+ghost use Rattle.ninja_text.specs.Prelude.{AreTokens, Bytes, Component, Divides, ForSome, IsPath};
+ghost use Rattle.ninja_text.specs.Prelude.{IsFaultless, IsReadAsSpelled, IsShaped, PathText, Text};
+ghost use Rattle.ninja_text.specs.Prelude.{IsValueAsSpelled, ReducesTo, Spells, SpellsValue, parts};
+ghost use Rattle.ninja_text.specs.Prelude.{TokenAt, assignment_of, components, is_rooted, path_of};
+ghost use Rattle.ninja_text.specs.Prelude.{reduced, seen_tokens, text_of_line, tokens};
 ghost use Rattle.ninja_text.specs.declared.fault.PathFault.TheVariants.{Empty};
 
 /// A text is divided into lines and a rest in exactly one way.

@@ -2,9 +2,8 @@
 //! tokens and lexical errors that they make.
 ghost use Rattle.std.specs.Prelude.{◌++◌, ◌+◌, ◌<◌, ◌∷◌, ◌≡◌, ◌≤◌, IfOk, OnErr, OnOk, drop, false};
 ghost use Rattle.ninja_text.specs.Prelude.{AllByRecursion, IsSlice, IsWords, RiseFrom, is_blank};
-ghost use Rattle.ninja_text.specs.Prelude.{is_byte, is_literal, length, lexical_fault, result_err};
-ghost use Rattle.ninja_text.specs.Prelude.{seen_line, tokens_at, tokens_left, true, unit_fault};
-ghost use Rattle.ninja_text.specs.Prelude.{unit_len, units, value_of};
+ghost use Rattle.ninja_text.specs.Prelude.{length, lexical_fault, result_err, seen_line, tokens_at};
+ghost use Rattle.ninja_text.specs.Prelude.{tokens_left, unit_fault, unit_len, units, value_of};
 ghost use Rattle.ninja_text.specs.inner.Runs.{Run, spaces_at};
 ghost use Rattle.ninja_text.specs.inner.TokenStarts.{BeginsToken, BeginsPiece, IsFirstToken};
 ghost use Rattle.ninja_text.specs.inner.PlainTexts.{is_suspect};
@@ -56,14 +55,13 @@ fn check_unit(place: usize, unit: LineUnit) -> Result<(), LexFault>
     ensures { result_err result ≡ unit_fault place unit }
 {
     match unit {
-        LineUnit::Continuation(_) => Ok(()),
         LineUnit::Escape(byte) if byte.is_ascii_alphanumeric() => Err(LexFault::Variable { place }),
         LineUnit::Escape(b'{' | b'_' | b'-') => Err(LexFault::Variable { place }),
         LineUnit::Escape(b'$' | b' ' | b':') => Ok(()),
         LineUnit::Escape(_) => Err(LexFault::BadEscape { place }),
         LineUnit::Byte(0) => Err(LexFault::Nul { place }),
         LineUnit::Byte(b'\r') => Err(LexFault::LoneCr { place }),
-        LineUnit::Byte(_) => Ok(()),
+        LineUnit::Byte(_) | LineUnit::Continuation(_) => Ok(()),
     }
 }
 
@@ -93,25 +91,14 @@ pub(crate) fn token_at(text: &[u8], start: usize) -> (TokenKind, usize)
     ensures within { (start < result.1) × (result.1 ≤ length text.now) }
     ensures first { IsFirstToken text.now start result.0 result.1 }
 {
-    let unit = unit_at(text, start);
-    if unit.is_byte(b':') {
-        return (TokenKind::Colon, start + 1);
+    match &text[start..] {
+        [b':', ..] => (TokenKind::Colon, start + 1),
+        // The longest of `||`, `|@` and `|`.
+        [b'|', b'|', ..] => (TokenKind::DoubleBar, start + 2),
+        [b'|', b'@', ..] => (TokenKind::BarAt, start + 2),
+        [b'|', ..] => (TokenKind::Bar, start + 1),
+        _ => (TokenKind::Word, word_end(text, start)),
     }
-    if !unit.is_byte(b'|') {
-        return (TokenKind::Word, word_end(text, start));
-    }
-    // The longest of `||`, `|@` and `|`.
-    if start + 1 == text.len() {
-        return (TokenKind::Bar, start + 1);
-    }
-    let next = unit_at(text, start + 1);
-    if next.is_byte(b'|') {
-        return (TokenKind::DoubleBar, start + 2);
-    }
-    if next.is_byte(b'@') {
-        return (TokenKind::BarAt, start + 2);
-    }
-    (TokenKind::Bar, start + 1)
 }
 
 /// Returns the end of the word that begins at an offset. Continuations after its last piece do not
@@ -166,12 +153,6 @@ impl LineUnit {
             LineUnit::Byte(_) => 1,
         }
     }
-
-    pub(crate) fn is_byte(&self, byte: u8) -> bool
-        ensures { result ≡ is_byte byte self.now }
-    {
-        matches!(self, LineUnit::Byte(b) if *b == byte)
-    }
 }
 
 /// Returns the unit that begins at this offset.
@@ -182,34 +163,12 @@ pub(crate) fn unit_at(text: &[u8], index: usize) -> LineUnit
     ensures first { units (drop index text.now)
         ≡ result ∷ units (drop (index + unit_len result) text.now) }
 {
-    let bytes = &text[index..];
-    let first = bytes[0];
-    // Two tests, because the first one decides for nearly every byte.
-    if first != b'$' {
-        return LineUnit::Byte(first);
+    match &text[index..] {
+        [b'$', b'\n', rest @ ..] => LineUnit::Continuation(2 + leading_spaces(rest)),
+        [b'$', b'\r', b'\n', rest @ ..] => LineUnit::Continuation(3 + leading_spaces(rest)),
+        [b'$', escaped, ..] => LineUnit::Escape(*escaped),
+        bytes => LineUnit::Byte(bytes[0]),
     }
-    if bytes.len() == 1 {
-        return LineUnit::Byte(first);
-    }
-    let second = bytes[1];
-    if second == b'\n' {
-        return LineUnit::Continuation(2 + leading_spaces(&bytes[2..]));
-    }
-    if second != b'\r' || bytes.len() == 2 {
-        return LineUnit::Escape(second);
-    }
-    if bytes[2] == b'\n' {
-        return LineUnit::Continuation(3 + leading_spaces(&bytes[3..]));
-    }
-    LineUnit::Escape(second)
-}
-
-/// Returns whether no byte is a `$`. Then each byte stands for itself.
-pub(crate) fn is_literal(raw: &[u8]) -> bool
-    ensures exact { result ≡ is_literal raw.now }
-    ensures value { result ≡ true → value_of raw.now ≡ raw.now }
-{
-    !raw.contains(&b'$')
 }
 
 /// Returns what the bytes of a word or a value stand for.
@@ -227,7 +186,8 @@ pub(crate) fn append_meaning(raw: &[u8], out: &mut Vec<u8>) -> Result<(), AllocE
     ensures ok { OnOk result (out.new.items ≡ out.old.items ++ value_of raw.now) }
     ensures err { OnErr result (out.new.items ≡ out.old.items) }
 {
-    if is_literal(raw) {
+    // Without a `$` each byte stands for itself.
+    if !raw.contains(&b'$') {
         return out.extend_from_slice(raw);
     }
     let before = out.len();
@@ -251,10 +211,5 @@ fn leading_spaces(bytes: &[u8]) -> usize
     ensures value { result ≡ spaces_at bytes.now }
     ensures within { result ≤ length bytes.now }
 {
-    for (i, byte) in bytes.iter().enumerate() {
-        if *byte != b' ' {
-            return i;
-        }
-    }
-    bytes.len()
+    bytes.iter().take_while(|byte| **byte == b' ').count()
 }

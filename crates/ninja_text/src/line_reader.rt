@@ -1,5 +1,5 @@
 //! Reads the lines of a text that arrives in pieces into a state, one by one.
-ghost use Rattle.std.specs.Prelude.{◌++◌, ◌≡◌, [], Err, List, None, Some, false};
+ghost use Rattle.std.specs.Prelude.{◌++◌, ◌≡◌, [], Err, List, Some, false};
 ghost use Rattle.ninja_text.specs.Prelude.{Bytes, EndsLines, FeedsLines, HasLent, HasLentAll};
 ghost use Rattle.ninja_text.specs.Prelude.{LinesRead, LogicalLine, ReadsLine, StaysRefused};
 ghost use Rattle.ninja_text.specs.Prelude.{seen_line};
@@ -96,17 +96,11 @@ impl<F: Copy, S: LineState<Fault = F> + Drop> LineReader<S, F> {
         ensures all { (bytes : Bytes) (lent : List LogicalLine) → HasLentAll bytes lent self
             → EndsLines S.of_cutter bytes lent self.state result }
     {
-        let LineReader {
-            cutter,
-            state,
-            failed,
-            ..
-        } = self;
-        if let Some(failure) = failed {
-            return Err(failure);
+        if let Some(failure) = &self.failed {
+            return Err(*failure);
         }
-        match cutter.finish() {
-            Ok(()) => Ok((state, cutter.number())),
+        match self.cutter.finish() {
+            Ok(()) => Ok((self.state, self.cutter.number())),
             Err(fault) => Err(Failure::Fault(S::cut_fault(fault))),
         }
     }
@@ -135,10 +129,7 @@ fn read_piece<S: LineState>(
         match cutter.next_line() {
             Err(fault) => return Err(Failure::Fault(S::cut_fault(fault))),
             Ok(None) => {}
-            Ok(Some(line)) => match state.read_line(alloc, line) {
-                Ok(()) => {}
-                Err(failure) => return Err(failure),
-            },
+            Ok(Some(line)) => state.read_line(alloc, line)?,
         }
     }
     Ok(())

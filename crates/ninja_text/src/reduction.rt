@@ -1,16 +1,14 @@
 //! The canonical list of a path's components. It is kept as a string: the components joined by
 //! slashes, without the first slash of an absolute path. It is never longer than the path that is
 //! read. Nearly every string is a canonical path already, and needs no list.
-ghost use Rattle.std.specs.Prelude.{◌&&◌, ◌*◌, ◌++◌, ◌+◌, ◌-◌, ◌<◌, ◌==◌, ◌||◌, ◌∷◌, ◌≡◌, ◌≢◌, ◌≤◌};
+ghost use Rattle.std.specs.Prelude.{◌&&◌, ◌*◌, ◌++◌, ◌+◌, ◌==◌, ◌||◌, ◌∷◌, ◌≡◌, ◌≤◌};
 ghost use Rattle.ninja_text.specs.Prelude.{[], Component, IfOk, IsPath, List, MatchOption, OnOk};
 ghost use Rattle.ninja_text.specs.Prelude.{components, drop, false, is_current, is_parent};
 ghost use Rattle.ninja_text.specs.Prelude.{is_rooted, is_unwritable, length, list_any, not};
-ghost use Rattle.ninja_text.specs.Prelude.{position, prefix_len, reduced, slash, slice_index, take};
-ghost use Rattle.ninja_text.specs.Prelude.{true, ℕ};
-ghost use Rattle.ninja_text.specs.inner.ComponentLists.{list_text, reduced_text, LacksSlash};
-ghost use Rattle.ninja_text.specs.inner.ComponentLists.{EachLacksSlash, appended, leads_up};
-ghost use Rattle.ninja_text.specs.inner.ComponentLists.{slashes_from};
-ghost use Rattle.ninja_text.specs.inner.PlainPaths.{AreNames, IsReducedList, after, is_name};
+ghost use Rattle.ninja_text.specs.Prelude.{position, prefix_len, reduced, slash, take, true};
+ghost use Rattle.ninja_text.specs.inner.ComponentLists.{EachLacksSlash, reduced_text, slashes_from};
+ghost use Rattle.ninja_text.specs.inner.ComponentLists.{LacksSlash, list_text, appended, leads_up};
+ghost use Rattle.ninja_text.specs.inner.PlainPaths.{AreNames, IsReducedList};
 
 use std::alloc::{AllocError, Global};
 
@@ -44,14 +42,7 @@ pub(crate) fn is_above_root(rooted: bool, list: &[u8]) -> bool
 pub(crate) fn parents(list: &[u8]) -> usize
     ensures { result ≡ prefix_len is_parent (components list.now) }
 {
-    let mut count = 0;
-    for component in list.split(is_slash) {
-        if !is_parent(component) {
-            return count;
-        }
-        count += 1;
-    }
-    count
+    list.split(is_slash).take_while(|c| is_parent(c)).count()
 }
 
 /// Returns a canonical list without this many `..` at its beginning.
@@ -76,7 +67,7 @@ pub(crate) fn slashes(alloc: Global, list: &[u8]) -> Result<Vec<usize>, AllocErr
 pub(crate) fn has_only_names(text: &[u8]) -> bool
     ensures { result ≡ not (list_any (λ c. is_current c || is_parent c) (components text.now)) }
 {
-    !text.split(is_slash).any(is_no_name)
+    !text.split(is_slash).any(|c| is_current(c) || is_parent(c))
 }
 
 /// Returns the length of a path's first component, and what follows the slash after it.
@@ -119,16 +110,13 @@ fn put(list: &mut Vec<u8>, component: &[u8]) -> Result<(), AllocError>
     if is_current(component) {
         return Ok(());
     }
-    if !is_parent(component) {
-        return append(list, component);
-    }
-    match len_without_name(list) {
-        Some(len) => {
+    if is_parent(component) {
+        if let Some(len) = len_without_name(list) {
             list.truncate(len);
-            Ok(())
+            return Ok(());
         }
-        None => append(list, component),
     }
+    append(list, component)
 }
 
 /// Appends a component to a list, after a slash if the list is not empty.
@@ -149,7 +137,7 @@ fn len_without_name(list: &[u8]) -> Option<usize>
         → MatchOption result (is_parent last ≡ true)
         (λ n. (is_parent last ≡ false) × (take n list.now ≡ list_text init)) }
 {
-    let start = last_start(list);
+    let start = list.iter().rposition(is_slash).map_or(0, |index| index + 1);
     if start == list.len() || is_parent(&list[start..]) {
         None
     } else {
@@ -157,28 +145,10 @@ fn len_without_name(list: &[u8]) -> Option<usize>
     }
 }
 
-/// Returns the offset at which the last component of a list begins.
-fn last_start(list: &[u8]) -> usize
-    ensures bound { result ≤ length list.now }
-    ensures slash { 0 < result → slice_index list.now (result - 1) ≡ 47 }
-    ensures rest { (k : ℕ) → result ≤ k → k < length list.now → slice_index list.now k ≢ 47 }
-{
-    match list.iter().rposition(is_slash) {
-        Some(index) => index + 1,
-        None => 0,
-    }
-}
-
 fn is_slash(byte: &u8) -> bool
     ensures { result ≡ (byte.now == slash) }
 {
     *byte == b'/'
-}
-
-fn is_no_name(component: &[u8]) -> bool
-    ensures { result ≡ (is_current component.now || is_parent component.now) }
-{
-    is_current(component) || is_parent(component)
 }
 
 fn is_current(component: &[u8]) -> bool
@@ -234,35 +204,15 @@ fn are_names(list: &[u8]) -> bool
 {
     let mut begun = Begun::Nothing;
     for byte in list {
-        // With most bytes the component is a name, whatever else is in it.
-        if matches!(*byte, b'0'..=b'{') {
-            begun = Begun::Name;
-        } else if *byte == b'/' {
-            if !is_name(begun) {
-                return false;
-            }
-            begun = Begun::Nothing;
-        } else if is_unwritable(byte) {
-            return false;
-        } else {
-            begun = after(begun, *byte);
-        }
+        begun = match (begun, *byte) {
+            // With most bytes the component is a name, whatever else is in it.
+            (_, b'0'..=b'{') => Begun::Name,
+            (Begun::Name, b'/') => Begun::Nothing,
+            (_, b'/' | b'|' | 0 | b'\r' | b'\n') => return false,
+            (Begun::Nothing, b'.') => Begun::Dot,
+            (Begun::Dot, b'.') => Begun::TwoDots,
+            _ => Begun::Name,
+        };
     }
-    is_name(begun)
-}
-
-fn after(begun: Begun, byte: u8) -> Begun
-    ensures { result ≡ after begun byte }
-{
-    match begun {
-        Begun::Nothing if byte == b'.' => Begun::Dot,
-        Begun::Dot if byte == b'.' => Begun::TwoDots,
-        _ => Begun::Name,
-    }
-}
-
-fn is_name(begun: Begun) -> bool
-    ensures { result ≡ is_name begun }
-{
     matches!(begun, Begun::Name)
 }

@@ -9,6 +9,7 @@ ghost use Rattle.std.specs.Ordering.{nat_cmp, as_partial_cmp};
 ghost use Rattle.std.specs.Hash as fed;
 ghost use Rattle.std.proofs.Common.{rules};
 ghost use Rattle.std.proofs.lemmas.Cmp.{nat_list_eq_equiv};
+ghost use Rattle.ninja_text.specs.Bytes.{Bytes};
 
 use std::alloc::{AllocError, Global};
 use std::cmp::Ordering;
@@ -28,10 +29,6 @@ pub struct SharedText {
 }
 
 impl Model for SharedText {
-    ghost use Rattle.std.specs.Prelude.{◌≤◌, length, slice_range};
-    ghost use Rattle.std.specs.Rc.{rc_slice_items};
-    ghost use Rattle.ninja_text.specs.Bytes.{Bytes};
-
     ghost Value = { Bytes };
 
     ghost view = { λ t. slice_range (rc_slice_items t.string) t.start t.end };
@@ -88,10 +85,8 @@ impl SharedText {
     pub fn copy(&self, alloc: Global) -> Result<SharedText, AllocError>
         ensures { IfOk result (λ copy. copy ≡ self.now) }
     {
-        match self.clone() {
-            Ok(text) => Ok(text),
-            Err(_) => SharedText::of(alloc, self.bytes()),
-        }
+        self.clone()
+            .or_else(|_| SharedText::of(alloc, self.bytes()))
     }
 }
 

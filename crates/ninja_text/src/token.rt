@@ -1,5 +1,5 @@
 //! Tokens, an iterator over the tokens of a line, and the name and the value of an assignment.
-ghost use Rattle.std.specs.Prelude.{◌≡◌, ◌≤◌, length};
+ghost use Rattle.std.specs.Prelude.{◌++◌, ◌≡◌, ◌≤◌, IfOk, OnErr, OnOk, length};
 
 use crate::lexing::{append_meaning, blank_end, meaning, token_at};
 use std::alloc::{AllocError, Global};
@@ -29,7 +29,6 @@ pub struct Token<'a> {
 }
 
 impl<'a> Token<'a> {
-    ghost use Rattle.std.specs.Prelude.{◌++◌, ◌≡◌, IfOk, OnErr, OnOk};
     ghost use Rattle.ninja_text.specs.Prelude.{is_keyword, seen_token, value_of};
 
     /// Returns the kind of the token.
@@ -117,10 +116,8 @@ impl<'a> Words<'a> {
         ensures { SignTaken sign (symbols_left self.old) result (symbols_left self.new) }
     {
         let mut ahead = *self;
-        let Some(token) = ahead.next() else {
-            return false;
-        };
-        let is_there = token.kind() == sign && sign != TokenKind::Word;
+        let next = ahead.next();
+        let is_there = next.is_some_and(|token| token.kind() == sign && sign != TokenKind::Word);
         if is_there {
             *self = ahead;
         }
@@ -165,7 +162,6 @@ pub struct Assignment<'a> {
 }
 
 impl<'a> Assignment<'a> {
-    ghost use Rattle.std.specs.Prelude.{◌++◌, ◌≡◌, IfOk, OnErr, OnOk};
     ghost use Rattle.ninja_text.specs.Prelude.{seen_assignment, value_of};
 
     /// Returns the offset of the name in the line's text. It is 0 if the line is not indented.

@@ -1,12 +1,12 @@
 //! Directories in which paths are read, and the end of file names, each reduced once for all paths.
-ghost use Rattle.std.specs.Prelude.{◌&&◌, ◌++◌, ◌+◌, ◌-◌, ◌<◌, ◌∷◌, ◌≡◌, ◌≤◌, IfOk, IsUtf8, List};
+ghost use Rattle.std.specs.Prelude.{◌++◌, ◌+◌, ◌-◌, ◌<◌, ◌∷◌, ◌≡◌, ◌≤◌, IfOk, IsUtf8, List};
 ghost use Rattle.ninja_text.specs.Prelude.{Component, ForSome, Gives, IsPath, MatchOption};
 ghost use Rattle.ninja_text.specs.Prelude.{MatchResult, None, Some, Text, begins_component};
-ghost use Rattle.ninja_text.specs.Prelude.{canonical_of, components, is_rooted, length};
+ghost use Rattle.ninja_text.specs.Prelude.{PathText, canonical_of, components, is_rooted, length};
 ghost use Rattle.ninja_text.specs.Prelude.{option_copied, parts, placed, reduced, take, true};
 ghost use Rattle.ninja_text.specs.inner.ComponentLists.{list_text};
 ghost use Rattle.ninja_text.specs.inner.Joins.{IsReadIn, list_limit, glued, long_fault, moved};
-ghost use Rattle.ninja_text.specs.inner.Joins.{first_in};
+ghost use Rattle.ninja_text.specs.inner.Joins.{IsDirectory, IsEnding, first_in};
 
 use crate::failure::Failure;
 use crate::fault::PathFault;
@@ -28,9 +28,6 @@ pub struct WorkDirectory<'t> {
 }
 
 impl<'t> Model for WorkDirectory<'t> {
-    ghost use Rattle.ninja_text.specs.Bytes.{PathText};
-    ghost use Rattle.ninja_text.specs.inner.Joins.{IsDirectory};
-
     ghost Value = { PathText };
 
     ghost view = { λ d. d.text.now };
@@ -51,9 +48,6 @@ pub struct NameEnding<'t> {
 }
 
 impl<'t> Model for NameEnding<'t> {
-    ghost use Rattle.ninja_text.specs.Bytes.{Text};
-    ghost use Rattle.ninja_text.specs.inner.Joins.{IsEnding};
-
     ghost Value = { Text };
 
     ghost view = { λ e. e.text.now };
@@ -114,11 +108,7 @@ impl<'t> WorkDirectory<'t> {
     {
         let list = reduction::reduce(alloc, text)?;
         let slashes = reduction::slashes(alloc, &list)?;
-        let components = if list.is_empty() {
-            0
-        } else {
-            slashes.len() + 1
-        };
+        let components = slashes.len() + usize::from(!list.is_empty());
         let names = components.saturating_sub(reduction::parents(&list));
         Ok(WorkDirectory {
             text,
@@ -178,14 +168,12 @@ impl<'t> WorkDirectory<'t> {
             let own = reduction::without_parents(&ending.list, 1);
             return self.joined(alloc, build, own, ending.parents - 1, unwritable);
         }
-        match ending.after(alloc, list_limit(build), name)? {
-            Some(own) => self.joined(alloc, build, &own, 0, unwritable),
-            None => {
-                let rooted = reduction::is_rooted(self.text);
-                let above = reduction::is_above_root(rooted, &self.list);
-                Err(Failure::Fault(long_fault(above, unwritable)))
-            }
+        if let Some(own) = ending.after(alloc, list_limit(build), name)? {
+            return self.joined(alloc, build, &own, 0, unwritable);
         }
+        let rooted = reduction::is_rooted(self.text);
+        let above = reduction::is_above_root(rooted, &self.list);
+        Err(Failure::Fault(long_fault(above, unwritable)))
     }
 
     /// Returns the path of a canonical list that is read in the directory.
@@ -248,21 +236,13 @@ impl<'t> WorkDirectory<'t> {
             (λ first. first ≡ first_in self.now (moved None before later))
             (λ e. e ≡ Failure.Memory) }
     {
-        if self.unwritable.is_some() {
+        let (None, Some(later)) = (self.unwritable, later) else {
             return Ok(self.unwritable);
-        }
-        let Some(later) = later else {
-            return Ok(None);
         };
         let len = self.text.len();
         let between = if len == 0 { 0 } else { len + 1 };
-        match before
-            .checked_add(later)
-            .and_then(|sum| sum.checked_add(between))
-        {
-            Some(offset) => Ok(Some(offset)),
-            None => Err(Failure::Memory),
-        }
+        let later = before.checked_add(later).ok_or(Failure::Memory)?;
+        Ok(Some(later.checked_add(between).ok_or(Failure::Memory)?))
     }
 }
 

@@ -1,5 +1,6 @@
 -- How far a run of units or of spaces extends.
-use Rattle.std.specs.Prelude.{◌≡◌, ℕ, ◌+◌, Bool, ◌==◌, if◌then◌else◌, List, [], ◌∷◌, drop}
+use Rattle.std.specs.Prelude.{◌≡◌, ℕ, Bool, ◌==◌, List, drop}
+use Rattle.std.specs.List.{prefix_len}
 use Rattle.ninja_text.specs.Bytes.{space}
 use Rattle.ninja_text.specs.Units.{units}
 use Rattle.ninja_text.specs.Assignments.{after_run}
@@ -13,5 +14,4 @@ Run test text from to =
 
 -- the number of spaces at the front
 abbrev pub spaces_at : List ℕ → ℕ
-spaces_at [] = 0
-spaces_at (b ∷ bytes) = if b == space then 1 + spaces_at bytes else 0
+spaces_at bytes = prefix_len (λ b. b == space) bytes

@@ -2,13 +2,14 @@ use Rattle.std.proofs.Common.{rules, ◌≡◌, ◌++◌, OnOk, subst, sym, ap, 
 use Rattle.std.proofs.lemmas.List.{append-nil}
 use Rattle.std.proofs.lemmas.Grind.{common_steps}
 use Rattle.ninja_text.specs.Tokens.{unit_value}
+use Rattle.ninja_text.proofs.Units.{plain_value}
 use Rattle.ninja_text.proofs.lexing.append_meaning.Goals as goal
 use Rattle.ninja_text.proofs.lexing.append_meaning.Goals.{in-Continuation, in-Escape2}
 
-pub returns-then-is_literal-clause-ok : goal.returns-then-is_literal-clause-ok
-returns-then-is_literal-clause-ok c =
+pub returns-then-not-contains-clause-ok : goal.returns-then-not-contains-clause-ok
+returns-then-not-contains-clause-ok c =
     subst (λ value. OnOk c.extend_from_slice.result (c.extend_from_slice.new.self.items ≡ c.args.out.now.items ++ value))
-    (sym (c.is_literal.ensures.value c.if-is_literal.true)) (search rules)
+    (sym (plain_value c.args.raw.now (sym c.contains.ensures.value ∙ c.if-not-contains.true))) (search rules)
 
 pub loop-index-preserved : goal.loop-index-preserved
 loop-index-preserved c =

@@ -1,5 +1,6 @@
 use Rattle.std.proofs.Common.{◌≡◌, ◌++◌, ◌∙◌, [], ◌∷◌, length, take, drop, ap, sym, subst, arith, rules, tests}
 use Rattle.std.proofs.lemmas.List.{append-nil}
+use Rattle.std.specs.Prelude.{Err}
 use Rattle.ninja_text.specs.Cutting.{Cuts, lent_next}
 use Rattle.ninja_text.specs.LineViews.{seen_line}
 use Rattle.ninja_text.specs.LineReading.{HasLent, HasFailureBehind}
@@ -57,7 +58,7 @@ loop-rest-preserved g c =
               works = lends.1;
               short = let none : length after.bytes ≡ 0 = ap length lends.2 in omega arith;
             },
-            lead_on g.S.LineState.passes c.args.state.now f.1 c.loop-rest.state c.read_line.new.self line f.4 c.in-Ok-read_line.ensures,
+            lead_on g.S.LineState.passes c.args.state.now f.1 c.loop-rest.state c.read_line.new.self line f.4 c.in_ok-read_line-in-Ok-Some.ensures,
           );
     }
 
@@ -79,18 +80,19 @@ pub returns-in-Err-next_line-clause-all : goal.returns-in-Err-next_line-clause-a
 returns-in-Err-next_line-clause-all g c =
     absurd (never_failed c.loop-rest.cutter c.loop-rest.rest.now c.in-Ok.taken c.feed.new.self c.in-Ok.ensures.exact c.in-Err-next_line.ensures.line.0)
 
-pub returns-in-Err-read_line-clause-all : goal.returns-in-Err-read_line-clause-all
-returns-in-Err-read_line-clause-all g c = λ bytes lent before.
+pub returns-in_err-read_line-in-Ok-Some-clause-all : goal.returns-in_err-read_line-in-Ok-Some-clause-all
+returns-in_err-read_line-in-Ok-Some-clause-all g c = λ bytes lent before.
     let f = c.loop-rest.invariant.read bytes lent before in
     let p = g.S.LineState in
     let n = c.in-Ok.taken in
     let rest = c.loop-rest.rest.now in
     let some = rw c.in-Ok-Some.field-0-is at c.in-Ok-Some.ensures.line in
-    line_refused p.passes p.refuses p.of_cutter (f.0 ++ take n rest) (drop n rest) (bytes ++ c.args.piece.now) lent f.1 c.feed.new.self c.args.state.now
+    let is : c.from_residual.result ≡ Err c.in_err-read_line-in-Ok-Some.field-0.0 = search (rules, c.from_residual.ensures) in
+    rw is (line_refused p.passes p.refuses p.of_cutter (f.0 ++ take n rest) (drop n rest) (bytes ++ c.args.piece.now) lent f.1 c.feed.new.self c.args.state.now
     c.loop-rest.state c.read_line.new.self
-    (seen_line c.in-Ok-Some.line) c.in-Err-read_line.failure (moves_on f.0 rest (bytes ++ c.args.piece.now) n f.2)
+    (seen_line c.in-Ok-Some.line) _ (moves_on f.0 rest (bytes ++ c.args.piece.now) n f.2)
     (c.in-Ok.ensures.all f.0 (lent ++ f.1) f.3.cuts) some.1 some.2 f.4
-    c.in-Err-read_line.ensures
+    c.in_err-read_line-in-Ok-Some.ensures)
 
 pub returns-clause-all : goal.returns-clause-all
 returns-clause-all g c = λ bytes lent before.

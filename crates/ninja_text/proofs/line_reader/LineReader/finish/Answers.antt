@@ -5,8 +5,8 @@ use Rattle.ninja_text.specs.declared.failure.Failure.TheVariants.{Fault}
 use Rattle.ninja_text.proofs.Feeds.{ends_truncated}
 use Rattle.ninja_text.proofs.line_reader.LineReader.finish.Goals as goal
 
-pub returns-clause-all : goal.returns-clause-all
-returns-clause-all g c = λ bytes lent before.
+pub returns-in-Err-clause-all : goal.returns-in-Err-clause-all
+returns-in-Err-clause-all g c = λ bytes lent before.
     let has : HasLent bytes lent c.self.inside.cutter = subst (HasLent bytes lent) (sym (ap (λ r. r.cutter) c.self.view_is)) before.has in
     let p = g.S.LineState in
     subst (λ f. EndsLines p.of_cutter bytes lent c.args.self.state (Err (Fault f))) (sym c.cut_fault.ensures)

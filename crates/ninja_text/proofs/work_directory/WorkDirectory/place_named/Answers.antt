@@ -60,15 +60,15 @@ returns-in-Some-clause-text c u v w =
     placed-text (option_copied c.args.build) c.args.self.now (c.args.name.now ++ c.args.ending.now) c.joined-in-Some.result begins.0
     (c.joined-in-Some.ensures _ (named (goal.at.returns-in-Some-clause-text c).After-deref-in-Some)) u (IsUtf8-append c.args.name.now c.args.ending.now v w)
 
-pub returns-in-None-clause-meaning : goal.returns-in-None-clause-meaning
-returns-in-None-clause-meaning c =
+pub returns-clause-meaning : goal.returns-clause-meaning
+returns-clause-meaning c =
     let e = kept {n = 0} c.ending.invariant c.ending.view_is (omega (arith, c.if-ending-gt0.false)) in
-    let longer = rw c.in-None.is at (c.in_ok-own.ensures (take c.ending.inside.first c.args.ending.now) e.others e.divided) in
+    let longer = rw c.in_default.is at (c.in_ok-own.ensures (take c.ending.inside.first c.args.ending.now) e.others e.divided) in
     let text = c.args.name.now ++ c.args.ending.now in
     let r = read-named c.args.self.now c.args.name.now e c.requires.name refl c.in_ok-unwritable.ensures in
     let above : c.is_above_root-above.result ≡ (is_rooted c.args.self.now && leads_up (reduced_text c.args.self.now)) =
-    c.is_above_root-above.ensures ∙ ap (λ r. r && leads_up c.deref-in-None.result.now) (c.is_rooted-rooted.ensures ∙ ap is_rooted c.self.view_is)
-    ∙ ap (λ l. is_rooted c.args.self.now && leads_up l) (c.deref-in-None.ensures.value ∙ c.self.invariant.list_is ∙ ap reduced_text c.self.view_is) in
+    c.is_above_root-above.ensures ∙ ap (λ r. r && leads_up c.deref-2.result.now) (c.is_rooted-rooted.ensures ∙ ap is_rooted c.self.view_is)
+    ∙ ap (λ l. is_rooted c.args.self.now && leads_up l) (c.deref-2.ensures.value ∙ c.self.invariant.list_is ∙ ap reduced_text c.self.view_is) in
     placed-is (option_copied c.args.build) c.args.self.now text (begins-path c.args.name.now c.args.ending.now c.requires.name).1
     ∙ long-named (option_copied c.args.build) c.args.self.now c.list_limit.ensures.path c.requires.build r (omega (arith, longer, c.list_limit.ensures.value))
     ∙ ap (λ b. Err (long_fault b c.in_ok-unwritable.unwritable)) (sym above) ∙ ap Err (sym c.long_fault.ensures)
