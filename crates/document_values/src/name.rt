@@ -1,7 +1,7 @@
 //! Names of modules and of targets.
 ghost use Rattle.std.specs.Prelude.{◌≡◌, IfOk, IsTrue, IsUtf8, Some};
 ghost use Rattle.std.specs.Option.{SomeIff};
-ghost use Rattle.document_values.specs.Name.{is_name, is_name_byte, is_target_name};
+ghost use Rattle.document_values.specs.Name.{is_name, is_target_name};
 
 use ninja_text::SharedText;
 use std::alloc::{AllocError, Global};
@@ -218,28 +218,18 @@ fn is_name(text: &[u8]) -> bool
     let mut has_colon = false;
     let mut is_empty = true;
     for byte in text {
-        if *byte == b'.' || *byte == b':' {
-            let is_colon = *byte == b':';
-            if is_empty || is_colon && has_colon {
-                return false;
+        match *byte {
+            b'.' | b':' => {
+                let is_colon = *byte == b':';
+                if is_empty || is_colon && has_colon {
+                    return false;
+                }
+                has_colon = has_colon || is_colon;
+                is_empty = true;
             }
-            has_colon = has_colon || is_colon;
-            is_empty = true;
-        } else if is_name_byte(byte) {
-            is_empty = false;
-        } else {
-            return false;
+            0..=b' ' | b'/' | b'\\' | b'"' | b'\'' | b'=' | b'|' | b'$' | 127 => return false,
+            _ => is_empty = false,
         }
     }
     !is_empty
-}
-
-fn is_name_byte(byte: &u8) -> bool
-    ensures { result ≡ is_name_byte byte.now }
-{
-    *byte > b' '
-        && !matches!(
-            *byte,
-            b'/' | b'\\' | b'"' | b'\'' | b'=' | b'|' | b'$' | 127
-        )
 }
