@@ -219,10 +219,7 @@ each-reduced text = reduced-each LacksSlash (components text) (components-lack t
 pub below-found : (build directory list rest r text : Bytes) → IsPath build → directory ≡ list_text (reduced (components build)) →
     list ≡ list_text (reduced (components text)) → list ≡ directory ++ rest → rest ≡ (47 ∷ []) ++ r
     → option_map list_text (below (reduced (components build)) (reduced (components text))) ≡ Some r
-below-found build directory list rest r text h d e k m =
-    let f = path-first build h in
-    let whole : list_text (reduced (components text)) ≡ list_text (f.0 ∷ f.1) ++ 47 ∷ r = cc in
-    grind (arith, below-is, each-reduced, whole)
+below-found build directory list rest r text h d e k m = grind (arith, path-first, below-is, each-reduced)
 
 -- if one of them was not there, no list is below the directory
 pub below-missed : (build directory list text : Bytes) → IsPath build → directory ≡ list_text (reduced (components build)) →

@@ -57,7 +57,7 @@ bytes-same d = (bytes_eq-Decides d d).1 refl
 -- what is after a directory is below it
 pub below-front : (ds : Components) (x : Bytes) (xs : Components) → below ds (ds ++ x ∷ xs) ≡ Some (x ∷ xs)
 below-front [] x xs = refl
-below-front (d ∷ ds) x xs = ap (λ b. cond b (below ds (ds ++ x ∷ xs)) None) (bytes-same d) ∙ below-front ds x xs
+below-front (d ∷ ds) x xs = simp (cond, None, bytes-same, below-front ds x xs)
 
 -- what is below a directory is after it, and is not empty
 pub below-some : (ds cs rest : Components) → below ds cs ≡ Some rest → (cs ≡ ds ++ rest) × (rest ≢ [])
@@ -77,7 +77,7 @@ below-some (d ∷ ds) (c ∷ cs) rest e = go (below-some ds cs rest) (bytes_eq d
 pub list_text-append : (x : Bytes) (xs : Components) (y : Bytes) (ys : Components) →
     list_text ((x ∷ xs) ++ y ∷ ys) ≡ list_text (x ∷ xs) ++ 47 ∷ list_text (y ∷ ys)
 list_text-append x [] y ys = refl
-list_text-append x (z ∷ zs) y ys = ap (λ t. x ++ 47 ∷ t) (list_text-append z zs y ys) ∙ sym (append_assoc x (47 ∷ list_text (z ∷ zs)) (47 ∷ list_text (y ∷ ys)))
+list_text-append x (z ∷ zs) y ys = simp (list_text-append z zs y ys, append_assoc)
 
 -- the components of a text after a list and a slash
 components-behind : (x : Bytes) (xs : Components) (r : Bytes) → EachLacksSlash (x ∷ xs) →

@@ -8,7 +8,7 @@ use Rattle.std.proofs.lemmas.List.{length-take-le, append-nil, take-append-drop,
 use Rattle.std.proofs.lemmas.List.Sums.{sum_by-append}
 use Rattle.std.proofs.lemmas.Grind.{flat_map-append}
 use Rattle.std.proofs.lemmas.Bool.{cases_Bool, leb-false, cases_lt}
-use Rattle.ninja_text.specs.Lines.{line_limit, LineEnd, line_end, IsLine, Divides, LogicalLine, logical_line, logical_lines, number_after, line_feeds_in, text_of_line, text_before, is_comment}
+use Rattle.ninja_text.specs.Lines.{line_limit, LineEnd, line_end, IsLine, Divides, LogicalLine, logical_line, logical_lines, number_after, line_feeds_in, text_of_line, is_comment}
 use Rattle.ninja_text.specs.Scanning.{scan_from}
 use Rattle.ninja_text.specs.Cutting.{CutterState, feed_outcome, feed_outcome_at, Feeds, FeedsAll, Cuts, waiting_line, lent_next, after_lending}
 use Rattle.ninja_text.specs.declared.fault.CutFault.{CutFault}
@@ -53,14 +53,12 @@ abbrev pub joined : List Bytes → Bytes
 joined lines = flat_map (λ line. line) lines
 
 joined-push : (lines : List Bytes) (line : Bytes) → joined (lines ++ line ∷ []) ≡ joined lines ++ line
-joined-push lines line = flat_map-append (λ l. l) lines (line ∷ []) ∙ ap (λ x. joined lines ++ x) (append-nil line)
+joined-push lines line = grind (arith, flat_map-append, lines, append-nil)
 
 pub logical_lines-push : (before : Bytes) (lines : List Bytes) (line : Bytes) →
     logical_lines before (lines ++ line ∷ []) ≡ logical_lines before lines ++ logical_line (before ++ joined lines) line ∷ []
-logical_lines-push before [] line = ap (λ b. logical_line b line ∷ []) (sym (append-nil before))
-logical_lines-push before (l ∷ lines) line = ap (λ ls. logical_line before l ∷ ls)
-    (logical_lines-push (before ++ l) lines line ∙
-    ap (λ b. logical_lines (before ++ l) lines ++ logical_line b line ∷ []) (append_assoc before l (joined lines)))
+logical_lines-push before [] line = simp (append-nil)
+logical_lines-push before (l ∷ lines) line = grind (arith, logical_lines-push (before ++ l) lines line, lines, append_assoc)
 
 line_feeds_in-append : (xs ys : Bytes) → line_feeds_in (xs ++ ys) ≡ line_feeds_in xs + line_feeds_in ys
 line_feeds_in-append xs ys = sum_by-append _ xs ys
@@ -173,13 +171,12 @@ module _ (taken : Bytes) (lent : List LogicalLine) where
       → TakesAll piece (feed_outcome (record { number = number; bytes = bytes; waits = waits; failed = failed }) piece).0
       (feed_outcome (record { number = number; bytes = bytes; waits = waits; failed = failed }) piece).1
   fed_keeps number bytes piece waits true cuts = cuts
-  fed_keeps number bytes piece true false cuts =
-      subst (λ t. Cuts t lent (record { number = number; bytes = bytes; waits = true; failed = false })) (sym (append-nil taken)) cuts
+  fed_keeps number bytes piece true false cuts = grind (arith, append-nil)
   fed_keeps number bytes piece false false cuts = up_to_keeps number bytes piece (line_end (take line_limit (bytes ++ piece))) cuts refl
 
   pub feeds_all : (h : CutterState) (piece : Bytes) (r : Result ℕ (Failure CutFault)) (new : CutterState) → Cuts taken lent h → Feeds h piece r new →
       FeedsAll taken lent piece r new
-  feeds_all h piece (Ok n) new cuts is = subst (λ x. TakesAll piece x.0 x.1) is (fed_keeps h.number h.bytes piece h.waits h.failed cuts)
+  feeds_all h piece (Ok n) new cuts is = grind (arith, fed_keeps)
   feeds_all h piece (Err Memory) new cuts is = subst (Cuts taken lent) (sym is.2) cuts
   feeds_all h piece (Err (Fault fault)) new cuts is = subst (λ x. TakesAll piece x.0 x.1) is (fed_keeps h.number h.bytes piece h.waits h.failed cuts)
 
@@ -187,10 +184,8 @@ module _ (taken : Bytes) (lent : List LogicalLine) where
       Cuts taken lent (record { number = number; bytes = bytes; waits = waits; failed = failed })
       → Cuts taken (lent ++ lent_next (record { number = number; bytes = bytes; waits = waits; failed = failed }))
       (after_lending (record { number = number; bytes = bytes; waits = waits; failed = failed }))
-  lending_keeps number bytes waits true cuts =
-      subst (λ l. Cuts taken l (record { number = number; bytes = bytes; waits = waits; failed = true })) (sym (append-nil lent)) cuts
-  lending_keeps number bytes false false cuts =
-      subst (λ l. Cuts taken l (record { number = number; bytes = bytes; waits = false; failed = false })) (sym (append-nil lent)) cuts
+  lending_keeps number bytes waits true cuts = grind (arith, append-nil)
+  lending_keeps number bytes false false cuts = grind (arith, append-nil)
   lending_keeps number bytes true false cuts = record {
     lines = cuts.lines ++ bytes ∷ [];
     divided = record {
@@ -211,8 +206,7 @@ module _ (taken : Bytes) (lent : List LogicalLine) where
 
 -- the text of a line that was scanned
 pub text_scanned : (line : Bytes) (text_len : ℕ) → scan_from 0 Start line ≡ End text_len (length line) → text_of_line line ≡ take text_len line
-text_scanned line text_len h = let e : line_end line ≡ Some (record { text_len = text_len; line_len = length line }) = line_end_scanned line ∙ ap end_of h in
-    ap (text_before line) e
+text_scanned line text_len h = grind (arith, Some, length, line_end_scanned, end_of)
 
 front_same : (a b x y : Bytes) → IsLine a → IsLine b → a ++ x ≡ b ++ y → a ≡ b
 front_same a b x y p q h =

@@ -167,14 +167,7 @@ list-of-names path none = record {
 -- the canonical list of a path
 pub list-of-path : (path own : Bytes) (parents : ℕ) → own ≡ reduced_text path → parents ≡ prefix_len is_parent (components own)
     → IsList (parts path) own parents
-list-of-path path own parents e k = grind (
-  arith,
-  common_steps,
-  fixed-reduced (parts path) (parts-fixed path),
-  parts-fixed path,
-  parts-lack path,
-  parents-text own path e,
-)
+list-of-path path own parents e k = grind (arith, fixed-reduced, parts-fixed, parts-lack, parents-text)
 
 -- ---- a list that is too long
 

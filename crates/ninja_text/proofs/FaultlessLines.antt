@@ -80,10 +80,7 @@ return_text a b c d r =
 pub unit_texts : (bytes : Bytes) → AreUnitTexts (units bytes) bytes
 unit_texts [] = refl
 unit_texts (a ∷ []) = grind (arith, common_steps)
-unit_texts (a ∷ b ∷ []) = elim (cases_Bool (a == 36)) [
-  | inl d ↦ grind (arith, feed_text, escape_text, no_continuation)
-  | inr d ↦ rw d (a ∷ [], b ∷ [], refl, no_continuation, unit_texts (b ∷ []), refl)
-]
+unit_texts (a ∷ b ∷ []) = grind (arith, cases_Bool, feed_text, escape_text, no_continuation, unit_texts (b ∷ []))
 unit_texts (a ∷ b ∷ c ∷ bytes) = elim (cases_Bool (a == 36)) [
   | inl d ↦ elim (cases_Bool (b == 10)) [
     | inl f ↦ rw (d, f) (continued 2 (units (c ∷ bytes)) (a ∷ b ∷ []) (c ∷ bytes) (feed_text a b d f) refl (unit_texts (c ∷ bytes)))
@@ -144,9 +141,7 @@ spaces_length (suc n) = ap suc (spaces_length n)
 -- a continuation at the front is read back
 continuation_back : (own rest : Bytes) (us : LineUnits) → IsContinuation own → begins_with 32 us ≡ false → units rest ≡ us →
     units (own ++ rest) ≡ Continuation (length own) ∷ us
-continuation_back own rest us c none later = grind (arith, units_feed, after, spaces_length) where
-  after : (k m : ℕ) → k + c.0 ≡ m → with_continuation k (units (spaces c.0 ++ rest)) ≡ Continuation m ∷ us
-  after k m is = grind (arith, takes, takes_no_more)
+continuation_back own rest us c none later = grind (arith, units_feed, spaces_length, ℕ, takes, takes_no_more)
 
 -- proper units are read back
 pub read_back : (us : LineUnits) (bytes : Bytes) → list_all is_proper us ≡ true → AreUnitTexts us bytes → units bytes ≡ us
@@ -296,10 +291,7 @@ module _ (b c : ℕ) (bytes : Bytes) (index : ℕ) (end : LineEnd) where
 inner_units : (bytes : Bytes) (index : ℕ) (end : LineEnd) → end_from index (units bytes) ≡ Some end → InnerUpTo index end bytes
 inner_units [] index end h = none_some h
 inner_units (a ∷ []) index end h = grind (arith, common_steps)
-inner_units (a ∷ b ∷ []) index end h = elim (cases_Bool (a == 36)) [
-  | inl d ↦ grind (arith, common_steps)
-  | inr d ↦ past_byte a (b ∷ []) index end d (search rules) (rw d at h)
-]
+inner_units (a ∷ b ∷ []) index end h = grind (arith, cases_Bool, past_byte)
 inner_units (a ∷ b ∷ c ∷ bytes) index end h = elim (cases_Bool (a == 36)) [
   | inl d ↦ rw (eqb-true a 36 d) (elim (cases_Bool (b == 10)) [
     | inl f ↦ by_feed b c bytes index end f (inner_units (c ∷ bytes) (index + 2) end (sym (end_continued index 2 (units (c ∷ bytes))) ∙ (rw (d, f) at h)))

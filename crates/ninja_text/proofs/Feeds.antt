@@ -1,7 +1,7 @@
 -- What a call of a cutter does if no line waits, and what a turn of reading a piece does.
 use Rattle.ninja_text.specs.Bytes.{Bytes}
 use Rattle.std.proofs.Common.{inl, inr, ◌≡◌, ℕ, ◌+◌, ◌<◌, ◌≤◌, Bool, true, false, List, [], ◌∷◌, ◌++◌, length, take, drop, refl, sym, ap, ◌∙◌, subst, append_assoc, Some, None, Ok, Err, arith, min}
-use Rattle.std.specs.Prelude.{Option, Result, nat_le, if◌then◌else◌}
+use Rattle.std.specs.Prelude.{Option, if◌then◌else◌}
 use Rattle.std.proofs.lemmas.List.{take-append-drop, append-nil}
 use Rattle.std.proofs.lemmas.Bool.{cases_Bool, leb-true, leb-false, cases_lt}
 use Rattle.ninja_text.specs.Lines.{line_limit, LineEnd, line_end, line_feeds_in, IsLine, LogicalLine, text_of_line, is_comment}
@@ -24,27 +24,17 @@ working number bytes = record { number = number; bytes = bytes; waits = false; f
 
 -- a cutter for which no line waits and that has not failed is a working one
 pub is_working : (h : CutterState) → h.waits ≡ false → h.failed ≡ false → h ≡ working h.number h.bytes
-is_working h i j = rebuilt i j where
-  rebuilt : {p q : Bool} → p ≡ false → q ≡ false →
-      ◌≡◌ {A = CutterState} (record { number = h.number; bytes = h.bytes; waits = p; failed = q }) (working h.number h.bytes)
-  rebuilt i j = rw (i, j) refl
+is_working h i j = grind (arith, Bool, ◌≡◌)
 
 -- what was read and what is left, once n more bytes were read
 pub moves_on : (front rest all : Bytes) (n : ℕ) → front ++ rest ≡ all → (front ++ take n rest) ++ drop n rest ≡ all
-moves_on front rest all n h = append_assoc front (take n rest) (drop n rest) ∙ ap (λ r. front ++ r) (take-append-drop n rest) ∙ h
+moves_on front rest all n h = grind (arith, append_assoc, take, drop, take-append-drop)
 
 -- if a feed succeeds and no line waits after it, the rest is below the limit; by the first end of a line
 below_up_to : (h : CutterState) (piece : Bytes) (n : ℕ) (new : CutterState) (o : Option LineEnd) → feed_outcome_at h piece o ≡ (Ok n, new) → new.waits ≡ false
     → (length new.bytes < line_limit) × (new.failed ≡ h.failed)
 below_up_to h piece n new (Some e) is waits = cc (ap (λ p. p.1.waits) is ∙ waits)
-below_up_to h piece n new None is waits = elim (cases_Bool (nat_le line_limit (length (h.bytes ++ piece)))) [
-  | inl t ↦ absurd (let x : ◌≡◌ {A = Result ℕ CutFault} (Err _) (Ok n) = ap (λ p. p.0) (rw t at is) in cc)
-  | inr f ↦ let e = rw f at is in (
-    let len : length (h.bytes ++ piece) ≡ length new.bytes = ap (λ p. length p.1.bytes) e in
-        omega (arith, leb-false line_limit (length (h.bytes ++ piece)) f),
-    sym (ap (λ p. p.1.failed) e),
-  )
-]
+below_up_to h piece n new None is waits = grind (arith, cases_Bool, length, ◌≡◌, ℕ, Err, Ok, leb-false)
 
 -- the same, of a working cutter's feed
 below_at_work : (number : ℕ) (bytes piece : Bytes) (n : ℕ) (new : CutterState) → feed_outcome (working number bytes) piece ≡ (Ok n, new) → new.waits ≡ false
@@ -60,10 +50,7 @@ below_limit h piece n new works waits is waits' =
 
 -- a cutter with no line to return stays as it is
 pub lends_none : (h new : CutterState) → new ≡ after_lending h → h.failed ≡ false → h.waits ≡ false → new ≡ h
-lends_none h new is works waits = is ∙ same h.number h.bytes h.waits h.failed waits works where
-  same : (number : ℕ) (bytes : Bytes) (p q : Bool) → p ≡ false → q ≡ false
-      → after_lending (record { number = number; bytes = bytes; waits = p; failed = q }) ≡ record { number = number; bytes = bytes; waits = p; failed = q }
-  same number bytes p q i j = rw (i, j) refl
+lends_none h new is works waits = cc
 
 -- a cutter that returns its line holds nothing of the next
 pub lends_some : (h new : CutterState) → new ≡ after_lending h → h.failed ≡ false → h.waits ≡ true →
@@ -75,7 +62,7 @@ lends_some h new is works waits = (ap (λ k. k.waits) it, ap (λ k. k.failed) it
   after number bytes p q i j = (min 18446744073709551615 (number + line_feeds_in bytes), rw (i, j) refl)
 
   it : new ≡ record { number = (after h.number h.bytes h.waits h.failed waits works).0; bytes = []; waits = false; failed = false }
-  it = is ∙ (after h.number h.bytes h.waits h.failed waits works).1
+  it = cc
 
   next : (p q : Bool) → p ≡ true → q ≡ false → (if q then [] else if p then waiting_line h ∷ [] else []) ≡ waiting_line h ∷ []
   next p q i j = rw (i, j) refl
@@ -84,10 +71,7 @@ lends_some h new is works waits = (ap (λ k. k.waits) it, ap (λ k. k.failed) it
 waits_up_to : (h : CutterState) (piece : Bytes) (e : CutFault) (new : CutterState) (o : Option LineEnd) → feed_outcome_at h piece o ≡ (Err e, new) →
     new.waits ≡ h.waits
 waits_up_to h piece e new (Some at) is = cc (ap (λ p. p.0) is)
-waits_up_to h piece e new None is = elim (cases_Bool (nat_le line_limit (length (h.bytes ++ piece)))) [
-  | inl t ↦ sym (ap (λ p. p.1.waits) (rw t at is))
-  | inr f ↦ absurd (let x : ◌≡◌ {A = Result ℕ CutFault} (Ok _) (Err e) = ap (λ p. p.0) (rw f at is) in cc)
-]
+waits_up_to h piece e new None is = grind (arith, cases_Bool, length, ◌≡◌, ℕ, Ok, Err)
 
 -- if no line waits, a failed feed leaves none waiting
 fed_waits : (number : ℕ) (bytes : Bytes) (failed : Bool) (piece : Bytes) (e : CutFault) (new : CutterState)
@@ -123,14 +107,7 @@ too_long bytes e none some = elim (cases_lt line_limit e.line_len) [
 too_long_up_to : (h : CutterState) (piece : Bytes) (l : ℕ) (new : CutterState) (o : Option LineEnd) → feed_outcome_at h piece o ≡ (Err (LineTooLong l), new)
     → (o ≡ None) × (line_limit ≤ length (h.bytes ++ piece)) × (l ≡ h.number)
 too_long_up_to h piece l new (Some e) is = cc (ap (λ p. p.0) is)
-too_long_up_to h piece l new None is = elim (cases_Bool (nat_le line_limit (length (h.bytes ++ piece)))) [
-  | inl t ↦ (
-    refl,
-    leb-true line_limit (length (h.bytes ++ piece)) t,
-    let x : ◌≡◌ {A = Result ℕ CutFault} (Err (LineTooLong h.number)) (Err (LineTooLong l)) = ap (λ p. p.0) (rw t at is) in cc,
-  )
-  | inr f ↦ absurd (let x : ◌≡◌ {A = Result ℕ CutFault} (Ok _) (Err (LineTooLong l)) = ap (λ p. p.0) (rw f at is) in cc)
-]
+too_long_up_to h piece l new None is = grind (arith, cases_Bool, length, leb-true, ◌≡◌, ℕ, Err, Ok)
 
 -- the same, of a working cutter's feed
 pub too_long_at_work : (number : ℕ) (bytes piece : Bytes) (l : ℕ) (new : CutterState) → feed_outcome (working number bytes) piece ≡ (Err (LineTooLong l), new)
@@ -140,11 +117,8 @@ too_long_at_work number bytes piece l new is = too_long_up_to (working number by
 -- a feed rejects no line as truncated; by the first end of a line
 never_truncated_up_to : (h : CutterState) (piece : Bytes) (l : ℕ) (new : CutterState) (o : Option LineEnd) →
     feed_outcome_at h piece o ≡ (Err (Truncated l), new) → ⊥
-never_truncated_up_to h piece l new (Some e) is = let x : ◌≡◌ {A = Result ℕ CutFault} (Ok _) (Err (Truncated l)) = ap (λ p. p.0) is in cc
-never_truncated_up_to h piece l new None is = elim (cases_Bool (nat_le line_limit (length (h.bytes ++ piece)))) [
-  | inl t ↦ let x : ◌≡◌ {A = Result ℕ CutFault} (Err (LineTooLong h.number)) (Err (Truncated l)) = ap (λ p. p.0) (rw t at is) in cc
-  | inr f ↦ let x : ◌≡◌ {A = Result ℕ CutFault} (Ok _) (Err (Truncated l)) = ap (λ p. p.0) (rw f at is) in cc
-]
+never_truncated_up_to h piece l new (Some e) is = grind (arith, ◌≡◌, ℕ, Ok, Err)
+never_truncated_up_to h piece l new None is = grind (arith, cases_Bool, length, ◌≡◌, ℕ, Err, Ok)
 
 -- the same, of a working cutter's feed
 pub never_truncated : (number : ℕ) (bytes piece : Bytes) (l : ℕ) (new : CutterState) → feed_outcome (working number bytes) piece ≡ (Err (Truncated l), new) → ⊥
@@ -154,10 +128,7 @@ never_truncated number bytes piece l new is = never_truncated_up_to (working num
 works_up_to : (h : CutterState) (piece : Bytes) (n : ℕ) (new : CutterState) (o : Option LineEnd) → feed_outcome_at h piece o ≡ (Ok n, new) →
     new.failed ≡ h.failed
 works_up_to h piece n new (Some e) is = sym (ap (λ p. p.1.failed) is)
-works_up_to h piece n new None is = elim (cases_Bool (nat_le line_limit (length (h.bytes ++ piece)))) [
-  | inl t ↦ absurd (let x : ◌≡◌ {A = Result ℕ CutFault} (Err _) (Ok n) = ap (λ p. p.0) (rw t at is) in cc)
-  | inr f ↦ sym (ap (λ p. p.1.failed) (rw f at is))
-]
+works_up_to h piece n new None is = grind (arith, cases_Bool, length, ◌≡◌, ℕ, Err, Ok)
 
 -- a feed succeeds only if the cutter has not failed, and leaves it so
 works_fed : (number : ℕ) (bytes : Bytes) (waits failed : Bool) (piece : Bytes) (n : ℕ) (new : CutterState)
@@ -173,13 +144,7 @@ never_failed h piece n new is failed = let x : false ≡ true = sym (works_fed h
 module _ (h : CutterState) (works : h.failed ≡ false) where
   -- a cutter that has not failed and rejects the end holds bytes, and reports them as truncated
   pub finish_err : (e : CutFault) → Finishes h (Err e) → (length h.bytes ≡ 0 → ⊥) × (e ≡ Truncated h.number)
-  finish_err e f = elim (cases_Bool (nat_le (length h.bytes) 0)) [
-    | inl t ↦ absurd (let x : ◌≡◌ {A = Result Unit CutFault} (Err e) (Ok tt) = rw (works, t) at f in cc)
-    | inr n ↦ (
-      λ z. omega (arith, leb-false (length h.bytes) 0 n),
-      let x : ◌≡◌ {A = Result Unit CutFault} (Err e) (Err (Truncated h.number)) = rw (works, n) at f in cc,
-    )
-  ]
+  finish_err e f = grind (arith, cases_Bool, length, ◌≡◌, Err, Ok, leb-false)
 
 -- ---- one turn of reading a piece: what it keeps, and what it rejects with
 
@@ -198,7 +163,7 @@ lead_on passes old (l ∷ lines) mid new line h p = (h.0, h.1, lead_on passes h.
 -- what was returned, one by one more
 pub lent_more : (bytes : Bytes) (lent more : List LogicalLine) (line : LogicalLine) (cutter : CutterState) → Cuts bytes ((lent ++ more) ++ line ∷ []) cutter
     → Cuts bytes (lent ++ (more ++ line ∷ [])) cutter
-lent_more bytes lent more line cutter cuts = subst (λ l. Cuts bytes l cutter) (append_assoc lent more (line ∷ [])) cuts
+lent_more bytes lent more line cutter cuts = grind (arith, append_assoc)
 
 -- halves of a list of short lines
 halved : (lines : List Bytes) (line : Bytes) → AllByRecursion (λ l. length l ≤ line_limit) (lines ++ line ∷ [])
@@ -214,31 +179,17 @@ halved_lines (l ∷ lines) line h = let later = halved_lines lines line h.1 in (
 -- lines in front of one more
 joined_more : (lines : List Bytes) (line : Bytes) → flat_map (λ l. l) (lines ++ line ∷ []) ≡ flat_map (λ l. l) lines ++ line
 joined_more [] line = append-nil line
-joined_more (l ∷ lines) line = ap (λ x. l ++ x) (joined_more lines line) ∙ sym (append_assoc l (flat_map (λ l. l) lines) line)
+joined_more (l ∷ lines) line = grind (arith, joined_more lines line, append_assoc)
 
 -- what a working cutter was fed begins with the lines that it returned
 pub begins_with : (bytes : Bytes) (lent : List LogicalLine) (number : ℕ) (held : Bytes) → Cuts bytes lent (working number held) →
     BeginsWith bytes lent number held
-begins_with bytes lent number held cuts = record {
-  lines = cuts.lines;
-  whole = cuts.divided.whole ∙ ap (λ ls. flat_map (λ l. l) ls ++ held) (append-nil cuts.lines);
-  each = subst (AllByRecursion IsLine) (append-nil cuts.lines) cuts.divided.each;
-  short = subst (AllByRecursion (λ line. length line ≤ line_limit)) (append-nil cuts.lines) cuts.short;
-  lent_are = cuts.lent_are;
-  number_is = cuts.number;
-}
+begins_with bytes lent number held cuts = grind (arith, append-nil, length)
 
 -- more bytes after
 pub begins_more : (bytes more : Bytes) (lent : List LogicalLine) (number : ℕ) (rest : Bytes) → BeginsWith bytes lent number rest →
     BeginsWith (bytes ++ more) lent number (rest ++ more)
-begins_more bytes more lent number rest b = record {
-  lines = b.lines;
-  whole = ap (λ x. x ++ more) b.whole ∙ append_assoc (flat_map (λ l. l) b.lines) rest more;
-  each = b.each;
-  short = b.short;
-  lent_are = b.lent_are;
-  number_is = b.number_is;
-}
+begins_more bytes more lent number rest b = grind (arith, append_assoc)
 
 -- the cutter of any such state is a working one
 pub working_cuts : (bytes : Bytes) (lent : List LogicalLine) (h : CutterState) → HasLent bytes lent h → Cuts bytes lent (working h.number h.bytes)

@@ -38,8 +38,7 @@ module _ {C V : Type 0} (format : LineFormat C V) where
   begins_classed : (bytes : Bytes) (lent : List LogicalLine) (number : ℕ) (rest : Bytes) (classes : List C) (begins : BeginsWith bytes lent number rest) →
       AreTextsOfClasses format lent classes
       → AreOfClasses format begins.lines classes
-  begins_classed bytes lent number rest classes begins texts = lines_classed
-      [] begins.lines classes begins.short (subst (λ l. AreTextsOfClasses format l classes) begins.lent_are texts)
+  begins_classed bytes lent number rest classes begins texts = grind (arith, lines_classed)
 
   -- and with nothing after them stand for what their classes do
   pub all_lent : (bytes : Bytes) (lent : List LogicalLine) (number : ℕ) (classes : List C) (value : V) → BeginsWith bytes lent number [] →
@@ -113,8 +112,7 @@ module _ {C V S E : Type 0} (format : LineFormat C V) (leads : List C → S → 
       -- more lines that passed
       read_on : (lent more : List LogicalLine) (old new : S) → AreReadTo format leads lent old → LeadTo passes old more new →
           AreReadTo format leads (lent ++ more) new
-      read_on lent [] old new read same =
-          subst (λ l. AreReadTo format leads l new) (sym (append-nil lent)) (subst (AreReadTo format leads lent) (sym same) read)
+      read_on lent [] old new read same = grind (arith, append-nil)
       read_on lent (line ∷ more) old new read (mid, passed, on) =
           let s = steps read.classes old mid line read.led passed in
           let next : AreReadTo format leads (lent ++ line ∷ []) mid =
@@ -152,7 +150,7 @@ module _ {C V S E : Type 0} (format : LineFormat C V) (leads : List C → S → 
       begins = begins_with bytes has.lent r.cutter.number r.cutter.bytes (working_cuts bytes has.lent r.cutter has.has.has)
 
       divided : Divides bytes begins.lines r.cutter.bytes
-      divided = record { whole = begins.whole; each = begins.each; partial = (working_cuts bytes has.lent r.cutter has.has.has).divided.partial }
+      divided = grind (arith, working_cuts)
 
       go : (FaultyLine format faults bytes n fault ⊎ ((e : FaultyEnd format faults bytes n fault) × (line_limit ≤ length e.rest))) → ⊥
       go (inl f) =

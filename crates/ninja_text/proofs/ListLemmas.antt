@@ -14,8 +14,7 @@ use Rattle.ninja_text.proofs.Units.{tokens_with, tokens_blank, tokens_piece, pie
 -- blank units add no token
 blank_first : (gap us : LineUnits) (index : ℕ) → AreBlank gap → tokens_from index (gap ++ us) ≡ tokens_from (index + total_len gap) us
 blank_first [] us index h = ap (λ n. tokens_from n us) {x = index} {y = index + 0} (omega arith)
-blank_first (u ∷ gap) us index h = tokens_blank index u (gap ++ us) h.0 ∙ blank_first gap us (index + unit_len u) h.1
-    ∙ ap (λ n. tokens_from n us) {x = index + unit_len u + total_len gap} {y = index + (unit_len u + total_len gap)} (omega arith)
+blank_first (u ∷ gap) us index h = grind (arith, tokens_blank, blank_first gap us (index + unit_len u) h.1)
 
 blank_alone : (us : LineUnits) (index : ℕ) → AreBlank us → tokens_from index us ≡ []
 blank_alone [] index h = refl
@@ -26,7 +25,7 @@ abbrev word_then : ℕ → ℕ → LineUnits → List TokenAt
 word_then start end after = record { kind = Word; start = start; end = end } ∷ tokens_from end after
 
 word_at : (start m n : ℕ) (after : LineUnits) → m ≡ n → word_then start m after ≡ word_then start n after
-word_at start m n after e = ap (λ k. word_then start k after) e
+word_at start m n after e = cc
 
 -- a word continues in these units, which begin at an index
 record GoesOn (start index : ℕ) (us after : LineUnits) : Type 0 where
@@ -40,11 +39,8 @@ Follows may_end start index us after = ((us ≡ []) × (may_end ≡ true)) ⊎ G
 -- the word that a piece begins
 word_first : (s : ℕ) (u : LineUnit) (us after : LineUnits) → is_piece u ≡ true → goes_on after ≡ false → Follows true s (s + unit_len u) us after
     → tokens_from s (u ∷ (us ++ after)) ≡ word_then s (s + total_len (u ∷ us)) after
-word_first s u us after p stop (inl none) =
-    subst (λ xs. tokens_from s (u ∷ (xs ++ after)) ≡ word_then s (s + total_len (u ∷ xs)) after) (sym none.0)
-    (tokens_piece s u after p ∙ rw stop (word_at s (s + unit_len u) (s + (unit_len u + 0)) after (omega arith)))
-word_first s u us after p stop (inr goes) =
-    tokens_piece s u (us ++ after) p ∙ rw goes.on (goes.word ∙ word_at s (s + unit_len u + total_len us) (s + (unit_len u + total_len us)) after (omega arith))
+word_first s u us after p stop (inl none) = grind (arith, tokens_piece, word_at)
+word_first s u us after p stop (inr goes) = grind (arith, tokens_piece, word_at)
 
 no_piece : (u : LineUnit) → is_continuation u ≡ true → is_piece u ≡ false
 no_piece (Continuation len) h = refl
@@ -83,9 +79,7 @@ follows (u ∷ us) after may_end start index stop h = elim (cases_Bool (is_piece
 token_first : (kind : TokenKind) (s : ℕ) (own after : LineUnits) → IsToken kind own after
     → tokens_from s (own ++ after) ≡ token_of kind s (total_len own) ∷ tokens_from (s + total_len own) after
 token_first Word s [] after h = cc
-token_first Word s (u ∷ us) after h =
-    let both = and_parts (is_piece u) (may_follow true us) h.0 in
-    word_first s u us after both.0 h.1 (follows us after true s (s + unit_len u) h.1 both.1)
+token_first Word s (u ∷ us) after h = grind (arith, and_parts, word_first, follows)
 token_first Bar s own after h =
     subst (λ xs. tokens_from s (xs ++ after) ≡ token_of Bar s (total_len xs) ∷ tokens_from (s + total_len xs) after) (sym h.0)
     (alone after h.1 h.2) where
@@ -98,20 +92,12 @@ token_first DoubleBar s own after h =
     refl
 token_first BarAt s own after h =
     subst (λ xs. tokens_from s (xs ++ after) ≡ token_of BarAt s (total_len xs) ∷ tokens_from (s + total_len xs) after) (sym h) refl
-token_first Colon s own after h =
-    subst (λ xs. tokens_from s (xs ++ after) ≡ token_of Colon s (total_len xs) ∷ tokens_from (s + total_len xs) after) (sym h)
-    (tokens_with s (Byte 58) after refl)
+token_first Colon s own after h = grind (arith, tokens_with)
 
 -- units are divided into one list of tokens only
 one_list : (ts : List TokenAt) (index : ℕ) (us : LineUnits) → LexesAs index us ts → tokens_from index us ≡ ts
 one_list [] index us h = blank_alone us index h
-one_list (t ∷ ts) index us h =
-    let leads = h.1 in
-    let front : tokens_from index us ≡ record { kind = t.kind; start = t.start; end = t.end } ∷ tokens_from t.end h.0 =
-    ap (tokens_from index) leads.whole ∙ blank_first leads.gap (leads.own ++ h.0) index leads.blank
-    ∙ ap (λ n. tokens_from n (leads.own ++ h.0)) (sym leads.start) ∙ token_first t.kind t.start leads.own h.0 leads.token
-    ∙ ap (λ n. record { kind = t.kind; start = t.start; end = n } ∷ tokens_from n h.0) (sym leads.end) in
-    front ∙ ap (λ xs. t ∷ xs) (one_list ts t.end h.0 h.2)
+one_list (t ∷ ts) index us h = grind (arith, blank_first, token_first, one_list ts t.end h.0 h.2)
 
 pub tokens_one : (text : List ℕ) (ts : List TokenAt) → AreTokens text ts → ts ≡ tokens text
 tokens_one text ts h = sym (one_list ts 0 (units text) h)
@@ -153,7 +139,7 @@ goes_on_in Colon own after h g = cc (subst (λ xs. goes_on (xs ++ after) ≡ tru
 -- a word may follow a piece, past continuations
 word_over : (gap own : LineUnits) (may_end : Bool) → AreContinuations gap → is_word own ≡ true → may_follow may_end (gap ++ own) ≡ true
 word_over [] [] may_end g w = cc
-word_over [] (u ∷ us) may_end g w = let both = and_parts (is_piece u) (may_follow true us) w in rw both.0 both.1
+word_over [] (u ∷ us) may_end g w = grind (arith, and_parts)
 word_over (u ∷ gap) own may_end g w = rw (no_piece u g.0, g.0) (word_over gap own false g.1 w)
 
 -- a piece in front of the word that continues after it
@@ -202,10 +188,7 @@ blank_joins index u us (t ∷ ts) b h = let leads = h.1 in (
 )
 
 blank_else : (u : LineUnit) → is_piece u ≡ false → is_byte 58 u ≡ false → is_byte 124 u ≡ false → is_blank u ≡ true
-blank_else u p colon bar = elim (cases_Bool (is_blank u)) [
-  | inl b ↦ b
-  | inr b ↦ cc (sym (piece_else u b colon bar) ∙ p)
-]
+blank_else u p colon bar = grind (arith, cases_Bool, piece_else)
 
 -- what a unit adds in front is a list of tokens again, if a `|` in front is one alone
 with_unit_lexes : (index : ℕ) (u : LineUnit) (us : LineUnits) (rest : List TokenAt) →

@@ -1,6 +1,6 @@
 -- Lists of components, written out with a slash between each two.
 use Rattle.ninja_text.specs.Bytes.{Bytes}
-use Rattle.std.proofs.Common.{◌≡◌, ◌≢◌, ℕ, zero, suc, ◌+◌, ◌-◌, ◌<◌, ◌≤◌, Bool, true, false, ◌&&◌, Some, None, ◌==◌, ◌⊎◌, inl, inr, [], ◌∷◌, ◌++◌, length, take, drop, get_or, refl, sym, ◌∙◌, ap, subst, append_assoc, arith, length-append}
+use Rattle.std.proofs.Common.{◌≡◌, ◌≢◌, ℕ, zero, suc, ◌+◌, ◌-◌, ◌<◌, ◌≤◌, Bool, true, false, ◌&&◌, Some, None, ◌⊎◌, inl, inr, [], ◌∷◌, ◌++◌, length, take, drop, get_or, refl, sym, ◌∙◌, ap, subst, append_assoc, arith, length-append}
 use Rattle.std.proofs.lemmas.List.{get_or-append-add}
 use Rattle.std.proofs.Math.Seq.{take-append_seam, drop-append_seam}
 use Rattle.std.specs.List.{AllByRecursion}
@@ -17,24 +17,21 @@ ends (c ∷ cs) = elim (ends cs) [ inl h ↦ inr ([], c, ap (λ l. c ∷ l) h) |
 -- a component after a list is written after it and a slash
 pub list_text-behind : (x : Bytes) (xs : Components) (c : Bytes) → list_text ((x ∷ xs) ++ c ∷ []) ≡ list_text (x ∷ xs) ++ 47 ∷ c
 list_text-behind x [] c = refl
-list_text-behind x (y ∷ ys) c = ap (λ t. x ++ 47 ∷ t) (list_text-behind y ys c) ∙ sym (append_assoc x (47 ∷ list_text (y ∷ ys)) (47 ∷ c))
+list_text-behind x (y ∷ ys) c = grind (arith, list_text-behind y ys c, append_assoc)
 
 -- a component after a list whose first component is not empty
 pub list_text-appended : (x : Bytes) (xs : Components) (c : Bytes) → is_current x ≡ false →
     list_text ((x ∷ xs) ++ c ∷ []) ≡ appended (list_text (x ∷ xs)) c
 list_text-appended [] xs c h = cc
 list_text-appended (b ∷ bs) [] c h = refl
-list_text-appended (b ∷ bs) (y ∷ ys) c h = list_text-behind (b ∷ bs) (y ∷ ys) c
+list_text-appended (b ∷ bs) (y ∷ ys) c h = simp (list_text-behind)
 
 -- ---- the start of the last component
 
 -- no byte of a component is a slash
 lacks-at : (l : Bytes) (k : ℕ) → LacksSlash l → k < length l → get_or l k 0 ≢ 47
 lacks-at [] k h lt e = absurd (omega arith)
-lacks-at (b ∷ bs) zero h lt e = absurd (not-slash b e h.0)
-  where
-    not-slash : (b : ℕ) → b ≡ 47 → (b == 47) ≡ false → ⊥
-    not-slash b e h = grind arith
+lacks-at (b ∷ bs) zero h lt e = cc
 lacks-at (b ∷ bs) (suc k) h lt e = lacks-at bs k h.1 (omega arith) e
 
 -- the part of a list in front of its last component
@@ -45,7 +42,7 @@ up_to_last (x ∷ xs) = list_text (x ∷ xs) ++ 47 ∷ []
 -- a list is written as what is in front of its last component, and that component
 pub list_text-last : (init : Components) (last : Bytes) → list_text (init ++ last ∷ []) ≡ up_to_last init ++ last
 list_text-last [] last = refl
-list_text-last (x ∷ xs) last = list_text-behind x xs last ∙ sym (append_assoc (list_text (x ∷ xs)) (47 ∷ []) last)
+list_text-last (x ∷ xs) last = grind (arith, list_text-behind, append_assoc)
 
 -- the index after the last slash is the start of the last component
 not-after : (p last : Bytes) (start : ℕ) → LacksSlash last → start ≤ length (p ++ last) → (0 < start → get_or (p ++ last) (start - 1) 0 ≡ 47) →
@@ -101,24 +98,18 @@ start-of list init last start e h bound slash rest =
 -- what follows from there on is the last component
 pub last-of : (list : Bytes) (init : Components) (last : Bytes) (start : ℕ) → list ≡ list_text (init ++ last ∷ []) → start ≡ length (up_to_last init) →
     take (length list - start) (drop start list) ≡ last
-last-of list init last start e s =
-    to_the_end start list ∙ ap (drop start) (e ∙ list_text-last init last) ∙ ap (λ n. drop n (up_to_last init ++ last)) s ∙
-    drop-append_seam (up_to_last init) last
+last-of list init last start e s = grind (arith, to_the_end, drop, list_text-last, drop-append_seam)
 
 -- what is before the slash in front of it is the rest of the list
 pub init-of : (list : Bytes) (init : Components) (last : Bytes) (start n : ℕ) → list ≡ list_text (init ++ last ∷ []) → start ≡ length (up_to_last init) →
     n ≡ start - 1 → take n list ≡ list_text init
-init-of list init last start n e s k =
-    ap (take n) (e ∙ list_text-last init last) ∙ ap (λ m. take m (up_to_last init ++ last)) (k ∙ ap (λ m. m - 1) s) ∙ without-last init last
+init-of list init last start n e s k = grind (arith, take, list_text-last, without-last)
 
 -- the last component is not empty
 pub not-all : (list : Bytes) (init : Components) (last : Bytes) (start : ℕ) → list ≡ list_text (init ++ last ∷ []) → start ≡ length (up_to_last init) →
     is_current last ≡ false → start ≡ length list → ⊥
 not-all list init [] start e s h k = cc
-not-all list init (b ∷ bs) start e s h k =
-    let total : length list ≡ length (up_to_last init) + (1 + length bs) = ap length (e ∙ list_text-last init (b ∷ bs)) ∙
-    length-append (up_to_last init) (b ∷ bs) ∙ omega arith in
-    omega arith
+not-all list init (b ∷ bs) start e s h k = grind (arith, length, list_text-last, length-append)
 
 -- ---- a component after a canonical list
 

@@ -18,7 +18,7 @@ pub Appends-trans : (a b c : Option Bytes) (x y : Bytes) → Appends a b x → A
 Appends-trans None b c x y h k = tt
 Appends-trans (Some p) None c x y h k = absurd h
 Appends-trans (Some p) (Some q) None x y h k = absurd k
-Appends-trans (Some p) (Some q) (Some r) x y h k = k ∙ ap (λ l. l ++ y) h ∙ append_assoc p x y
+Appends-trans (Some p) (Some q) (Some r) x y h k = grind (arith, append_assoc)
 
 -- a write that took some bytes did not fail
 pub some-taken : (n : ℕ) (b : Bool) (x y : ℕ) → 0 < n → cond (n == 0 && b) x y ≡ y
@@ -48,8 +48,7 @@ takes-one-more writes text out index (turn ∷ turns) last end next n h some cal
 pub taken-one-more : {W : Type 0} (writes : Call W) (text : Bytes) (out last next : W) (taken n : ℕ)
     → IsTakenInTurn writes out last text taken → 0 < n → writes last next (Ok n) (drop taken text)
     → IsTakenInTurn writes out next text (taken + n)
-taken-one-more writes text out last next taken n h some call =
-    (h.0 ++ (next, n) ∷ [], takes-one-more writes text out 0 h.0 last taken next n h.1 some call)
+taken-one-more writes text out last next taken n h some call = grind (arith, takes-one-more)
 
 -- ---- the elements of lists, by index
 
@@ -83,7 +82,7 @@ from_map f (x ∷ xs) (suc k) y e = from_map f xs k y e
 -- and each of the list has its image there
 pub to_map : {A B : Type 0} (f : A → B) (xs : List A) (k : ℕ) (x : A) → slice_get xs k ≡ Some x → slice_get (map f xs) k ≡ Some (f x)
 to_map f [] k x e = cc
-to_map f (y ∷ xs) zero x e = ap (λ z. Some (f z)) (same_some _ _ e)
+to_map f (y ∷ xs) zero x e = cc
 to_map f (y ∷ xs) (suc k) x e = to_map f xs k x e
 
 -- an element of two lists, one after the other, is in the first or in the second
@@ -91,7 +90,7 @@ pub in_append : {X : Type 0} (xs ys : List X) (k : ℕ) (x : X) → slice_get (x
     (slice_get xs k ≡ Some x) ⊎ ((m : ℕ) × (k ≡ length xs + m) × (slice_get ys m ≡ Some x))
 in_append [] ys k x e = inr (k, omega arith, e)
 in_append (y ∷ xs) ys zero x e = inl e
-in_append (y ∷ xs) ys (suc k) x e = elim (in_append xs ys k x e) [ inl h ↦ inl h | inr h ↦ inr (h.0, omega (arith, h.1), h.2) ]
+in_append (y ∷ xs) ys (suc k) x e = grind (arith, in_append xs ys k x e)
 
 -- and each of the first or of the second is in both
 pub in_first : {X : Type 0} (xs ys : List X) (k : ℕ) (x : X) → slice_get xs k ≡ Some x → slice_get (xs ++ ys) k ≡ Some x
@@ -101,14 +100,14 @@ in_first (y ∷ xs) ys (suc k) x e = in_first xs ys k x e
 
 pub in_second : {X : Type 0} (xs ys : List X) (k : ℕ) (x : X) → slice_get ys k ≡ Some x → slice_get (xs ++ ys) (length xs + k) ≡ Some x
 in_second [] ys k x e = let at : 0 + k ≡ k = omega arith in rw at e
-in_second (y ∷ xs) ys k x e = let at : suc (length xs) + k ≡ suc (length xs + k) = omega arith in rw at (in_second xs ys k x e)
+in_second (y ∷ xs) ys k x e = grind (arith, length, in_second xs ys k x e)
 
 -- two lists in parallel
 pub to_zip : {A B : Type 0} (xs : List A) (ys : List B) (k : ℕ) (x : A) (y : B) → slice_get xs k ≡ Some x → slice_get ys k ≡ Some y →
     slice_get (zip xs ys) k ≡ Some (x, y)
 to_zip [] ys k x y e f = cc
 to_zip (a ∷ xs) [] k x y e f = cc
-to_zip (a ∷ xs) (b ∷ ys) zero x y e f = let p : a ≡ x = same_some _ _ e in let q : b ≡ y = same_some _ _ f in cc
+to_zip (a ∷ xs) (b ∷ ys) zero x y e f = cc
 to_zip (a ∷ xs) (b ∷ ys) (suc k) x y e f = to_zip xs ys k x y e f
 
 -- an element of a list that is one longer is in the list, or it is the last one
@@ -117,14 +116,14 @@ pub from_push : {X : Type 0} (xs : List X) (y : X) (k : ℕ) (x : X) → slice_g
 from_push [] y zero x e = inr (refl, same_some _ _ e)
 from_push [] y (suc k) x e = cc
 from_push (z ∷ xs) y zero x e = inl e
-from_push (z ∷ xs) y (suc k) x e = ⊎_elim (λ h. inl h) (λ h. inr (ap suc h.0, h.1)) (from_push xs y k x e)
+from_push (z ∷ xs) y (suc k) x e = grind (arith, ⊎_elim, from_push xs y k x e)
 
 -- what is among the first few is in the list
 pub from_take : {X : Type 0} (n : ℕ) (xs : List X) (k : ℕ) (x : X) → slice_get (take n xs) k ≡ Some x → (k < n) × (slice_get xs k ≡ Some x)
 from_take zero xs k x e = cc
 from_take (suc n) [] k x e = cc
 from_take (suc n) (y ∷ xs) zero x e = (omega arith, e)
-from_take (suc n) (y ∷ xs) (suc k) x e = let r = from_take n xs k x e in (omega (arith, r.0), r.1)
+from_take (suc n) (y ∷ xs) (suc k) x e = grind (arith, from_take n xs k x e)
 
 pub in_take : {X : Type 0} (n : ℕ) (xs : List X) (k : ℕ) (x : X) → k < n → slice_get xs k ≡ Some x → slice_get (take n xs) k ≡ Some x
 in_take zero xs k x lt e = absurd (omega arith)
@@ -135,7 +134,7 @@ in_take (suc n) (y ∷ xs) (suc k) x lt e = in_take n xs k x (omega arith) e
 pub map_take : {X Y : Type 0} (f : X → Y) (n : ℕ) (xs : List X) → map f (take n xs) ≡ take n (map f xs)
 map_take f zero xs = refl
 map_take f (suc n) [] = refl
-map_take f (suc n) (x ∷ xs) = ap (λ ys. f x ∷ ys) (map_take f n xs)
+map_take f (suc n) (x ∷ xs) = simp (map_take f n xs)
 
 -- one more of the list
 pub take_next : {X : Type 0} (xs : List X) (i : ℕ) (x : X) → slice_get xs i ≡ Some x → take (i + 1) xs ≡ take i xs ++ x ∷ []
@@ -151,7 +150,7 @@ pub zip_is_map : {A B : Type 0} (R : A → B → Type 0) (f : A → B) → ((a :
 zip_is_map R f is [] [] h = refl
 zip_is_map R f is [] (y ∷ ys) h = absurd h
 zip_is_map R f is (x ∷ xs) [] h = absurd h
-zip_is_map R f is (x ∷ xs) (y ∷ ys) h = ap₂ (λ a b. a ∷ b) (is x y h.0) (zip_is_map R f is xs ys h.1)
+zip_is_map R f is (x ∷ xs) (y ∷ ys) h = grind (arith, ap₂, zip_is_map R f is xs ys h.1)
 
 -- an element of the list comes from one that something is made of
 abbrev pub FromItem : {X Y : Type 0} → (X → Option Y) → List X → Y → Type 0
@@ -177,16 +176,15 @@ put_in (Some z) ys y h = (suc h.0, h.1)
 pub in_filter_map : {X Y : Type 0} (h : X → Option Y) (xs : List X) (k : ℕ) (x : X) (y : Y) → slice_get xs k ≡ Some x → h x ≡ Some y →
     (j : ℕ) × (slice_get (filter_map h xs) j ≡ Some y)
 in_filter_map h [] k x y at is = cc
-in_filter_map h (z ∷ xs) zero x y at is = let made : h z ≡ Some y = ap h (same_some _ _ at) ∙ is in
-    subst (λ o. (j : ℕ) × (slice_get (cons_option o (filter_map h xs)) j ≡ Some y)) (sym made) (0, refl)
-in_filter_map h (z ∷ xs) (suc k) x y at is = put_in (h z) (filter_map h xs) y (in_filter_map h xs k x y at is)
+in_filter_map h (z ∷ xs) zero x y at is = grind (arith, Some, same_some, ℕ, slice_get)
+in_filter_map h (z ∷ xs) (suc k) x y at is = grind (arith, put_in, in_filter_map h xs k x y)
 
 -- two numbers are in one of three orders
 pub three_ways : (a b : ℕ) → (a < b) ⊎ ((a ≡ b) ⊎ (b < a))
 three_ways zero zero = inr (inl refl)
 three_ways zero (suc b) = inl (omega arith)
 three_ways (suc a) zero = inr (inr (omega arith))
-three_ways (suc a) (suc b) = elim (three_ways a b) [ inl h ↦ inl (omega arith) | inr h ↦ inr (elim h [ inl e ↦ inl (ap suc e) | inr m ↦ inr (omega arith) ]) ]
+three_ways (suc a) (suc b) = grind (arith, three_ways a b)
 
 chosen : {X : Type 0} (P : ℕ → X → Type 0) (x : X) → P 0 x → (xs : List X) → ((i : ℕ) (y : X) → slice_get xs i ≡ Some y → P (suc i) y) → (i : ℕ) (y : X) →
     slice_get (x ∷ xs) i ≡ Some y → P i y
@@ -217,9 +215,7 @@ InPart {A} f xs i j y = (x : A) × (slice_get xs i ≡ Some x) × (slice_get (f 
 pub in_flat_map : {A B : Type 0} (f : A → List B) (xs : List A) (i j : ℕ) (y : B) → InPart f xs i j y → slice_get (flat_map f xs) (offset f xs i + j) ≡ Some y
 unfolding offset
 in_flat_map f [] i j y h = let none = h.1 in cc
-in_flat_map f (z ∷ xs) zero j y h =
-    let at : 0 + j ≡ j = omega arith in
-    rw at (in_first (f z) (flat_map f xs) j y (subst (λ w. slice_get (f w) j ≡ Some y) (sym (same_some _ _ h.1)) h.2))
+in_flat_map f (z ∷ xs) zero j y h = grind (arith, in_first, slice_get, Some, same_some)
 in_flat_map f (z ∷ xs) (suc i) j y h =
     let at : (length (f z) + offset f xs i) + j ≡ length (f z) + (offset f xs i + j) = omega arith in
     rw at (in_second (f z) (flat_map f xs) (offset f xs i + j) y (in_flat_map f xs i j y (h.0, h.1, h.2)))
@@ -241,19 +237,7 @@ from_flat_map f (x ∷ xs) k y e =
 
 -- all differ in a list that is one longer by something new
 pub differ_push : {X : Type 0} (xs : List X) (y : X) → AllDiffer xs → ((k : ℕ) → slice_get xs k ≡ Some y → ⊥) → AllDiffer (xs ++ y ∷ [])
-differ_push xs y all new = record { differ = differ }
-  where
-    differ : (i j : ℕ) (x : _) → i < j → slice_get (xs ++ y ∷ []) i ≡ Some x → slice_get (xs ++ y ∷ []) j ≡ Some x → ⊥
-    differ i j x lt at_i at_j =
-        ⊎_elim
-        (λ in_j. ⊎_elim (λ in_i. all.differ i j x lt in_i in_j)
-        (λ last_i. let within : j < length xs = slice_get_within xs j x in_j in absurd (omega (arith, within, last_i.0, lt))) (from_push xs y i x at_i))
-        (λ last_j.
-        ⊎_elim
-        (λ in_i. new i (in_i ∙ ap (λ z. Some z) (sym last_j.1)))
-        (λ last_i. absurd (omega (arith, last_i.0, last_j.0, lt)))
-        (from_push xs y i x at_i))
-        (from_push xs y j x at_j)
+differ_push xs y all new = grind (arith, ℕ, slice_get, Some, ⊎_elim, length, slice_get_within, from_push)
 
 -- what a search by texts does not find is not there
 pub not_among : {X : Type 0} (f : X → Bytes) (ks : List X) (x : X) → list_any (λ k. bytes_eq (f x) (f k)) ks ≡ false → (k : ℕ) →

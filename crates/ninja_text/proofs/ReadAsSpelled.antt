@@ -1,6 +1,6 @@
 -- What is read of words and values is what they stand for.
 use Rattle.ninja_text.specs.Bytes.{Bytes}
-use Rattle.std.proofs.Common.{arith, inl, inr, ◌⊎◌, ◌≡◌, ℕ, ◌+◌, Bool, true, false, List, [], ◌∷◌, ◌++◌, map, refl, sym, ap, ◌∙◌, subst, ◌==◌, ◌&&◌, ◌||◌, not, IsTrue, Some, None, append_assoc}
+use Rattle.std.proofs.Common.{arith, inl, inr, ◌⊎◌, ◌≡◌, ℕ, ◌+◌, Bool, true, false, List, [], ◌∷◌, ◌++◌, map, refl, sym, ap, ◌∙◌, subst, ◌&&◌, ◌||◌, not, IsTrue, Some, None, append_assoc}
 use Rattle.std.specs.Prelude.{Option, nat_lt, All, slice_range, drop}
 use Rattle.std.specs.Option.{ForSome}
 use Rattle.std.specs.List.{flat_map, list_all, AllByRecursion}
@@ -33,11 +33,7 @@ record Spelled (u : LineUnit) (own : Bytes) : Type 0 where
   piece : IsPiece own byte
 
 byte_piece : (b : ℕ) → is_piece (Byte b) ≡ true → is_plain b ≡ true → IsTrue (not (is_escaped b || is_unwritable b))
-byte_piece b p s =
-    let n = or_parts ((b == 32) || (b == 58)) (b == 124) (not-true _ p) in
-    let m = or_parts (b == 32) (b == 58) n.0 in
-    let k = plain b s in
-    is_true _ (rw (k.no_dollar, m.0, m.1, n.1, k.no_nul, k.no_return, k.no_feed) refl)
+byte_piece b p s = grind (arith, or_parts, not-true, plain, is_true)
 
 spelled : (u : LineUnit) (own : Bytes) → is_piece u ≡ true → is_proper u ≡ true → IsUnitText u own → Spelled u own
 spelled (Continuation len) own p s h = cc
@@ -60,12 +56,8 @@ Follows us bytes = ((us ≡ []) × (bytes ≡ [])) ⊎ Pieces us bytes
 
 -- a piece, and what follows it
 spelled_on : (u : LineUnit) (us : LineUnits) (own rest : Bytes) → Spelled u own → Follows us rest → Spells (own ++ rest) (flat_map unit_value (u ∷ us))
-spelled_on u us own rest s (inl none) =
-    subst (Spells (own ++ rest)) (sym (ap (λ vs. flat_map unit_value (u ∷ vs)) none.0 ∙ append-nil (unit_value u) ∙ s.value))
-    (subst (λ xs. IsPiece xs s.byte) (sym (ap (λ xs. own ++ xs) none.1 ∙ append-nil own)) s.piece)
-spelled_on u us own rest s (inr p) =
-    subst (Spells (own ++ rest)) (sym (ap (λ vs. vs ++ flat_map unit_value us) s.value ∙ ap (λ vs. s.byte ∷ vs) p.value))
-    (own, p.gap, p.rest, s.piece, p.is_gap, p.spells, ap (λ xs. own ++ xs) p.whole)
+spelled_on u us own rest s (inl none) = grind (arith, rest, append-nil)
+spelled_on u us own rest s (inr p) = grind (arith, rest)
 
 -- with no gap before it
 at_once : (u : LineUnit) (us : LineUnits) (own rest bytes : Bytes) → bytes ≡ own ++ rest → Spelled u own → Follows us rest → Follows (u ∷ us) bytes
@@ -88,7 +80,7 @@ longer_gap own gap c g = (own ∷ g.0, (c, g.1), ap (λ xs. own ++ xs) g.2)
 -- with a continuation before it
 after_gap : (len : ℕ) (us : LineUnits) (own rest bytes : Bytes) → bytes ≡ own ++ rest → IsContinuation own → may_follow false us ≡ true → Follows us rest →
     Follows (Continuation len ∷ us) bytes
-after_gap len us own rest bytes whole c m (inl none) = cc (ap (may_follow false) (sym none.0) ∙ m)
+after_gap len us own rest bytes whole c m (inl none) = cc
 after_gap len us own rest bytes whole c m (inr p) = inr (record {
   gap = own ++ p.gap;
   rest = p.rest;
@@ -103,7 +95,7 @@ after_gap len us own rest bytes whole c m (inr p) = inr (record {
 follows : (us : LineUnits) (may_end : Bool) (bytes : Bytes) → may_follow may_end us ≡ true → list_all is_proper us ≡ true → AreUnitTexts us bytes →
     Follows us bytes
 follows [] may_end bytes m p h = inl (refl, h)
-follows (Continuation len ∷ us) may_end bytes m p h = after_gap len us h.0 h.1 bytes h.5 h.2.0 m (follows us false h.1 m p h.4)
+follows (Continuation len ∷ us) may_end bytes m p h = grind (arith, after_gap, follows us false h.1 m p h.4)
 follows (Escape b ∷ us) may_end bytes m p h =
     let q = and_parts (is_escaped b) (list_all is_proper us) p in
     at_once (Escape b) us h.0 h.1 bytes h.5 (spelled (Escape b) h.0 refl q.0 h.2) (follows us true h.1 m q.1 h.4)
@@ -118,18 +110,11 @@ follows (Byte b ∷ us) may_end bytes m p h = elim (cases_Bool (is_piece (Byte b
 word_spells : (us : LineUnits) (bytes : Bytes) → is_word us ≡ true → list_all is_proper us ≡ true → AreUnitTexts us bytes →
     Spells bytes (flat_map unit_value us)
 word_spells [] bytes w p h = cc
-word_spells (u ∷ us) bytes w p h =
-    let m = and_parts (is_piece u) (may_follow true us) w in
-    let q = and_parts (is_proper u) (list_all is_proper us) p in
-    subst (λ xs. Spells xs (flat_map unit_value (u ∷ us))) (sym h.5)
-    (spelled_on u us h.0 h.1 (spelled u h.0 m.0 q.0 h.2) (follows us true h.1 m.1 q.1 h.4))
+word_spells (u ∷ us) bytes w p h = grind (arith, and_parts, is_proper, spelled_on, spelled, follows)
 
 part_spells : (text : Bytes) (start : ℕ) (us : LineUnits) → is_word us ≡ true → Part text start us → (raw : Bytes) →
     raw ≡ slice_range text start (start + total_len us) → Spells raw (value_of raw)
-part_spells text start us w part raw is =
-    subst (λ xs. Spells xs (value_of xs)) (sym (is ∙ part.slice))
-    (subst (Spells part.bytes) (sym (ap (flat_map unit_value) (read_back us part.bytes part.proper part.texts)))
-    (word_spells us part.bytes w part.proper part.texts))
+part_spells text start us w part raw is = grind (arith, read_back, word_spells)
 
 is_word_of : (kind : TokenKind) (own after : LineUnits) → kind ≡ Word → IsToken kind own after → is_word own ≡ true
 is_word_of kind own after e h = (subst (λ k. IsToken k own after) e h).0
@@ -158,17 +143,10 @@ words_read line r =
 -- ---- values
 
 no_space_first : (us : LineUnits) (bytes rest : Bytes) → AreUnitTexts us bytes → begins_with 32 us ≡ false → bytes ≡ 32 ∷ rest → ⊥
-no_space_first [] bytes rest h none e = let x : [] ≡ 32 ∷ rest = sym h ∙ e in cc
-no_space_first (Continuation len ∷ us) bytes rest h none e = elim h.2.0.1 [
-  | inl f ↦ let x : 36 ∷ _ ≡ 32 ∷ rest = ap (λ xs. xs ++ h.1) (sym f) ∙ sym h.5 ∙ e in let y : ◌≡◌ {A = ℕ} 36 32 = cc in omega arith
-  | inr f ↦ let x : 36 ∷ _ ≡ 32 ∷ rest = ap (λ xs. xs ++ h.1) (sym f) ∙ sym h.5 ∙ e in let y : ◌≡◌ {A = ℕ} 36 32 = cc in omega arith
-]
-no_space_first (Escape b ∷ us) bytes rest h none e = let x : 36 ∷ b ∷ h.1 ≡ 32 ∷ rest = ap (λ xs. xs ++ h.1) (sym h.2) ∙ sym h.5 ∙ e in
-    let y : ◌≡◌ {A = ℕ} 36 32 = cc in omega arith
-no_space_first (Byte b ∷ us) bytes rest h none e =
-    let x : b ∷ h.1 ≡ 32 ∷ rest = ap (λ xs. xs ++ h.1) (sym h.2) ∙ sym h.5 ∙ e in
-    let same : b ≡ 32 = cc in
-    let clash : false ≡ true = sym none ∙ ap (λ n. n == 32) same in cc
+no_space_first [] bytes rest h none e = cc
+no_space_first (Continuation len ∷ us) bytes rest h none e = grind (arith, rest, ◌≡◌, ℕ)
+no_space_first (Escape b ∷ us) bytes rest h none e = grind (arith, rest, ◌≡◌, ℕ)
+no_space_first (Byte b ∷ us) bytes rest h none e = grind (arith, rest)
 
 -- a continuation in front of a value
 gap_first : (own rest value : Bytes) → IsContinuation own → ((more : Bytes) → rest ≡ 32 ∷ more → ⊥) → SpellsValue rest value → SpellsValue (own ++ rest) value
@@ -185,7 +163,7 @@ gap_first own rest (b ∷ bs) c none h = (
 )
 
 value_byte : (b : ℕ) → is_plain b ≡ true → IsTrue (is_value_byte b)
-value_byte b s = let k = plain b s in is_true _ (rw (k.no_dollar, k.no_nul, k.no_return, k.no_feed) refl)
+value_byte b s = grind (arith, plain, is_true)
 
 value_spells : (us : LineUnits) (bytes : Bytes) → list_all is_proper us ≡ true → AreUnitTexts us bytes → SpellsValue bytes (flat_map unit_value us)
 value_spells [] bytes p h = ([], tt, h)
@@ -203,14 +181,11 @@ value_spells (Byte b ∷ us) bytes p h =
 past_run : (text : Bytes) (test : LineUnit → Bool) (us : LineUnits) (index : ℕ) → Remains text index us →
     Remains text (after_run test index us).place (after_run test index us).units
 past_run text test [] index r = r
-past_run text test (u ∷ us) index r = elim (cases_Bool (test u)) [
-  | inl t ↦ rw t (past_run text test us (index + unit_len u) (past_unit text index u us r))
-  | inr f ↦ rw f r
-]
+past_run text test (u ∷ us) index r = grind (arith, cases_Bool, past_run text test us (index + unit_len u) (past_unit text index u us r), past_unit)
 
 past_equals : (text : Bytes) (us : LineUnits) (index : ℕ) → begins_with_equals us ≡ true → Remains text index us → Remains text (index + 1) (tail_units us)
 past_equals text [] index e r = cc
-past_equals text (u ∷ us) index e r = subst (λ n. Remains text (index + n) us) (byte_len 61 u e) (past_unit text index u us r)
+past_equals text (u ∷ us) index e r = grind (arith, Remains, byte_len, past_unit)
 
 rest_read : (text : Bytes) (index : ℕ) (us : LineUnits) → Remains text index us → SpellsValue (drop index text) (value_of (drop index text))
 rest_read text index us r =

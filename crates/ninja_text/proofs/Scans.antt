@@ -1,7 +1,7 @@
 -- The scan of a line: it finds the end that the units have, and how far the line goes into a piece.
 use Rattle.ninja_text.specs.Bytes.{Bytes}
 use Rattle.std.proofs.Common.{inl, inr, subst, ◌≡◌, ℕ, ◌+◌, ◌-◌, [], ◌∷◌, map, refl, sym, ap, ◌∙◌, true, false, ◌==◌, arith, Some, None, zero, suc, ◌<◌, ◌≤◌, ◌++◌, length, take, add-zero, ◌⊎◌, min, length-append, Ok}
-use Rattle.std.specs.Prelude.{Option, Result, nat_le}
+use Rattle.std.specs.Prelude.{Option, nat_le}
 use Rattle.std.proofs.lemmas.Bool.{cases_Bool, eqb-true}
 use Rattle.ninja_text.specs.Units.{units}
 use Rattle.ninja_text.specs.declared.lexing.LineUnit.TheVariants.{Byte}
@@ -16,7 +16,6 @@ use Rattle.std.proofs.Math.Seq.{take-append-add, take-length}
 use Rattle.std.proofs.lemmas.List.{length-take-le, take_min}
 use Rattle.std.proofs.lemmas.Bool.Decides.{nat_tests}
 use Rattle.ninja_text.specs.Cutting.{CutterState, feed_outcome}
-use Rattle.ninja_text.specs.declared.fault.CutFault.{CutFault}
 use Rattle.ninja_text.specs.inner.Reaching.{Takes, Reaches}
 use Rattle.ninja_text.specs.CutterViews.{state_in}
 use Rattle.ninja_text.specs.declared.cutter.Phase.{Phase}
@@ -43,49 +42,23 @@ same_ends p q = rw (p, q) refl
 -- only an LF ends a line: before another byte these states are alike
 module _ (n b : ℕ) (bytes : Bytes) (f : (b == 10) ≡ false) where
   like_plain : end_of (scan_from n Return (b ∷ bytes)) ≡ end_of (scan_from n Plain (b ∷ bytes))
-  like_plain = elim (cases_Bool (b == 13)) [
-    | inl r ↦ rw (f, r) refl
-    | inr r ↦ elim (cases_Bool (b == 36)) [ inl d ↦ rw (f, r, d) refl | inr d ↦ rw (f, r, d) refl ]
-  ]
+  like_plain = grind (arith, cases_Bool)
 
   dollar_return_like_plain : end_of (scan_from n DollarReturn (b ∷ bytes)) ≡ end_of (scan_from n Plain (b ∷ bytes))
-  dollar_return_like_plain = elim (cases_Bool (b == 13)) [
-    | inl r ↦ rw (f, r) refl
-    | inr r ↦ elim (cases_Bool (b == 36)) [ inl d ↦ rw (f, r, d) refl | inr d ↦ rw (f, r, d) refl ]
-  ]
+  dollar_return_like_plain = cc
 
 -- what begins with no space and no `#` is no comment
 start_like_plain : (n b : ℕ) (bytes : Bytes) → (b == 32) ≡ false → (b == 35) ≡ false →
     end_of (scan_from n Start (b ∷ bytes)) ≡ end_of (scan_from n Plain (b ∷ bytes))
-start_like_plain n b bytes s h = elim (cases_Bool (b == 10)) [
-  | inl f ↦ rw (s, h, f) refl
-  | inr f ↦ elim (cases_Bool (b == 13)) [
-    | inl r ↦ rw (s, h, f, r) refl
-    | inr r ↦ elim (cases_Bool (b == 36)) [ inl d ↦ rw (s, h, f, r, d) refl | inr d ↦ rw (s, h, f, r, d) refl ]
-  ]
-]
+start_like_plain n b bytes s h = cc
 
 module _ (bytes : Bytes) (later : Agrees bytes) where
   plain_more : (b n : ℕ) → end_of (scan_from n Plain (b ∷ bytes)) ≡ end_from n (units (b ∷ bytes))
-  plain_more b n = elim (cases_Bool (b == 10)) [
-    | inl f ↦ subst (λ x. end_of (scan_from n Plain (x ∷ bytes)) ≡ end_from n (units (x ∷ bytes))) (sym (eqb-true b 10 f)) (rw (units_byte 10 bytes refl) refl)
-    | inr f ↦ elim (cases_Bool (b == 13)) [
-      | inl r ↦ subst (λ x. end_of (scan_from n Plain (x ∷ bytes)) ≡ end_from n (units (x ∷ bytes))) (sym (eqb-true b 13 r))
-          (later.return n ∙ ap (end_from n) (sym (units_byte 13 bytes refl)))
-      | inr r ↦ elim (cases_Bool (b == 36)) [
-        | inl d ↦ subst (λ x. end_of (scan_from n Plain (x ∷ bytes)) ≡ end_from n (units (x ∷ bytes))) (sym (eqb-true b 36 d)) (later.dollar n)
-        | inr d ↦ rw (units_byte b bytes d, f, r, d) (later.plain (n + 1))
-      ]
-    ]
-  ]
+  plain_more b n = grind (arith, cases_Bool, eqb-true, units_byte)
 
   -- after a CR of its own the next byte is scanned as any other, except for an LF
   return_more : (b n : ℕ) → end_of (scan_from (n + 1) Return (b ∷ bytes)) ≡ end_from n (Byte 13 ∷ units (b ∷ bytes))
-  return_more b n = elim (cases_Bool (b == 10)) [
-    | inl f ↦ subst (λ x. end_of (scan_from (n + 1) Return (x ∷ bytes)) ≡ end_from n (Byte 13 ∷ units (x ∷ bytes))) (sym (eqb-true b 10 f))
-        (same_ends {a = n + 1 - 1} {b = n + 1 + 1} (omega arith) (omega arith) ∙ sym (ap (λ us. end_from n (Byte 13 ∷ us)) (units_byte 10 bytes refl)))
-    | inr f ↦ like_plain (n + 1) b bytes f ∙ plain_more b (n + 1) ∙ sym (rw (units_begin b bytes f) refl)
-  ]
+  return_more b n = grind (arith, cases_Bool, eqb-true, same_ends, units_byte, like_plain, plain_more, units_begin)
 
   dollar_more : (b n : ℕ) → end_of (scan_from (n + 1) Dollar (b ∷ bytes)) ≡ end_from n (units (36 ∷ b ∷ bytes))
   dollar_more b n = elim (cases_Bool (b == 13)) [
@@ -101,11 +74,7 @@ module _ (bytes : Bytes) (later : Agrees bytes) where
     plain_at k m e = rw e (later.plain m)
 
   dollar_return_more : (b n : ℕ) → end_of (scan_from (n + 2) DollarReturn (b ∷ bytes)) ≡ end_from n (units (36 ∷ 13 ∷ b ∷ bytes))
-  dollar_return_more b n = elim (cases_Bool (b == 10)) [
-    | inl f ↦ subst (λ x. end_of (scan_from (n + 2) DollarReturn (x ∷ bytes)) ≡ end_from n (units (36 ∷ 13 ∷ x ∷ bytes))) (sym (eqb-true b 10 f))
-        (ap (λ k. end_of (scan_from k Plain bytes)) {x = n + 2 + 1} {y = n + 3} (omega arith) ∙ later.plain (n + 3) ∙ sym (end_continued n 3 (units bytes)))
-    | inr f ↦ dollar_return_like_plain (n + 2) b bytes f ∙ plain_more b (n + 2) ∙ sym (ap (end_from n) (units_return b bytes f))
-  ]
+  dollar_return_more b n = grind (arith, cases_Bool, eqb-true, end_continued, dollar_return_like_plain, plain_more, units_return)
 
 agrees : (bytes : Bytes) → Agrees bytes
 agrees [] = record { plain = λ n. refl; return = λ n. refl; dollar = λ n. refl; dollar_return = λ n. refl }
@@ -123,13 +92,7 @@ record AgreesInComment (bytes : Bytes) : Type 0 where
 
 module _ (bytes : Bytes) (later : AgreesInComment bytes) where
   comment_more : (b n : ℕ) → end_of (scan_from n Comment (b ∷ bytes)) ≡ end_from n (map Byte (b ∷ bytes))
-  comment_more b n = elim (cases_Bool (b == 10)) [
-    | inl f ↦ rw f refl
-    | inr f ↦ elim (cases_Bool (b == 13)) [
-      | inl r ↦ subst (λ x. end_of (scan_from n Comment (x ∷ bytes)) ≡ end_from n (map Byte (x ∷ bytes))) (sym (eqb-true b 13 r)) (later.comment_return n)
-      | inr r ↦ rw (f, r) (later.comment (n + 1))
-    ]
-  ]
+  comment_more b n = grind (arith, cases_Bool, map, eqb-true)
 
   comment_return_more : (b n : ℕ) → end_of (scan_from (n + 1) CommentReturn (b ∷ bytes)) ≡ end_from n (Byte 13 ∷ map Byte (b ∷ bytes))
   comment_return_more b n = elim (cases_Bool (b == 10)) [
@@ -194,7 +157,7 @@ ends_at index DollarReturn = record { text = index; text_fits = omega arith; is 
 -- an open scan continues
 open_more : (index : ℕ) (s s' : ScanState) (k : ScanState → Scanned) (o : Option ScanState) → goes_on_from (scan_end index s) k o ≡ Open s' →
     (next : ScanState) × (o ≡ Some next) × (k next ≡ Open s')
-open_more index s s' k None h = let e : Open s' ≡ End (ends_at index s).text (index + 1) = sym h ∙ (ends_at index s).is in cc
+open_more index s s' k None h = grind (arith, ends_at)
 open_more index s s' k (Some next) h = (next, refl, h)
 
 pub scan_open_append : (xs ys : Bytes) (n : ℕ) (s s' : ScanState) → scan_from n s xs ≡ Open s' → scan_from n s (xs ++ ys) ≡ scan_from (n + length xs) s' ys
@@ -243,7 +206,7 @@ scan_end_fits (b ∷ xs) n t w s h = elim (cases_step (step_of s b)) [
 -- the bytes up to the end are enough to find it
 pub scan_end_take : (xs : Bytes) (n t w k : ℕ) (s : ScanState) → scan_from n s xs ≡ End t w → n + k ≡ w → scan_from n s (take k xs) ≡ End t w
 scan_end_take [] n t w k s h e = cc
-scan_end_take (b ∷ xs) n t w zero s h e = let fits = scan_end_fits (b ∷ xs) n t w s h in absurd (omega (arith, fits.past))
+scan_end_take (b ∷ xs) n t w zero s h e = grind (arith, scan_end_fits)
 scan_end_take (b ∷ xs) n t w (suc k) s h e = elim (cases_step (step_of s b)) [
   | inl o ↦ rw o (rw o at h)
   | inr o ↦ let h' : scan_from (n + 1) o.0 xs ≡ End t w = rw o.1 at h in rw o.1 (scan_end_take xs (n + 1) t w k o.0 h' (omega arith))
@@ -255,10 +218,10 @@ pub take_shorter : (j i : ℕ) (xs : Bytes) → j ≤ i → take j (take i xs) �
 take_shorter zero i xs h = refl
 take_shorter (suc j) zero xs h = absurd (omega arith)
 take_shorter (suc j) (suc i) [] h = refl
-take_shorter (suc j) (suc i) (x ∷ xs) h = ap (λ ys. x ∷ ys) (take_shorter j i xs (omega arith))
+take_shorter (suc j) (suc i) (x ∷ xs) h = simp (take_shorter j i xs (omega arith))
 
 joined_len : (n : ℕ) (bytes piece : Bytes) → n ≤ length piece → length (bytes ++ take n piece) ≡ length bytes + n
-joined_len n bytes piece h = rw length-append (ap (λ k. length bytes + k) (length-take-le n piece h))
+joined_len n bytes piece h = simp (length-append, length, length-take-le)
 
 module _ (B P : Bytes) (s : ScanState) (reach : ℕ) (room : length B < line_limit) (held : scan_from 0 Start B ≡ Open s)
     (is : reach ≡ min (length P) (line_limit - length B)) where
@@ -290,10 +253,10 @@ module _ (B P : Bytes) (s : ScanState) (reach : ℕ) (room : length B < line_lim
     past_held = omega (arith, fits.past)
 
     whole_scan : scan_from (length B) s (take (w - length B) (take reach P)) ≡ End t w
-    whole_scan = scan_end_take (take reach P) (length B) t w (w - length B) s ended (omega (arith, past_held))
+    whole_scan = grind (arith, scan_end_take, take, length, past_held)
 
     shorter : take (w - length B) (take reach P) ≡ take (w - length B) P
-    shorter = take_shorter (w - length B) reach P taken_fits
+    shorter = simp (take_shorter, length, taken_fits)
 
     part_fits : w - length B ≤ length P
     part_fits = omega (arith, taken_fits, reach_fits)
@@ -336,12 +299,7 @@ at_work number bytes = record { number = number; bytes = bytes; waits = false; f
 -- the line takes so much of the piece
 pub feeds_on : (number : ℕ) (bytes piece new : Bytes) (taken : ℕ) (phase : Phase) → Takes bytes piece taken phase → new ≡ bytes ++ take taken piece
     → feed_outcome (at_work number bytes) piece ≡ (Ok taken, state_in phase new number)
-feeds_on number bytes piece new taken (Waiting text_len) takes is =
-    rw takes.4 (both {a = length bytes + taken - length bytes} {b = taken} (omega arith) (take-append-add bytes piece taken ∙ sym is)) where
-      both : {a b : ℕ} {x y : Bytes} → a ≡ b → x ≡ y
-          → ◌≡◌ {A = Result ℕ CutFault × CutterState} (Ok a, record { number = number; bytes = x; waits = true; failed = false })
-          (Ok b, record { number = number; bytes = y; waits = true; failed = false })
-      both p q = rw (p, q) refl
+feeds_on number bytes piece new taken (Waiting text_len) takes is = grind (arith, length, take-append-add, is, ℕ, ◌≡◌, Ok)
 feeds_on number bytes piece new taken (Gathering next) takes is =
     let all : new ≡ bytes ++ piece = is ∙ ap (λ n. bytes ++ take n piece) takes.4.0 ∙ ap (λ ys. bytes ++ ys) (take-length piece) in
     let room : nat_le line_limit (length (bytes ++ piece)) ≡ false =

@@ -1,6 +1,6 @@
 -- What a canonical path is made of, and that a text stays one.
 use Rattle.ninja_text.specs.Bytes.{Bytes}
-use Rattle.std.proofs.Common.{◌≡◌, ◌≢◌, ℕ, zero, suc, ◌+◌, ◌<◌, ◌≤◌, Bool, true, false, ◌&&◌, ◌||◌, cond, nat_lt, inl, inr, [], ◌∷◌, ◌++◌, length, drop, get_or, Option, Some, None, Result, Ok, Err, IfOk, refl, sym, ◌∙◌, ap, subst, arith, IsUtf8, length-append, lit<}
+use Rattle.std.proofs.Common.{◌≡◌, ◌≢◌, ℕ, zero, suc, ◌+◌, ◌<◌, ◌≤◌, Bool, true, false, ◌&&◌, cond, nat_lt, inl, inr, [], ◌∷◌, ◌++◌, length, drop, get_or, Option, Some, None, Result, Ok, Err, IfOk, refl, sym, ◌∙◌, ap, subst, arith, IsUtf8, length-append, lit<}
 use Rattle.std.specs.List.{AllByRecursion, list_any, prefix_len}
 use Rattle.std.proofs.lemmas.List.Elements.{All-from_recursion}
 use Rattle.std.proofs.lemmas.List.{get_or-append-add}
@@ -24,7 +24,7 @@ use Rattle.ninja_text.proofs.Canonical.{facts, none-clean, whole-list, rooted-te
 
 -- the second of two tests fails if the first holds and not both do
 pub and-other : (n u : Bool) → n ≡ true → (n && u) ≡ false → u ≡ false
-and-other n u h k = sym (ap (λ b. b && u) h) ∙ k
+and-other n u h k = cc
 
 -- after a name there are only names
 pub all-names : (c : Bytes) (cs : Components) → IsFixed (c ∷ cs) → is_parent c ≡ false → AllByRecursion (λ n. is_named_component n ≡ true) (c ∷ cs)
@@ -48,13 +48,7 @@ behind-parents (c ∷ cs) f = elim (either_way (is_parent c)) [
 -- no `..` is in front if there is none
 no-parents : (l : Components) → list_any is_parent l ≡ false → prefix_len is_parent l ≡ 0
 no-parents [] h = refl
-no-parents (c ∷ cs) h = elim (either_way (is_parent c)) [
-  | inl k ↦ absurd (both (list_any is_parent cs) (sym (ap (λ b. b || list_any is_parent cs) k) ∙ h))
-  | inr k ↦ ap (λ b. cond b (1 + prefix_len is_parent cs) 0) k
-]
-  where
-    both : (b : Bool) → (true || b) ≡ false → ⊥
-    both b e = cc
+no-parents (c ∷ cs) h = grind (arith, either_way, cond, Bool)
 
 -- a list that has a component
 pub empty-not : (l : Components) → is_empty l ≡ false → l ≢ []
@@ -153,7 +147,7 @@ slash-text t u = IsUtf8-append (47 ∷ []) t (IsUtf8-from_ascii (47 ∷ []) slas
 text-parts : (list : Components) → AllByRecursion IsUtf8 list → IsUtf8 (list_text list)
 text-parts [] a = IsUtf8-nil
 text-parts (x ∷ []) a = a.0
-text-parts (x ∷ y ∷ ys) a = IsUtf8-append x (47 ∷ list_text (y ∷ ys)) a.0 (slash-text (list_text (y ∷ ys)) (text-parts (y ∷ ys) a.1))
+text-parts (x ∷ y ∷ ys) a = grind (arith, IsUtf8-append, slash-text, text-parts (y ∷ ys) a.1)
 
 -- so is a path
 path-text : (rooted : Bool) (list : Components) → AllByRecursion IsUtf8 list → IsUtf8 (path_text rooted list)

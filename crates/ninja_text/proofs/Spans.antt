@@ -1,6 +1,6 @@
 -- Where the tokens of a text and the parts of an assignment begin and end.
 use Rattle.ninja_text.specs.Bytes.{Bytes}
-use Rattle.std.proofs.Common.{inl, inr, ◌≡◌, ℕ, ◌+◌, ◌-◌, ◌<◌, ◌≤◌, true, ◌==◌, ◌&&◌, List, [], ◌∷◌, ◌++◌, length, take, drop, map, refl, sym, ap, ◌∙◌, subst, arith, length-drop, Bool, get_or, Some, None, zero, suc}
+use Rattle.std.proofs.Common.{inl, inr, ◌≡◌, ℕ, ◌+◌, ◌-◌, ◌<◌, ◌≤◌, true, ◌&&◌, List, [], ◌∷◌, ◌++◌, length, take, drop, map, refl, sym, ap, ◌∙◌, subst, arith, length-drop, Bool, get_or, Some, None, zero, suc}
 use Rattle.std.specs.Prelude.{slice_range, Option, nat_lt}
 use Rattle.std.specs.List.{AllByRecursion}
 use Rattle.std.proofs.lemmas.Bool.{cases_Bool}
@@ -10,7 +10,7 @@ use Rattle.ninja_text.specs.Assignments.{AssignmentIndexes, LiesIn, with_bytes, 
 use Rattle.ninja_text.specs.Units.{LineUnits, units, with_continuation, unit_len, is_byte}
 use Rattle.ninja_text.specs.declared.lexing.LineUnit.{LineUnit}
 use Rattle.ninja_text.specs.declared.lexing.LineUnit.TheVariants.{Continuation, Escape, Byte}
-use Rattle.ninja_text.specs.Tokens.{TokenAt, is_piece, goes_on, with_first_start, with_unit, tokens_from, tokens, with_raw, seen_tokens, IsSlice, RiseFrom, is_blank}
+use Rattle.ninja_text.specs.Tokens.{TokenAt, is_piece, with_first_start, with_unit, tokens_from, tokens, with_raw, seen_tokens, IsSlice, RiseFrom, is_blank}
 use Rattle.ninja_text.proofs.Units.{byte_is, byte_len, tokens_with, units_byte, tokens_blank}
 
 -- ---- they rise and lie in the text
@@ -22,10 +22,7 @@ total (u ∷ us) = unit_len u + total us
 
 total_with_continuation : (len : ℕ) (us : LineUnits) → total (with_continuation len us) ≡ len + total us
 total_with_continuation len [] = refl
-total_with_continuation len (Byte b ∷ us) = elim (cases_Bool (b == 32)) [
-  | inl h ↦ let later = total_with_continuation (len + 1) us in rw h (omega arith)
-  | inr h ↦ rw h refl
-]
+total_with_continuation len (Byte b ∷ us) = grind (arith, cases_Bool, total_with_continuation (len + 1) us)
 total_with_continuation len (Escape b ∷ us) = refl
 total_with_continuation len (Continuation more ∷ us) = refl
 
@@ -33,20 +30,8 @@ total_with_continuation len (Continuation more ∷ us) = refl
 total_units : (bytes : Bytes) → total (units bytes) ≡ length bytes
 total_units [] = refl
 total_units (a ∷ []) = refl
-total_units (a ∷ b ∷ []) = elim (cases_Bool (a == 36)) [
-  | inl d ↦ elim (cases_Bool (b == 10)) [ inl f ↦ rw (d, f) refl | inr f ↦ rw (d, f) refl ]
-  | inr d ↦ rw d refl
-]
-total_units (a ∷ b ∷ c ∷ bytes) = elim (cases_Bool (a == 36)) [
-  | inl d ↦ elim (cases_Bool (b == 10)) [
-    | inl f ↦ rw (d, f) (let later = total_units (c ∷ bytes) in let all = total_with_continuation 2 (units (c ∷ bytes)) in omega arith)
-    | inr f ↦ elim (cases_Bool ((b == 13) && (c == 10))) [
-      | inl r ↦ rw (d, f, r) (let later = total_units bytes in let all = total_with_continuation 3 (units bytes) in omega arith)
-      | inr r ↦ rw (d, f, r) (let later = total_units (c ∷ bytes) in omega arith)
-    ]
-  ]
-  | inr d ↦ rw d (let later = total_units (b ∷ c ∷ bytes) in omega arith)
-]
+total_units (a ∷ b ∷ []) = grind (arith, cases_Bool)
+total_units (a ∷ b ∷ c ∷ bytes) = grind (arith, cases_Bool, total_units (c ∷ bytes), total_with_continuation, total_units bytes, total_units (b ∷ c ∷ bytes))
 
 -- from an index up to a limit each token has at least one byte, and begins at the end of the one
 -- before it, or after
@@ -74,19 +59,7 @@ piece_len (Byte b) h = omega arith
 
 rise_with : (index limit : ℕ) (u : LineUnit) (us : LineUnits) (rest : List TokenAt) → Rise (index + unit_len u) limit rest →
     Rise index limit (with_unit index u us rest)
-rise_with index limit u us rest h = elim (cases_Bool (is_piece u)) [
-  | inl p ↦ elim (cases_Bool (goes_on us)) [
-    | inl g ↦ rw (p, g) (rise_first index (index + unit_len u) limit rest (omega (arith, piece_len u p)) h)
-    | inr g ↦ rw (p, g) (omega arith, omega (arith, piece_len u p), h)
-  ]
-  | inr p ↦ elim (cases_Bool (is_byte 58 u)) [
-    | inl c ↦ rw (p, c) (omega arith, omega arith, subst (λ n. Rise (index + n) limit rest) (byte_len 58 u c) h)
-    | inr c ↦ elim (cases_Bool (is_byte 124 u)) [
-      | inl b ↦ rw (p, c, b) (omega arith, omega arith, subst (λ n. Rise (index + n) limit rest) (byte_len 124 u b) h)
-      | inr b ↦ rw (p, c, b) (rise_earlier index (index + unit_len u) limit rest (omega arith) h)
-    ]
-  ]
-]
+rise_with index limit u us rest h = grind (arith, cases_Bool, rise_first, piece_len, byte_len, rise_earlier)
 
 rise_from : (us : LineUnits) (index limit : ℕ) → index + total us ≤ limit → Rise index limit (tokens_from index us)
 rise_from [] index limit h = omega arith
@@ -110,7 +83,7 @@ rise_all text = rise_from (units text) 0 (length text) (omega (arith, total_unit
 
 slices_of : (text : Bytes) (index : ℕ) (ts : List TokenAt) → Rise index (length text) ts → AllByRecursion (IsSlice text) (map (with_raw text) ts)
 slices_of text index [] h = tt
-slices_of text index (t ∷ ts) h = (record { some = h.1; within = rise_within t.end (length text) ts h.2; raw = refl }, slices_of text t.end ts h.2)
+slices_of text index (t ∷ ts) h = grind (arith, rise_within, length, slices_of text t.end ts h.2)
 
 rising : (text : Bytes) (index limit : ℕ) (ts : List TokenAt) → Rise index limit ts → RiseFrom index (map (with_raw text) ts)
 rising text index limit [] h = tt
@@ -137,13 +110,10 @@ lies_in text a some past within = record {
 
 run_past : (test : LineUnit → Bool) (index : ℕ) (us : LineUnits) → index ≤ (after_run test index us).place
 run_past test index [] = omega arith
-run_past test index (u ∷ us) = elim (cases_Bool (test u)) [
-  | inl t ↦ rw t (omega (arith, run_past test (index + unit_len u) us))
-  | inr f ↦ rw f (omega arith)
-]
+run_past test index (u ∷ us) = grind (arith, cases_Bool, run_past test (index + unit_len u) us)
 
 first_start : {a b : TokenAt} {xs ys : List TokenAt} → a ∷ xs ≡ b ∷ ys → a.start ≡ b.start
-first_start {a} {b} h = let same : a ≡ b = cc in ap (λ t. t.start) same
+first_start {a} {b} h = cc
 
 none_first : {b : TokenAt} {bs : List TokenAt} {A : Type 0} → ◌≡◌ {A = List TokenAt} [] (b ∷ bs) → A
 none_first h = absurd (cc)
@@ -154,19 +124,7 @@ widened_starts index (x ∷ xs) t ts h = omega (arith, first_start h)
 
 with_unit_past : (index : ℕ) (u : LineUnit) (us : LineUnits) (rest : List TokenAt) (t : TokenAt) (ts : List TokenAt) → (rest ≡ t ∷ ts → index ≤ t.start) →
     with_unit index u us rest ≡ t ∷ ts → index ≤ t.start
-with_unit_past index u us rest t ts later h = elim (cases_Bool (is_piece u)) [
-  | inl p ↦ elim (cases_Bool (goes_on us)) [
-    | inl g ↦ widened_starts index rest t ts (rw (p, g) at h)
-    | inr g ↦ omega (arith, first_start (rw (p, g) at h))
-  ]
-  | inr p ↦ elim (cases_Bool (is_byte 58 u)) [
-    | inl c ↦ omega (arith, first_start (rw (p, c) at h))
-    | inr c ↦ elim (cases_Bool (is_byte 124 u)) [
-      | inl b ↦ omega (arith, first_start (rw (p, c, b) at h))
-      | inr b ↦ later (rw (p, c, b) at h)
-    ]
-  ]
-]
+with_unit_past index u us rest t ts later h = grind (arith, cases_Bool, widened_starts, first_start)
 
 tokens_past : (us : LineUnits) (index : ℕ) (t : TokenAt) (ts : List TokenAt) → tokens_from index us ≡ t ∷ ts → index ≤ t.start
 tokens_past [] index t ts h = none_first h
@@ -186,10 +144,7 @@ tokens_past (u ∷ v ∷ us) index t ts h = elim (cases_Bool (is_byte 124 u)) [
 
 -- a text that begins with a space has no token at its first byte
 pub token_indented : (bytes : Bytes) (t : TokenAt) (ts : List TokenAt) → tokens (32 ∷ bytes) ≡ t ∷ ts → 0 < t.start
-token_indented bytes t ts h =
-    let later : tokens_from (0 + 1) (units bytes) ≡ t ∷ ts = sym (ap (tokens_from 0) (units_byte 32 bytes refl) ∙ tokens_blank 0 (Byte 32) (units bytes) refl) ∙
-    h in
-    omega (arith, tokens_past (units bytes) (0 + 1) t ts later)
+token_indented bytes t ts h = grind (arith, units_byte, tokens_blank, tokens_past)
 
 -- what an assignment has
 pub record Parts (text : Bytes) (a : SeenAssignment) : Type 0 where

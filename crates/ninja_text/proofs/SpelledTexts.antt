@@ -35,14 +35,14 @@ is_word (b ∷ bytes) = list_all is_piece (map Byte (b ∷ bytes)) && list_all i
 
 bytes_text : (bytes : Bytes) → text_of_units (map Byte bytes) ≡ bytes
 bytes_text [] = refl
-bytes_text (b ∷ bytes) = ap (λ bs. b ∷ bs) (bytes_text bytes)
+bytes_text (b ∷ bytes) = simp (bytes_text bytes)
 
 pieces_begin : (us vs : LineUnits) → (us ≡ [] → ⊥) → list_all is_piece us ≡ true → goes_on (us ++ vs) ≡ true
 pieces_begin [] vs some h = absurd (some refl)
 pieces_begin (u ∷ us) vs some h = goes_on_piece u (us ++ vs) (and_parts (is_piece u) (list_all is_piece us) h).0
 
 sound_both : (us vs : LineUnits) → list_all is_sound us ≡ true → list_all is_sound vs ≡ true → list_all is_sound (us ++ vs) ≡ true
-sound_both us vs p q = list_all-append is_sound us vs ∙ and_from _ _ p q
+sound_both us vs p q = simp (list_all-append, is_sound, and_from)
 
 text_both : (us vs : LineUnits) (x y : Bytes) → text_of_units us ≡ x → text_of_units vs ≡ y → text_of_units (us ++ vs) ≡ x ++ y
 text_both us vs x y p q = flat_map-append unit_text us vs ∙ ap (λ t. t ++ text_of_units vs) p ∙ ap (λ t. x ++ t) q

@@ -1,11 +1,11 @@
 -- What bytes stand for is one value, the one that is read of them: of an escaped form, and of the value of an assignment.
 use Rattle.ninja_text.specs.Bytes.{Bytes}
-use Rattle.std.proofs.Common.{◌≡◌, ◌≢◌, ℕ, zero, suc, ◌+◌, true, false, not, ◌||◌, ◌==◌, cond, inl, inr, List, [], ◌∷◌, ◌++◌, replicate, drop, refl, sym, ◌∙◌, ap, subst, append_assoc, arith}
+use Rattle.std.proofs.Common.{◌≡◌, ◌≢◌, ℕ, zero, suc, true, false, not, ◌==◌, cond, inl, inr, List, [], ◌∷◌, ◌++◌, replicate, drop, refl, sym, ◌∙◌, ap, subst, append_assoc, arith}
 use Rattle.std.proofs.lemmas.Bool.{cases_Bool, eqb-true, or_parts, not-true}
 use Rattle.std.proofs.lemmas.List.{append-nil}
 use Rattle.std.proofs.lemmas.List.Elements.{recursion_from_All}
-use Rattle.std.specs.List.{concat, flat_map, AllByRecursion}
-use Rattle.ninja_text.specs.Tokens.{unit_value, value_of}
+use Rattle.std.specs.List.{concat, AllByRecursion}
+use Rattle.ninja_text.specs.Tokens.{value_of}
 use Rattle.ninja_text.specs.inner.Runs.{spaces_at}
 use Rattle.ninja_text.specs.Escapes.{is_unwritable, IsWritable, is_escaped, escaped_byte, escaped, IsPiece, IsContinuation, IsGap, Spells}
 use Rattle.ninja_text.specs.Meanings.{IsValuePiece, SpellsValue}
@@ -17,19 +17,11 @@ use Rattle.ninja_text.proofs.Units.{units_byte, units_pair, units_feed, continue
 -- all spaces at the front, and what follows them
 past_spaces : (n : ℕ) (text : Bytes) → spaces_at text ≡ 0 → drop (spaces_at (replicate n 32 ++ text)) (replicate n 32 ++ text) ≡ text
 past_spaces zero text none = ap (λ k. drop k text) none
-past_spaces (suc n) text none =
-    let spaces = replicate n 32 ++ text in
-    ap (λ k. drop k (32 ∷ spaces)) {x = 1 + spaces_at spaces} {y = suc (spaces_at spaces)} (omega arith) ∙ past_spaces n text none
+past_spaces (suc n) text none = grind (arith, replicate, drop, past_spaces n text none)
 
 -- nothing is read of a continuation
 continuation_read : (part : Bytes) (c : IsContinuation part) (text : Bytes) → spaces_at text ≡ 0 → value_of (part ++ text) ≡ value_of text
-continuation_read part c text none =
-    let spaces = replicate c.0 32 ++ text in
-    elim c.1 [
-      | inl e ↦ ap (λ part. value_of (part ++ text)) e ∙ ap (flat_map unit_value) (units_feed spaces ∙ continued_spaces 2 spaces) ∙
-          ap value_of (past_spaces c.0 text none)
-      | inr e ↦ ap (λ part. value_of (part ++ text)) e ∙ ap (flat_map unit_value) (continued_spaces 3 spaces) ∙ ap value_of (past_spaces c.0 text none)
-    ]
+continuation_read part c text none = grind (arith, replicate, units_feed, continued_spaces, past_spaces)
 
 -- a gap does not begin with a space
 gap_front : (parts : List Bytes) (text : Bytes) → AllByRecursion IsContinuation parts → spaces_at text ≡ 0 → spaces_at (concat parts ++ text) ≡ 0
@@ -42,32 +34,23 @@ gap_front (part ∷ parts) text a none = elim a.0.1 [
 parts_read : (parts : List Bytes) (text : Bytes) → AllByRecursion IsContinuation parts → spaces_at text ≡ 0 →
     value_of (concat parts ++ text) ≡ value_of text
 parts_read [] text a none = refl
-parts_read (part ∷ parts) text a none =
-    ap value_of (append_assoc part (concat parts) text) ∙ continuation_read part a.0 (concat parts ++ text) (gap_front parts text a.1 none)
-    ∙ parts_read parts text a.1 none
+parts_read (part ∷ parts) text a none = grind (arith, append_assoc, continuation_read, gap_front, parts_read parts text a.1 none)
 
 -- so nothing is read of a gap
 gap_read : (gap text : Bytes) → IsGap gap → spaces_at text ≡ 0 → value_of (gap ++ text) ≡ value_of text
-gap_read gap text g none = ap (λ gap. value_of (gap ++ text)) g.2 ∙ parts_read g.0 text g.1 none
+gap_read gap text g none = grind (arith, parts_read)
 
 -- ---- what is read of pieces
 
 -- an escaped byte is not one that needs no escape
 differs : (b n : ℕ) → is_escaped b ≡ true → is_escaped n ≡ false → (b == n) ≡ false
-differs b n h k = elim (cases_Bool (b == n)) [
-  | inl e ↦ cc (sym h ∙ ap is_escaped (eqb-true b n e) ∙ k)
-  | inr e ↦ e
-]
+differs b n h k = grind (arith, cases_Bool, eqb-true)
 
 -- a piece stands for its byte
 piece_read : (piece text : Bytes) (value : ℕ) → IsValuePiece piece value → value_of (piece ++ text) ≡ value ∷ value_of text
 piece_read [] text value h = absurd h
-piece_read (b ∷ []) text value h =
-    ap (flat_map unit_value) (units_byte b text (or_parts (b == 36) _ (not-true _ (true_is _ h.1))).0) ∙ ap (λ b. b ∷ value_of text) h.0
-piece_read (d ∷ b ∷ []) text value h =
-    let is = true_is _ h.2 in
-    ap (λ d. value_of (d ∷ b ∷ text)) h.0 ∙ ap (flat_map unit_value) (units_pair b text (differs b 10 is refl) (differs b 13 is refl)) ∙
-    ap (λ b. b ∷ value_of text) h.1
+piece_read (b ∷ []) text value h = grind (arith, units_byte, or_parts, not-true, true_is)
+piece_read (d ∷ b ∷ []) text value h = grind (arith, true_is, units_pair, differs)
 piece_read (d ∷ b ∷ c ∷ more) text value h = absurd h
 
 -- ---- words
@@ -75,11 +58,7 @@ piece_read (d ∷ b ∷ c ∷ more) text value h = absurd h
 -- a piece of a word is a piece of a value, and does not begin with a space
 word_piece : (piece text : Bytes) (value : ℕ) → IsPiece piece value → IsValuePiece piece value × (spaces_at (piece ++ text) ≡ 0)
 word_piece [] text value h = absurd h
-word_piece (b ∷ []) text value h =
-    let own = or_parts (is_escaped b) (is_unwritable b) (not-true _ (true_is _ h.1)) in
-    let plain = or_parts (b == 36) _ own.0 in
-    let rest = or_parts (b == 124) _ own.1 in
-    ((h.0, is_true _ (rw (plain.0, rest.1) refl)), ap (λ t. cond t (1 + spaces_at text) 0) (or_parts (b == 32) _ plain.1).0)
+word_piece (b ∷ []) text value h = grind (arith, or_parts, not-true, true_is, is_true, cond)
 word_piece (d ∷ b ∷ []) text value h = (h, ap (λ d. spaces_at (d ∷ b ∷ text)) h.0)
 word_piece (d ∷ b ∷ c ∷ more) text value h = absurd h
 
@@ -90,7 +69,7 @@ word_front raw b (c ∷ cs) h = ap spaces_at h.6 ∙ (word_piece h.0 (h.1 ++ h.2
 -- what is read of a word's bytes is what they stand for
 pub spells_read : (raw value : Bytes) → Spells raw value → value_of raw ≡ value
 spells_read raw [] h = absurd h
-spells_read raw (b ∷ []) h = ap value_of (sym (append-nil raw)) ∙ piece_read raw [] b (word_piece raw [] b h).0
+spells_read raw (b ∷ []) h = grind (arith, append-nil, piece_read, word_piece)
 spells_read raw (b ∷ c ∷ cs) h =
     ap value_of h.6 ∙ piece_read h.0 (h.1 ++ h.2) b (word_piece h.0 [] b h.3).0
     ∙ ap (λ value. b ∷ value) (gap_read h.1 h.2 h.4 (word_front h.2 c cs h.5) ∙ spells_read h.2 (c ∷ cs) h.5)
@@ -103,10 +82,7 @@ spells-same raw a b h k = sym (spells_read raw a h) ∙ spells_read raw b k
 
 -- a byte in its escaped form is a piece that stands for it
 piece-is : (b : ℕ) → is_unwritable b ≡ false → IsPiece (escaped_byte b) b
-piece-is b h = elim (either_way (is_escaped b)) [
-  | inl k ↦ subst (λ t. IsPiece (cond t (36 ∷ b ∷ []) (b ∷ [])) b) (sym k) (refl, refl, is_true _ k)
-  | inr k ↦ subst (λ t. IsPiece (cond t (36 ∷ b ∷ []) (b ∷ [])) b) (sym k) (refl, is_true _ (ap (λ t. not (t || is_unwritable b)) k ∙ ap not h))
-]
+piece-is b h = grind (arith, either_way, cond, is_true, not)
 
 -- a path in its escaped form stands for the path
 pub escaped-spells : (path : Bytes) → path ≢ [] → AllByRecursion (λ b. is_unwritable b ≡ false) path → Spells (escaped path) path
@@ -128,17 +104,14 @@ escaped-means path w value =
 gap_before : (gap piece text : Bytes) (value : ℕ) → IsGap gap → IsValuePiece piece value → (piece ≡ 32 ∷ [] → gap ≡ []) →
     value_of (gap ++ (piece ++ text)) ≡ value_of (piece ++ text)
 gap_before gap [] text value g h space = absurd h
-gap_before gap (b ∷ []) text value g h space = elim (cases_Bool (b == 32)) [
-  | inl e ↦ ap (λ gap. value_of (gap ++ b ∷ text)) (space (ap (λ b. b ∷ []) (eqb-true b 32 e)))
-  | inr e ↦ gap_read gap (b ∷ text) g (ap (λ t. cond t (1 + spaces_at text) 0) e)
-]
-gap_before gap (d ∷ b ∷ []) text value g h space = gap_read gap (d ∷ b ∷ text) g (ap (λ d. spaces_at (d ∷ b ∷ text)) h.0)
+gap_before gap (b ∷ []) text value g h space = grind (arith, cases_Bool, eqb-true, gap_read, cond)
+gap_before gap (d ∷ b ∷ []) text value g h space = grind (arith, gap_read)
 gap_before gap (d ∷ b ∷ c ∷ more) text value g h space = absurd h
 
 -- what is read of a value's bytes is what they stand for
 value_read : (raw value : Bytes) → SpellsValue raw value → value_of raw ≡ value
 value_read raw [] h = ap value_of (sym (append-nil raw)) ∙ gap_read raw [] h refl
-value_read raw (b ∷ bs) h = ap value_of h.7 ∙ gap_before h.0 h.1 h.2 b h.3 h.4 h.5 ∙ piece_read h.1 h.2 b h.4 ∙ ap (λ value. b ∷ value) (value_read h.2 bs h.6)
+value_read raw (b ∷ bs) h = grind (arith, gap_before, piece_read, value_read h.2 bs h.6)
 
 -- so they stand for one value
 pub value_same : (raw a b : Bytes) → SpellsValue raw a → SpellsValue raw b → a ≡ b

@@ -1,7 +1,7 @@
 -- The units of a text and their tokens, by the first unit.
 use Rattle.std.proofs.lemmas.Grind.{common_steps}
 use Rattle.ninja_text.specs.Bytes.{Bytes}
-use Rattle.std.proofs.Common.{get_or, ◌≤◌, inl, inr, suc, subst, ◌≡◌, ℕ, ◌+◌, List, [], ◌∷◌, length, drop, refl, sym, ap, ◌∙◌, false, ◌==◌, ◌||◌, arith, map, None, ◌<◌, Bool, true, not, rules}
+use Rattle.std.proofs.Common.{get_or, ◌≤◌, inl, inr, suc, subst, ◌≡◌, ℕ, ◌+◌, List, [], ◌∷◌, length, drop, refl, sym, ap, ◌∙◌, false, ◌==◌, arith, map, None, ◌<◌, Bool, true, not, rules}
 use Rattle.std.specs.List.{flat_map, list_any}
 use Rattle.std.proofs.lemmas.Bool.{cases_Bool, eqb-true, or_parts}
 use Rattle.ninja_text.specs.Units.{LineUnits, units, with_continuation, unit_len, is_byte, is_continuation}
@@ -184,11 +184,7 @@ pub tokens_piece : (s : ℕ) (u : LineUnit) (us : LineUnits) → is_piece u ≡ 
     (token_of Word s (unit_len u) ∷ tokens_from (s + unit_len u) us))
 tokens_piece s (Continuation len) us h = cc
 tokens_piece s (Escape b) us h = tokens_with s (Escape b) us refl
-tokens_piece s (Byte b) us h = grind (arith, tokens_with, no_bar) where
-  no_bar : (bar rest : Bool) → not (rest || bar) ≡ true → bar ≡ false
-  no_bar true true h = sym h
-  no_bar true false h = sym h
-  no_bar false rest h = refl
+tokens_piece s (Byte b) us h = grind (arith, tokens_with, Bool, not)
 
 -- what is neither blank, nor `:`, nor `|` is a piece
 pub piece_else : (u : LineUnit) → is_blank u ≡ false → is_byte 58 u ≡ false → is_byte 124 u ≡ false → is_piece u ≡ true

@@ -66,9 +66,8 @@ impl KeyDigest {
     pub fn new() -> KeyDigest
         ensures { HasAdded result [] }
     {
-        KeyDigest {
-            digest: Sha512::new(),
-        }
+        let digest = Sha512::new();
+        KeyDigest { digest }
     }
 
     /// Adds an entry, with its length, to the digest.

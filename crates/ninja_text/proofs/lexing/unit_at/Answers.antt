@@ -1,5 +1,5 @@
 use Rattle.ninja_text.specs.Bytes.{Bytes}
-use Rattle.std.proofs.Common.{◌==◌, false, ◌≡◌, ℕ, ◌+◌, ◌-◌, ◌<◌, ◌≤◌, [], ◌∷◌, length, take, drop, slice_index_or, arith, length-drop, ap, sym, refl, ◌∙◌}
+use Rattle.std.proofs.Common.{◌==◌, false, ◌≡◌, ℕ, ◌+◌, ◌-◌, ◌<◌, [], ◌∷◌, length, take, drop, slice_index_or, arith, length-drop, ap, sym, refl, ◌∙◌}
 use Rattle.std.proofs.lemmas.Grind.{common_steps}
 use Rattle.std.proofs.lemmas.List.{drop-drop}
 use Rattle.std.proofs.lemmas.Bool.Decides.{nat_tests}
@@ -10,11 +10,13 @@ use Rattle.ninja_text.specs.declared.lexing.LineUnit.TheVariants.{Byte, Escape}
 use Rattle.ninja_text.proofs.Units.{units_byte, units_pair, units_return, continuation_at, return_continuation_at}
 use Rattle.ninja_text.proofs.Lists.{to_the_end}
 use Rattle.ninja_text.proofs.lexing.unit_at.Goals as goal
-use Rattle.ninja_text.proofs.lexing.unit_at.Goals.{then-text-index-lt3+in-36+in-10-1, else-text-index-lt3+in-36+in-10-1, then-text-index-lt3+in-36+in_default-1, else-text-index-lt3+in-36+in-13+in_default-1, else-text-index-lt3+in-36+in_default-1, in_default-via-then-text-index-lt2, in_default-via-else-text-index-lt2+then-text-index-lt3+in_default-1, in_default-via-else-text-index-lt2+else-text-index-lt3+in_default-1}
 
 -- what a text has from an index on
 abbrev from : Bytes → ℕ → Bytes
 from text index = take (length text - index) (drop index text)
+
+from_some : (text : Bytes) (index : ℕ) → index < length text → 0 < length (from text index)
+from_some text index within = omega (arith, length-drop index text, ap length (to_the_end index text))
 
 -- the unit at the front there is that at the index
 at_index : (text : Bytes) (index n : ℕ) (u : LineUnit) → units (from text index) ≡ u ∷ units (drop n (from text index)) →
@@ -52,29 +54,16 @@ escape_first (a ∷ b ∷ c ∷ bytes) long first second third = grind (arith, c
 pub returns-in-36-clause-first : goal.returns-in-36-clause-first
 returns-in-36-clause-first c =
     let bytes = from c.args.text.now c.args.index in
-    let starts : (2 ≤ length bytes) × (slice_index_or bytes 0 0 ≡ 36) × (slice_index_or bytes 1 0 ≡ 10) = elim c.in-36-1.branch [
-      | then-text-index-lt3+in-36+in-10-1 w ↦ (grind (arith, w), grind (arith, w), grind (arith, w))
-      | else-text-index-lt3+in-36+in-10-1 w ↦ (grind (arith, w), grind (arith, w), grind (arith, w))
-    ] in
     at_index c.args.text.now c.args.index (2 + c.leading_spaces-in-36.result) _
-    (continuation_at bytes c.leading_spaces-in-36.result starts.0 starts.1 starts.2
+    (continuation_at bytes c.leading_spaces-in-36.result (grind arith) (grind arith) (grind arith)
     (c.leading_spaces-in-36.ensures.value ∙ ap spaces_at (to_the_end 2 bytes)))
 
 pub returns-in-36-3-clause-first : goal.returns-in-36-3-clause-first
 returns-in-36-3-clause-first c =
-    let bytes = from c.args.text.now c.args.index in
-    at_index c.args.text.now c.args.index 2 _ (elim c.in-36-3-1.branch [
-      | then-text-index-lt3+in-36+in_default-1 w ↦ escape_first bytes (grind (arith, w)) (grind (arith, w)) (λ e. grind (arith, w)) (λ l e f. grind (arith, w))
-      | else-text-index-lt3+in-36+in-13+in_default-1 w ↦ escape_first bytes (grind (arith, w)) (grind (arith, w)) (λ e. grind (arith, w)) (λ l e f. grind (arith, w))
-      | else-text-index-lt3+in-36+in_default-1 w ↦ escape_first bytes (grind (arith, w)) (grind (arith, w)) (λ e. grind (arith, w)) (λ l e f. grind (arith, w))
-    ])
+    at_index c.args.text.now c.args.index 2 _
+    (escape_first (from c.args.text.now c.args.index) (grind arith) (grind arith) (λ e. grind arith) (λ l e f. grind arith))
 
 pub returns-in_default-clause-first : goal.returns-in_default-clause-first
 returns-in_default-clause-first c =
-    let bytes = from c.args.text.now c.args.index in
-    let some : 0 < length bytes = omega (arith, c.requires, length-drop c.args.index c.args.text.now, ap length (to_the_end c.args.index c.args.text.now)) in
-    at_index c.args.text.now c.args.index 1 _ (elim c.in_default-1.branch [
-      | in_default-via-then-text-index-lt2 w ↦ byte_first bytes some (λ l e. grind (arith, w))
-      | in_default-via-else-text-index-lt2+then-text-index-lt3+in_default-1 w ↦ byte_first bytes some (λ l e. grind (arith, w))
-      | in_default-via-else-text-index-lt2+else-text-index-lt3+in_default-1 w ↦ byte_first bytes some (λ l e. grind (arith, w))
-    ])
+    let some = from_some c.args.text.now c.args.index c.requires in
+    at_index c.args.text.now c.args.index 1 _ (byte_first (from c.args.text.now c.args.index) some (λ l e. grind arith))
