@@ -119,14 +119,12 @@ impl fmt::Display for WriteFault {
 
     fn fmt<W: fmt::Write>(&self, f: &mut fmt::Formatter<W>) -> fmt::Result {
         match self {
-            WriteFault::Unwritable { statement, path } => write!(
-                f,
-                "Y1 Unwritable statement {statement} path {path}"
-            ),
-            WriteFault::StatementTooLong { statement } => write!(
-                f,
-                "Y2 StatementTooLong statement {statement}"
-            ),
+            WriteFault::Unwritable { statement, path } => {
+                write!(f, "Y1 Unwritable statement {statement} path {path}")
+            }
+            WriteFault::StatementTooLong { statement } => {
+                write!(f, "Y2 StatementTooLong statement {statement}")
+            }
             WriteFault::Io { written } => write!(f, "Y3 Io written {written}"),
         }
     }

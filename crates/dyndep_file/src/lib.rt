@@ -9,8 +9,7 @@
 //!   builds it from statements that borrow their paths (`specs/Texts.antt`), and [`write`] writes
 //!   it. The first error (`specs/WriteFaults.antt`) is reported before the first byte is written.
 //!   The text stands for the statements and for no other list.
-//! - `specs/FaultTexts.antt` defines how [`LineFault`], [`ReadFault`] and [`WriteFault`] are
-//!   printed.
+//! - `specs/FaultTexts.antt` defines how the three kinds of faults are printed.
 //! - [`laws`] proves that a text has either a list of statements or an error.
 #![tactic(auto)]
 

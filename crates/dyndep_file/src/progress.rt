@@ -1,14 +1,12 @@
 //! Reads the lines of a dyndep file: the statements so far, what each kind of line does to them,
 //! and the tokens of a build line.
 ghost use Rattle.std.specs.Prelude.{◌≡◌, is_some, IfOk, OnOk, codes, option_map};
-ghost use Rattle.dyndep_file.specs.Prelude.{seen_assignment, seen_line, words_of_part};
-ghost use Rattle.dyndep_file.specs.Prelude.{symbols_past_part, symbols_left, is_version_one};
-ghost use Rattle.dyndep_file.specs.Prelude.{IsDyndepLine, output_fault, indented_fault};
-ghost use Rattle.dyndep_file.specs.Prelude.{build_fault, value_assigned, unindented_fault};
-ghost use Rattle.dyndep_file.specs.Prelude.{text_line_fault, ProgressValue, IsNamed, misplaced};
-ghost use Rattle.dyndep_file.specs.Prelude.{TakesOr, PassesOr, IsBuildOf, with_name, IsBindingOf};
-ghost use Rattle.dyndep_file.specs.Prelude.{IsVersionLineOf, PassesLine, RefusesLine};
-ghost use Rattle.dyndep_file.specs.Prelude.{fault_of_cutter, texts};
+ghost use Rattle.dyndep_file.specs.Prelude.{seen_assignment, symbols_past_part, unindented_fault};
+ghost use Rattle.dyndep_file.specs.Prelude.{seen_line, misplaced, PassesOr, IsBuildOf, with_name};
+ghost use Rattle.dyndep_file.specs.Prelude.{words_of_part, symbols_left, ProgressValue, PassesLine};
+ghost use Rattle.dyndep_file.specs.Prelude.{is_version_one, indented_fault, value_assigned, texts};
+ghost use Rattle.dyndep_file.specs.Prelude.{IsDyndepLine, build_fault, IsBindingOf, RefusesLine};
+ghost use Rattle.dyndep_file.specs.Prelude.{text_line_fault, IsVersionLineOf, fault_of_cutter};
 
 use crate::fault::{LineFault, ReadFault};
 use crate::text::Statement;
@@ -167,10 +165,9 @@ fn unindented_line(alloc: Global, progress: &mut Progress, found: Option<Assignm
             Stage::NoneOpen | Stage::Open => LineFault::BadLine,
         })),
     };
-    match progress.stage {
-        Stage::BeforeVersion => {}
-        Stage::NoneOpen | Stage::Open => return Err(Failure::Fault(LineFault::SecondVersion)),
-    }
+    let Stage::BeforeVersion = progress.stage else {
+        return Err(Failure::Fault(LineFault::SecondVersion));
+    };
     let value = version.value(alloc)?;
     if !is_version_one(&value) {
         return Err(Failure::Fault(LineFault::BadVersion));
@@ -184,10 +181,7 @@ fn named<'a>(assignment: Option<Assignment<'a>>, name: &[u8]) -> Option<Assignme
     ensures { option_map seen_assignment result
         ≡ with_name name.now (option_map seen_assignment assignment.entry) }
 {
-    match assignment {
-        Some(found) if found.name() == name => Some(found),
-        _ => None,
-    }
+    assignment.filter(|found| found.name() == name)
 }
 
 /// Returns whether a version is the number `1` or `1.0`. Other text may follow.
@@ -225,11 +219,10 @@ fn misplaced(words: Words<'_>, word: LineFault) -> Option<LineFault>
     ensures { result ≡ misplaced word (symbols_left words.entry) }
 {
     let mut words = words;
-    let fault = match words.next()?.kind() {
+    Some(match words.next()?.kind() {
         TokenKind::Word => word,
         TokenKind::DoubleBar => LineFault::OrderOnly,
         TokenKind::BarAt => LineFault::Validation,
         TokenKind::Bar | TokenKind::Colon => LineFault::BadLine,
-    };
-    Some(fault)
+    })
 }

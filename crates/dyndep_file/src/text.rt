@@ -8,7 +8,7 @@ ghost use Rattle.dyndep_file.specs.Prelude.{LeavesWriter, WritesInTurn, AnswersW
 ghost use Rattle.dyndep_file.specs.Prelude.{part_text, dyndep_text, texts, lent_texts};
 
 use crate::fault::WriteFault;
-use ninja_text::{Counted, Failure, LINE_LIMIT, WriteCall, escape_into, is_writable};
+use ninja_text::{Counted, Failure, LINE_LIMIT, Stopped, WriteCall, escape_into, is_writable};
 use std::alloc::{AllocError, Global};
 use std::marker::Model;
 
@@ -69,10 +69,6 @@ impl Model for Dyndep {
     ghost view = { λ d. d.statements.items };
 }
 
-const VERSION_LINE: &[u8] = b"ninja_dyndep_version = 1\n";
-
-const BINDING_LINE: &[u8] = b"  restat = 1\n";
-
 /// The text of a dyndep file, to which statements are added one after another (Ninja 1.11 manual,
 /// "Dyndep file reference"). It has the version line, and for each statement the build line and, if
 /// the flag is set, a `restat` binding. Lines end in LF, and paths are escaped.
@@ -99,7 +95,7 @@ impl DyndepText {
         ensures { IfOk result (IsTextOf []) }
     {
         let mut text = Vec::new(alloc);
-        text.extend_from_slice(VERSION_LINE)?;
+        text.extend_from_slice(b"ninja_dyndep_version = 1\n")?;
         Ok(DyndepText {
             text,
             count: 0,
@@ -160,7 +156,7 @@ impl DyndepText {
             }));
         }
         if statement.restat {
-            self.lines.extend_from_slice(BINDING_LINE)?;
+            self.lines.extend_from_slice(b"  restat = 1\n")?;
         }
         self.text.extend_from_slice(&self.lines)?;
         // A text cannot have enough statements to saturate the count.
@@ -225,9 +221,7 @@ pub fn write<W: WriteCall>(
     let text = dyndep.to_text(alloc)?;
     match out.write_text(&text) {
         Ok(()) => Ok(()),
-        Err(stopped) => Err(Failure::Fault(WriteFault::Io {
-            written: stopped.written,
-        })),
+        Err(Stopped { written }) => Err(Failure::Fault(WriteFault::Io { written })),
     }
 }
 

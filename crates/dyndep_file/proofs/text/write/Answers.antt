@@ -24,6 +24,6 @@ returns-in-Ok g c =
 
 pub returns-clause-calls : goal.returns-clause-calls
 returns-clause-calls g c =
-    subst (λ text. IsStoppedInTurn g.W.WriteCall.writes (held c.args.out.now) (held c.write_text.new.self) text c.in-Err.stopped.written)
+    subst (λ text. IsStoppedInTurn g.W.WriteCall.writes (held c.args.out.now) (held c.write_text.new.self) text c.in-Err.field-0.written)
     (c.deref.ensures.value ∙ (made c.args.dyndep.now c.in_ok-text.text c.in_ok-text.ensures.text).1)
     c.in-Err.ensures.calls
