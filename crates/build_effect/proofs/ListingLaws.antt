@@ -1,5 +1,5 @@
 -- The reader of edge listings, line by line, and the laws of lines and of texts.
-use Rattle.std.proofs.Common.{◌≡◌, ◌≢◌, ℕ, ◌+◌, ◌<◌, Bool, true, false, zero, suc, List, [], ◌∷◌, ◌++◌, length, refl, sym, ap, append_assoc, ◌∙◌, Some, Ok, Err, arith, inl, inr, ◌≤◌, subst, ◌⊎◌}
+use Rattle.std.proofs.Common.{◌≡◌, ◌≢◌, ℕ, ◌+◌, ◌<◌, Bool, true, false, zero, suc, List, [], ◌∷◌, ◌++◌, length, refl, sym, ap, append_assoc, ◌∙◌, Some, Ok, Err, arith, inl, inr, ◌≤◌, subst, ◌⊎◌, IsErrAnd, MatchResult}
 use Rattle.build_effect.specs.Prelude.{IfOk, IfErr, nat_lt, slice_index_or, slice_set, All, Option, Result, option_and_then, Gives, Turns, ForFault, AreReadTo, Reads, IsOfClass, IsFaultyAfter, IsDecided, BeginsWith, IsNextFault, HasLentAll, FeedsLines, EndsLines, line_limit, is_comment, IsLine, text_of_line, LogicalLine, logical_line, path_of, Failure, Fault, Memory, PathFault, EdgeValue, IsGraphFault, IsTextCause, IsLineCause, IsListing, listing_end, BeginsListing, Build, EdgeTexts, Row, BuildRow, DyndepRow, RestatRow, ListingClass, Dyndep, Restat, IsListingLine, LeadToEdges, ListingReaderState, HasReadListing, IsListingFaultIn, FeedsListing, line_failure, EndsListing, IsListingFault, listing_format, Lists, IsEndCause, listing_faults, HasFaultyLine, HasFaultyEnd, HasListingFault, ListingValue, TakesRow, GivesEdge, build_row, with_path, paths_of, edge_paths, build_class, dyndep_class, text_cause, with_last, with_last_dyndep, with_last_restat, run, PassesLine, RefusesLine, fault_of_cutter, GraphFault, LineCause, Form, Lexical, LineTooLong, Truncated, LineFault, ListFault, AtLine, NoGraph, Closed, Open}
 use Rattle.ninja_text.proofs.ForCallers.{all_lent, faulty_next, faulty_rest, faulty_at_limit}
 use Rattle.ninja_text.proofs.ForCallers as lines
@@ -346,3 +346,9 @@ fault_same e f = rw (e, f) refl
 -- the law: at most one fault
 pub one_fault : (bytes : List ℕ) (x y : LineFault) → HasListingFault bytes x → HasListingFault bytes y → y ≡ x
 one_fault bytes x y f g = let same = lines.one_fault listing_format listing_faults decided bytes y.line x.line y.cause x.cause g f in fault_same same.0 same.1
+
+-- a result whose error was mapped, and that is no error, was none before
+pub unmapped : {T E F : Type 0} (R : E → F → Type 0) (r : Result T E) (m : Result T F) (x : T) →
+    MatchResult r (λ y. m ≡ Ok y) (λ e. IsErrAnd m (R e)) → m ≡ Ok x → r ≡ Ok x
+unmapped R (Ok y) m x is same = cc
+unmapped R (Err e) m x is same = absurd (rw same at is)

@@ -1,13 +1,12 @@
 //! The effect of a dyndep file: which statement is on which edge, and what the statements add.
 ghost use Rattle.std.specs.Prelude.{◌≡◌, ◌<◌, ◌≤◌, ◌≢◌, ◌++◌, ℕ, [], length, IfOk, IfErr, OnOk};
-ghost use Rattle.build_effect.specs.Prelude.{All, MatchBool, Some, ForFault, StatementValue};
-ghost use Rattle.build_effect.specs.Prelude.{ArePaths, AreCanonical, OnlyEffect, HasNoEffect};
-ghost use Rattle.build_effect.specs.Prelude.{added_outputs, IsEffectFault, Names, MadeOnce};
-ghost use Rattle.build_effect.specs.Prelude.{addition_of, added_files, IsFirstAddedTwice};
-ghost use Rattle.build_effect.specs.Prelude.{IsBadTextFrom, IsBadStatement, AreExtended};
-ghost use Rattle.build_effect.specs.Prelude.{NoneMadeTwice, AreMade, AreEdgesOf, IsFirstUnbound};
-ghost use Rattle.build_effect.specs.Prelude.{statement_on, AreInverse, IsFirstRepeated};
-ghost use Rattle.build_effect.specs.Prelude.{HaveStatements, IsFirstUnmentioned, EffectFault};
+ghost use Rattle.build_effect.specs.Prelude.{All, OnlyEffect, AreExtended, AreEdgesOf, EffectFault};
+ghost use Rattle.build_effect.specs.Prelude.{MatchBool, AreCanonical, IsBadTextFrom, NoneMadeTwice};
+ghost use Rattle.build_effect.specs.Prelude.{Some, IsBadStatement, IsFirstUnbound, IsFirstRepeated};
+ghost use Rattle.build_effect.specs.Prelude.{ForFault, ArePaths, Names, MadeOnce, AreInverse};
+ghost use Rattle.build_effect.specs.Prelude.{StatementValue, IsFirstAddedTwice, IsFirstUnmentioned};
+ghost use Rattle.build_effect.specs.Prelude.{HasNoEffect, addition_of, added_files, statement_on};
+ghost use Rattle.build_effect.specs.Prelude.{added_outputs, IsEffectFault, AreMade, HaveStatements};
 
 use crate::fault::EffectFault;
 use crate::graph::{Edge, Graph, MadeFiles, Makers, first_output};
@@ -93,10 +92,7 @@ fn edges_of_statements(
 fn names(edge: &Edge, name: &Path) -> bool
     ensures { MatchBool result (Names name.now edge.now) (Names name.now edge.now → ⊥) }
 {
-    match &edge.dyndep {
-        Some(file) => *file == *name,
-        None => false,
-    }
+    edge.dyndep.as_ref().is_some_and(|file| *file == *name)
 }
 
 /// Returns the statement on each edge, given the edge of each statement, or E4 for the first

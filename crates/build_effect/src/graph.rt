@@ -1,21 +1,20 @@
 //! Build edges and their graphs, the order of edges, the text of a graph, and which edge makes each
 //! file.
 ghost use Rattle.std.specs.Prelude.{◌≡◌, ◌≢◌, ◌++◌, List, [], map, length, IfOk, IfErr, OnOk, All};
-ghost use Rattle.build_effect.specs.Prelude.{slice_get, MatchResult, MatchBool, Some, flat_map};
-ghost use Rattle.build_effect.specs.Prelude.{IsSortingOf, HasAdded, held, IsWritten, Gives};
-ghost use Rattle.build_effect.specs.Prelude.{ForFault, spaced, EdgeValue, NamesUnread};
-ghost use Rattle.build_effect.specs.Prelude.{IsGraphFault, MadeOnce, DyndepsAreInputs, IsGraph};
-ghost use Rattle.build_effect.specs.Prelude.{EdgeNeeds, marked_text, edge_line, listing_text};
-ghost use Rattle.build_effect.specs.Prelude.{first_too_long, listing_text_or_fault};
-ghost use Rattle.build_effect.specs.Prelude.{LeavesListingWriter, WritesListingInTurn};
-ghost use Rattle.build_effect.specs.Prelude.{AnswersTooLong, NamesInput, Made, files_of};
-ghost use Rattle.build_effect.specs.Prelude.{seen_files, tables_of, entries_of, HasItsKey};
-ghost use Rattle.build_effect.specs.Prelude.{maker_in, IsFirstTwice, NoneMadeTwice, AreMade};
+ghost use Rattle.build_effect.specs.Prelude.{slice_get, listing_text_or_fault, LeavesListingWriter};
+ghost use Rattle.build_effect.specs.Prelude.{MatchResult, IsSortingOf, listing_text, IsFirstTwice};
+ghost use Rattle.build_effect.specs.Prelude.{MatchBool, HasAdded, IsWritten, EdgeValue, entries_of};
+ghost use Rattle.build_effect.specs.Prelude.{Some, held, spaced, Made};
+ghost use Rattle.build_effect.specs.Prelude.{flat_map, IsGraphFault, AnswersTooLong, NoneMadeTwice};
+ghost use Rattle.build_effect.specs.Prelude.{Gives, MadeOnce, IsGraph, files_of, maker_in, AreMade};
+ghost use Rattle.build_effect.specs.Prelude.{ForFault, EdgeNeeds, edge_line, tables_of, HasItsKey};
+ghost use Rattle.build_effect.specs.Prelude.{NamesUnread, marked_text, NamesInput, seen_files};
+ghost use Rattle.build_effect.specs.Prelude.{DyndepsAreInputs, first_too_long, WritesListingInTurn};
 
 use crate::fault::{GraphFault, ListingWriteFault};
 use dep_order::{Digraph, Sorting, order};
 use indexmap::IndexMap;
-use ninja_text::{Counted, Failure, LINE_LIMIT, Path, WriteCall, escape_into};
+use ninja_text::{Counted, Failure, LINE_LIMIT, Path, Stopped, WriteCall, escape_into};
 use std::alloc::{AllocError, Global};
 use std::marker::Model;
 use std::rc::Rc;
@@ -152,11 +151,9 @@ fn reads_dyndep(edge: &Edge) -> bool
     let Some(file) = &edge.dyndep else {
         return true;
     };
-    edge.inputs
-        .iter()
-        .chain(edge.implicit_inputs.iter())
-        .chain(edge.order_only.iter())
-        .any(|input| *input == *file)
+    let written = edge.inputs.iter().chain(edge.implicit_inputs.iter());
+    let mut inputs = written.chain(edge.order_only.iter());
+    inputs.any(|input| *input == *file)
 }
 
 /// Returns the edge's first output. Errors about an edge report this path.
@@ -179,11 +176,8 @@ pub fn edge_order(alloc: Global, graph: &Graph) -> Result<Sorting, AllocError>
     let makers = graph.makers();
     let mut needs = Vec::with_capacity(alloc, edges.len())?;
     for edge in edges {
-        let inputs = edge
-            .inputs
-            .iter()
-            .chain(edge.implicit_inputs.iter())
-            .chain(edge.order_only.iter());
+        let named = edge.inputs.iter().chain(edge.implicit_inputs.iter());
+        let inputs = named.chain(edge.order_only.iter());
         // A source file has no such edge.
         let row = inputs.filter_map(|file| makers.maker_of(file));
         needs.push(row.collect(alloc)?)?;
@@ -243,9 +237,7 @@ pub fn listing_write<W: WriteCall>(
     let text = graph.to_text(alloc)?;
     match out.write_text(text.as_slice()) {
         Ok(()) => Ok(()),
-        Err(stopped) => Err(Failure::Fault(ListingWriteFault::Io {
-            written: stopped.written,
-        })),
+        Err(Stopped { written }) => Err(Failure::Fault(ListingWriteFault::Io { written })),
     }
 }
 

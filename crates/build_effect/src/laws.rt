@@ -1,10 +1,9 @@
 //! Laws of effects and of edge listings. Each law is the contract of a function that does nothing.
-ghost use Rattle.build_effect.specs.Prelude.{ChecksSuffice, FaultsExclude, EffectGives, AnyOrder};
-ghost use Rattle.build_effect.specs.Prelude.{OrdersEndAlike, WrittenListing, ListingFaultStays};
-ghost use Rattle.build_effect.specs.Prelude.{OneListing, ListedIsFaultless, ListingOrFault};
-ghost use Rattle.build_effect.specs.Prelude.{OneListingFault, OneClass, LineOrCause, CauseIsFaulty};
-ghost use Rattle.build_effect.specs.Prelude.{OneCause, ClassHasForm, LevelOrders, FilesOrder};
-ghost use Rattle.build_effect.specs.Prelude.{OneEffect};
+ghost use Rattle.build_effect.specs.Prelude.{ChecksSuffice, FaultsExclude, AnyOrder, CauseIsFaulty};
+ghost use Rattle.build_effect.specs.Prelude.{EffectGives, LineOrCause, ClassHasForm, LevelOrders};
+ghost use Rattle.build_effect.specs.Prelude.{OrdersEndAlike, WrittenListing, ListingOrFault};
+ghost use Rattle.build_effect.specs.Prelude.{ListingFaultStays, ListedIsFaultless, OneListingFault};
+ghost use Rattle.build_effect.specs.Prelude.{OneListing, OneClass, OneCause, FilesOrder, OneEffect};
 
 /// Statements that add no file twice have exactly one effect on every graph in which no file is
 /// made twice, exactly the edges of the statements' outputs name the dyndep file, and no edge makes

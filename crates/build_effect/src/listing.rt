@@ -129,16 +129,11 @@ impl LineState for ListingState {
     }
 
     fn cut_fault(fault: CutFault) -> LineFault {
-        match fault {
-            CutFault::LineTooLong { line } => LineFault {
-                line,
-                cause: LineCause::LineTooLong,
-            },
-            CutFault::Truncated { line } => LineFault {
-                line,
-                cause: LineCause::Truncated,
-            },
-        }
+        let (line, cause) = match fault {
+            CutFault::LineTooLong { line } => (line, LineCause::LineTooLong),
+            CutFault::Truncated { line } => (line, LineCause::Truncated),
+        };
+        LineFault { line, cause }
     }
 }
 
@@ -194,17 +189,13 @@ fn build_line(alloc: Global, state: &mut ListingState, bytes: usize, words: Word
     let Some(texts) = edge_texts(alloc, bytes, words)? else {
         return Err(Failure::Fault(LineCause::Form));
     };
-    match edge_of(alloc, texts) {
-        Ok(edge) => {
-            state.edges.push(edge)?;
-            state.binding = Binding::Open {
-                has_dyndep: false,
-                has_restat: false,
-            };
-            Ok(())
-        }
-        Err(failure) => Err(failure.map(LineCause::BadPath)),
-    }
+    let edge = edge_of(alloc, texts).map_err(|failure| failure.map(LineCause::BadPath))?;
+    state.edges.push(edge)?;
+    state.binding = Binding::Open {
+        has_dyndep: false,
+        has_restat: false,
+    };
+    Ok(())
 }
 
 /// An indented line sets `dyndep` or `restat` of the last edge, each at most once.
@@ -249,17 +240,14 @@ fn dyndep_line(alloc: Global, state: &mut ListingState, text: Vec<u8>) -> Taken
     else {
         return Err(Failure::Fault(LineCause::Form));
     };
-    match dyndep_path(alloc, &state.edges, text) {
-        Ok(path) => {
-            set_last_dyndep(&mut state.edges, path);
-            state.binding = Binding::Open {
-                has_dyndep: true,
-                has_restat,
-            };
-            Ok(())
-        }
-        Err(failure) => Err(failure.map(LineCause::BadPath)),
-    }
+    let path = dyndep_path(alloc, &state.edges, text);
+    let path = path.map_err(|failure| failure.map(LineCause::BadPath))?;
+    set_last_dyndep(&mut state.edges, path);
+    state.binding = Binding::Open {
+        has_dyndep: true,
+        has_restat,
+    };
+    Ok(())
 }
 
 /// Returns the path of a string. Most edges of a target name one dyndep file, so the path shares
@@ -267,13 +255,11 @@ fn dyndep_line(alloc: Global, state: &mut ListingState, text: Vec<u8>) -> Taken
 fn dyndep_path(alloc: Global, edges: &[Edge], text: Vec<u8>) -> Result<Path, Failure<PathFault>>
     ensures { Gives (λ path. path) result (path_of text.items) }
 {
-    if edges.len() > 1 {
-        let before = &edges[edges.len() - 2];
-        if let Some(path) = &before.dyndep {
-            if path.bytes() == text.as_slice() {
-                return Ok(path.copy(alloc)?);
-            }
-        }
+    if let [.., before, _] = edges
+        && let Some(path) = &before.dyndep
+        && path.bytes() == text.as_slice()
+    {
+        return Ok(path.copy(alloc)?);
     }
     // The path takes the string over if that is canonical.
     let shared = RcSlice::from_vec(text)?;

@@ -260,11 +260,8 @@ fn part(tokens: &mut Words<'_>, sign: TokenKind, strings: &mut Strings) -> Resul
 fn is_rule_name(name: &[u8]) -> bool
     ensures { result ≡ is_rule_name name.now }
 {
-    match name {
-        [] => false,
-        [_, ..] => name.iter().all(|b| b.is_ascii_alphanumeric()
-            || matches!(*b, b'_' | b'.' | b'-')),
-    }
+    let mut bytes = name.iter();
+    !name.is_empty() && bytes.all(|b| b.is_ascii_alphanumeric() || matches!(*b, b'_' | b'.' | b'-'))
 }
 
 /// Returns the edge of a build line, without bindings, or the error of its first string that is not

@@ -29,8 +29,8 @@ returns c =
     (subst found (append_assoc e.inputs e.implicit_inputs e.order_only)
     (cases_from_any _ _ _ (λ x. x ≡ file) (λ x. x ≡ file → ⊥) c.any.ensures.ran
     (YieldsList-from_chain
-    (YieldsList-at c.chain-2.ensures.first (YieldsList-from_chain
-    (YieldsList-at c.chain.ensures.first (YieldsList-from_slice e.inputs inputs))
-    (YieldsList-at c.chain.ensures.second (YieldsList-from_slice e.implicit_inputs implicit_inputs)) c.chain.ensures.first_done c.chain.ensures.second_done))
-    (YieldsList-at c.chain-2.ensures.second (YieldsList-from_slice e.order_only order_only)) c.chain-2.ensures.first_done c.chain-2.ensures.second_done)
+    (YieldsList-at c.chain-inputs.ensures.first (YieldsList-from_chain
+    (YieldsList-at c.chain-written.ensures.first (YieldsList-from_slice e.inputs inputs))
+    (YieldsList-at c.chain-written.ensures.second (YieldsList-from_slice e.implicit_inputs implicit_inputs)) c.chain-written.ensures.first_done c.chain-written.ensures.second_done))
+    (YieldsList-at c.chain-inputs.ensures.second (YieldsList-from_slice e.order_only order_only)) c.chain-inputs.ensures.first_done c.chain-inputs.ensures.second_done)
     (λ x q k. search (rules, tests)) (λ x q k. search (rules, tests))))
