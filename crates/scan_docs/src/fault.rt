@@ -1,8 +1,8 @@
 //! Why a document is rejected.
 
 ghost use Rattle.std.specs.Prelude.{◌≡◌, Result, IfOk, IsUtf8};
-ghost use Rattle.scan_docs.specs.Prelude.{Gives, PathText, PathFault, ◌otherwise◌, AnswersPath};
-ghost use Rattle.scan_docs.specs.Prelude.{Tests, is_name, IsName};
+ghost use Rattle.scan_docs.specs.Prelude.{Gives, PathText, PathFault, Tests, is_name, IsName, Some};
+ghost use Rattle.scan_docs.specs.Prelude.{◌otherwise◌, AnswersPath, place_text, doc_fault_text};
 
 use crate::member::Member;
 use document_values::{Name, SharedNames};
@@ -30,8 +30,6 @@ pub enum Place {
 }
 
 impl fmt::Display for Place {
-    ghost use Rattle.scan_docs.specs.Prelude.{Some, place_text};
-
     ghost output = { λ place. Some (place_text place) };
 
     fn fmt<W: fmt::Write>(&self, f: &mut fmt::Formatter<W>) -> fmt::Result {
@@ -72,8 +70,6 @@ pub enum DocFault {
 }
 
 impl fmt::Display for DocFault {
-    ghost use Rattle.scan_docs.specs.Prelude.{Some, doc_fault_text};
-
     ghost output = { λ fault. Some (doc_fault_text fault) };
 
     fn fmt<W: fmt::Write>(&self, f: &mut fmt::Formatter<W>) -> fmt::Result {

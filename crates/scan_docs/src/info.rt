@@ -1,14 +1,14 @@
 //! Info documents: what a target tells the targets that link it. They are read and written.
 
 ghost use Rattle.std.specs.Prelude.{◌≡◌, Some, Ok, IfOk, IfErr, OnOk};
-ghost use Rattle.scan_docs.specs.Prelude.{ForFault, view, Answers, IsAccepted, IsRefused};
-ghost use Rattle.scan_docs.specs.Prelude.{HasOneAnswer, info_of, IsInfo, IsModule, IsRequirement};
-ghost use Rattle.scan_docs.specs.Prelude.{IsText, text, privacy, path_of, info_checks};
-ghost use Rattle.scan_docs.specs.Prelude.{module_checks, requirement_checks, entry_shape_checks};
-ghost use Rattle.scan_docs.specs.Prelude.{visibility_check, named_file_checks, IsInfoText};
-ghost use Rattle.scan_docs.specs.Prelude.{IsModuleText, ReadsBack, info_text, module_tree};
-ghost use Rattle.scan_docs.specs.Prelude.{IsSoundInfo, IsSoundModule, IsSoundPair, info_tree};
-ghost use Rattle.scan_docs.specs.Prelude.{SendsValue, SendsText, BeginsNamedFile};
+ghost use Rattle.scan_docs.specs.Prelude.{ForFault, IsModule, path_of, Answers, info_of, ReadsBack};
+ghost use Rattle.scan_docs.specs.Prelude.{privacy, IsAccepted, IsInfoText, SendsValue, ModuleValue};
+ghost use Rattle.scan_docs.specs.Prelude.{info_text, info_tree, SendsText, InfoValue, IsRefused};
+ghost use Rattle.scan_docs.specs.Prelude.{info_checks, view, module_tree, IsSoundInfo, IsSoundPair};
+ghost use Rattle.scan_docs.specs.Prelude.{text, IsRequirement, BeginsNamedFile, named_file_checks};
+ghost use Rattle.scan_docs.specs.Prelude.{IsInfo, IsText};
+ghost use Rattle.scan_docs.specs.Prelude.{requirement_checks, entry_shape_checks, visibility_check};
+ghost use Rattle.scan_docs.specs.Prelude.{module_checks, IsSoundModule, HasOneAnswer, IsModuleText};
 ghost use Rattle.scan_docs.specs.declared.member.Member.TheVariants as m;
 
 use crate::fault::{DocFault, Place, Read, bad_shape, path_at, read_name};
@@ -67,7 +67,7 @@ fn names_of_modules(alloc: Global, modules: &[Value]) -> Result<Vec<u8>, AllocEr
     Ok(names)
 }
 
-#[tactic(auto, unfolding(crate::specs::InfoChecks::module_checks), using(crate::proofs::Each::both))]
+#[tactic(auto, unfolding(crate::specs::Prelude::module_checks), using(crate::proofs::Each::both))]
 fn read_module(
     alloc: Global,
     names: &mut SharedNames,
@@ -125,7 +125,7 @@ fn read_visibility(with_visibility: bool, place: Place, value: &Value) -> Read<b
     }
 }
 
-#[tactic(auto, unfolding(crate::specs::InfoChecks::requirement_checks), using(crate::proofs::Each::both))]
+#[tactic(auto, unfolding(crate::specs::Prelude::requirement_checks), using(crate::proofs::Each::both))]
 fn read_requirement(
     alloc: Global,
     names: &mut SharedNames,
@@ -167,8 +167,6 @@ pub struct LentModule<'a> {
 }
 
 impl<'a> Model for LentModule<'a> {
-    ghost use Rattle.scan_docs.specs.Prelude.{ModuleValue};
-
     ghost Value = { ModuleValue };
 
     ghost view = { λ v. record {
@@ -187,8 +185,6 @@ pub struct LentInfo<'a> {
 }
 
 impl<'a> Model for LentInfo<'a> {
-    ghost use Rattle.scan_docs.specs.Prelude.{InfoValue};
-
     ghost Value = { InfoValue };
 
     ghost view = { λ i. record { target = i.target.now; modules = i.modules.items } };
@@ -253,8 +249,6 @@ struct InfoDocument<'a> {
 }
 
 impl<'a> Model for InfoDocument<'a> {
-    ghost use Rattle.scan_docs.specs.Prelude.{InfoValue, IsInfoText};
-
     ghost Value = { InfoValue };
 
     ghost view = { λ d. d.info.now };

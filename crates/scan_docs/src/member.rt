@@ -1,7 +1,7 @@
 //! The members of the documents.
 
 ghost use Rattle.std.specs.Prelude.{◌≡◌};
-ghost use Rattle.scan_docs.specs.Prelude.{key};
+ghost use Rattle.scan_docs.specs.Prelude.{key, Some};
 
 use std::fmt;
 
@@ -85,8 +85,6 @@ impl Member {
 }
 
 impl fmt::Display for Member {
-    ghost use Rattle.scan_docs.specs.Prelude.{Some, key};
-
     ghost output = { λ member. Some (key member) };
 
     fn fmt<W: fmt::Write>(&self, f: &mut fmt::Formatter<W>) -> fmt::Result {

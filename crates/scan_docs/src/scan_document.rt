@@ -1,12 +1,12 @@
 //! Scan documents (P1689R5), and the paths of the files of their rules and modules.
 
-ghost use Rattle.std.specs.Prelude.{◌≡◌, ◌||◌, true, Some, IfOk, IfErr, map, option_copied, All};
-ghost use Rattle.scan_docs.specs.Prelude.{AllZip, ForFault, placed, view, is_name, rules_of};
-ghost use Rattle.scan_docs.specs.Prelude.{IsAccepted, IsRefused, HasOneAnswer, AnswersPath};
-ghost use Rattle.scan_docs.specs.Prelude.{Answers, AreRules, IsRule, IsRuleText, IsProvidedModule};
-ghost use Rattle.scan_docs.specs.Prelude.{IsRequired, dashed, made_file, scan_checks, rule_checks};
-ghost use Rattle.scan_docs.specs.Prelude.{all_provided_checks, provided_checks};
-ghost use Rattle.scan_docs.specs.Prelude.{all_required_checks, required_checks};
+ghost use Rattle.std.specs.Prelude.{◌≡◌, ◌||◌, true, Some, IfOk, IfErr, map, option_copied, IsUtf8};
+ghost use Rattle.scan_docs.specs.Prelude.{All, AnswersPath, scan_checks, rule_checks, HasOneAnswer};
+ghost use Rattle.scan_docs.specs.Prelude.{SettingValue, all_provided_checks, all_required_checks};
+ghost use Rattle.scan_docs.specs.Prelude.{AllZip, placed, IsRule, dashed, Option, Answers};
+ghost use Rattle.scan_docs.specs.Prelude.{ForSome, ForFault, is_name, rules_of, AreRules, PathText};
+ghost use Rattle.scan_docs.specs.Prelude.{view, IsProvidedModule, provided_checks, required_checks};
+ghost use Rattle.scan_docs.specs.Prelude.{IsAccepted, IsRefused, IsRuleText, IsRequired, made_file};
 
 use crate::fault::{DocFault, Place, Read, bad_shape, path_at, read_name};
 use crate::member::Member;
@@ -225,9 +225,6 @@ pub struct ReducedSetting<'s> {
 }
 
 impl<'s> Model for ReducedSetting<'s> {
-    ghost use Rattle.std.specs.Prelude.{◌≡◌, IsUtf8};
-    ghost use Rattle.scan_docs.specs.Prelude.{SettingValue};
-
     ghost Value = { SettingValue };
 
     ghost view = { λ s. s.setting.now };
@@ -284,8 +281,6 @@ struct RuleDirectory<'t> {
 }
 
 impl<'t> Model for RuleDirectory<'t> {
-    ghost use Rattle.scan_docs.specs.Prelude.{Option, IsUtf8, ForSome, PathText};
-
     ghost Value = { Option PathText };
 
     ghost view = { λ d. d.directory };
@@ -298,10 +293,8 @@ impl<'t> RuleDirectory<'t> {
     fn of(alloc: Global, work: Option<&'t str>) -> Result<RuleDirectory<'t>, AllocError>
         ensures { IfOk result (λ directory. directory ≡ option_copied work.entry) }
     {
-        let directory = match work {
-            Some(work) => Some(WorkDirectory::of(alloc, work.as_bytes())?),
-            None => None,
-        };
+        let directory = work.map(|work| WorkDirectory::of(alloc, work.as_bytes()));
+        let directory = directory.transpose()?;
         Ok(RuleDirectory { directory })
     }
 

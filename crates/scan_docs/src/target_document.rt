@@ -1,11 +1,12 @@
 //! Target documents, and project documents, which list them.
 
-ghost use Rattle.std.specs.Prelude.{◌≡◌, Some, None, Ok, IfOk, IfErr, string_bytes, option_map};
-ghost use Rattle.scan_docs.specs.Prelude.{view, ForFault, placed, text, texts_of, Answers};
-ghost use Rattle.scan_docs.specs.Prelude.{IsAccepted, IsRefused, HasOneAnswer, IsTarget};
-ghost use Rattle.scan_docs.specs.Prelude.{target_checks, name_checks, directory_checks};
-ghost use Rattle.scan_docs.specs.Prelude.{kept_checks, dyndep_checks, file_checks, build_dir};
-ghost use Rattle.scan_docs.specs.Prelude.{map_form, spec_of, IsProject, project_checks, project_of};
+ghost use Rattle.std.specs.Prelude.{◌≡◌, Some, None, IfOk, IfErr, string_bytes, option_map, true};
+ghost use Rattle.scan_docs.specs.Prelude.{Ok, placed, Answers, spec_of, ForSome, text};
+ghost use Rattle.scan_docs.specs.Prelude.{view, ForFault, texts_of, IsTarget, map_form, IsProject};
+ghost use Rattle.scan_docs.specs.Prelude.{map, name_checks, kept_checks, file_checks, SettingValue};
+ghost use Rattle.scan_docs.specs.Prelude.{IsAccepted, is_rooted, IsRefused, build_dir, project_of};
+ghost use Rattle.scan_docs.specs.Prelude.{ProjectValue, HasOneAnswer, target_checks, dyndep_checks};
+ghost use Rattle.scan_docs.specs.Prelude.{directory_checks, project_checks, TargetDocumentValue};
 ghost use Rattle.scan_docs.specs.declared.member.Member.TheVariants as m;
 
 use crate::fault::{DocFault, Place, Read, bad_shape, path_at};
@@ -19,6 +20,7 @@ use std::alloc::Global;
 use std::marker::Model;
 
 /// The files that a target's modules are compiled to.
+#[derive(Drop)]
 pub struct Setting {
     /// The directory of the BMIs, or an empty string.
     pub module_dir: String,
@@ -28,21 +30,7 @@ pub struct Setting {
     pub build_dir: Option<Path>,
 }
 
-// Not derived: the prover writes a derived drop out, field by field, wherever a value goes.
-impl Drop for Setting {
-    fn drop(self) {
-        let Setting {
-            module_dir: _,
-            module_ext: _,
-            build_dir: _,
-        } = self;
-    }
-}
-
 impl Model for Setting {
-    ghost use Rattle.std.specs.Prelude.{◌≡◌, true, string_bytes};
-    ghost use Rattle.scan_docs.specs.Prelude.{ForSome, is_rooted, SettingValue};
-
     ghost Value = { SettingValue };
 
     ghost view = { λ s. record {
@@ -82,8 +70,6 @@ pub struct TargetSpec {
 }
 
 impl Model for TargetSpec {
-    ghost use Rattle.scan_docs.specs.Prelude.{map, option_map, string_bytes, TargetDocumentValue};
-
     ghost Value = { TargetDocumentValue };
 
     ghost view = { λ t. record {
@@ -129,7 +115,7 @@ fn read_spec(alloc: Global, tree: &Value) -> Read<TargetSpec>
     let linked = shape::texts(alloc, tree, Member::Linked, place)?;
     let kept = read_kept(alloc, tree)?;
     let (dyndep, dyndep_path) = read_dyndep(alloc, &setting, tree)?;
-    let (info, map, edges) = read_files(alloc, tree)?;
+    let Files { info, map, edges } = read_files(alloc, tree)?;
     let restat = shape::given(tree, Member::Restat).and_then(Value::as_bool);
     Ok(TargetSpec {
         target,
@@ -215,13 +201,21 @@ fn read_dyndep(alloc: Global, setting: &Setting, tree: &Value) -> Read<(String, 
     Ok((dyndep, path))
 }
 
+/// The files of a target document besides the dyndep file.
+#[derive(Drop)]
+struct Files {
+    info: String,
+    map: Option<MapForm>,
+    edges: Option<String>,
+}
+
 /// Returns the info file, the form of the maps, and the edge list.
 #[tactic(auto, unfolding(crate::specs::TargetChecks::file_checks))]
-fn read_files(alloc: Global, tree: &Value) -> Read<(String, Option<MapForm>, Option<String>)>
+fn read_files(alloc: Global, tree: &Value) -> Read<Files>
     ensures { Answers (file_checks (view tree.now))
-        (λ files. (text m.Info (view tree.now) ≡ Some (string_bytes files.0))
-        × (map_form (view tree.now) ≡ files.1)
-        × (text m.Edges (view tree.now) ≡ option_map string_bytes files.2)) result }
+        (λ files. (text m.Info (view tree.now) ≡ Some (string_bytes files.info))
+        × (map_form (view tree.now) ≡ files.map)
+        × (text m.Edges (view tree.now) ≡ option_map string_bytes files.edges)) result }
 {
     let place = Place::Document;
     let info = shape::owned_text(alloc, tree, Member::Info, place)?;
@@ -238,7 +232,7 @@ fn read_files(alloc: Global, tree: &Value) -> Read<(String, Option<MapForm>, Opt
         Some(edges) => Some(String::from_str(alloc, edges)?),
         None => None,
     };
-    Ok((info, map, edges))
+    Ok(Files { info, map, edges })
 }
 
 /// The member of a project document. Strings are as in the document.
@@ -249,8 +243,6 @@ pub struct ProjectSpec {
 }
 
 impl Model for ProjectSpec {
-    ghost use Rattle.scan_docs.specs.Prelude.{map, string_bytes, ProjectValue};
-
     ghost Value = { ProjectValue };
 
     ghost view = { λ p. record { targets = map string_bytes p.targets.items } };
