@@ -11,7 +11,7 @@ use Rattle.scan_docs.specs.declared.fault.Place.TheVariants as place
 use Rattle.scan_docs.specs.Check.{version_checks, each_from}
 use Rattle.scan_docs.specs.Member.{key}
 use Rattle.scan_docs.specs.TargetChecks.{name_checks}
-use Rattle.scan_docs.specs.InfoChecks.{modules_check, entry_shape_checks, requires_check, visibility_check, named_file_checks, requirement_checks, all_requirement_checks, module_checks, all_module_checks, info_checks}
+use Rattle.scan_docs.specs.InfoChecks.{entry_shape_checks, visibility_check, named_file_checks, requirement_checks, all_requirement_checks, module_checks, all_module_checks, info_checks}
 use Rattle.scan_docs.proofs.Each.{failure_first, none_refused, elements_items_of}
 use Rattle.std.proofs.lemmas.Bool.{and_parts, cases_eq, cases_lt}
 use Rattle.std.proofs.lemmas.List.{get_or-append-add}
@@ -245,7 +245,7 @@ visibility_reads true = refl
 visibility_reads false = refl
 
 module_passes : (v : ModuleValue) (j : ℕ) → IsSoundModule v → first_failure (module_checks true j (module_tree v)) ≡ None
-unfolding module_checks entry_shape_checks requires_check visibility_check named_file_checks all_requirement_checks module_tree requirements_tree key
+unfolding module_checks entry_shape_checks visibility_check named_file_checks all_requirement_checks module_tree requirements_tree key
 module_passes v j h =
     rw (visibility_reads v.is_private, h.named.named.accepted, h.named.canonical, elements_items_of (map requirement_tree v.required))
     (requirements_pass v.required j 0 (recursion_from_All (λ p. IsSoundPair p.0 p.1) v.required h.required))
@@ -272,7 +272,7 @@ modules_mean [] h = tt
 modules_mean (v ∷ vs) h = (module_means v h.0, modules_mean vs h.1)
 
 info_passes : (info : InfoValue) → IsSoundInfo info → first_failure (info_checks (info_tree info)) ≡ None
-unfolding info_checks version_checks name_checks modules_check all_module_checks info_tree key
+unfolding info_checks version_checks name_checks all_module_checks info_tree key
 info_passes info h = rw (h.target.accepted, elements_items_of (map module_tree info.modules))
     (modules_pass info.modules 0 (recursion_from_All IsSoundModule info.modules h.modules))
 

@@ -125,7 +125,7 @@ fn read_visibility(with_visibility: bool, place: Place, value: &Value) -> Read<b
     }
 }
 
-#[tactic(auto, unfolding(crate::specs::Prelude::requirement_checks), using(crate::proofs::Each::both))]
+#[tactic(auto, using(crate::proofs::Exact::requirement_parts))]
 fn read_requirement(
     alloc: Global,
     names: &mut SharedNames,

@@ -228,10 +228,8 @@ fn read_files(alloc: Global, tree: &Value) -> Read<Files>
         Some(Some("clang")) => Some(MapForm::Clang),
         _ => return Err(bad_shape(place, Member::Map)),
     };
-    let edges = match shape::text(tree, Member::Edges, place)? {
-        Some(edges) => Some(String::from_str(alloc, edges)?),
-        None => None,
-    };
+    let edges = shape::text(tree, Member::Edges, place)?;
+    let edges = edges.map(|text| String::from_str(alloc, text)).transpose()?;
     Ok(Files { info, map, edges })
 }
 

@@ -1,6 +1,6 @@
 use Rattle.std.proofs.Common.{◌≡◌, Bool, List, refl}
 use Rattle.scan_docs.specs.Prelude.{Data, view, each_from}
-use Rattle.scan_docs.specs.InfoChecks.{modules_check, module_checks, all_module_checks, info_checks}
+use Rattle.scan_docs.specs.InfoChecks.{module_checks, all_module_checks, info_checks}
 use Rattle.scan_docs.proofs.Each.{failure_of_both, one_more, refused_at, all_read, stopped}
 use Rattle.scan_docs.proofs.info.read_info.Goals as goal
 
@@ -9,7 +9,7 @@ unfolding all_module_checks
 checks_are with_visibility ds = refl
 
 pub returns-in_err-entry : goal.returns-in_err-entry
-unfolding modules_check info_checks
+unfolding info_checks
 returns-in_err-entry c =
     stopped (info_checks (view c.args.tree.now)) _ c.from_residual-in_err-entry.result _ c.from_residual-in_err-entry.ensures.1
     (λ ne. rw (
@@ -30,7 +30,7 @@ loop-index-preserved c =
     (one_more c.in_ok-entry.entry c.loop-index-test.true c.index-values-index.is c.in_ok-entry.ensures.0 c.in_ok-entry.ensures.1 c.loop-index.invariant)
 
 pub returns : goal.returns
-unfolding modules_check info_checks
+unfolding info_checks
 returns c =
     let modules = all_read c.loop-index-test.false c.loop-index.invariant in (
       rw (

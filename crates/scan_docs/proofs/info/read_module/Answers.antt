@@ -1,11 +1,11 @@
 use Rattle.std.proofs.Common.{Some, sym, ap, ◌∙◌}
 use Rattle.serde_json.specs.View.{view}
-use Rattle.scan_docs.specs.InfoChecks.{requires_check, all_requirement_checks, module_checks}
+use Rattle.scan_docs.specs.InfoChecks.{all_requirement_checks, module_checks}
 use Rattle.scan_docs.proofs.Each.{failure_of_both, one_more, refused_at, all_read, stopped}
 use Rattle.scan_docs.proofs.info.read_module.Goals as goal
 
 pub returns-in_err-pair : goal.returns-in_err-pair
-unfolding requires_check module_checks all_requirement_checks
+unfolding module_checks all_requirement_checks
 returns-in_err-pair c =
     stopped (module_checks c.args.with_visibility c.args.number (view c.args.value.now)) _ c.from_residual-in_err-pair.result _
     c.from_residual-in_err-pair.ensures.1
@@ -29,7 +29,7 @@ loop-entry-preserved c =
     (one_more c.in_ok-pair.pair c.loop-entry-test.true c.index-requirements-entry.is c.in_ok-pair.ensures.0 c.in_ok-pair.ensures.1 c.loop-entry.invariant)
 
 pub returns : goal.returns
-unfolding requires_check module_checks all_requirement_checks
+unfolding module_checks all_requirement_checks
 returns c =
     let required = all_read c.loop-entry-test.false c.loop-entry.invariant in (
       rw (
