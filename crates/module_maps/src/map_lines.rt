@@ -95,19 +95,14 @@ fn index_of(text: &[u8], mark: u8) -> Option<usize>
 pub fn pair_in(alloc: Global, mark: u8, text: &[u8]) -> Result<Option<(Name, Path)>, AllocError>
     ensures { IfOk result (λ pair. pair ≡ pair_in mark text.now) }
 {
-    let Some((name, path)) = cut(text, mark) else {
-        return Ok(None);
-    };
-    let Ok(name) = str::from_utf8(name) else {
-        return Ok(None);
-    };
-    let Some(name) = Name::of(alloc, name)? else {
-        return Ok(None);
-    };
-    match path_in(alloc, path)? {
-        Some(path) => Ok(Some((name, path))),
-        None => Ok(None),
+    if let Some((name, path)) = cut(text, mark)
+        && let Ok(name) = str::from_utf8(name)
+        && let Some(name) = Name::of(alloc, name)?
+        && let Some(path) = path_in(alloc, path)?
+    {
+        return Ok(Some((name, path)));
     }
+    Ok(None)
 }
 
 /// Returns the path in a text, `None` if the text is not canonical or has a byte that needs quotes,
@@ -148,21 +143,9 @@ fn is_map_byte(b: u8) -> bool
 pub fn first_unfit<'m>(map: &ModuleMap<'m>) -> Option<&'m Path>
     ensures { option_copied result ≡ first_unfit (pairs_of map.now) }
 {
-    match unfit_in(map.provided()) {
-        Some(path) => Some(path),
-        None => unfit_in(map.needed()),
-    }
-}
-
-fn unfit_in<'m>(pairs: &[(&'m Name, &'m Path)]) -> Option<&'m Path>
-    ensures { option_copied result ≡ first_unfit (lent_pairs pairs.now) }
-{
-    for pair in pairs {
-        if !is_fit(pair.1.bytes()) {
-            return Some(pair.1);
-        }
-    }
-    None
+    let mut pairs = map.provided().iter().chain(map.needed().iter());
+    let pair = pairs.find(|pair| !is_fit(pair.1.bytes()))?;
+    Some(pair.1)
 }
 
 /// Appends a line for each module: the prefix, the name, the mark and the path.

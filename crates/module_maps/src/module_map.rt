@@ -1,8 +1,10 @@
 //! Module maps, and styles of them.
 
 ghost use Rattle.std.specs.Prelude.{◌≡◌, ◌↔◌, All, IsTrue, IsOk, IfOk, IsSome, IfSome};
-ghost use Rattle.module_maps.specs.Prelude.{lent_pairs, lent_map, IsModulePair, IsModuleMap};
-ghost use Rattle.module_maps.specs.Prelude.{IsRising, Gives, MapEntry, MapFault};
+ghost use Rattle.module_maps.specs.Prelude.{lent_pairs, IsModuleMap, ReadsWritten, KeepsPairs};
+ghost use Rattle.module_maps.specs.Prelude.{lent_map, IsRising, Gives, MapEntry, MapFault, List};
+ghost use Rattle.module_maps.specs.Prelude.{IsModulePair, ModuleMapValue, Result, FaultsAreOfMaps};
+ghost use Rattle.module_maps.specs.Prelude.{Text};
 
 use crate::fault::MapFault;
 use document_values::Name;
@@ -28,8 +30,6 @@ pub struct ModuleMap<'m> {
 }
 
 impl<'m> Model for ModuleMap<'m> {
-    ghost use Rattle.module_maps.specs.Prelude.{ModuleMapValue, IsModuleMap, lent_map};
-
     ghost Value = { ModuleMapValue };
 
     ghost view = { λ m. lent_map m.provided.items m.needed.items };
@@ -96,9 +96,6 @@ impl<'m> ModuleMap<'m> {
 
 /// A style of module maps: how a text tells a compiler the files of modules.
 pub trait MapStyle {
-    ghost use Rattle.module_maps.specs.Prelude.{List, Result, Text, ModuleMapValue};
-    ghost use Rattle.module_maps.specs.Prelude.{FaultsAreOfMaps, ReadsWritten, KeepsPairs};
-
     /// The text that the style writes for a map, or why it cannot.
     ghost written: { Self → ModuleMapValue → Result Text MapFault };
 

@@ -1,8 +1,10 @@
 //! The styles of GCC and of Clang.
 
 ghost use Rattle.std.specs.Prelude.{◌≡◌, ◌++◌, ◌-◌, length, slice_get, IfOk, OnOk, flat_map};
-ghost use Rattle.module_maps.specs.Prelude.{Gives, IsWrittenText, lent_pairs, lines_of};
-ghost use Rattle.module_maps.specs.Prelude.{output_text, rises_behind, read_provided};
+ghost use Rattle.module_maps.specs.Prelude.{Gives, lent_pairs, gcc_entries, clang_kept, clang_form};
+ghost use Rattle.module_maps.specs.Prelude.{IsWrittenText, lines_of, read_provided, clang_written};
+ghost use Rattle.module_maps.specs.Prelude.{output_text, rises_behind, gcc_written, clang_entries};
+ghost use Rattle.module_maps.specs.Prelude.{gcc_kept, gcc_form};
 
 use crate::fault::MapFault;
 use crate::map_lines::{
@@ -21,7 +23,6 @@ use std::alloc::{AllocError, Global};
 pub struct Gcc;
 
 impl MapStyle for Gcc {
-    ghost use Rattle.module_maps.specs.Prelude.{gcc_written, gcc_kept, gcc_entries};
     ghost use Rattle.module_maps.specs.map_laws.GccLemmas.{gcc-faults, gcc-back, gcc-pairs};
 
     ghost written = { λ _ m. gcc_written m };
@@ -70,8 +71,6 @@ impl MapStyle for Gcc {
 }
 
 impl LineForm for Gcc {
-    ghost use Rattle.module_maps.specs.Prelude.{gcc_form};
-
     ghost form = { λ _. gcc_form };
 
     fn entry(&self, alloc: Global, _entries: &[MapEntry], line: &[u8]) -> LineEntry {
@@ -91,7 +90,6 @@ impl LineForm for Gcc {
 pub struct Clang;
 
 impl MapStyle for Clang {
-    ghost use Rattle.module_maps.specs.Prelude.{clang_written, clang_kept, clang_entries};
     ghost use Rattle.module_maps.specs.map_laws.ClangLemmas.{clang-faults, clang-back, clang-pairs};
 
     ghost written = { λ _ m. clang_written m };
@@ -127,7 +125,11 @@ impl MapStyle for Clang {
         }
         let len = map.text_len(b"-x c++-module\n-fmodule-output=\n", b"-fmodule-file==\n");
         let mut text = Vec::with_capacity(alloc, len)?;
-        push_outputs(&mut text, map.provided())?;
+        if let Some(pair) = map.provided().first() {
+            text.extend_from_slice(b"-x c++-module\n-fmodule-output=")?;
+            text.extend_from_slice(pair.1.bytes())?;
+            text.push(b'\n')?;
+        }
         push_lines(&mut text, b"-fmodule-file=", b'=', map.needed())?;
         Ok(text)
     }
@@ -139,23 +141,17 @@ impl MapStyle for Clang {
         ensures written { IfOk result (λ found.
             IsWrittenText clang_written clang_kept text.now found.items) }
     {
-        match cut_line(text) {
-            Some((first, rest)) => {
-                if first == b"-x c++-module".as_slice() {
-                    read_provided(alloc, rest)
-                } else {
-                    read_lines(alloc, &Clang, Vec::new(alloc), 1, text)
-                }
-            }
-            None => read_lines(alloc, &Clang, Vec::new(alloc), 1, text),
+        if let Some((first, rest)) = cut_line(text)
+            && first == b"-x c++-module".as_slice()
+        {
+            return read_provided(alloc, rest);
         }
+        read_lines(alloc, &Clang, Vec::new(alloc), 1, text)
     }
 }
 
 /// The form of the lines of needed modules.
 impl LineForm for Clang {
-    ghost use Rattle.module_maps.specs.Prelude.{clang_form};
-
     ghost form = { λ _. clang_form };
 
     fn entry(&self, alloc: Global, entries: &[MapEntry], line: &[u8]) -> LineEntry {
@@ -191,20 +187,6 @@ fn read_provided(alloc: Global, text: &[u8]) -> Result<Vec<MapEntry>, Failure<Ma
 fn rises_behind(entries: &[MapEntry], name: &Name) -> bool
     ensures { result ≡ rises_behind (slice_get entries.now (length entries.now - 1)) name.now }
 {
-    match entries.last().and_then(|entry| entry.name.as_ref()) {
-        Some(before) => before < name,
-        None => true,
-    }
-}
-
-fn push_outputs(text: &mut Vec<u8>, pairs: &[(&Name, &Path)]) -> Result<(), AllocError>
-    ensures { OnOk result
-        (text.new.items ≡ text.old.items ++ flat_map output_text (lent_pairs pairs.now)) }
-{
-    for pair in pairs {
-        text.extend_from_slice(b"-x c++-module\n-fmodule-output=")?;
-        text.extend_from_slice(pair.1.bytes())?;
-        text.push(b'\n')?;
-    }
-    Ok(())
+    let last = entries.last().and_then(|entry| entry.name.as_ref());
+    last.is_none_or(|before| before < name)
 }
