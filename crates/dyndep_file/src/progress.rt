@@ -68,8 +68,7 @@ type Passed = Result<(), Failure<LineFault>>;
 fn read_text(alloc: Global, progress: &mut Progress, line: Line<'_>) -> Passed
     ensures { let view = seen_line line.entry in
         PassesOr (text_line_fault progress.old.stage view.text view.comment)
-        (IsDyndepLine view.text view.comment)
-        progress.old result progress.new }
+        (IsDyndepLine view.text view.comment) progress.old result progress.new }
 {
     match line_form(line) {
         Err(fault) => Err(Failure::Fault(LineFault::Lexical(fault))),
@@ -115,8 +114,7 @@ fn indented_line(alloc: Global, progress: &mut Progress, found: Option<Assignmen
 /// is not allowed decides the error.
 fn build_line(alloc: Global, progress: &mut Progress, words: Words<'_>) -> Passed
     ensures { PassesOr (build_fault progress.old.stage (symbols_left words.entry))
-        (IsBuildOf (symbols_left words.entry))
-        progress.old result progress.new }
+        (IsBuildOf (symbols_left words.entry)) progress.old result progress.new }
 {
     match progress.stage {
         Stage::BeforeVersion => return Err(Failure::Fault(LineFault::NoVersion)),

@@ -155,9 +155,8 @@ pub(crate) fn push_lines(
     mark: u8,
     pairs: &[(&Name, &Path)],
 ) -> Result<(), AllocError>
-    ensures { OnOk result (text.new.items ≡ text.old.items
-        ++ flat_map (λ pair. ended_line (prefix.now ++ pair.0 ++ mark ∷ pair.1))
-        (lent_pairs pairs.now)) }
+    ensures { OnOk result (text.new.items ≡ text.old.items ++ flat_map
+        (λ pair. ended_line (prefix.now ++ pair.0 ++ mark ∷ pair.1)) (lent_pairs pairs.now)) }
 {
     for pair in pairs {
         text.extend_from_slice(prefix)?;

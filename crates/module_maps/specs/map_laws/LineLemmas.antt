@@ -122,30 +122,6 @@ name-other text other = by (is_utf8 text) refl
     by true is = absurd (other (IsUtf8-from_is_utf8 text is))
     by false is = refl
 
--- ---- paths that cannot be in a map
-
-pub unfit-front : (xs ys : Pairs) (path : Text) → first_unfit xs ≡ Some path →
-    first_unfit (xs ++ ys) ≡ Some path
-unfit-front [] ys path e = absurd cc
-unfit-front (x ∷ xs) ys path e = by (is_fit x.1) e (unfit-front xs ys path)
-  where
-    by : (t : Bool) → cond t (first_unfit xs) (Some x.1) ≡ Some path →
-        (first_unfit xs ≡ Some path → first_unfit (xs ++ ys) ≡ Some path) →
-        cond t (first_unfit (xs ++ ys)) (Some x.1) ≡ Some path
-    by true e more = more e
-    by false e more = e
-
-pub unfit-back : (xs ys : Pairs) → first_unfit xs ≡ None →
-    first_unfit (xs ++ ys) ≡ first_unfit ys
-unfit-back [] ys e = refl
-unfit-back (x ∷ xs) ys e = by (is_fit x.1) e (unfit-back xs ys)
-  where
-    by : (t : Bool) → cond t (first_unfit xs) (Some x.1) ≡ None →
-        (first_unfit xs ≡ None → first_unfit (xs ++ ys) ≡ first_unfit ys) →
-        cond t (first_unfit (xs ++ ys)) (Some x.1) ≡ first_unfit ys
-    by true e more = more e
-    by false e more = absurd cc
-
 -- ---- reading lines
 
 -- `lines_of` returns at least one line

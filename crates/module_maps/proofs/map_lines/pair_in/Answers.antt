@@ -20,8 +20,7 @@ returns c =
 pub returns-2 : goal.returns-2
 returns-2 c =
     elim c.in_default.branch [
-      | in_default-via-in-None-1 w ↦
-          let none : cut c.args.mark c.args.text.now ≡ None = search rules in sym (pair-of c.args.mark c.args.text.now None none)
+      | in_default-via-in-None-1 w ↦ search (rules, pair-of)
       | in_default-via-in-Some+in-Err-1 w ↦
           let other : IsUtf8 w.in-Some.name.now → ⊥ = search rules in
           of-parts c.args.mark c.args.text.now w.in-Some.ensures.cut (name-other w.in-Some.name.now other) refl
