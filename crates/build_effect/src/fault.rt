@@ -1,7 +1,6 @@
 //! The fault types of graphs, of effects, and of reading and writing edge listings.
 //!
-//! A path need not be UTF-8, so a fault does not print the file that it is about. `path` returns
-//! the file.
+//! A path need not be UTF-8, so a fault does not print its file. `path` returns the file.
 ghost use Rattle.std.specs.Prelude.{◌≡◌, Some, option_copied};
 ghost use Rattle.build_effect.specs.Prelude.{graph_fault_text, graph_fault_path, effect_fault_text};
 ghost use Rattle.build_effect.specs.Prelude.{effect_fault_path, line_cause_text};
@@ -55,8 +54,7 @@ pub enum EffectFault {
         path: usize,
         fault: PathFault,
     },
-    /// E5: no edge makes the statement's output, or the edge that makes it does not name the dyndep
-    /// file.
+    /// E5: no edge makes the statement's output, or that edge does not name the dyndep file.
     NotBound {
         output: Path,
     },
@@ -64,8 +62,7 @@ pub enum EffectFault {
     StatementTwice {
         output: Path,
     },
-    /// E6: an edge names the dyndep file, and no statement is on it. `output` is the first output
-    /// of the edge.
+    /// E6: an edge names the dyndep file, but has no statement. `output` is its first output.
     NotMentioned {
         output: Path,
     },

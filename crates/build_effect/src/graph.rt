@@ -1,5 +1,4 @@
-//! Build edges and their graphs, the order of edges, the text of a graph, and which edge makes each
-//! file.
+//! Build edges and their graphs, the order of edges, the text of a graph, and the makers of files.
 ghost use Rattle.std.specs.Prelude.{◌≡◌, ◌≢◌, ◌++◌, List, [], map, length, IfOk, IfErr, OnOk, All};
 ghost use Rattle.build_effect.specs.Prelude.{slice_get, listing_text_or_fault, LeavesListingWriter};
 ghost use Rattle.build_effect.specs.Prelude.{MatchResult, IsSortingOf, listing_text, IsFirstTwice};

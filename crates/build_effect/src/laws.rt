@@ -7,8 +7,7 @@ ghost use Rattle.build_effect.specs.Prelude.{OneListing, OneClass, OneCause, Fil
 
 /// Statements that add no file twice have exactly one effect on every graph in which no file is
 /// made twice, exactly the edges of the statements' outputs name the dyndep file, and no edge makes
-/// an added output. The effect is that of the statements with canonical paths, and these are one
-/// list.
+/// an added output. The effect is that of the statements with canonical paths, which are one list.
 pub fn one_effect()
     ensures one { OneEffect }
     ensures gives { EffectGives }

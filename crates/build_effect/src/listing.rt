@@ -22,8 +22,7 @@ use std::rc::RcSlice;
 /// Reads an edge listing that comes in pieces: build lines with their bindings `dyndep` and
 /// `restat` (Ninja 1.11 manual, "Build statements"), comments and blank lines.
 ///
-/// A piece may end anywhere, also within a continuation or between CR and LF. The result is that of
-/// the whole text.
+/// A piece may end anywhere, also within a continuation or between CR and LF, to the same result.
 #[derive(Drop)]
 pub struct ListingReader {
     alloc: Global,

@@ -78,8 +78,7 @@ impl Strings {
 
     /// Appends the value of a token.
     pub(crate) fn push_value(&mut self, token: Token<'_>) -> Result<(), AllocError>
-        ensures { OnOk result
-            (self.new ≡ self.old ++ value_of (seen_token token.entry).raw ∷ []) }
+        ensures { OnOk result (self.new ≡ self.old ++ value_of (seen_token token.entry).raw ∷ []) }
     {
         let start = self.text.len();
         token.value_into(&mut self.text)?;

@@ -86,8 +86,7 @@ fn read_text(alloc: Global, progress: &mut Progress, line: Line<'_>) -> Passed
     }
 }
 
-/// An indented line sets the flag of the open statement if it assigns to `restat`, and closes the
-/// statement.
+/// An indented line sets the open statement's flag if it assigns to `restat`, and closes it.
 fn indented_line(alloc: Global, progress: &mut Progress, found: Option<Assignment<'_>>) -> Passed
     ensures { let view = option_map seen_assignment found.entry in
         let restat = is_some (value_assigned (codes "restat") view) in

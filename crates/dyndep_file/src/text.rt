@@ -89,8 +89,7 @@ impl Model for DyndepText {
 }
 
 impl DyndepText {
-    /// Returns the text without statements: the version line. Returns an error if an allocation
-    /// fails.
+    /// Returns the text without statements, the version line, or an error if an allocation fails.
     pub fn new(alloc: Global) -> Result<DyndepText, AllocError>
         ensures { IfOk result (IsTextOf []) }
     {

@@ -14,8 +14,7 @@ use ninja_text::{Failure, Path};
 use std::alloc::{AllocError, Global};
 use std::str;
 
-/// The entry of a line, `None` if the line does not have the form, or an error if an allocation
-/// fails.
+/// The entry of a line, `None` if it does not have the form, or an error if an allocation fails.
 pub type LineEntry = Result<Option<MapEntry>, AllocError>;
 
 /// The form of a style's lines.

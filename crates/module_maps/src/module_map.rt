@@ -85,8 +85,7 @@ impl<'m> ModuleMap<'m> {
         &self.needed
     }
 
-    /// Returns the number of bytes of all names and paths, and of these texts for each provided and
-    /// each needed module.
+    /// Returns the length of all names and paths, and of a text for each provided or needed module.
     pub(crate) fn text_len(&self, for_provided: &[u8], for_needed: &[u8]) -> usize {
         let provided = self.provided.len().saturating_mul(for_provided.len());
         let needed = self.needed.len().saturating_mul(for_needed.len());
@@ -109,8 +108,7 @@ pub trait MapStyle {
     fn fits(&self, map: &ModuleMap<'_>) -> bool
         ensures { IsTrue result ↔ IsOk (written self.now map.now) };
 
-    /// Returns what is left of the map after it was written and read, or an error if an allocation
-    /// fails.
+    /// Returns what is left of the map once written and read, or an error if an allocation fails.
     fn keeps(&self, alloc: Global, map: &ModuleMap<'_>) -> Result<Vec<MapEntry>, AllocError>
         ensures { IfOk result (λ found. found.items ≡ kept self.now map.now) };
 
@@ -118,8 +116,7 @@ pub trait MapStyle {
     ///
     /// # Errors
     ///
-    /// Returns K1 or K2 if and only if the map does not fit, or [`Failure::Memory`] if an
-    /// allocation fails.
+    /// K1 or K2 if and only if the map does not fit, or [`Failure::Memory`] if an allocation fails.
     fn write(&self, alloc: Global, map: &ModuleMap<'_>) -> Result<Vec<u8>, Failure<MapFault>>
         ensures { Gives (λ text. text.items) result (written self.now map.now) };
 

@@ -11,8 +11,7 @@ use std::alloc::Global;
 use std::fmt;
 use thiserror::Error;
 
-/// The place of a fault in a document. Rules, modules and entries are given by their index in the
-/// list.
+/// The place of a fault in a document. Rules, modules and entries are given by their index.
 #[derive(Clone, Copy, Debug, PartialEq, Eq)]
 pub enum Place {
     /// The document itself.

@@ -232,8 +232,7 @@ pub fn info_write(alloc: Global, info: &Info) -> Result<Vec<u8>, AllocError>
     lent_info_write(alloc, &LentInfo { target, modules })
 }
 
-/// Returns the document that [`info_write`] returns for the same info, or an error if an allocation
-/// fails.
+/// Returns what [`info_write`] returns for the same info, or an error if an allocation fails.
 pub fn lent_info_write(alloc: Global, info: &LentInfo<'_>) -> Result<Vec<u8>, AllocError>
     requires { IsInfoText info.now }
     ensures text { IfOk result (λ text. text.items ≡ info_text info.now) }

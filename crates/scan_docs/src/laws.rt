@@ -27,14 +27,11 @@ pub fn bytes_determine_the_value()
         → IsAccepted (scan_checks setting) (AreRules setting) bytes rules
         → rules ≡ rules_of setting bytes }
     ensures info { (bytes : Bytes) (info : InfoValue)
-        → IsAccepted info_checks IsInfo bytes info
-        → info ≡ info_of bytes }
+        → IsAccepted info_checks IsInfo bytes info → info ≡ info_of bytes }
     ensures target { (bytes : Bytes) (spec : TargetDocumentValue)
-        → IsAccepted target_checks IsTarget bytes spec
-        → spec ≡ spec_of bytes }
+        → IsAccepted target_checks IsTarget bytes spec → spec ≡ spec_of bytes }
     ensures project { (bytes : Bytes) (project : ProjectValue)
-        → IsAccepted project_checks IsProject bytes project
-        → project ≡ project_of bytes }
+        → IsAccepted project_checks IsProject bytes project → project ≡ project_of bytes }
 {}
 
 /// The text of an info whose names and paths are accepted is read as the same info. If the text is

@@ -9,9 +9,8 @@
 //!   `specs/Document.antt` puts them together, and `specs/Values.antt` gives the meaning as a
 //!   function of the bytes. The types of rules, of what an info file has, and of names are those of
 //!   the crate `document_values`.
-//! - [`scan_with`] does what [`scan`] does for a [`ReducedSetting`], which reduces the directory
-//!   and the ending of module files once for all scan documents of a target. The work directory of
-//!   a rule is reduced once for all paths of the rule.
+//! - [`scan_with`] does what [`scan`] does for a [`ReducedSetting`], which is reduced once for all
+//!   scan documents of a target. A rule's work directory is reduced once for all its paths.
 //! - `shape` makes a tree of a document's bytes by `serde_json`, and returns members of the tree
 //!   that have a type. The names of a scan document or an info document share one string
 //!   (`SharedNames`), which is collected from the tree first. The tree is dropped at the end.
