@@ -3,7 +3,6 @@ use Rattle.std.proofs.Common.{◌≡◌, List, [], Bool, Option, Some, None, ref
 use Rattle.scan_docs.specs.Prelude.{Text, Data, null, text, text_of, entries_of, IsTree, IsAccepted, IsRefused, large, no_tree, false_check, HasOneAnswer, SettingValue, IsProvidedModule, IsRequired, IsRule, AreRules, IsText, IsRuleText, RuleValue, has_visibility, IsRequirement, IsModule, IsInfo, ModuleValue, InfoValue, TargetDocumentValue, IsTarget, ProjectValue, IsProject, DocFault, Check, first_refusal, version_checks, scan_checks, info_checks, project_checks, Place, AllZip, All, AllByRecursion, IsName, IsModuleText, IsInfoText, option_or, first_failure}
 use Rattle.ninja_text.proofs.ForCallers.{zip_is_map}
 use Rattle.scan_docs.specs.declared.member.Member.TheVariants as m
-use Rattle.scan_docs.specs.declared.fault.Place.TheVariants as place
 use Rattle.scan_docs.specs.Values.{tree_of, provided_in, rule_in, rules_in, requirement_in, module_in, info_in, target_in, project_in, rules_of, info_of, spec_of, project_of}
 use Rattle.scan_docs.specs.InfoChecks.{requirement_checks, entry_shape_checks, named_file_checks}
 use Rattle.scan_docs.specs.TargetChecks.{name_checks, directory_checks, list_checks, kept_checks, dyndep_checks, file_checks, target_checks}
@@ -167,7 +166,7 @@ module_text with_visibility d entry h = record {
 pub info_text : (d : Data) (info : InfoValue) → IsInfo d info → IsInfoText info
 info_text d info h = second (IsModule (has_visibility d)) IsModuleText (module_text (has_visibility d)) (entries_of m.Modules d) info.modules h.modules
 
--- ---- all checks of a requirement, and of a target document
+-- ---- all checks of a part
 
 pub requirement_parts : (p : Place) (d : Data) →
     first_failure (requirement_checks p d) ≡

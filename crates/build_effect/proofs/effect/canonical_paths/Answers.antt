@@ -1,6 +1,6 @@
-use Rattle.std.proofs.Common.{◌≡◌, ◌+◌, [], get_or, take, ap, sym, subst, arith}
+use Rattle.std.proofs.Common.{◌≡◌, ◌+◌, [], take, ap, sym, subst, arith}
 use Rattle.std.proofs.lemmas.Option.{slice_get-get_or}
-use Rattle.build_effect.specs.Prelude.{ArePaths, IsBadTextFrom, BadPath}
+use Rattle.build_effect.specs.Prelude.{ArePaths, BadPath}
 use Rattle.build_effect.proofs.PathTexts.{more_paths, first_bad}
 use Rattle.build_effect.proofs.effect.canonical_paths.Goals as goal
 

@@ -2,7 +2,7 @@ use Rattle.std.proofs.Common.{◌≡◌, ◌+◌, length, take, refl, ap, sym, s
 use Rattle.std.proofs.lemmas.Result.{err_from_is_err_and}
 use Rattle.std.proofs.lemmas.List.{length-map}
 use Rattle.std.proofs.lemmas.Option.{slice_get_read}
-use Rattle.build_effect.specs.Prelude.{rows, StatementValue, ArePaths, AreCanonical, IsBadTextFrom, IsBadStatement}
+use Rattle.build_effect.specs.Prelude.{StatementValue, ArePaths, AreCanonical, IsBadTextFrom, IsBadStatement}
 use Rattle.build_effect.proofs.Lists.{for_fault}
 use Rattle.build_effect.proofs.PathTexts.{canonical_of, more_statements, first_bad_statement}
 use Rattle.build_effect.proofs.effect.canonical_statements.Goals as goal

@@ -1,7 +1,7 @@
-use Rattle.std.proofs.Common.{rules, ◌≡◌, ◌∙◌, ℕ, List, [], ◌++◌, append_assoc, map, take, refl, ap, ap₂, sym, subst}
+use Rattle.std.proofs.Common.{rules, ◌≡◌, ◌∙◌, [], ◌++◌, append_assoc, map, take, refl, ap, ap₂, sym, subst}
 use Rattle.std.proofs.lemmas.List.{map-append, take_all}
 use Rattle.std.proofs.lemmas.Option.{slice_get_read}
-use Rattle.build_effect.specs.Prelude.{EdgeValue, made_files, IsGraphFault, made_by, Made, files_of, IsFirstTwice, NoneMadeTwice, AreMade, numbered, ProducedTwice}
+use Rattle.build_effect.specs.Prelude.{EdgeValue, made_files, IsGraphFault, made_by, files_of, IsFirstTwice, NoneMadeTwice, AreMade, numbered, ProducedTwice}
 use Rattle.build_effect.proofs.Lists.{first_again, for_turned, made_once}
 use Rattle.build_effect.proofs.MakerTables.{are_made, numbered_files, numbered_next}
 use Rattle.build_effect.proofs.graph.makers_of.Goals as goal

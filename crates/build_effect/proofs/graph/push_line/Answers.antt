@@ -1,4 +1,4 @@
-use Rattle.std.proofs.Common.{◌∙◌, ◌++◌, ◌∷◌, [], List, ℕ, ap}
+use Rattle.std.proofs.Common.{◌∙◌, ◌++◌, ◌∷◌, [], ap}
 use Rattle.std.proofs.lemmas.Result.{on_ok_weaker}
 use Rattle.build_effect.specs.Prelude.{line_feed, edge_line}
 use Rattle.build_effect.specs.contracts.graph.Edge.{the_view}

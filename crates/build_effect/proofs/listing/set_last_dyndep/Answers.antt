@@ -1,6 +1,5 @@
-use Rattle.std.proofs.Common.{Some, ◌≡◌, ◌<◌, ◌-◌, refl, sym, subst, slice_index_or, arith}
+use Rattle.std.proofs.Common.{Some, ◌≡◌, ◌-◌, refl, sym, subst, slice_index_or, arith}
 use Rattle.build_effect.specs.Prelude.{vec_len, EdgeValue}
-use Rattle.build_effect.specs.contracts.graph.Edge.{the_view}
 use Rattle.build_effect.proofs.ListingLaws.{last_set}
 use Rattle.build_effect.proofs.listing.set_last_dyndep.Goals as goal
 

@@ -1,5 +1,5 @@
 use Rattle.std.proofs.Common.{sym, ap, subst, Option}
-use Rattle.build_effect.specs.Prelude.{SeenAssignment, seen_line, symbols_left, TakesRow, binding_row, row_cause}
+use Rattle.build_effect.specs.Prelude.{SeenAssignment, seen_line, TakesRow, binding_row, row_cause}
 use Rattle.build_effect.proofs.ListingLineLemmas.{faulty_row, build_line_row, indented_row, other_row}
 use Rattle.build_effect.proofs.listing.take_line.Goals as goal
 

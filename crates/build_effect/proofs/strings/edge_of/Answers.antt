@@ -1,5 +1,5 @@
 use Rattle.std.proofs.Common.{ℕ, List, ◌≡◌, ◌≢◌, ◌∙◌, [], sym, ap, refl, subst}
-use Rattle.build_effect.specs.Prelude.{slice_range, EdgeTexts, paths_of, edge_paths, edge_texts_of}
+use Rattle.build_effect.specs.Prelude.{slice_range, paths_of, edge_paths, edge_texts_of}
 use Rattle.build_effect.proofs.ListingLaws.{edge_answer, paths_somehow}
 use Rattle.build_effect.proofs.strings.edge_of.Goals as goal
 

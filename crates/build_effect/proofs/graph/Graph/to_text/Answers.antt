@@ -1,4 +1,4 @@
-use Rattle.std.proofs.Common.{◌≡◌, ◌∙◌, ◌+◌, ◌<◌, ◌≤◌, ◌++◌, List, ℕ, length, Err, ap, sym, subst, arith, length-append}
+use Rattle.std.proofs.Common.{◌≡◌, ◌∙◌, ◌<◌, ◌≤◌, ◌++◌, List, length, Err, ap, sym, subst, arith, length-append}
 use Rattle.std.proofs.lemmas.List.{append-nil}
 use Rattle.build_effect.specs.Prelude.{escaped, line_limit, EdgeValue, edge_line, dyndep_line, restat_line, listing_text_or_fault, ListingTooLong}
 use Rattle.build_effect.proofs.WrittenListings.{dyndep_added, text_goes_on, too_long_here, none_so_far}

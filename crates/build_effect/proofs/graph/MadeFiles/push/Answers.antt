@@ -1,7 +1,7 @@
-use Rattle.std.proofs.Common.{◌≡◌, ◌∙◌, ◌+◌, ◌++◌, ◌∷◌, [], ℕ, List, map, take, append_assoc, ap, refl, sym, subst}
+use Rattle.std.proofs.Common.{◌∙◌, ◌++◌, ◌∷◌, [], map, take, append_assoc, ap, refl, sym, subst}
 use Rattle.std.proofs.lemmas.List.{map-append}
 use Rattle.std.proofs.lemmas.Option.{slice_get_read}
-use Rattle.build_effect.specs.Prelude.{HasAdded, Made, files_of, seen_files}
+use Rattle.build_effect.specs.Prelude.{HasAdded, files_of, seen_files}
 use Rattle.ninja_text.proofs.ForCallers.{take_next}
 use Rattle.build_effect.proofs.graph.MadeFiles.push.Goals as goal
 

@@ -1,4 +1,4 @@
-use Rattle.std.proofs.Common.{◌≡◌, ◌∙◌, ◌++◌, List, ℕ, Err, refl, ap, sym, subst}
+use Rattle.std.proofs.Common.{◌∙◌, ◌++◌, Err, refl, ap, sym, subst}
 use Rattle.build_effect.specs.Prelude.{Reads, HasReadListing, IsListingFaultIn, FeedsListing, line_failure, AtLine}
 use Rattle.build_effect.proofs.ListingLaws.{fed, fails, turned_to}
 use Rattle.build_effect.proofs.listing.ListingReader.feed.Goals as goal

@@ -1,4 +1,4 @@
-use Rattle.std.proofs.Common.{◌≡◌, ◌∙◌, ap, sym, subst, refl, Err}
+use Rattle.std.proofs.Common.{◌∙◌, ap, sym, subst, refl, Err}
 use Rattle.build_effect.specs.Prelude.{HasReadListing, line_failure, EndsListing, Lists, AtLine, NoGraph}
 use Rattle.build_effect.proofs.ListingLaws.{listed, ended, graph_failure, no_graph, turned_to}
 use Rattle.build_effect.proofs.listing.ListingReader.finish.Goals as goal
