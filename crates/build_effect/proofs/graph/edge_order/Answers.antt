@@ -24,7 +24,8 @@ loop-edge-preserved c =
     (YieldsList-at c.filter_map-row.ensures.source (YieldsList-from_chain
     (YieldsList-at c.chain-inputs.ensures.first (YieldsList-from_chain
     (YieldsList-at c.chain-named.ensures.first (YieldsList-from_slice edge.inputs inputs))
-    (YieldsList-at c.chain-named.ensures.second (YieldsList-from_slice edge.implicit_inputs implicit_inputs)) c.chain-named.ensures.first_done c.chain-named.ensures.second_done))
+    (YieldsList-at c.chain-named.ensures.second (YieldsList-from_slice edge.implicit_inputs implicit_inputs)) c.chain-named.ensures.first_done
+    c.chain-named.ensures.second_done))
     (YieldsList-at c.chain-inputs.ensures.second (YieldsList-from_slice edge.order_only order_only)) c.chain-inputs.ensures.first_done
     c.chain-inputs.ensures.second_done))
     c.filter_map-row.ensures.closure (λ x r q k. search (rules, tests)))) in

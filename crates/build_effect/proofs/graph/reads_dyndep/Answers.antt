@@ -31,6 +31,8 @@ returns c =
     (YieldsList-from_chain
     (YieldsList-at c.chain-inputs.ensures.first (YieldsList-from_chain
     (YieldsList-at c.chain-written.ensures.first (YieldsList-from_slice e.inputs inputs))
-    (YieldsList-at c.chain-written.ensures.second (YieldsList-from_slice e.implicit_inputs implicit_inputs)) c.chain-written.ensures.first_done c.chain-written.ensures.second_done))
-    (YieldsList-at c.chain-inputs.ensures.second (YieldsList-from_slice e.order_only order_only)) c.chain-inputs.ensures.first_done c.chain-inputs.ensures.second_done)
+    (YieldsList-at c.chain-written.ensures.second (YieldsList-from_slice e.implicit_inputs implicit_inputs))
+    c.chain-written.ensures.first_done c.chain-written.ensures.second_done))
+    (YieldsList-at c.chain-inputs.ensures.second (YieldsList-from_slice e.order_only order_only)) c.chain-inputs.ensures.first_done
+    c.chain-inputs.ensures.second_done)
     (λ x q k. search (rules, tests)) (λ x q k. search (rules, tests))))

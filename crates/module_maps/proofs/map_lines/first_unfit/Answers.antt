@@ -35,7 +35,8 @@ found c =
     ap (option_map path) (find_from_yields_List unfit _ _ c.find.result c.find.ensures.ran
     (YieldsList-from_chain
     (YieldsList-at c.chain-pairs.ensures.first (YieldsList-from_slice ps c.iter.ensures.rest))
-    (YieldsList-at c.chain-pairs.ensures.second (YieldsList-from_slice ns c.iter-2.ensures.rest)) c.chain-pairs.ensures.first_done c.chain-pairs.ensures.second_done)
+    (YieldsList-at c.chain-pairs.ensures.second (YieldsList-from_slice ns c.iter-2.ensures.rest)) c.chain-pairs.ensures.first_done
+    c.chain-pairs.ensures.second_done)
     (λ x b q k. search (rules, tests)))
     ∙ first (ps ++ ns) ∙ ap first_unfit (map-append seen ps ns ∙ ap₂ (λ a b. a ++ b) c.provided.ensures.pairs c.needed.ensures.pairs)
 
