@@ -1,6 +1,6 @@
 -- What the parts of a run have led to, the calls that they make, and what their loops make.
-use Rattle.std.proofs.Common.{◌-◌, arith, codes, length-drop, ◌≡◌, ◌∙◌, ℕ, ◌+◌, ◌<◌, List, [], ◌∷◌, ◌++◌, drop, length, get_or, suc, Option, Some, None, Result, Ok, Err, refl, ap, ap₂, sym, append_assoc, append-nil, add-one, drop-cons, ◌≤◌, map, take, slice_get, option_map, Vec, IfOk, IsErr, IsErrAnd, MatchResult, Global}
-use Rattle.commands.specs.Prelude.{FileCall, Adds, MakesCalls, reading, up_to, AllocError, flat_map, Bytes, Text, ForFault, Gives, Failure, LineValue, Outcome, Part, InTurn, goes_on, stops, Done, Each, Returns, ReadsNext, Reports, Runs, ValueOf, document_most, failed, refusal, seen, IsStoppedWith, ReportsPrinted}
+use Rattle.std.proofs.Common.{◌-◌, arith, codes, length-drop, ◌≡◌, ◌∙◌, ℕ, ◌+◌, ◌<◌, List, [], ◌∷◌, ◌++◌, drop, length, get_or, suc, Option, Some, None, Result, Ok, Err, refl, ap, ap₂, sym, append_assoc, append-nil, add-one, drop-cons, ◌≤◌, map, take, slice_get, option_map, Vec, IfOk, IfErr, IsErr, IsErrAnd, Global}
+use Rattle.commands.specs.Prelude.{FileCall, Adds, MakesCalls, reading, up_to, AllocError, flat_map, Bytes, Text, ForFault, Gives, Failure, LineValue, Outcome, Part, InTurn, goes_on, stops, Done, Each, Returns, ReadsNext, Reports, Runs, ValueOf, document_most, failed, refusal, seen, IsStoppedWith, OrStops, ReportsPrinted}
 use Rattle.std.proofs.lemmas.List.{drop_all, flat_map_more, map_push, take_all, take_more}
 use Rattle.std.proofs.lemmas.Option.{slice_get_within, get_or_from_slice_get, slice_get-get_or, slice_get-map}
 use Rattle.ninja_text.proofs.ForCallers.{take_next}
@@ -109,19 +109,32 @@ pub held_fault : (V : Type 0) {F : Type 0} (text : F → Text) (failure : Failur
 held_fault V text failure stop h =
     fault_reported (λ (value : V). Err failure ≡ Ok value) (λ fault. Err failure ≡ Err (Fault fault)) text failure stop (own_fault V failure) h
 
--- a value or a failure that was there before, by `map_err`
-pub held : {V F : Type 0} (text : F → Text) (Post : Failure F → Stop → Type 0) (r : Result V (Failure F)) (s : Outcome V) →
-    ((failure : Failure F) (stop : Stop) → Post failure stop → Reports text failure stop) →
-    MatchResult r (λ value. s ≡ Ok value) (λ failure. IsErrAnd s (Post failure)) → ValueOf text r [] s
-held text Post (Ok value) s to h = rw h (refl, refl)
-held {V = V} text Post (Err failure) (Err stop) to h = held_fault V text failure stop (to failure stop h)
-held text Post (Err failure) (Ok value) to h = absurd h
+-- a result whose failure is reported as it is printed
+abbrev pub Printed : {V F : Type 0} → Text → (F → Text) → Result V (Failure F) → Outcome V → Type 0
+Printed prefix text = OrStops (ReportsPrinted prefix (λ fault. Some (text fault)))
 
--- a failure of what can't be made
-pub unwritten : {T V F : Type 0} (view : T → V) (text : F → Text) (failure : Failure F) (stop : Stop) (meaning : Result V F) →
-    Gives view (Err failure) meaning → Reports text failure stop → Returns (λ t. meaning ≡ Ok t) (λ fault. meaning ≡ Err fault) text [] (Err stop)
-unwritten view text Memory stop meaning is h = fault_reported (λ t. meaning ≡ Ok t) (λ fault. meaning ≡ Err fault) text Memory stop tt h
-unwritten view text (Fault fault) stop meaning is h = fault_reported (λ t. meaning ≡ Ok t) (λ fault. meaning ≡ Err fault) text (Fault fault) stop is h
+pub or_printed : {V F : Type 0} (IsValue : V → Type 0) (IsFault : F → Type 0) (prefix : Text) (text : F → Text) (r : Result V (Failure F)) (s : Outcome V) →
+    IfOk r IsValue → IfErr r (ForFault IsFault) → Printed prefix text r s → Returns IsValue IsFault (λ fault. prefix ++ text fault) [] s
+or_printed IsValue IsFault prefix text (Ok value) s is none h = rw h (refl, is)
+or_printed IsValue IsFault prefix text (Err failure) (Ok value) none is h = absurd h
+or_printed IsValue IsFault prefix text (Err failure) (Err stop) none is h =
+    fault_reported IsValue IsFault (λ fault. prefix ++ text fault) failure stop is (by_print prefix text failure stop h)
+
+-- one that was there before
+pub held : {V F : Type 0} (text : F → Text) (r : Result V (Failure F)) (s : Outcome V) → Printed [] text r s → ValueOf text r [] s
+held text (Ok value) s h = rw h (refl, refl)
+held {V = V} text (Err failure) (Err stop) h = held_fault V text failure stop (by_print [] text failure stop h)
+held text (Err failure) (Ok value) h = absurd h
+
+-- one of what can be made
+pub or_unmade : {T V F : Type 0} (view : T → V) (prefix : Text) (text : F → Text) (r : Result T (Failure F)) (s : Outcome T) (meaning : Result V F) →
+    Gives view r meaning → Printed prefix text r s → Returns (λ t. meaning ≡ Ok t) (λ fault. meaning ≡ Err fault) (λ fault. prefix ++ text fault) [] (seen view s)
+or_unmade view prefix text (Ok value) s meaning is h = rw h (refl, is)
+or_unmade view prefix text (Err failure) (Ok value) meaning is h = absurd h
+or_unmade view prefix text (Err Memory) (Err stop) meaning is h = fault_reported (λ t. meaning ≡ Ok t) (λ fault. meaning ≡ Err fault)
+    (λ fault. prefix ++ text fault) Memory stop tt h
+or_unmade view prefix text (Err (Fault fault)) (Err stop) meaning is h = fault_reported (λ t. meaning ≡ Ok t) (λ fault. meaning ≡ Err fault)
+    (λ fault. prefix ++ text fault) (Fault fault) stop is (by_print prefix text (Fault fault) stop h)
 
 -- ---- parts in turn
 

@@ -1,6 +1,6 @@
 -- What the targets of a run collate to, and how a rejected one is reported.
-use Rattle.std.proofs.Common.{◌≡◌, ◌∙◌, ℕ, suc, List, [], ◌∷◌, ◌++◌, map, zip, Bool, Option, Result, Ok, Err, refl, ap, sym, arith, zero, ◌<◌, inl, inr, true, false, cond, length, Some, None, ap₂, bytes_eq, ◌+◌, take, get_or, append-nil, All, IsUtf8, Vec, OnOk, slice_get, option_map, Global}
-use Rattle.commands.specs.Prelude.{AllZip, SettingValue, IsRule, RuleValue, rules_of, info_of, Written, TargetValue, CollatedValue, ProjectTargetValue, all_rules, table_of, IsScanAccepted, Collates, file_value, map_name, output_file, map_files, files_of, FileValue, LineValue, Outcome, Reports, Part, seen, ForFault, Failure, InfoValue, TableValue, table_with, IsRefusal, WasRead, Refusal, RefusedTarget, map_text, refusal_by_names, refusal_text, fault_text, TargetOf, refusal_line, refused_line, ReadTargetValue, index_or_head, last_with, LinksTo, At, IsTargetOutcome, IsTargetStop, project_target, names_at, all_files, LinkEarlier, IsReportable, option_map_or, target_of, CollatesProject, IsProjectRefusal, WasReadAt}
+use Rattle.std.proofs.Common.{◌≡◌, ◌∙◌, ℕ, suc, List, [], ◌∷◌, ◌++◌, map, zip, Bool, Option, Result, Ok, Err, refl, ap, sym, arith, ◌<◌, inl, inr, true, false, cond, length, Some, None, ap₂, bytes_eq, ◌+◌, take, get_or, append-nil, All, IsUtf8, Vec, OnOk, slice_get, option_map, Global}
+use Rattle.commands.specs.Prelude.{AllZip, SettingValue, IsRule, RuleValue, rules_of, info_of, Written, TargetValue, CollatedValue, all_rules, table_of, IsScanAccepted, Collates, file_value, map_name, output_file, map_files, files_of, FileValue, LineValue, Outcome, Reports, Part, seen, ForFault, Failure, InfoValue, TableValue, table_with, IsRefusal, WasRead, Refusal, RefusedTarget, refusal_by_names, refusal_text, TargetOf, refusal_line, refused_line, ReadTargetValue, index_or_head, last_with, LinksTo, At, IsTargetOutcome, project_target, names_at, all_files, LinkEarlier, IsReportable, option_map_or, target_of, CollatesProject, IsProjectRefusal, WasReadAt}
 use Rattle.std.proofs.lemmas.List.{map-append, take_more, length-map, map_push}
 use Rattle.std.proofs.lemmas.List.Elements.{All-nil, All-cons, All-append, All-map}
 use Rattle.commands.specs.declared.stop.OutputFile.{OutputFile}

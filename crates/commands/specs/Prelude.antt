@@ -75,12 +75,12 @@ pub use Rattle.commands.specs.Files.{FilesOf, WritesFile, WritesFiles, TargetFil
 pub use Rattle.commands.specs.Targets.{TargetOf}
 pub use Rattle.commands.specs.CollateCommand.{SpecOf, style_of, target_with, map_files, files_of, CollateRun, map_name, output_file, spec_text, HasSpec}
 pub use Rattle.commands.specs.One.{OneRun, PrintsDyndep, one_setting, one_target}
-pub use Rattle.commands.specs.ProjectCommand.{target_text, IsTargetOutcome, FormOf, LinksOf, TargetAfter, ReadsTargets, project_target, form_of, ProjectOf, AllEdgesPass, all_files, ProjectRun, ReadTargetValue, index_or_head, last_with, LinksTo, At, IsTargetStop, names_at, RejectedAt, IsRejectedAt, rejected_text, LinksLater, HasFormOf, HasProject, project_text, ReadsTarget}
+pub use Rattle.commands.specs.ProjectCommand.{target_text, IsTargetOutcome, FormOf, LinksOf, TargetAfter, ReadsTargets, project_target, form_of, ProjectOf, AllEdgesPass, all_files, ProjectRun, ReadTargetValue, index_or_head, last_with, LinksTo, At, IsTargetStop, names_at, RejectedAt, IsRejectedAt, rejected_text, LinksLater, HasFormOf, HasProject, ProjectDocumentOf, project_text, ReadsTarget}
 pub use Rattle.commands.specs.Runs.{TaskRun}
 pub use Rattle.commands.specs.Program.{words_of, ArgumentsRun, IsProgramRun, AreTask, ArgumentsOf, Words}
 pub use Rattle.commands.specs.inner.Parts.{bytes_of, contents}
 pub use Rattle.commands.specs.inner.Refusals.{refusal_line, refused_line}
-pub use Rattle.commands.specs.inner.Stops.{IsStoppedWith, IsFailedCall, ReportsPrinted}
-pub use Rattle.commands.specs.inner.TargetRuns.{TargetRun}
+pub use Rattle.commands.specs.inner.Stops.{IsStoppedWith, IsFailedCall, OrStops, ReportsPrinted}
+pub use Rattle.commands.specs.inner.TargetRuns.{TargetRun, GivesTarget, GivesProject}
 pub use Rattle.commands.specs.inner.ProjectTargets.{LinkEarlier, IsReportable, ReportsAt, writer_of}
 pub use Rattle.commands.specs.RefusalTexts.{map_text, refusal_by_names, refusal_text}

@@ -50,12 +50,7 @@ pub(crate) fn push_line(text: &mut Vec<u8>, line: &[u8]) -> Result<(), AllocErro
         ≡ text.old.items ++ map visible line.now ++ line_feed ∷ []) }
 {
     for byte in line {
-        let visible = if *byte < 32 || *byte == 127 {
-            b'?'
-        } else {
-            *byte
-        };
-        text.push(visible)?;
+        text.push(if byte.is_ascii_control() { b'?' } else { *byte })?;
     }
     text.push(b'\n')?;
     Ok(())

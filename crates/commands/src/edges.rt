@@ -1,15 +1,14 @@
 //! Dyndep files and edge lists: how they are read, the commands `show`, `effect` and `order`, and
 //! the check of the edges that a target document names.
 
-ghost use Rattle.commands.specs.Prelude.{[], seen, bytes_of, HasFailed, HasReadDyndep};
-ghost use Rattle.commands.specs.Prelude.{IsReadFaultIn, IsDyndepRead, DyndepOf, ShowOfRead};
-ghost use Rattle.commands.specs.Prelude.{ShowRun, HasReadListing, IsListingFaultIn, IsListingRead};
-ghost use Rattle.commands.specs.Prelude.{ListingOf, NameOf, EffectOf, ListingTextOf, EffectOfRead};
-ghost use Rattle.commands.specs.Prelude.{EffectRun, OrderOfRead, OrderRun, EdgesPass};
+ghost use Rattle.commands.specs.Prelude.{bytes_of, HasReadDyndep, HasReadListing, IsListingFaultIn};
+ghost use Rattle.commands.specs.Prelude.{IsReadFaultIn, ListingTextOf, EffectOfRead, OrderOfRead};
+ghost use Rattle.commands.specs.Prelude.{HasFailed, ShowOfRead, ListingOf, EffectRun, EdgesPass};
+ghost use Rattle.commands.specs.Prelude.{[], seen, DyndepOf, ShowRun, NameOf, EffectOf, OrderRun};
 
 use crate::answer::push_line;
-use crate::folder::{FileReader, PieceReader};
-use crate::refusal::{cycle_text, first_output, joined};
+use crate::folder::PieceReader;
+use crate::refusal::{cycle_text, edges_fault_text, first_output, joined};
 use crate::stop::{self, Output, Stop};
 use build_effect::{Graph, ListFault, ListingReader, ListingWriteFault, apply, edge_order};
 use collate_core::{Collated, check_edges};
@@ -30,10 +29,8 @@ pub(crate) fn show_of_read(alloc: Global, dyndep: DyndepRead) -> Result<Output, 
     ensures { ShowOfRead dyndep [] result }
 {
     let dyndep = statements_of(alloc, dyndep)?;
-    match dyndep.to_text(alloc) {
-        Ok(text) => Ok(Output::text(alloc, text)),
-        Err(failure) => Err(stop::of_fault(alloc, "", failure)),
-    }
+    let text = stop::or_stop(alloc, "", dyndep.to_text(alloc))?;
+    Ok(Output::text(alloc, text))
 }
 
 /// Runs `effect NAME EDGES DYNDEP` on the name and the bytes of the two files.
@@ -55,9 +52,9 @@ pub(crate) fn effect_of_read(
     ensures { EffectOfRead name.now listing dyndep [] result }
 {
     let name = path_of(alloc, name)?;
-    let old = graph_of(alloc, listing)?;
+    let old = graph_of(alloc, &listing)?;
     let dyndep = statements_of(alloc, dyndep)?;
-    let new = graph_after(alloc, &old, &name, &dyndep)?;
+    let new = graph_after(alloc, old, &name, &dyndep)?;
     let text = listing_text(alloc, &new)?;
     Ok(Output::text(alloc, text))
 }
@@ -66,10 +63,7 @@ pub(crate) fn effect_of_read(
 fn path_of(alloc: Global, name: &str) -> Result<Path, Stop>
     ensures { NameOf name.now [] result }
 {
-    match Path::of(alloc, name.as_bytes()) {
-        Ok(path) => Ok(path),
-        Err(failure) => Err(stop::of_fault(alloc, "name: ", failure)),
-    }
+    stop::or_stop(alloc, "name: ", Path::of(alloc, name.as_bytes()))
 }
 
 /// Returns the graph after the effect of the dyndep file of this name.
@@ -108,8 +102,8 @@ pub fn order(alloc: Global, edges: &[u8]) -> Result<Output, Stop>
 pub(crate) fn order_of_read(alloc: Global, listing: ListingRead) -> Result<Output, Stop>
     ensures { OrderOfRead listing [] result }
 {
-    let graph = graph_of(alloc, listing)?;
-    match edge_order(alloc, &graph)? {
+    let graph = graph_of(alloc, &listing)?;
+    match edge_order(alloc, graph)? {
         Sorting::Order(order) => {
             let mut text = Vec::new(alloc);
             for edge_index in &order {
@@ -133,10 +127,7 @@ pub(crate) fn pass_edges(
     let Some(listing) = listing else {
         return Ok(());
     };
-    let graph = match listing {
-        Ok(graph) => graph,
-        Err(failure) => return Err(stop::of_listing(alloc, failure)),
-    };
+    let graph = graph_of(alloc, listing)?;
     match check_edges(alloc, collated, name, graph) {
         Ok(Sorting::Order(_)) => Ok(()),
         Ok(Sorting::Cycle(cycle)) => {
@@ -159,21 +150,11 @@ impl PieceReader for DyndepReader {
     }
 }
 
-impl FileReader for DyndepReader {
-    type Read = DyndepRead;
-
-    ghost follows = { IsDyndepRead };
-
-    fn read(self) -> DyndepRead {
-        self.finish()
-    }
-}
-
 /// Returns the statements of a dyndep file that was read.
 pub(crate) fn statements_of(alloc: Global, dyndep: DyndepRead) -> Result<Dyndep, Stop>
     ensures { DyndepOf dyndep [] result }
 {
-    dyndep.map_err(|f| stop::of_fault(alloc, "", f))
+    stop::or_stop(alloc, "", dyndep)
 }
 
 /// The result of reading an edge list.
@@ -189,19 +170,13 @@ impl PieceReader for ListingReader {
     }
 }
 
-impl FileReader for ListingReader {
-    type Read = ListingRead;
-
-    ghost follows = { IsListingRead };
-
-    fn read(self) -> ListingRead {
-        self.finish()
-    }
-}
-
 /// Returns the graph of an edge list that was read.
-fn graph_of(alloc: Global, listing: ListingRead) -> Result<Graph, Stop>
-    ensures { ListingOf listing [] result }
+fn graph_of(alloc: Global, listing: &ListingRead) -> Result<&Graph, Stop>
+    ensures { ListingOf listing.now [] (seen (λ graph. graph.now) result) }
 {
-    listing.map_err(|f| stop::of_listing(alloc, &f))
+    match listing {
+        Ok(graph) => Ok(graph),
+        Err(Failure::Memory) => Err(Failure::Memory),
+        Err(Failure::Fault(fault)) => Err(stop::stopped(1, edges_fault_text(alloc, fault))),
+    }
 }

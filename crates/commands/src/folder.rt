@@ -1,11 +1,10 @@
 //! What files are read from and written to, and how a run reads them: each when its turn comes, and
 //! none after one that can't be read.
 
-ghost use Rattle.std.specs.Prelude.{◌≡◌, ◌∷◌, ◌++◌, [], List, Option, map, IfOk, OnOk};
-ghost use Rattle.commands.specs.Prelude.{string_bytes, cow_slice_items, Bytes, FileCall, FileRead};
-ghost use Rattle.commands.specs.Prelude.{reading, comparing, writing, answer_of, Adds, ReadsOn};
-ghost use Rattle.commands.specs.Prelude.{WasGiven, GivesPieces, Runs, ReadsDocument, ReadsAs};
-ghost use Rattle.commands.specs.Prelude.{ReadsAll, seen, contents};
+ghost use Rattle.std.specs.Prelude.{◌≡◌, ◌∷◌, ◌++◌, List, Option, map, IfOk, OnOk, string_bytes};
+ghost use Rattle.commands.specs.Prelude.{[], cow_slice_items, Bytes, FileCall, reading, comparing};
+ghost use Rattle.commands.specs.Prelude.{writing, answer_of, Adds, ReadsOn, WasGiven, GivesPieces};
+ghost use Rattle.commands.specs.Prelude.{Runs, ReadsDocument, ReadsAs, ReadsAll, seen, contents};
 
 use crate::stop::{self, Stop};
 use scan_docs::DOCUMENT_LIMIT;
@@ -61,33 +60,20 @@ pub trait PieceReader {
             ReadsOn has_read has_failed (bytes ++ piece.now) result self.new };
 }
 
-/// What reads a file of lines: its pieces, and then what they are.
-pub(crate) trait FileReader: PieceReader + Drop {
-    /// What a file is, or why it is rejected.
-    type Read;
-
-    // it follows from what was read of the file
-    ghost follows: { FileRead → Self.Read → Type 0 };
-
-    /// Returns what the pieces are that it was given.
-    fn read(self) -> Self::Read
-        ensures { (file : FileRead) → WasGiven Self.has_read Self.has_failed file self →
-            follows file result };
-}
-
-/// Reads the file of this name with a new reader, up to its end or to its first rejected line.
-pub(crate) fn read_file<'f, R: FileReader, F: Folder<'f>>(
+/// Feeds the file of this name to a new reader, up to its end or to its first rejected line.
+pub(crate) fn read_file<'f, R: PieceReader + Drop, F: Folder<'f>>(
     alloc: Global,
     name: &str,
     reader: R,
     folder: &mut F,
-) -> Result<R::Read, Stop>
+) -> Result<R, Stop>
     requires { R.has_read [] reader }
-    ensures { Runs (F.calls folder.old) (F.calls folder.new) (ReadsAs R.follows name.now) result }
+    ensures { Runs (F.calls folder.old) (F.calls folder.new)
+        (ReadsAs (WasGiven R.has_read R.has_failed) name.now) result }
 {
     let mut reader = reader;
     match folder.feed(name, &mut reader) {
-        Ok(()) => Ok(reader.read()),
+        Ok(()) => Ok(reader),
         Err(error) => Err(stop::of_unread(alloc, name, error)),
     }
 }

@@ -1,13 +1,11 @@
 //! The command `project`: the targets of a project, as their documents and the files that these
 //! name are read, and the files that they leave.
 
-ghost use Rattle.std.specs.Prelude.{◌≡◌, ◌<◌, ◌∷◌, ◌++◌, [], All, length, map, zip, IfOk, IfErr};
-ghost use Rattle.commands.specs.Prelude.{IsUtf8, string_bytes, ForFault, table_with};
-ghost use Rattle.commands.specs.Prelude.{CollatesProject, IsProjectRefusal, WasReadAt, Runs};
-ghost use Rattle.commands.specs.Prelude.{Writes, seen, bytes_of, style_of, FormOf, LinksOf};
-ghost use Rattle.commands.specs.Prelude.{TargetAfter, ReadsTargets, project_target, form_of};
-ghost use Rattle.commands.specs.Prelude.{ProjectOf, AllEdgesPass, all_files, ProjectRun};
-ghost use Rattle.commands.specs.Prelude.{LinkEarlier, IsReportable, ReportsAt};
+ghost use Rattle.std.specs.Prelude.{◌≡◌, ◌<◌, ◌∷◌, ◌++◌, [], All, length, map, zip, IfOk, IsUtf8};
+ghost use Rattle.commands.specs.Prelude.{string_bytes, GivesProject, ReadsTargets, project_target};
+ghost use Rattle.commands.specs.Prelude.{TargetAfter, AllEdgesPass, LinkEarlier, IsReportable};
+ghost use Rattle.commands.specs.Prelude.{bytes_of, ProjectOf, all_files, ProjectRun, ReportsAt};
+ghost use Rattle.commands.specs.Prelude.{Runs, Writes, seen, style_of, FormOf, LinksOf, form_of};
 
 use crate::edges::pass_edges;
 use crate::folder::{Folder, pushed, read};
@@ -36,11 +34,7 @@ pub fn project<'f, F: Folder<'f>>(
 ) -> Result<Output, Stop>
     ensures { Runs (F.calls folder.old) (F.calls folder.new) (ProjectRun document.now) result }
 {
-    // By hand, as in `read_spec`.
-    let project = match project_read(alloc, document) {
-        Ok(project) => project,
-        Err(failure) => return Err(stop::of_fault(alloc, "project: ", failure)),
-    };
+    let project = stop::or_stop(alloc, "project: ", project_read(alloc, document))?;
     let read = read_targets(alloc, &project.targets, folder)?;
     let targets = read.list.as_slice();
     let outs = all_collated(alloc, targets)?;
@@ -87,14 +81,8 @@ fn collate_all(
     alloc: Global,
     targets: &[ReadTarget],
 ) -> Result<ProjectOut, Failure<(usize, RefusedTarget)>>
-    ensures collated { IfOk result (λ out. CollatesProject (style_of (form_of targets.now))
-        (map project_target targets.now) out.targets.items) }
-    ensures refused { IfErr result (ForFault (λ refused.
-        IsProjectRefusal (style_of (form_of targets.now))
-        (map project_target targets.now) refused.0 refused.1.refusal)) }
-    ensures read { IfErr result (ForFault (λ refused. WasReadAt (style_of (form_of targets.now))
-        (map project_target targets.now) refused.0 refused.1.refusal
-        (table_with refused.1.objects.items refused.1.infos.items))) }
+    ensures { GivesProject (map project_target targets.now) (style_of (form_of targets.now))
+        result }
 {
     let scans = scans_of(alloc, targets)?;
     let parts = in_project(alloc, targets, &scans)?;
@@ -133,7 +121,7 @@ fn in_project<'t>(
             name: &target.spec.target,
             setting: &target.spec.setting,
             scans: &scans[index],
-            linked: &target.linked,
+            linked: &target.links,
             kept: &target.spec.kept,
         };
         parts = pushed(parts, part)?;
@@ -145,10 +133,7 @@ fn in_project<'t>(
 fn form_of(targets: &[ReadTarget]) -> Option<MapForm>
     ensures { result ≡ form_of targets.now }
 {
-    match targets.first() {
-        Some(first) => first.spec.map,
-        None => None,
-    }
+    targets.first()?.spec.map
 }
 
 /// Returns what is reported of the rejected target of this index.
@@ -162,8 +147,8 @@ fn rejected_text(
     ensures { IfOk result (λ text. ReportsAt targets.now index refused.now text.items) }
 {
     let target = &targets[index];
-    let mut names = Vec::with_capacity(alloc, target.linked.len())?;
-    for earlier in &target.linked {
+    let mut names = Vec::with_capacity(alloc, target.links.len())?;
+    for earlier in &target.links {
         let linked = &targets[*earlier];
         names = pushed(names, &linked.spec.target)?;
     }
@@ -201,7 +186,7 @@ fn write_all(alloc: Global, targets: &[ReadTarget], outs: Vec<Collated>) -> Resu
 pub(crate) struct ReadTarget<'f> {
     pub spec: TargetSpec,
     /// The indexes of the targets that it links.
-    pub linked: Vec<usize>,
+    pub links: Vec<usize>,
     /// Its files, without info files.
     pub files: TargetFiles<'f>,
 }
@@ -211,7 +196,7 @@ impl<'f> Model for ReadTarget<'f> {
 
     ghost Value = { ReadTargetValue };
 
-    ghost view = { λ t. read_target t.spec t.linked.items t.files };
+    ghost view = { λ t. read_target t.spec t.links.items t.files };
 }
 
 /// The targets of a project that were read so far, and for each info file that they write the index
@@ -223,7 +208,6 @@ pub(crate) struct Targets<'f> {
 }
 
 impl<'f> Model for Targets<'f> {
-    ghost use Rattle.ninja_text.specs.Bytes.{PathText};
     ghost use Rattle.std.specs.Prelude.{◌≡◌, List, ℕ};
     ghost use Rattle.commands.specs.ProjectCommand.{ReadTargetValue, last_with};
     ghost use Rattle.commands.specs.inner.ProjectTargets.{writer_of, LinkEarlier};
@@ -232,7 +216,7 @@ impl<'f> Model for Targets<'f> {
 
     ghost view = { λ t. t.list.items };
 
-    ghost invariant = { λ t. LinkEarlier t.list.items × ((info : PathText) →
+    ghost invariant = { λ t. LinkEarlier t.list.items × ((info : List ℕ) →
         writer_of t.writers info ≡ last_with t.list.items info) };
 }
 
@@ -276,13 +260,9 @@ fn read_target<'f, F: Folder<'f>>(
     let index = earlier.list.len();
     let spec = stop::at_target(alloc, index, read_spec(alloc, &document))?;
     stop::at_target(alloc, index, pass_form(alloc, earlier, &spec))?;
-    let linked = stop::at_target(alloc, index, links_of(alloc, earlier, &spec.linked))?;
+    let links = stop::at_target(alloc, index, links_of(alloc, earlier, &spec.linked))?;
     let files = TargetFiles::read(alloc, &spec, &[], folder)?;
-    Ok(ReadTarget {
-        spec,
-        linked,
-        files,
-    })
+    Ok(ReadTarget { spec, links, files })
 }
 
 /// Checks that the maps of a target have the form of those of the first one.
@@ -292,11 +272,9 @@ fn pass_form(alloc: Global, earlier: &Targets, spec: &TargetSpec) -> Result<(), 
     if earlier.list.is_empty() || spec.map == form_of(&earlier.list) {
         return Ok(());
     }
-    let fault = DocFault::BadShape {
-        place: Place::Document,
-        member: Member::Map,
-    };
-    Err(stop::of_fault(alloc, "target: ", Failure::Fault(fault)))
+    let (place, member) = (Place::Document, Member::Map);
+    let fault = DocFault::BadShape { place, member };
+    stop::or_stop(alloc, "target: ", Err(Failure::Fault(fault)))
 }
 
 /// Returns the indexes of the last targets that write these info files.

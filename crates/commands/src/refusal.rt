@@ -47,9 +47,8 @@ pub(crate) fn refusal_line(
             joined(alloc, &[fault.name().as_bytes(), b" ", &subject])
         }
         Refusal::StatementTooLong { statement } => {
-            let fault = WriteFault::StatementTooLong {
-                statement: *statement,
-            };
+            let statement = *statement;
+            let fault = WriteFault::StatementTooLong { statement };
             Ok(format!(in alloc; "{fault}")?.into_bytes())
         }
         Refusal::Map { object, fault } => match fault {
@@ -101,8 +100,7 @@ fn fault_subject(alloc: Global, fault: &TableFault, makers: Makers) -> Result<Ve
             module_name,
             name,
         } => {
-            let target = target.text().as_bytes();
-            let module_name = module_name.text().as_bytes();
+            let (target, module_name) = (target.text().as_bytes(), module_name.text().as_bytes());
             let name = name.text().as_bytes();
             joined(alloc, &[target, b" ", module_name, b" ", name])
         }
@@ -240,11 +238,10 @@ pub(crate) fn cycle_text(
 pub(crate) fn first_output(edges: &[Edge], index: usize) -> &[u8]
     ensures { result.now ≡ first_output edges.now index }
 {
-    match edges.get(index) {
-        Some(edge) => match edge.outputs.first() {
-            Some(output) => output.bytes(),
-            None => b"",
-        },
-        None => b"",
+    if let Some(edge) = edges.get(index)
+        && let Some(output) = edge.outputs.first()
+    {
+        return output.bytes();
     }
+    b""
 }

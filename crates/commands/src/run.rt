@@ -77,7 +77,7 @@ pub fn task_run<'f, F: Folder<'f>>(
             collate(alloc, &document, folder)
         }
         Task::Show(dyndep) => {
-            let dyndep = read_file(alloc, dyndep, DyndepReader::new(alloc), folder)?;
+            let dyndep = read_file(alloc, dyndep, DyndepReader::new(alloc), folder)?.finish();
             show_of_read(alloc, dyndep)
         }
         Task::Effect {
@@ -85,12 +85,12 @@ pub fn task_run<'f, F: Folder<'f>>(
             edges,
             dyndep,
         } => {
-            let listing = read_file(alloc, edges, ListingReader::new(alloc), folder)?;
-            let dyndep = read_file(alloc, dyndep, DyndepReader::new(alloc), folder)?;
+            let listing = read_file(alloc, edges, ListingReader::new(alloc), folder)?.finish();
+            let dyndep = read_file(alloc, dyndep, DyndepReader::new(alloc), folder)?.finish();
             effect_of_read(alloc, name, listing, dyndep)
         }
         Task::Order(edges) => {
-            let listing = read_file(alloc, edges, ListingReader::new(alloc), folder)?;
+            let listing = read_file(alloc, edges, ListingReader::new(alloc), folder)?.finish();
             order_of_read(alloc, listing)
         }
         Task::Project(document) => {
@@ -111,17 +111,13 @@ pub fn write_files<'f, F: Folder<'f>>(
     ensures { Runs (F.calls folder.old) (F.calls folder.new) (WritesFiles output.now.files) result }
 {
     for file in &output.files {
-        write_file(alloc, file, folder)?;
+        write(alloc, file, folder)?;
     }
     Ok(())
 }
 
 /// Writes a file, or leaves it alone if it may be left alone and has its bytes.
-fn write_file<'f, F: Folder<'f>>(
-    alloc: Global,
-    file: &OutputFile,
-    folder: &mut F,
-) -> Result<(), Stop>
+fn write<'f, F: Folder<'f>>(alloc: Global, file: &OutputFile, folder: &mut F) -> Result<(), Stop>
     ensures { Runs (F.calls folder.old) (F.calls folder.new) (WritesFile (file_value file.now))
         result }
 {

@@ -2,12 +2,11 @@
 
 ghost use Rattle.std.specs.Prelude.{◌≡◌, ◌∷◌, [], Err, map, IfOk};
 ghost use Rattle.commands.specs.Prelude.{file_value, reading, printed, written, IsUnread, Reports};
-ghost use Rattle.commands.specs.Prelude.{IsTargetOutcome, target_text, edges_fault_text};
-ghost use Rattle.commands.specs.Prelude.{effect_text, refused_line, IsStoppedWith, IsFailedCall};
-ghost use Rattle.commands.specs.Prelude.{ReportsPrinted};
+ghost use Rattle.commands.specs.Prelude.{IsTargetOutcome, target_text, effect_text, refused_line};
+ghost use Rattle.commands.specs.Prelude.{IsStoppedWith, IsFailedCall, OrStops, ReportsPrinted};
 
-use crate::refusal::{edges_fault_text, effect_text, refused_text};
-use build_effect::{EffectFault, ListFault};
+use crate::refusal::{effect_text, refused_text};
+use build_effect::EffectFault;
 use collate_core::RefusedTarget;
 use ninja_text::Failure;
 use std::alloc::{AllocError, Global};
@@ -16,8 +15,7 @@ use std::io;
 use std::io::ErrorKind;
 use std::marker::Model;
 
-/// What a run leaves that succeeds: its text for standard output, and the files to be written, in
-/// order.
+/// What a run that succeeds leaves: its text for standard output, and the files to write, in order.
 #[derive(Drop)]
 pub struct Output {
     pub text: Vec<u8>,
@@ -47,20 +45,16 @@ impl Output {
     pub(crate) fn text(alloc: Global, text: Vec<u8>) -> Output
         ensures { result ≡ printed text.items }
     {
-        Output {
-            text,
-            files: Vec::new(alloc),
-        }
+        let files = Vec::new(alloc);
+        Output { text, files }
     }
 
     /// Returns an output that prints nothing and has these files.
     pub(crate) fn files(alloc: Global, files: Vec<OutputFile>) -> Output
         ensures { result ≡ written (map file_value files.items) }
     {
-        Output {
-            text: Vec::new(alloc),
-            files,
-        }
+        let text = Vec::new(alloc);
+        Output { text, files }
     }
 }
 
@@ -110,24 +104,21 @@ fn of_failed_call(error: &io::Error, message: Result<Vec<u8>, AllocError>) -> St
     stopped(3, message)
 }
 
-/// Stops the run at a fault, which is reported after this prefix.
-pub(crate) fn of_fault<F: Display + Drop>(alloc: Global, prefix: &str, failure: Failure<F>) -> Stop
-    ensures { ReportsPrinted prefix.now F.output failure result }
+/// Returns the value, or stops the run at the fault, which is reported after this prefix.
+pub(crate) fn or_stop<T, F: Display + Drop>(
+    alloc: Global,
+    prefix: &str,
+    outcome: Result<T, Failure<F>>,
+) -> Result<T, Stop>
+    ensures { OrStops (ReportsPrinted prefix.now F.output) outcome result }
 {
-    let Failure::Fault(fault) = failure else {
-        return Failure::Memory;
-    };
-    let message = format!(in alloc; "{prefix}{fault}");
-    stopped(1, message.map(String::into_bytes))
-}
-
-/// Stops the run at an edge list that gives no graph.
-pub(crate) fn of_listing(alloc: Global, failure: &Failure<ListFault>) -> Stop
-    ensures { Reports edges_fault_text failure.now result }
-{
-    match failure {
-        Failure::Memory => Failure::Memory,
-        Failure::Fault(fault) => stopped(1, edges_fault_text(alloc, fault)),
+    match outcome {
+        Ok(value) => Ok(value),
+        Err(Failure::Memory) => Err(Failure::Memory),
+        Err(Failure::Fault(fault)) => {
+            let message = format!(in alloc; "{prefix}{fault}");
+            Err(stopped(1, message.map(String::into_bytes)))
+        }
     }
 }
 

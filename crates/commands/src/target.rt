@@ -1,9 +1,8 @@
 //! The commands `collate`, which leaves the files of a target, and `one`, which prints the dyndep
 //! text of one scan document; and the files of a target, as they are read.
 
-ghost use Rattle.std.specs.Prelude.{◌≡◌, ◌++◌, [], map, All, IsUtf8, IfErr, IfOk, OnOk};
-ghost use Rattle.commands.specs.Prelude.{ForFault, string_bytes, cow_slice_items, table_with};
-ghost use Rattle.commands.specs.Prelude.{Collates, Runs, IsRefusal, WasRead, file_value, FilesOf};
+ghost use Rattle.std.specs.Prelude.{◌≡◌, ◌++◌, [], map, All, IsUtf8, IfOk, OnOk, string_bytes};
+ghost use Rattle.commands.specs.Prelude.{GivesTarget, cow_slice_items, Runs, file_value, FilesOf};
 ghost use Rattle.commands.specs.Prelude.{TargetOf, SpecOf, style_of, target_with, map_files};
 ghost use Rattle.commands.specs.Prelude.{files_of, TargetRun, CollateRun, OneRun};
 
@@ -12,7 +11,7 @@ use crate::folder::{Folder, add, pushed, read_all, read_file};
 use crate::stop::{self, Output, OutputFile, Stop};
 use build_effect::ListingReader;
 use collate_core::{
-    Collated, CollatedParts, RefusedTarget, Target, collate_dyndep_or_refused, collate_or_refused,
+    Collated, RefusedTarget, Target, collate_dyndep_or_refused, collate_or_refused,
 };
 use document_values::TargetName;
 use module_maps::{Clang, Gcc};
@@ -35,16 +34,12 @@ pub fn collate<'f, F: Folder<'f>>(
     ensures { Runs (F.calls folder.old) (F.calls folder.new) (CollateRun document.now) result }
 {
     let spec = read_spec(alloc, document)?;
-    target_run(alloc, &spec, folder)
+    run(alloc, &spec, folder)
 }
 
 /// Reads the files of a target document, and collates its target. Apart from `collate`, which
 /// would drop the document at each `?`: this saves the prover 85 seconds.
-fn target_run<'f, F: Folder<'f>>(
-    alloc: Global,
-    spec: &TargetSpec,
-    folder: &mut F,
-) -> Result<Output, Stop>
+fn run<'f, F: Folder<'f>>(alloc: Global, spec: &TargetSpec, folder: &mut F) -> Result<Output, Stop>
     ensures { Runs (F.calls folder.old) (F.calls folder.new) (TargetRun spec.now) result }
 {
     let files = TargetFiles::read(alloc, spec, &spec.linked, folder)?;
@@ -56,6 +51,7 @@ fn target_run<'f, F: Folder<'f>>(
 }
 
 /// The files of a target.
+#[derive(Drop)]
 pub(crate) struct TargetFiles<'f> {
     /// The bytes of the scan documents.
     pub scans: Vec<CowSlice<'f, u8>>,
@@ -63,17 +59,6 @@ pub(crate) struct TargetFiles<'f> {
     pub infos: Vec<CowSlice<'f, u8>>,
     /// The result of reading the edge list, if its document names one.
     pub listing: Option<ListingRead>,
-}
-
-// Not derived: a derived drop is written out, field by field, wherever a value goes.
-impl<'f> Drop for TargetFiles<'f> {
-    fn drop(self) {
-        let TargetFiles {
-            scans: _,
-            infos: _,
-            listing: _,
-        } = self;
-    }
 }
 
 impl<'f> Model for TargetFiles<'f> {
@@ -105,10 +90,7 @@ impl<'f> TargetFiles<'f> {
         let scans = read_all(alloc, &spec.scans, folder)?;
         let infos = read_all(alloc, infos, folder)?;
         let listing = match &spec.edges {
-            Some(name) => {
-                let reader = ListingReader::new(alloc);
-                Some(read_file(alloc, name.as_str(), reader, folder)?)
-            }
+            Some(name) => Some(read_file(alloc, name, ListingReader::new(alloc), folder)?.finish()),
             None => None,
         };
         Ok(TargetFiles {
@@ -138,11 +120,7 @@ pub(crate) fn slices<'t>(
 pub(crate) fn read_spec(alloc: Global, document: &[u8]) -> Result<TargetSpec, Stop>
     ensures { SpecOf document.now [] result }
 {
-    // By hand: the closure of a `map_err` over this fault takes the prover a minute and a half.
-    match spec_read(alloc, document) {
-        Ok(spec) => Ok(spec),
-        Err(failure) => Err(stop::of_fault(alloc, "target: ", failure)),
-    }
+    stop::or_stop(alloc, "target: ", spec_read(alloc, document))
 }
 
 /// Collates the target of a document, of these files.
@@ -170,11 +148,7 @@ fn collate_as(
     target: &Target,
     form: Option<MapForm>,
 ) -> Result<Collated, Failure<RefusedTarget>>
-    ensures collated { IfOk result (Collates target.now (style_of form)) }
-    ensures refused { IfErr result (ForFault (λ r.
-        IsRefusal target.now (style_of form) r.refusal)) }
-    ensures read { IfErr result (ForFault (λ r.
-        WasRead target.now r.refusal (table_with r.objects.items r.infos.items))) }
+    ensures { GivesTarget target.now (style_of form) result }
 {
     match form {
         None => collate_or_refused(alloc, target, None::<&Gcc>),
@@ -194,18 +168,14 @@ pub(crate) fn append_files(
     ensures { OnOk result (map file_value files.new.items
         ≡ map file_value files.old.items ++ files_of spec.now collated) }
 {
-    let CollatedParts {
-        dyndep: dyndep_text,
-        info: info_text,
-        objects,
-        maps,
-    } = collated.into_parts();
-    append_maps(alloc, &objects, maps, spec.restat, files)?;
+    let parts = collated.into_parts();
+    let maps = parts.maps;
+    append_maps(alloc, &parts.objects, maps, spec.restat, files)?;
     let name = String::from_str(alloc, &spec.info)?;
-    let (bytes, keeps) = (info_text, spec.restat);
+    let (bytes, keeps) = (parts.info, spec.restat);
     add(files, OutputFile { name, bytes, keeps })?;
     let name = String::from_str(alloc, &spec.dyndep)?;
-    let (bytes, keeps) = (dyndep_text, false);
+    let (bytes, keeps) = (parts.dyndep, false);
     add(files, OutputFile { name, bytes, keeps })
 }
 

@@ -1,7 +1,6 @@
 -- What is known of the targets of a project, and how they are found by their info files.
-use Rattle.std.specs.Prelude.{◌≡◌, ℕ, ◌<◌, List, [], length, slice_get, All, Option, Some, String, Vec}
+use Rattle.std.specs.Prelude.{◌≡◌, ℕ, ◌<◌, List, length, slice_get, All, Option, Some, String}
 use Rattle.std.specs.BTreeMap.{BTreeMap, get_by_text}
-use Rattle.std.specs.Global.{Global}
 use Rattle.collate_core.specs.declared.fault.RefusedTarget.{RefusedTarget}
 use Rattle.ninja_text.specs.Bytes.{Text}
 use Rattle.commands.specs.ProjectCommand.{ReadTargetValue, names_at, target_text}

@@ -8,7 +8,7 @@ use Rattle.std.specs.declared.alloc.AllocError.{AllocError}
 use Rattle.ninja_text.specs.Bytes.{Text}
 use Rattle.ninja_text.specs.declared.failure.Failure.{Failure}
 use Rattle.ninja_text.specs.declared.failure.Failure.TheVariants.{Memory, Fault}
-use Rattle.commands.specs.Outcomes.{LineValue, failed, refusal}
+use Rattle.commands.specs.Outcomes.{LineValue, Outcome, failed, refusal}
 
 -- the run stops with this status and message, or because there was no memory for the message
 abbrev pub IsStoppedWith : ℕ → Result (Vec ℕ Global) AllocError → Failure LineValue → Type 0
@@ -21,6 +21,13 @@ abbrev pub IsFailedCall : Error → Result (Vec ℕ Global) AllocError → Failu
 IsFailedCall error message stop =
     (error_kind error ≡ OutOfMemory → stop ≡ Memory)
     × ((error_kind error ≡ OutOfMemory → ⊥) → IsStoppedWith 3 message stop)
+
+-- the value of a result, or why the run stops at its failure
+abbrev pub OrStops : {V F : Type 0} → (Failure F → Failure LineValue → Type 0)
+    → Result V (Failure F) → Outcome V → Type 0
+OrStops Stops (Ok value) outcome = outcome ≡ Ok value
+OrStops Stops (Err failure) (Ok value) = ⊥
+OrStops Stops (Err failure) (Err stop) = Stops failure stop
 
 -- why the run stops at a failure: memory, or the fault as it is printed, after this prefix
 abbrev pub ReportsPrinted : {F : Type 0} → Text → (F → Option Text) → Failure F → Failure LineValue

@@ -1,5 +1,5 @@
-use Rattle.std.proofs.Common.{rules, ◌≡◌, ◌∙◌, ◌++◌, ◌∷◌, [], List, append_assoc, get_or, map, refl, ap, ap₂, subst, sym, length, ℕ, Vec, Global}
-use Rattle.commands.specs.Prelude.{ForFault, IsSortingOf, EdgeNeeds, line_feed, visible, cycle_text, first_output, order_text, PrintsOrder, refusal, printed}
+use Rattle.std.proofs.Common.{rules, ◌≡◌, ◌∙◌, ◌++◌, ◌∷◌, [], List, append_assoc, get_or, map, refl, ap, ap₂, subst, ℕ, Vec, Global}
+use Rattle.commands.specs.Prelude.{ForFault, line_feed, visible, cycle_text, first_output, order_text, PrintsOrder, refusal, printed}
 use Rattle.commands.proofs.Outcomes.{its_line, of_all, next, last, said, text_next}
 use Rattle.commands.proofs.edges.order_of_read.Goals as goal
 
@@ -14,17 +14,17 @@ returns-in_err-push_line-in-Order c = next _ c.in_ok-graph.ensures (search rules
 
 pub returns-in-Order : goal.returns-in-Order
 returns-in-Order c =
-    let graph = c.in_ok-graph.graph in
+    let graph = c.in_ok-graph.graph.now in
     let sorting = rw c.in-Order.is at c.in_ok-order.ensures in
     let order = c.deref-edge_index-items.result.now in
-    let text = of_all (order_text c.graph.inside.edges.items) order c.loop-edge_index.edge_index-index c.loop-edge_index.text.items c.loop-edge_index-test.false
+    let text = of_all (order_text graph) order c.loop-edge_index.edge_index-index c.loop-edge_index.text.items c.loop-edge_index-test.false
     c.loop-edge_index.invariant
-    ∙ ap₂ order_text c.graph.view_is c.deref-edge_index-items.ensures.value in
+    ∙ ap (order_text graph) c.deref-edge_index-items.ensures.value in
     next _ c.in_ok-graph.ensures (refl, (c.in-Order.order, sorting, c.text.ensures ∙ ap printed text))
 
 pub returns : goal.returns
 returns c =
-    let graph = c.in_ok-graph.graph in
+    let graph = c.in_ok-graph.graph.now in
     let sorting = rw c.in-Cycle.is at c.in_ok-order.ensures in
     let stop = its_line 1 _ _ c.stopped.result c.cycle_text.ensures c.stopped.ensures in
     let same = ap₂ cycle_text c.edges-in-Cycle.ensures.edges c.deref.ensures.value in
@@ -35,9 +35,9 @@ returns c =
 pub loop-edge_index-preserved : goal.loop-edge_index-preserved
 loop-edge_index-preserved c =
     let text = c.loop-edge_index.text.items in
-    let name_of : ℕ → List ℕ = first_output c.graph.inside.edges.items in
+    let name_of : ℕ → List ℕ = first_output c.in_ok-graph.graph.now in
     let index : ℕ = get_or c.deref-edge_index-items.result.now c.loop-edge_index.edge_index-index 0 in
-    let name = c.first_output.ensures ∙ ap (λ edges. first_output edges index) (c.edges.ensures.edges ∙ sym c.graph.view_is) in
+    let name = c.first_output.ensures ∙ ap (λ edges. first_output edges index) c.edges.ensures.edges in
     text_next (λ k. map visible (name_of k) ++ line_feed ∷ [])
     [] _ c.loop-edge_index.edge_index-index 0 text _ c.loop-edge_index-test.true c.loop-edge_index.invariant
     (c.in_ok-push_line-in-Order.ensures ∙ ap (λ n. text ++ map visible n ++ line_feed ∷ []) name ∙

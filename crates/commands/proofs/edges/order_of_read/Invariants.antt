@@ -4,4 +4,4 @@ use Rattle.commands.proofs.edges.order_of_read.Given as goal
 
 -- the edges so far
 abbrev pub invariant-loop-edge_index : goal.invariant-loop-edge_index
-invariant-loop-edge_index l = l.text.items ≡ order_text l.graph-inside.edges.items (take l.edge_index-index l.edge_index-items)
+invariant-loop-edge_index l = l.text.items ≡ order_text l.graph (take l.edge_index-index l.edge_index-items)

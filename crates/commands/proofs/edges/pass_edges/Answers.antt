@@ -1,19 +1,13 @@
-use Rattle.std.proofs.Common.{◌≡◌, ◌∙◌, ℕ, List, [], Option, Some, length, refl, ap, ap₂, subst, Ok, Err, Vec, Global}
-use Rattle.commands.specs.Prelude.{ForFault, Failure, IsOrderable, IsSortingOf, Sorting, EdgeValue, EdgeNeeds, ListFault, HasEffect, LacksEffect, EdgesPass, GraphPasses, edges_fault_text, effect_text, cycle_text, ListingRead, Outcome, goes_on, stops, refusal, Reports}
+use Rattle.std.proofs.Common.{◌≡◌, ℕ, List, [], Option, Some, length, refl, ap₂, subst, Ok, Err, Vec, Global}
+use Rattle.commands.specs.Prelude.{ForFault, IsOrderable, IsSortingOf, Sorting, EdgeValue, EdgeNeeds, HasEffect, LacksEffect, EdgesPass, GraphPasses, ListingOf, effect_text, cycle_text, ListingRead, Outcome, goes_on, stops, refusal}
 use Rattle.dep_order.specs.declared.Sorting.TheVariants.{Order, Cycle}
-use Rattle.commands.proofs.Outcomes.{its_line, said, fault_reported, held_fault, Stop}
+use Rattle.commands.proofs.Outcomes.{its_line, last, next, said, fault_reported, Stop}
 use Rattle.commands.proofs.edges.pass_edges.Goals as goal
 
--- one that gives a graph
-passed_on : {given : Option ListingRead} {edges : List EdgeValue} (name dyndep : List ℕ) (s : Outcome (Unit {0})) → given ≡ Some (Ok edges) →
-    GraphPasses edges name dyndep [] s → EdgesPass given name dyndep [] s
-passed_on {edges = edges} name dyndep s e h = rw e (goes_on edges [] [] refl (refl, refl) h)
-
--- and one that does not
-rejected : {given : Option ListingRead} {failure : Failure ListFault} (name dyndep : List ℕ) (stop : Stop) → given ≡ Some (Err failure) →
-    Reports edges_fault_text failure stop → EdgesPass given name dyndep [] (Err stop)
-rejected {failure = failure} name dyndep stop e h =
-    rw e (stops stop (held_fault (List EdgeValue) edges_fault_text failure stop h) refl)
+-- a list that gives a graph
+passed_on : {given : Option ListingRead} {listing : ListingRead} (edges : List EdgeValue) (name dyndep : List ℕ) (s : Outcome (Unit {0})) →
+    given ≡ Some listing → ListingOf listing [] (Ok edges) → GraphPasses edges name dyndep [] s → EdgesPass given name dyndep [] s
+passed_on edges name dyndep s e is h = rw e (next edges is h)
 
 -- the edges after the effect have this sorting
 abbrev Sorts : List ℕ → List ℕ → List EdgeValue → Sorting → Type 0
@@ -32,26 +26,26 @@ cyclic name dyndep old cycle stop (new, effect, is) h =
     (said (λ (done : Unit {0}). IsOrderable (length new) (EdgeNeeds new)) (λ (c : Vec ℕ Global). IsSortingOf (length new) (EdgeNeeds new) (Cycle c))
     (λ (c : Vec ℕ Global). cycle_text old c.items) cycle stop is h)
 
-pub returns-in-Err : goal.returns-in-Err
-returns-in-Err c = rejected _ _ _ (c.in-Some.is ∙ ap Some c.in-Err.is) c.of_listing.ensures
+pub returns-in_err-graph : goal.returns-in_err-graph
+returns-in_err-graph c = rw c.in-Some.is (last _ c.in_err-graph.ensures c.from_residual.ensures)
 
 pub returns-in-Ok-Order : goal.returns-in-Ok-Order
 returns-in-Ok-Order c =
-    passed_on _ _ _ (c.in-Some.is ∙ ap Some c.in-Ok.is)
-    (ordered c.args.name.now c.args.collated.now.dyndep c.in-Ok.graph c.in-Ok-Order.field-0-is c.in-Ok-Order.ensures.sorted)
+    passed_on _ _ _ _ c.in-Some.is c.in_ok-graph.ensures
+    (ordered c.args.name.now c.args.collated.now.dyndep c.in_ok-graph.graph.now c.in-Ok-Order.field-0-is c.in-Ok-Order.ensures.sorted)
 
 pub returns-in-Ok-Cycle : goal.returns-in-Ok-Cycle
 returns-in-Ok-Cycle c =
     let stop = c.stopped.result in
     let line = its_line 1 _ _ stop c.cycle_text.ensures c.stopped.ensures in
-    passed_on _ _ _ (c.in-Some.is ∙ ap Some c.in-Ok.is)
-    (cyclic c.args.name.now c.args.collated.now.dyndep c.in-Ok.graph c.in-Ok-Cycle.cycle stop (rw c.in-Ok-Cycle.field-0-is at c.in-Ok-Cycle.ensures.sorted)
+    passed_on _ _ _ _ c.in-Some.is c.in_ok-graph.ensures
+    (cyclic c.args.name.now c.args.collated.now.dyndep c.in_ok-graph.graph.now c.in-Ok-Cycle.cycle stop (rw c.in-Ok-Cycle.field-0-is at c.in-Ok-Cycle.ensures.sorted)
     (subst (λ t. ForFault (λ l. l ≡ refusal t) stop) (ap₂ cycle_text c.edges.ensures.edges c.deref.ensures.value) line))
 
 pub returns : goal.returns
 returns c =
     let stop = c.of_effect.result in
-    let old = c.in-Ok.graph in
-    passed_on _ _ _ (c.in-Some.is ∙ ap Some c.in-Ok.is)
+    let old = c.in_ok-graph.graph.now in
+    passed_on _ _ _ _ c.in-Some.is c.in_ok-graph.ensures
     (stops stop (fault_reported (HasEffect c.args.collated.now.dyndep c.args.name.now old) (LacksEffect c.args.collated.now.dyndep c.args.name.now old)
-    effect_text c.in-Err-check_edges.failure stop c.in-Err-check_edges.ensures.fault c.of_effect.ensures) refl)
+    effect_text c.in-Err.failure stop c.in-Err.ensures.fault c.of_effect.ensures) refl)

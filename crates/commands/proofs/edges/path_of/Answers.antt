@@ -1,12 +1,13 @@
-use Rattle.std.proofs.Common.{ℕ, List, [], refl, Ok, codes, Err}
-use Rattle.commands.specs.Prelude.{path_fault_text, name_fault_text, NameOf}
-use Rattle.commands.proofs.Outcomes.{by_print, unwritten}
+use Rattle.std.proofs.Common.{◌≡◌, List, [], ℕ, codes, refl, Ok, Err, subst}
+use Rattle.commands.specs.Prelude.{path_fault_text, NameOf, Outcome, seen}
+use Rattle.commands.proofs.Outcomes.{or_unmade}
 use Rattle.commands.proofs.edges.path_of.Goals as goal
 
-pub returns-in-Ok : goal.returns-in-Ok
-returns-in-Ok c = (refl, rw c.as_bytes.ensures.value at c.in-Ok.ensures.meaning)
+as_is : (s : Outcome (List ℕ)) → seen (λ path. path) s ≡ s
+as_is (Ok path) = refl
+as_is (Err stop) = refl
 
-pub returns-in-Err : goal.returns-in-Err
-returns-in-Err c =
-    unwritten (λ (path : List ℕ). path) name_fault_text c.in-Err.failure c.of_fault.result _ (rw c.as_bytes.ensures.value at c.in-Err.ensures.meaning)
-    (by_print (codes "name: ") path_fault_text c.in-Err.failure c.of_fault.result c.of_fault.ensures)
+pub returns : goal.returns
+returns c =
+    subst (NameOf c.args.name.now []) (as_is c.or_stop.result)
+    (or_unmade (λ path. path) (codes "name: ") path_fault_text c.of.result c.or_stop.result _ (rw c.as_bytes.ensures.value at c.of.ensures.meaning) c.or_stop.ensures)

@@ -1,17 +1,19 @@
-use Rattle.std.proofs.Common.{[], refl, ℕ, Vec, Global}
-use Rattle.commands.specs.Prelude.{write_fault_text, goes_on, stops}
-use Rattle.commands.proofs.Outcomes.{by_print, next, last, unwritten}
+use Rattle.std.proofs.Common.{[], refl, ℕ, Vec, Global, Ok, Err}
+use Rattle.commands.specs.Prelude.{write_fault_text}
+use Rattle.commands.proofs.Outcomes.{or_unmade, next, last}
 use Rattle.commands.proofs.edges.show_of_read.Goals as goal
 
 pub returns-in_err-dyndep : goal.returns-in_err-dyndep
 returns-in_err-dyndep c = last _ c.in_err-dyndep.ensures c.from_residual.ensures
 
-pub returns-in-Ok : goal.returns-in-Ok
-returns-in-Ok c = next _ c.in_ok-dyndep.ensures (goes_on c.in-Ok.text.items [] [] refl (refl, c.in-Ok.ensures.text) (refl, c.text.ensures))
+pub returns-in_err-text : goal.returns-in_err-text
+returns-in_err-text c =
+    next _ c.in_ok-dyndep.ensures
+    (last _ (or_unmade (λ (text : Vec ℕ Global). text.items) [] write_fault_text c.to_text.result (Err c.in_err-text.field-0.0) _ c.to_text.ensures.text
+    c.in_err-text.ensures) c.from_residual-in_err-text.ensures)
 
 pub returns : goal.returns
 returns c =
-    let stop = c.of_fault.result in
     next _ c.in_ok-dyndep.ensures
-    (stops stop (unwritten (λ (text : Vec ℕ Global). text.items) write_fault_text c.in-Err.failure stop _ c.in-Err.ensures.text
-    (by_print [] write_fault_text c.in-Err.failure stop c.of_fault.ensures)) refl)
+    (next _ (or_unmade (λ (text : Vec ℕ Global). text.items) [] write_fault_text c.to_text.result (Ok c.in_ok-text.text) _ c.to_text.ensures.text
+    c.in_ok-text.ensures) (refl, c.text.ensures))

@@ -1,4 +1,4 @@
-use Rattle.std.proofs.Common.{◌≡◌, Some, slice_get, ◌∙◌, ◌+◌, ◌≤◌, [], ◌∷◌, ◌++◌, drop, length, map, string_bytes, refl, ap, subst, sym, arith}
+use Rattle.std.proofs.Common.{◌≡◌, Some, slice_get, ◌∙◌, ◌+◌, ◌≤◌, drop, length, map, string_bytes, refl, ap, subst, sym, arith}
 use Rattle.std.proofs.lemmas.List.{length-map, map_push}
 use Rattle.commands.specs.Prelude.{Each, ReadsNext, stops, ReadsAll, contents, cow_slice_items}
 use Rattle.commands.proofs.Outcomes.{Leads, each_done, each_last, each_next, leads_none, mapped_at, run_once, run_stop}

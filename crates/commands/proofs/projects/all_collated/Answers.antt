@@ -31,18 +31,18 @@ rejected_text-message-requires c =
     let targets = c.args.targets.now in
     reported (style targets) targets c.in-Err-Fault.index c.in-Err-Fault.refused.refusal c.requires
     (subst (ForFault (λ (r : ℕ × RefusedTarget). IsProjectRefusal (style targets) (map project_target targets) r.0 r.1.refusal)) c.in-Err-Fault.field-0-is
-    c.in-Err-Fault.ensures.refused)
+    c.in-Err-Fault.ensures.1)
 
 pub returns-in-Ok : goal.returns-in-Ok
-returns-in-Ok c = (refl, c.in-Ok.ensures.collated)
+returns-in-Ok c = (refl, c.in-Ok.ensures.0)
 
 pub returns-in-Err-Fault : goal.returns-in-Err-Fault
 returns-in-Err-Fault c =
     let targets = c.args.targets.now in
     let refusal = subst (ForFault (λ (r : ℕ × RefusedTarget). IsProjectRefusal (style targets) (map project_target targets) r.0 r.1.refusal))
-    c.in-Err-Fault.field-0-is c.in-Err-Fault.ensures.refused in
+    c.in-Err-Fault.field-0-is c.in-Err-Fault.ensures.1 in
     let read = subst (ForFault
     (λ (r : ℕ × RefusedTarget). WasReadAt (style targets) (map project_target targets) r.0 r.1.refusal (table_with r.1.objects.items r.1.infos.items)))
-    c.in-Err-Fault.field-0-is c.in-Err-Fault.ensures.read in
+    c.in-Err-Fault.field-0-is c.in-Err-Fault.ensures.2 in
     rejected targets c.in-Err-Fault.index c.in-Err-Fault.refused c.rejected_text-message.result c.stopped.result c.requires refusal read
     c.rejected_text-message.ensures c.stopped.ensures

@@ -2,7 +2,7 @@ use Rattle.std.proofs.Common.{◌∷◌, ◌+◌, drop, ◌≡◌, ℕ, ◌<◌,
 use Rattle.std.proofs.lemmas.List.{drop_all}
 use Rattle.std.proofs.lemmas.Slice.Zip.{length-zip}
 use Rattle.commands.specs.declared.projects.ReadTarget.TheInside.{Inside}
-use Rattle.commands.specs.Prelude.{CollatedValue, EdgesPass, ListingRead, Outcome, stops, ReadTargetValue, AllEdgesPass, At, IsTargetOutcome}
+use Rattle.commands.specs.Prelude.{CollatedValue, EdgesPass, ListingRead, Outcome, stops, ReadTargetValue, At, IsTargetOutcome}
 use Rattle.commands.proofs.Outcomes.{at_index, drop_next, next, passed}
 use Rattle.ninja_text.proofs.ForCallers.{to_zip}
 use Rattle.commands.proofs.projects.all_pass.Goals as goal

@@ -1,4 +1,4 @@
-use Rattle.std.proofs.Common.{rules, ◌≡◌, ◌∙◌, ◌+◌, ◌<◌, ℕ, List, ◌∷◌, [], ◌++◌, length, take, map, ap, ap₂, sym, arith, take_all, Vec, Global, Bor}
+use Rattle.std.proofs.Common.{rules, ◌≡◌, ◌∙◌, ◌<◌, ℕ, List, ◌∷◌, [], ◌++◌, length, map, ap, ap₂, sym, arith, take_all, Vec, Global, Bor}
 use Rattle.commands.specs.Prelude.{ProjectTargetValue, ReadTargetValue, project_target}
 use Rattle.commands.proofs.Targets.{same_at, same_length}
 use Rattle.commands.proofs.Outcomes.{at_index, mapped_next}

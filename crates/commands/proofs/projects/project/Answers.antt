@@ -1,27 +1,27 @@
-use Rattle.std.proofs.Common.{◌≡◌, ◌∙◌, List, [], length, map, string_bytes, zip, codes, refl, ap, Ok, Err}
+use Rattle.std.proofs.Common.{◌≡◌, ◌∙◌, List, [], length, map, string_bytes, zip, codes, ap, Result, IfOk, IfErr}
 use Rattle.std.proofs.lemmas.List.{length-map}
-use Rattle.commands.specs.Prelude.{doc_fault_text, IsRefused, ProjectValue, project_checks, CollatedValue, style_of, Outcome, OutputValue, Part, Runs, Writes, stops, ◌>>=◌, ReadTargetValue, AllEdgesPass, HasProject, ProjectOf, ProjectRun, ReadsTargets, all_files, form_of, project_target, project_text, LinkEarlier}
-use Rattle.commands.proofs.Outcomes.{by_print, fault_reported, last, next, none_made, pure_next, run_once, run_last}
+use Rattle.commands.specs.Prelude.{Bytes, DocFault, Failure, ForFault, doc_fault_text, IsRefused, ProjectValue, project_checks, style_of, Outcome, OutputValue, Part, Runs, Writes, ◌>>=◌, ReadTargetValue, AllEdgesPass, HasProject, ProjectOf, ProjectRun, all_files, form_of, project_target, ProjectDocumentOf}
+use Rattle.commands.proofs.Outcomes.{Printed, last, next, or_printed, pure_last, pure_next, run_once, run_last}
 use Rattle.commands.proofs.Targets.{objects_are_text}
 use Rattle.commands.proofs.projects.project.Given as given
 use Rattle.commands.proofs.projects.project.Goals as goal
 use Rattle.commands.proofs.projects.project.Goals.{In_ok-read}
 
-pub returns-in-Err : goal.returns-in-Err
-returns-in-Err g c =
-    let document = c.args.document.now in
-    let stop = c.of_fault.result in (
-      [],
-      none_made _,
-      stops stop (fault_reported (HasProject document) (IsRefused project_checks document) project_text c.in-Err.failure stop c.in-Err.ensures.refused
-          (by_print (codes "project: ") doc_fault_text c.in-Err.failure stop c.of_fault.ensures)) refl,
-    )
+-- the members of the document, or why it is rejected
+document_of : (document : Bytes) (r : Result ProjectValue (Failure DocFault)) (s : Outcome ProjectValue) → IfOk r (HasProject document) →
+    IfErr r (ForFault (IsRefused project_checks document)) → Printed (codes "project: ") doc_fault_text r s → ProjectDocumentOf document [] s
+document_of document = or_printed (HasProject document) (IsRefused project_checks document) (codes "project: ") doc_fault_text
+
+pub returns-in_err-project : goal.returns-in_err-project
+returns-in_err-project g c =
+    pure_last _ _ (document_of c.args.document.now c.project_read.result _ c.project_read.ensures.accepted c.project_read.ensures.refused c.in_err-project.ensures)
+    c.from_residual.ensures
 
 pub returns-in_err-read : goal.returns-in_err-read
 returns-in_err-read g c =
     let named = ap (map string_bytes) c.deref.ensures.value ∙ ap (λ (p : ProjectValue). p.targets) c.project.view_is in
-    pure_next _ c.in-Ok.project (refl, c.in-Ok.ensures.accepted)
-    (run_last _ _ (rw named at c.in_err-read.ensures) c.from_residual.ensures)
+    pure_next _ _ (document_of c.args.document.now c.project_read.result _ c.project_read.ensures.accepted c.project_read.ensures.refused c.in_ok-project.ensures)
+    (run_last _ _ (rw named at c.in_err-read.ensures) c.from_residual-in_err-read.ensures)
 
 pub all_collated-requires : goal.all_collated-requires
 all_collated-requires g c = rw c.as_slice-targets.ensures.value c.read.invariant.0
@@ -35,7 +35,7 @@ targets_next : (g : given.Over) (c : In_ok-read g) (own : List ReadTargetValue) 
     Runs (g.F.Folder.calls c.args.folder.now) (g.F.Folder.calls c.read_targets.new.folder) (ProjectRun c.args.document.now) s
 targets_next g c own s same rest =
     let named = ap (map string_bytes) c.deref.ensures.value ∙ ap (λ (p : ProjectValue). p.targets) c.project.view_is in
-    pure_next _ c.in-Ok.project (refl, c.in-Ok.ensures.accepted)
+    pure_next _ _ (document_of c.args.document.now c.project_read.result _ c.project_read.ensures.accepted c.project_read.ensures.refused c.in_ok-project.ensures)
     (run_once _ _ (rw named at c.in_ok-read.ensures) (rw same at rest))
 
 pub returns-in_err-outs : goal.returns-in_err-outs

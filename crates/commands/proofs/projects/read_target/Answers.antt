@@ -1,6 +1,6 @@
 use Rattle.std.proofs.Common.{rules, ◌≡◌, ◌∙◌, [], length, map, string_bytes, refl, ap, Ok, Err}
-use Rattle.commands.specs.Prelude.{TargetDocumentValue, Outcome, stops, FormOf, IsTargetOutcome, LinksOf, SpecOf, bytes_of, cow_slice_items, seen, At}
-use Rattle.commands.proofs.Outcomes.{none_made, pure_last, pure_next, run_next, run_once, run_last}
+use Rattle.commands.specs.Prelude.{TargetDocumentValue, Outcome, FormOf, IsTargetOutcome, LinksOf, SpecOf, bytes_of, cow_slice_items, seen, At}
+use Rattle.commands.proofs.Outcomes.{pure_last, pure_next, run_next, run_once, run_last}
 use Rattle.commands.proofs.Targets.{links_within, at_target, at_target_seen, at_value}
 use Rattle.commands.proofs.projects.read_target.Given as given
 use Rattle.commands.proofs.projects.read_target.Goals as goal
@@ -42,19 +42,19 @@ returns-in_err-at_target-clause-read g c =
     run_next _ _ c.in_ok-document.ensures (pure_next _ _ (members g before.After-read_spec (Ok c.in_ok-spec.spec) c.in_ok-spec.ensures)
     (pure_last _ _ (form g before.After-pass_form (Err c.in_err-at_target.field-0.0) c.in_err-at_target.ensures) c.from_residual-in_err-at_target.ensures))
 
-pub returns-in_err-linked-clause-read : goal.returns-in_err-linked-clause-read
-returns-in_err-linked-clause-read g c =
-    let before = goal.at.returns-in_err-linked-clause-read g c in
+pub returns-in_err-links-clause-read : goal.returns-in_err-links-clause-read
+returns-in_err-links-clause-read g c =
+    let before = goal.at.returns-in_err-links-clause-read g c in
     run_next _ _ c.in_ok-document.ensures (pure_next _ _ (members g before.After-read_spec (Ok c.in_ok-spec.spec) c.in_ok-spec.ensures)
     (pure_next _ _ (form g before.After-pass_form (Ok tt) c.in_ok-at_target.ensures)
-    (pure_last _ _ (links g before.After-links_of (Err c.in_err-linked.field-0.0) c.in_err-linked.ensures) c.from_residual-in_err-linked.ensures)))
+    (pure_last _ _ (links g before.After-links_of (Err c.in_err-links.field-0.0) c.in_err-links.ensures) c.from_residual-in_err-links.ensures)))
 
 pub returns-in_err-files-clause-read : goal.returns-in_err-files-clause-read
 returns-in_err-files-clause-read g c =
     let before = goal.at.returns-in_err-files-clause-read g c in
     run_next _ _ c.in_ok-document.ensures (pure_next _ _ (members g before.After-read_spec (Ok c.in_ok-spec.spec) c.in_ok-spec.ensures)
     (pure_next _ _ (form g before.After-pass_form (Ok tt) c.in_ok-at_target.ensures)
-    (pure_next _ _ (links g before.After-links_of (Ok c.in_ok-linked.linked) c.in_ok-linked.ensures)
+    (pure_next _ _ (links g before.After-links_of (Ok c.in_ok-links.links) c.in_ok-links.ensures)
     (run_last _ _ c.in_err-files.ensures c.from_residual-in_err-files.ensures))))
 
 pub returns-clause-read : goal.returns-clause-read
@@ -62,14 +62,14 @@ returns-clause-read g c =
     let before = goal.at.returns-clause-read g c in
     run_next _ _ c.in_ok-document.ensures (pure_next _ _ (members g before.After-read_spec (Ok c.in_ok-spec.spec) c.in_ok-spec.ensures)
     (pure_next _ _ (form g before.After-pass_form (Ok tt) c.in_ok-at_target.ensures)
-    (pure_next _ _ (links g before.After-links_of (Ok c.in_ok-linked.linked) c.in_ok-linked.ensures) (run_once _ _ c.in_ok-files.ensures (refl, refl)))))
+    (pure_next _ _ (links g before.After-links_of (Ok c.in_ok-links.links) c.in_ok-links.ensures) (run_once _ _ c.in_ok-files.ensures (refl, refl)))))
 
 -- the links are those of earlier targets
 pub returns-clause-links : goal.returns-clause-links
 returns-clause-links g c =
     let earlier = c.args.earlier.now in
-    let linked = c.in_ok-linked.linked in
+    let linked = c.in_ok-links.links in
     let infos = map string_bytes c.deref-2.result.now in
     let own : LinksOf earlier infos [] (Ok linked.items) =
-    rw (at_value c.len-index.result c.links_of.result linked c.in_ok-linked.ensures) at c.links_of.ensures in
+    rw (at_value c.len-index.result c.links_of.result linked c.in_ok-links.ensures) at c.links_of.ensures in
     links_within earlier infos linked.items own.1

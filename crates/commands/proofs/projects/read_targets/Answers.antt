@@ -1,7 +1,7 @@
-use Rattle.std.proofs.Common.{◌≡◌, Some, slice_get, ◌+◌, ◌≤◌, ◌∷◌, [], ◌++◌, drop, length, map, string_bytes, refl, arith}
+use Rattle.std.proofs.Common.{◌≡◌, Some, slice_get, ◌≤◌, length, map, string_bytes, refl, arith}
 use Rattle.std.proofs.lemmas.List.{length-map}
-use Rattle.commands.specs.Prelude.{Each, Runs, stops, ReadsTarget, ReadsTargets}
-use Rattle.commands.proofs.Outcomes.{Leads, each_done, each_last, each_next, leads_none, mapped_at, passed, run_once}
+use Rattle.commands.specs.Prelude.{stops, ReadsTarget, ReadsTargets}
+use Rattle.commands.proofs.Outcomes.{each_done, each_last, each_next, leads_none, mapped_at, passed, run_once}
 use Rattle.commands.proofs.projects.read_targets.Given as given
 use Rattle.commands.proofs.projects.read_targets.Goals as goal
 use Rattle.commands.proofs.projects.read_targets.Goals.{After-read_target}

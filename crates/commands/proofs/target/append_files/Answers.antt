@@ -7,16 +7,16 @@ use Rattle.commands.proofs.target.append_files.Goals as goal
 -- the maps, the info and the dyndep text, in this order
 pub returns : goal.returns
 returns c =
-    let parts = c.into_parts-dyndep_text.ensures in
+    let parts = c.into_parts-parts.ensures in
     let collated = c.args.collated in
     let spec : TargetDocumentValue = c.args.spec.now in
     let before : List FileValue = map file_value c.args.files.now.items in
     let maps : List FileValue = map_files spec.restat collated.objects collated.maps in
     let keeps : c.spec.inside.restat ≡ spec.restat = ap (λ (t : TargetDocumentValue). t.restat) c.spec.view_is in
-    let info : output_file c.spec.inside.restat (string_bytes c.in_ok-name.name) c.into_parts-dyndep_text.result.info.items ≡
+    let info : output_file c.spec.inside.restat (string_bytes c.in_ok-name.name) c.into_parts-parts.result.info.items ≡
     output_file spec.restat spec.info collated.info =
     ap₂ (output_file c.spec.inside.restat) (search rules) parts.info ∙ ap (λ k. output_file k spec.info collated.info) keeps in
-    let dyndep : output_file false (string_bytes c.in_ok-name-2.name) c.into_parts-dyndep_text.result.dyndep.items ≡
+    let dyndep : output_file false (string_bytes c.in_ok-name-2.name) c.into_parts-parts.result.dyndep.items ≡
     output_file false spec.dyndep collated.dyndep =
     ap₂ (output_file false) (search rules) parts.dyndep in
     let maps_in = c.in_ok-append_maps.ensures ∙
@@ -32,4 +32,4 @@ returns c =
 
 -- the objects are text
 pub append_maps-requires : goal.append_maps-requires
-append_maps-requires c = rw (c.deref.ensures.value, c.into_parts-dyndep_text.ensures.objects) c.requires
+append_maps-requires c = rw (c.deref.ensures.value, c.into_parts-parts.ensures.objects) c.requires

@@ -5,4 +5,4 @@ pub returns-in_err-spec : goal.returns-in_err-spec
 returns-in_err-spec g c = pure_last _ _ c.in_err-spec.ensures c.from_residual.ensures
 
 pub returns : goal.returns
-returns g c = pure_next _ _ c.in_ok-spec.ensures c.target_run.ensures
+returns g c = pure_next _ _ c.in_ok-spec.ensures c.run.ensures

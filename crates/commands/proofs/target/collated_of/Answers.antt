@@ -34,9 +34,9 @@ its_target c s =
     c.deref-5.ensures.value
 
 pub returns-in-Ok : goal.returns-in-Ok
-returns-in-Ok c = its_target (goal.at.returns-in-Ok c).After-collate_as (Ok c.in-Ok.collated) (refl, c.in-Ok.ensures.collated)
+returns-in-Ok c = its_target (goal.at.returns-in-Ok c).After-collate_as (Ok c.in-Ok.collated) (refl, c.in-Ok.ensures.0)
 
 pub returns : goal.returns
 returns c =
     its_target (goal.at.returns c).After-collate_as (Err c.of_target.result)
-    (target_rejected _ (style_of c.spec.inside.map) c.in-Err.failure c.of_target.result c.in-Err.ensures.refused c.in-Err.ensures.read c.of_target.ensures)
+    (target_rejected _ (style_of c.spec.inside.map) c.in-Err.failure c.of_target.result c.in-Err.ensures.1 c.in-Err.ensures.2 c.of_target.ensures)

@@ -1,4 +1,4 @@
-use Rattle.std.proofs.Common.{rules, ◌≡◌, ◌∙◌, ◌<◌, List, length, get_or, ap, sym, string_bytes, Some, All}
+use Rattle.std.proofs.Common.{rules, ◌≡◌, ◌∙◌, List, length, get_or, ap, sym, string_bytes, Some}
 use Rattle.std.proofs.lemmas.List.{get_or_push}
 use Rattle.std.proofs.lemmas.Map.Text.{btree_map_updates_text}
 use Rattle.commands.specs.Prelude.{ReadTargetValue, writer_of}

@@ -1,6 +1,7 @@
-use Rattle.std.proofs.Common.{◌≡◌, ◌∙◌, Option, Some, None, map, string_bytes, refl, ap, Ok, Err, String, option_map, Global}
-use Rattle.commands.specs.Prelude.{Text, TargetDocumentValue, ListingRead, ReadsListing, Outcome, Runs, ReadsAll, ReadsIfNamed, stops}
+use Rattle.std.proofs.Common.{rules, ◌≡◌, ◌∙◌, Option, Some, None, map, string_bytes, refl, ap, Ok, Err, String, option_map, Global}
+use Rattle.commands.specs.Prelude.{Text, TargetDocumentValue, ListingRead, ReadsListing, Outcome, Runs, ReadsIfNamed, stops}
 use Rattle.commands.proofs.Outcomes.{at_once, run_next, run_once, run_last, Known}
+use Rattle.commands.proofs.Listings.{listing_file}
 use Rattle.commands.proofs.target.TargetFiles.read.Goals as goal
 use Rattle.commands.proofs.target.TargetFiles.read.Goals.{in-Some+in_ok-read_file-in-Some, in-None}
 
@@ -24,7 +25,7 @@ returns-in_err-infos g c =
 pub returns-in_err-read_file-in-Some : goal.returns-in_err-read_file-in-Some
 returns-in_err-read_file-in-Some g c =
     let named = ap (map string_bytes) c.deref.ensures.value ∙ ap (λ (s : TargetDocumentValue). s.scans) c.spec.view_is in
-    let failed = rw c.as_str.ensures.value at c.in_err-read_file-in-Some.ensures in
+    let failed = rw c.deref-in-Some.ensures at c.in_err-read_file-in-Some.ensures in
     run_next _ _ (rw named at c.in_ok-scans.ensures) (run_next _ _ c.in_ok-infos.ensures
     (run_last _ _ (of_name _ _ (Err c.in_err-read_file-in-Some.field-0.0) (ap (λ (s : TargetDocumentValue). s.edges) c.spec.view_is) c.in-Some.is
     (failed.0, failed.1, stops _ failed.2 refl)) c.from_residual-in_err-read_file-in-Some.ensures))
@@ -39,9 +40,10 @@ returns g c =
     let Reads = ReadsIfNamed ReadsListing c.args.spec.now.edges in
     let read : Runs start end Reads (Ok listing) = elim c.match-spec.branch [
       | in-Some+in_ok-read_file-in-Some w ↦
-          let its : ListingRead = w.in_ok-read_file-in-Some.field-0 in
+          let its : ListingRead = w.finish.result in
           rw (w.listing-is, w.folder-is) (of_name _ _ (Ok (Some its)) edges w.in-Some.is
-          (run_once _ _ (rw w.as_str.ensures.value at w.in_ok-read_file-in-Some.ensures) (refl, refl)))
+          (run_once _ _ (listing_file _ _ its (search rules) w.finish.ensures.failed w.finish.ensures.all
+          (rw w.deref-in-Some.ensures at w.in_ok-read_file-in-Some.ensures)) (refl, refl)))
       | in-None w ↦
           rw (w.listing-is, w.folder-is)
           (of_name _ _ (Ok None) edges w.in-None.is (at_once _ (ReadsIfNamed ReadsListing None) (Ok None) (refl, refl)))

@@ -1,9 +1,9 @@
 use Rattle.std.proofs.Common.{rules, ◌≡◌, ◌++◌, ◌∷◌, [], List, codes, refl, if◌then◌else◌, inl, inr, Result, Ok, Err, true, false}
 use Rattle.commands.specs.Prelude.{Error, Bytes, PathText, ForFault, file_value, writes, FileCall, Adds, MakesCalls, comparing, writing, FileValue, failed}
 use Rattle.commands.proofs.Outcomes.{both_made, none_made, Known}
-use Rattle.commands.proofs.run.write_file.Given as given
-use Rattle.commands.proofs.run.write_file.Goals as goal
-use Rattle.commands.proofs.run.write_file.Goals.{After-write, else-file-via-then-file+else-has, else-file-via-else-file}
+use Rattle.commands.proofs.run.write.Given as given
+use Rattle.commands.proofs.run.write.Goals as goal
+use Rattle.commands.proofs.run.write.Goals.{After-write, else-file-via-then-file+else-has, else-file-via-else-file}
 
 -- the calls before a file is written
 abbrev compares : FileValue → List FileCall

@@ -3,9 +3,9 @@ use Rattle.commands.specs.Prelude.{TargetDocumentValue, file_value, files_of, st
 use Rattle.commands.specs.declared.stop.OutputFile.{OutputFile}
 use Rattle.commands.proofs.Targets.{objects_text}
 use Rattle.commands.proofs.Outcomes.{next, last, no_value, run_once, run_last}
-use Rattle.commands.proofs.target.target_run.Given as given
-use Rattle.commands.proofs.target.target_run.Goals as goal
-use Rattle.commands.proofs.target.target_run.Goals.{After-read}
+use Rattle.commands.proofs.target.run.Given as given
+use Rattle.commands.proofs.target.run.Goals as goal
+use Rattle.commands.proofs.target.run.Goals.{After-read}
 
 -- the info files are those that the document links
 linked : (g : given.Over) (c : After-read g) → map string_bytes c.deref.result.now ≡ c.args.spec.now.linked
