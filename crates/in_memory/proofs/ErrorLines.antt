@@ -1,48 +1,26 @@
 -- The line of each error is read back as where the error is, and which one it is.
 use Rattle.std.proofs.Common.{◌≡◌, ◌∙◌, ℕ, ◌≤◌, ◌==◌, if◌then◌else◌, List, [], ◌∷◌, ◌++◌, Option, Some, None, ap, refl, sym, append-nil, append_assoc, option_map, codes}
-use Rattle.std.specs.Option.{unwrap_or}
-use Rattle.std.specs.Fmt.{decimal}
-use Rattle.ninja_text.specs.Bytes.{Text, Name, line_feed}
-use Rattle.ninja_text.specs.FaultTexts.{lex_fault_text, path_fault_text}
-use Rattle.ninja_text.specs.declared.fault.LexFault.{LexFault}
+use Rattle.in_memory.specs.Prelude.{unwrap_or, decimal, Text, Name, line_feed, lex_fault_text, path_fault_text, LexFault, PathFault, line_fault_text, LineFault, ReadFault, WriteFault, RuleValue, doc_fault_text, key, place_text, DocFault, Place, UnwritableMap, TableFault, EdgeValue, line_cause_text, EffectFault, LineCause, ListFault, ListingWriteFault, CommandError, in_target, in_project, in_scan, in_info, of_modules, of_statement, of_map, of_link, of_name, in_dyndep, in_edges, of_effect, of_listing, of_cycle, of_file, E, N, S, Y, IsLineOf, Spot, Where, Which, absent, byte_which, cause_which, doc_which, edges_which, effect_which, error_text, in_line, in_listing, line_which, location, location_of, message, path_spot, place_of, place_spot, read_which, which, write_which, after, after_label, after_lines, at_byte, before_colon, document, in_document, in_item, in_path, in_statement, labelled, lines_of, number_after, numbered, read_line, read_text, targeted, which_in}
 use Rattle.ninja_text.specs.declared.fault.LexFault.TheVariants as lex
-use Rattle.ninja_text.specs.declared.fault.PathFault.{PathFault}
 use Rattle.ninja_text.specs.declared.fault.PathFault.TheVariants as path
-use Rattle.dyndep_file.specs.FaultTexts.{line_fault_text}
-use Rattle.dyndep_file.specs.declared.fault.LineFault.{LineFault}
 use Rattle.dyndep_file.specs.declared.fault.LineFault.TheVariants as line
-use Rattle.dyndep_file.specs.declared.fault.ReadFault.{ReadFault}
 use Rattle.dyndep_file.specs.declared.fault.ReadFault.TheVariants as read
-use Rattle.dyndep_file.specs.declared.fault.WriteFault.{WriteFault}
 use Rattle.dyndep_file.specs.declared.fault.WriteFault.TheVariants as write
-use Rattle.document_values.specs.Rule.{RuleValue}
-use Rattle.scan_docs.specs.FaultTexts.{doc_fault_text}
-use Rattle.scan_docs.specs.Member.{key}
-use Rattle.scan_docs.specs.Place.{place_text}
-use Rattle.scan_docs.specs.declared.fault.DocFault.{DocFault}
 use Rattle.scan_docs.specs.declared.fault.DocFault.TheVariants as doc
-use Rattle.scan_docs.specs.declared.fault.Place.{Place}
 use Rattle.scan_docs.specs.declared.fault.Place.TheVariants as place
-use Rattle.module_maps.specs.declared.fault.UnwritableMap.{UnwritableMap}
 use Rattle.module_maps.specs.declared.fault.UnwritableMap.TheVariants as maps
-use Rattle.module_table.specs.declared.fault.TableFault.{TableFault}
 use Rattle.module_table.specs.declared.fault.TableFault.TheVariants as table
-use Rattle.build_effect.specs.EdgeValue.{EdgeValue}
-use Rattle.build_effect.specs.ListingFaultTexts.{line_cause_text}
-use Rattle.build_effect.specs.declared.fault.EffectFault.{EffectFault}
 use Rattle.build_effect.specs.declared.fault.EffectFault.TheVariants as effect
 use Rattle.build_effect.specs.declared.fault.GraphFault.TheVariants as graph
-use Rattle.build_effect.specs.declared.fault.LineCause.{LineCause}
 use Rattle.build_effect.specs.declared.fault.LineCause.TheVariants as cause
-use Rattle.build_effect.specs.declared.fault.ListFault.{ListFault}
 use Rattle.build_effect.specs.declared.fault.ListFault.TheVariants as edges
-use Rattle.build_effect.specs.declared.fault.ListingWriteFault.{ListingWriteFault}
 use Rattle.build_effect.specs.declared.fault.ListingWriteFault.TheVariants as listing
 use Rattle.in_memory.specs.declared.location.Location.{Location}
-use Rattle.in_memory.specs.Locations.{CommandError, in_target, in_project, in_scan, in_info, of_modules, of_statement, of_map, of_link, of_name, in_dyndep, in_edges, of_effect, of_listing, of_cycle, of_file}
-use Rattle.in_memory.specs.Locations.{E, N, S, Y, IsLineOf, Spot, Where, Which, absent, byte_which, cause_which, doc_which, edges_which, effect_which, error_text, in_line, in_listing, line_which, location, location_of, message, path_spot, place_of, place_spot, read_which, which, write_which}
-use Rattle.in_memory.specs.inner.Lines.{after, after_label, after_lines, at_byte, before_colon, document, in_document, in_item, in_path, in_statement, labelled, lines_of, number_after, numbered, read_line, read_text, targeted, which_in}
 use Rattle.in_memory.proofs.Lines.{Ends, reads_number, shown}
+
+-- the numbers of the item and the entry fit
+abbrev Fit : Spot → Type 0
+Fit spot = (spot.1 ≤ absent) × (spot.2 ≤ absent)
 
 -- no entry comes first in the line of this text, after a rule
 abbrev NoEntry : Text → Type 0
@@ -74,36 +52,36 @@ in_requires item text more n none is = rw (none, is) refl
 assoc : (a b c d : Text) → a ++ b ++ c ++ d ≡ a ++ (b ++ (c ++ d))
 assoc a b c d = simp append_assoc
 
-reads_place : (p : Place) (text : Text) → (place_spot p).1 ≤ absent → (place_spot p).2 ≤ absent → Ends text → NoEntry text →
+reads_place : (p : Place) (text : Text) → Fit (place_spot p) → Ends text → NoEntry text →
     in_document (shown (codes " " ++ (place_text p ++ text))) ≡ place_spot p
-reads_place place.Document text item entry ends none = refl
-reads_place (place.Rule rule) text item entry ends none =
+reads_place place.Document text fits ends none = refl
+reads_place (place.Rule rule) text fits ends none =
     let t = shown (codes " rule " ++ (decimal rule ++ text)) in
-    in_rule t (shown text) rule (numbered_is t (codes " rule ") text rule refl item ends) ∙ none rule
-reads_place (place.Module index) text item entry ends none =
+    in_rule t (shown text) rule (numbered_is t (codes " rule ") text rule refl fits.0 ends) ∙ none rule
+reads_place (place.Module index) text fits ends none =
     let t = shown (codes " module " ++ (decimal index ++ text)) in
-    in_module t (shown text) index refl (numbered_is t (codes " module ") text index refl item ends) ∙ none index
-reads_place (place.Provides rule index) text item entry ends none =
+    in_module t (shown text) index refl (numbered_is t (codes " module ") text index refl fits.0 ends) ∙ none index
+reads_place (place.Provides rule index) text fits ends none =
     let e = codes " provides " ++ (decimal index ++ text) in
     let t = shown (codes " rule " ++ (decimal rule ++ e)) in
     ap (λ (x : Text). in_document (shown (codes " rule " ++ x))) (assoc (decimal rule) (codes " provides ") (decimal index) text)
-    ∙ in_rule t (shown e) rule (numbered_is t (codes " rule ") e rule refl item (λ n. refl))
-    ∙ in_provides rule (shown e) (shown text) index (numbered_is (shown e) (codes " provides ") text index refl entry ends)
-reads_place (place.Requires rule index) text item entry ends none =
+    ∙ in_rule t (shown e) rule (numbered_is t (codes " rule ") e rule refl fits.0 (λ n. refl))
+    ∙ in_provides rule (shown e) (shown text) index (numbered_is (shown e) (codes " provides ") text index refl fits.1 ends)
+reads_place (place.Requires rule index) text fits ends none =
     let e = codes " requires " ++ (decimal index ++ text) in
     let t = shown (codes " rule " ++ (decimal rule ++ e)) in
     ap (λ (x : Text). in_document (shown (codes " rule " ++ x))) (assoc (decimal rule) (codes " requires ") (decimal index) text)
-    ∙ in_rule t (shown e) rule (numbered_is t (codes " rule ") e rule refl item (λ n. refl))
-    ∙ in_requires rule (shown e) (shown text) index refl (numbered_is (shown e) (codes " requires ") text index refl entry ends)
-reads_place (place.ModuleRequires owner index) text item entry ends none =
+    ∙ in_rule t (shown e) rule (numbered_is t (codes " rule ") e rule refl fits.0 (λ n. refl))
+    ∙ in_requires rule (shown e) (shown text) index refl (numbered_is (shown e) (codes " requires ") text index refl fits.1 ends)
+reads_place (place.ModuleRequires owner index) text fits ends none =
     let e = codes " requires " ++ (decimal index ++ text) in
     let t = shown (codes " module " ++ (decimal owner ++ e)) in
     ap (λ (x : Text). in_document (shown (codes " module " ++ x))) (assoc (decimal owner) (codes " requires ") (decimal index) text)
-    ∙ in_module t (shown e) owner refl (numbered_is t (codes " module ") e owner refl item (λ n. refl))
-    ∙ in_requires owner (shown e) (shown text) index refl (numbered_is (shown e) (codes " requires ") text index refl entry ends)
+    ∙ in_module t (shown e) owner refl (numbered_is t (codes " module ") e owner refl fits.0 (λ n. refl))
+    ∙ in_requires owner (shown e) (shown text) index refl (numbered_is (shown e) (codes " requires ") text index refl fits.1 ends)
 
-reads_last : (p : Place) → (place_spot p).1 ≤ absent → (place_spot p).2 ≤ absent → in_document (shown (codes " " ++ place_text p)) ≡ place_spot p
-reads_last p item entry = rw (append-nil (place_text p)) at (reads_place p [] item entry (λ n. refl) (λ n. refl))
+reads_last : (p : Place) → Fit (place_spot p) → in_document (shown (codes " " ++ place_text p)) ≡ place_spot p
+reads_last p fits = rw (append-nil (place_text p)) at (reads_place p [] fits (λ n. refl) (λ n. refl))
 
 no_entry : (fault : PathFault) → NoEntry (codes " " ++ path_fault_text fault)
 no_entry path.Empty item = refl
@@ -113,21 +91,21 @@ no_entry path.TooLong item = refl
 
 -- ---- documents
 
-reads_doc : (fault : DocFault) → (doc_which fault).2.1 ≤ absent → (doc_which fault).2.2 ≤ absent → which_in (shown (doc_fault_text fault)) ≡ doc_which fault
-reads_doc doc.NotJson item entry = refl
-reads_doc doc.BadVersion item entry = refl
-reads_doc (doc.BadShape p member) item entry =
+reads_doc : (fault : DocFault) → Fit (doc_which fault).2 → which_in (shown (doc_fault_text fault)) ≡ doc_which fault
+reads_doc doc.NotJson fits = refl
+reads_doc doc.BadVersion fits = refl
+reads_doc (doc.BadShape p member) fits =
     let rest = codes " member " ++ key member in
     ap (λ (x : Text). S 3 (in_document (shown (codes " " ++ x)))) (append_assoc (place_text p) (codes " member ") (key member))
-    ∙ ap (S 3) (reads_place p rest item entry (λ n. refl) (λ n. refl))
-reads_doc (doc.NoPrimaryOutput p) item entry = ap (S 4) (reads_last p item entry)
-reads_doc (doc.HeaderUnit p) item entry = ap (S 5) (reads_last p item entry)
-reads_doc (doc.BadName p) item entry = ap (S 6) (reads_last p item entry)
-reads_doc (doc.BadPath p fault) item entry =
+    ∙ ap (S 3) (reads_place p rest fits (λ n. refl) (λ n. refl))
+reads_doc (doc.NoPrimaryOutput p) fits = ap (S 4) (reads_last p fits)
+reads_doc (doc.HeaderUnit p) fits = ap (S 5) (reads_last p fits)
+reads_doc (doc.BadName p) fits = ap (S 6) (reads_last p fits)
+reads_doc (doc.BadPath p fault) fits =
     let rest = codes " " ++ path_fault_text fault in
     ap (λ (x : Text). S 7 (in_document (shown (codes " " ++ x)))) (append_assoc (place_text p) (codes " ") (path_fault_text fault))
-    ∙ ap (S 7) (reads_place p rest item entry (λ n. refl) (no_entry fault))
-reads_doc (doc.TooLarge p) item entry = ap (S 8) (reads_last p item entry)
+    ∙ ap (S 7) (reads_place p rest fits (λ n. refl) (no_entry fault))
+reads_doc (doc.TooLarge p) fits = ap (S 8) (reads_last p fits)
 
 -- a document's error names no line
 no_line : (fault : DocFault) → labelled (shown (doc_fault_text fault)) (codes "line ") ≡ None
@@ -141,11 +119,11 @@ no_line (doc.BadPath p fault) = refl
 no_line (doc.TooLarge p) = refl
 
 -- what follows the label of a document is read
-in_document_error : (kind number : ℕ) (fault : DocFault) → (doc_which fault).2.1 ≤ absent → (doc_which fault).2.2 ≤ absent →
+in_document_error : (kind number : ℕ) (fault : DocFault) → Fit (doc_which fault).2 →
     after_label kind number (shown (doc_fault_text fault)) ≡ ((kind, number, absent), doc_which fault)
-in_document_error kind number fault item entry =
+in_document_error kind number fault fits =
     ap (λ (f : Option (ℕ × Text)). after_lines number (lines_of kind (shown (doc_fault_text fault)) f)) (no_line fault)
-    ∙ ap (λ (w : Which). ((kind, number, absent), w)) (reads_doc fault item entry)
+    ∙ ap (λ (w : Which). ((kind, number, absent), w)) (reads_doc fault fits)
 
 labelled_is : (t word rest : Text) (n : ℕ) → after t word ≡ Some (shown (decimal n ++ (codes ": " ++ rest))) → n ≤ absent →
     labelled t word ≡ Some (n, shown rest)
@@ -260,32 +238,32 @@ reads_name path.TooLong = (refl, refl)
 abbrev nowhere : Which → Where × Which
 nowhere w = ((0, absent, absent), w)
 
-reads_write : (fault : WriteFault) → (write_which fault).2.1 ≤ absent → (write_which fault).2.2 ≤ absent → Reads (of_statement fault)
-reads_write (write.Unwritable statement path) item entry =
+reads_write : (fault : WriteFault) → Fit (write_which fault).2 → Reads (of_statement fault)
+reads_write (write.Unwritable statement path) fits =
     let same : decimal statement ++ codes " path " ++ decimal path ≡ decimal statement ++ (codes " path " ++ (decimal path ++ [])) =
     simp (append_assoc, append-nil) in (
       refl,
       ap (λ (x : Text). read_text (shown (codes "Y1 Unwritable statement " ++ x))) same
-          ∙ ap (λ (s : Spot). nowhere (Y 1 s)) (reads_path statement path [] item entry (λ n. refl)),
+          ∙ ap (λ (s : Spot). nowhere (Y 1 s)) (reads_path statement path [] fits.0 fits.1 (λ n. refl)),
     )
-reads_write (write.StatementTooLong statement) item entry =
-    (refl, ap (λ (s : Spot). nowhere (Y 2 s)) (reads_statement statement item))
-reads_write (write.Io written) item entry = (refl, refl)
+reads_write (write.StatementTooLong statement) fits =
+    (refl, ap (λ (s : Spot). nowhere (Y 2 s)) (reads_statement statement fits.0))
+reads_write (write.Io written) fits = (refl, refl)
 
-reads_effect : (fault : EffectFault) → (effect_which fault).2.1 ≤ absent → (effect_which fault).2.2 ≤ absent → Reads (of_effect fault)
-reads_effect (effect.BadPath statement path fault) item entry =
+reads_effect : (fault : EffectFault) → Fit (effect_which fault).2 → Reads (of_effect fault)
+reads_effect (effect.BadPath statement path fault) fits =
     let rest = codes " " ++ path_fault_text fault in
     let same : decimal statement ++ codes " path " ++ decimal path ++ codes " " ++ path_fault_text fault ++ [] ≡
     decimal statement ++ (codes " path " ++ (decimal path ++ rest))
     = simp (append_assoc, append-nil) in (
       refl,
       ap (λ (x : Text). read_text (shown (codes "E8 BadPath statement " ++ x))) same
-          ∙ ap (λ (s : Spot). nowhere (E 8 s)) (reads_path statement path rest item entry (λ n. refl)),
+          ∙ ap (λ (s : Spot). nowhere (E 8 s)) (reads_path statement path rest fits.0 fits.1 (λ n. refl)),
     )
-reads_effect (effect.NotBound output) item entry = (refl, refl)
-reads_effect (effect.StatementTwice output) item entry = (refl, refl)
-reads_effect (effect.NotMentioned output) item entry = (refl, refl)
-reads_effect (effect.AddedTwice path) item entry = (refl, refl)
+reads_effect (effect.NotBound output) fits = (refl, refl)
+reads_effect (effect.StatementTwice output) fits = (refl, refl)
+reads_effect (effect.NotMentioned output) fits = (refl, refl)
+reads_effect (effect.AddedTwice path) fits = (refl, refl)
 
 reads_dyndep : (fault : ReadFault) → (in_line fault).2 ≤ absent → (read_which fault).2.3 ≤ absent → Reads (in_dyndep fault)
 reads_dyndep (read.AtLine number fault) line offset =
@@ -305,37 +283,40 @@ reads_listing : (list : List EdgeValue) (fault : ListingWriteFault) → Reads (o
 reads_listing list (listing.ListingTooLong edge) = (refl, refl)
 reads_listing list (listing.Io written) = (refl, refl)
 
-reads_error : (error : CommandError) → (place_of error).1 ≤ absent → (place_of error).2 ≤ absent →
-    (which error).2.1 ≤ absent → (which error).2.2 ≤ absent → (which error).2.3 ≤ absent → Reads error
-reads_error (in_target fault) index line item entry offset = (refl, in_document_error 1 absent fault item entry)
-reads_error (in_project fault) index line item entry offset = (refl, in_document_error 2 absent fault item entry)
-reads_error (in_scan number fault) index line item entry offset =
+-- the numbers of an error fit
+abbrev AllFit : CommandError → Type 0
+AllFit error = ((place_of error).1 ≤ absent) × ((place_of error).2 ≤ absent) × Fit (which error).2 × ((which error).2.3 ≤ absent)
+
+reads_error : (error : CommandError) → AllFit error → Reads error
+reads_error (in_target fault) fits = (refl, in_document_error 1 absent fault fits.2)
+reads_error (in_project fault) fits = (refl, in_document_error 2 absent fault fits.2)
+reads_error (in_scan number fault) fits =
     let rest = doc_fault_text fault in
     let t = shown (codes "scan " ++ (decimal number ++ (codes ": " ++ rest))) in (
       refl,
       ap (λ (x : Text). read_text (shown (codes "scan " ++ x))) (append_assoc (decimal number) (codes ": ") rest)
-          ∙ of_document t (shown rest) 3 number (in_scan_text t (shown rest) number (labelled_is t (codes "scan ") rest number refl index))
-          ∙ in_document_error 3 number fault item entry,
+          ∙ of_document t (shown rest) 3 number (in_scan_text t (shown rest) number (labelled_is t (codes "scan ") rest number refl fits.0))
+          ∙ in_document_error 3 number fault fits.2,
     )
-reads_error (in_info number fault) index line item entry offset =
+reads_error (in_info number fault) fits =
     let rest = doc_fault_text fault in
     let t = shown (codes "info " ++ (decimal number ++ (codes ": " ++ rest))) in (
       refl,
       ap (λ (x : Text). read_text (shown (codes "info " ++ x))) (append_assoc (decimal number) (codes ": ") rest)
-          ∙ of_document t (shown rest) 4 number (in_info_text t (shown rest) number refl (labelled_is t (codes "info ") rest number refl index))
-          ∙ in_document_error 4 number fault item entry,
+          ∙ of_document t (shown rest) 4 number (in_info_text t (shown rest) number refl (labelled_is t (codes "info ") rest number refl fits.0))
+          ∙ in_document_error 4 number fault fits.2,
     )
-reads_error (of_modules objects names fault) index line item entry offset = reads_table objects names fault
-reads_error (of_statement fault) index line item entry offset = reads_write fault item entry
-reads_error (of_map objects object fault) index line item entry offset = reads_map objects object fault
-reads_error of_link index line item entry offset = (refl, refl)
-reads_error (of_name fault) index line item entry offset = reads_name fault
-reads_error (in_dyndep fault) index line item entry offset = reads_dyndep fault line offset
-reads_error (in_edges fault) index line item entry offset = reads_edges fault line offset
-reads_error (of_effect fault) index line item entry offset = reads_effect fault item entry
-reads_error (of_listing list fault) index line item entry offset = reads_listing list fault
-reads_error (of_cycle list cycle) index line item entry offset = (refl, refl)
-reads_error (of_file name) index line item entry offset = (refl, refl)
+reads_error (of_modules objects names fault) fits = reads_table objects names fault
+reads_error (of_statement fault) fits = reads_write fault fits.2
+reads_error (of_map objects object fault) fits = reads_map objects object fault
+reads_error of_link fits = (refl, refl)
+reads_error (of_name fault) fits = reads_name fault
+reads_error (in_dyndep fault) fits = reads_dyndep fault fits.1 fits.3
+reads_error (in_edges fault) fits = reads_edges fault fits.1 fits.3
+reads_error (of_effect fault) fits = reads_effect fault fits.2
+reads_error (of_listing list fault) fits = reads_listing list fault
+reads_error (of_cycle list cycle) fits = (refl, refl)
+reads_error (of_file name) fits = (refl, refl)
 
 -- ---- lines
 
@@ -358,4 +339,4 @@ reads_message (Some target) error fits reads =
 pub reads_back : (target : Option ℕ) (error : CommandError) (line : Text) → IsLineOf target error line → read_line line ≡ location target error
 reads_back target error line is =
     ap read_line is.line_is
-    ∙ reads_message target error is.target_fits (reads_error error is.index_fits is.line_fits is.item_fits is.entry_fits is.offset_fits)
+    ∙ reads_message target error is.target_fits (reads_error error (is.index_fits, is.line_fits, (is.item_fits, is.entry_fits), is.offset_fits))

@@ -1,35 +1,11 @@
 -- The message of each run that fails is that of an error.
 use Rattle.std.proofs.Common.{◌≡◌, ◌∙◌, ℕ, ◌+◌, List, [], ◌∷◌, ◌++◌, length, zip, Option, Some, None, Ok, Err, ap, refl, codes}
-use Rattle.ninja_text.specs.Bytes.{Bytes, Name, PathText, Text}
-use Rattle.ninja_text.specs.declared.failure.Failure.{Failure}
+use Rattle.in_memory.specs.Prelude.{Bytes, Name, PathText, Text, StatementValue, SettingValue, Written, EdgeValue, all_rules, CollatedValue, TargetValue, Refusal, CollateRun, SpecOf, style_of, target_with, DyndepOf, DyndepRead, EdgesPass, OrderableOf, TextEffectOf, EffectOf, EffectRun, ListingTextOf, NameOf, FilesOf, FileCall, FileRead, IsListingRead, ListingOf, ListingRead, ReadsListing, OneRun, one_setting, one_target, OrderOf, OrderRun, Each, LineValue, Part, ReadsAll, ReadsAs, ReadsDocument, ReadsIfNamed, ReadsNext, goes_on, stops, ◌>>=◌, AllEdgesPass, At, FormOf, LinksOf, ProjectDocumentOf, ProjectOf, ProjectRun, ReadTargetValue, ReadsTarget, TargetAfter, names_at, target_text, refusal_by_names, DyndepTextOf, ShowRun, TargetOf, CommandError, in_target, in_project, in_scan, in_info, of_modules, of_statement, of_map, of_link, of_name, in_dyndep, in_edges, of_effect, of_listing, of_cycle, of_file, error_text, EachMessageIsOfAnError, IsErrorMessage}
 use Rattle.ninja_text.specs.declared.failure.Failure.TheVariants.{Fault, Memory}
-use Rattle.dyndep_file.specs.StatementValue.{StatementValue}
 use Rattle.dyndep_file.specs.declared.fault.WriteFault.TheVariants as write
-use Rattle.scan_docs.specs.Scan.{SettingValue}
 use Rattle.scan_docs.specs.Target as document
-use Rattle.module_maps.specs.Maps.{Written}
-use Rattle.build_effect.specs.EdgeValue.{EdgeValue}
-use Rattle.collate_core.specs.Documents.{all_rules}
-use Rattle.collate_core.specs.Values.{CollatedValue, TargetValue}
-use Rattle.collate_core.specs.declared.fault.Refusal.{Refusal}
 use Rattle.collate_core.specs.declared.fault.Refusal.TheVariants as refusal
-use Rattle.commands.specs.CollateCommand.{CollateRun, SpecOf, style_of, target_with}
-use Rattle.commands.specs.Dyndeps.{DyndepOf, DyndepRead}
-use Rattle.commands.specs.EdgeChecks.{EdgesPass, OrderableOf, TextEffectOf}
-use Rattle.commands.specs.Effect.{EffectOf, EffectRun, ListingTextOf, NameOf}
-use Rattle.commands.specs.Files.{FilesOf}
-use Rattle.commands.specs.Folder.{FileCall, FileRead}
-use Rattle.commands.specs.Listings.{IsListingRead, ListingOf, ListingRead, ReadsListing}
-use Rattle.commands.specs.One.{OneRun, one_setting, one_target}
-use Rattle.commands.specs.Order.{OrderOf, OrderRun}
-use Rattle.commands.specs.Outcomes.{Comes, Done, Each, LineValue, Outcome, OutputValue, Part, Prints, ReadsAll, ReadsAs, ReadsDocument, ReadsIfNamed, ReadsNext, Returns, Writes, goes_on, stops, ◌>>=◌}
 use Rattle.commands.specs.Outcomes as outcomes
-use Rattle.commands.specs.ProjectCommand.{AllEdgesPass, At, FormOf, LinksOf, ProjectDocumentOf, ProjectOf, ProjectRun, ReadTargetValue, ReadsTarget, TargetAfter, names_at, target_text}
-use Rattle.commands.specs.RefusalTexts.{refusal_by_names}
-use Rattle.commands.specs.Show.{DyndepTextOf, ShowRun}
-use Rattle.commands.specs.Targets.{TargetOf}
-use Rattle.in_memory.specs.Locations.{CommandError, in_target, in_project, in_scan, in_info, of_modules, of_statement, of_map, of_link, of_name, in_dyndep, in_edges, of_effect, of_listing, of_cycle, of_file, error_text}
-use Rattle.in_memory.specs.Reported.{EachMessageIsOfAnError, IsErrorMessage}
 
 -- the message is that of an error, which names no target of a project
 abbrev IsPlain : LineValue → Type 0
@@ -40,24 +16,17 @@ named stop (error, is) = (None, error, is)
 
 -- ---- parts of which all messages are such
 
-module _ (Is : LineValue → Type 0) where
-  abbrev All : {V : Type 0} → Part V → Type 0
-  All Run = (calls : List FileCall) (stop : LineValue) → Run calls (Err (Fault stop)) → Is stop
+abbrev All : (LineValue → Type 0) → {V : Type 0} → Part V → Type 0
+All Is Run = (calls : List FileCall) (stop : LineValue) → Run calls (Err (Fault stop)) → Is stop
 
-  in_turn : {A B : Type 0} {First : Part A} {Second : A → Part B} → All First → ((value : A) → All (Second value)) → All (First >>= Second)
+module _ {Is : LineValue → Type 0} where
+  in_turn : {A B : Type 0} {First : Part A} {Second : A → Part B} → All Is First → ((value : A) → All Is (Second value)) → All Is (First >>= Second)
   in_turn one two calls stop (goes_on value before after is first second) = two value after stop second
   in_turn {First = First} one two calls stop (stops failure first is) =
       let same : failure ≡ Fault stop = cc in
       one calls stop (rw same at first)
 
-  reads_as : {V : Type 0} (Follows : FileRead → V → Type 0) (name : PathText) → Is (outcomes.failed 3 (codes "cannot read " ++ name)) →
-      All (ReadsAs Follows name)
-  reads_as Follows name unread calls stop (call, is) = rw is unread
-
-  reads : (name : PathText) → Is (outcomes.failed 3 (codes "cannot read " ++ name)) → All (ReadsDocument name)
-  reads name unread calls stop (call, is) = rw is unread
-
-  each : {V X : Type 0} (Next : V → X → Part V) → ((value : V) (x : X) → All (Next value x)) → (value : V) (xs : List X) → All (Each Next value xs)
+  each : {V X : Type 0} (Next : V → X → Part V) → ((value : V) (x : X) → All Is (Next value x)) → (value : V) (xs : List X) → All Is (Each Next value xs)
   each Next are value [] = λ calls stop is. absurd is
   each Next are value (x ∷ xs) = in_turn (are value x) λ next. each Next are next xs
 
@@ -80,6 +49,12 @@ by_names setting scans names refusal.LinkedLater = plain of_link
 
 abbrev Plain : {V : Type 0} → Part V → Type 0
 Plain = All IsPlain
+
+reads_as : {V : Type 0} (Follows : FileRead → V → Type 0) (name : PathText) → Plain (ReadsAs Follows name)
+reads_as Follows name calls stop (call, is) = rw is (unread name)
+
+reads : (name : PathText) → Plain (ReadsDocument name)
+reads name calls stop (call, is) = rw is (unread name)
 
 -- a part that stops with the text of a fault
 said : {F : Type 0} {IsFault : F → Type 0} {text : F → Text} → ((fault : F) → IsPlain (outcomes.refusal (text fault)))
@@ -130,54 +105,54 @@ links_of earlier infos = said λ fault. plain of_link
 
 edges_pass : (listing : Option ListingRead) (name : PathText) (dyndep : Text) → Plain (EdgesPass listing name dyndep)
 edges_pass None name dyndep = λ calls stop is. absurd is.1.0
-edges_pass (Some listing) name dyndep = in_turn IsPlain (listing_of listing) λ old. in_turn IsPlain (text_effect_of dyndep name old) (orderable_of old)
+edges_pass (Some listing) name dyndep = in_turn (listing_of listing) λ old. in_turn (text_effect_of dyndep name old) (orderable_of old)
 
 reads_next : (before : List Bytes) (name : PathText) → Plain (ReadsNext before name)
-reads_next before name = in_turn IsPlain (reads IsPlain name (unread name)) λ bytes calls stop is. absurd is.1.0
+reads_next before name = in_turn (reads name) λ bytes calls stop is. absurd is.1.0
 
 reads_all : (names : List PathText) → Plain (ReadsAll names)
-reads_all names = each IsPlain ReadsNext reads_next [] names
+reads_all names = each ReadsNext reads_next [] names
 
 reads_if_named : (name : Option PathText) → Plain (ReadsIfNamed ReadsListing name)
 reads_if_named None = λ calls stop is. absurd is.1.0
-reads_if_named (Some name) = in_turn IsPlain (reads_as IsPlain IsListingRead name (unread name)) λ value calls stop is. absurd is.1.0
+reads_if_named (Some name) = in_turn (reads_as IsListingRead name) λ value calls stop is. absurd is.1.0
 
 files : (spec : document.TargetDocumentValue) (linked : List PathText) → Plain (FilesOf spec linked)
 files spec linked =
-    in_turn IsPlain (reads_all spec.scans) λ scans.
-    in_turn IsPlain (reads_all linked) λ infos.
-    in_turn IsPlain (reads_if_named spec.edges) λ listing calls stop is. absurd is.1.0
+    in_turn (reads_all spec.scans) λ scans.
+    in_turn (reads_all linked) λ infos.
+    in_turn (reads_if_named spec.edges) λ listing calls stop is. absurd is.1.0
 
 -- ---- commands
 
 collate_run : (bytes : Bytes) → Plain (CollateRun bytes)
 collate_run bytes =
-    in_turn IsPlain (spec_of bytes) λ spec.
-    in_turn IsPlain (files spec spec.linked) λ read.
-    in_turn IsPlain (target_of (target_with spec read) (style_of spec.map_form)) λ collated.
-    in_turn IsPlain (edges_pass read.listing spec.dyndep_path collated.dyndep) λ passed calls stop is. absurd is.1.0
+    in_turn (spec_of bytes) λ spec.
+    in_turn (files spec spec.linked) λ read.
+    in_turn (target_of (target_with spec read) (style_of spec.map_form)) λ collated.
+    in_turn (edges_pass read.listing spec.dyndep_path collated.dyndep) λ passed calls stop is. absurd is.1.0
 
 one_run : (scan : Text) (dir : PathText) (ext : Text) → Plain (OneRun scan dir ext)
-one_run scan dir ext = in_turn IsPlain (target_of (one_target (one_setting dir ext) scan) None) λ collated calls stop is. absurd is.1.0
+one_run scan dir ext = in_turn (target_of (one_target (one_setting dir ext) scan) None) λ collated calls stop is. absurd is.1.0
 
 show_run : (dyndep : Text) → Plain (ShowRun dyndep)
 show_run dyndep =
-    in_turn IsPlain (λ calls stop none. absurd none) λ read.
-    in_turn IsPlain (dyndep_of read) λ statements.
-    in_turn IsPlain (dyndep_text_of statements) λ text calls stop is. absurd is.1.0
+    in_turn (λ calls stop none. absurd none) λ read.
+    in_turn (dyndep_of read) λ statements.
+    in_turn (dyndep_text_of statements) λ text calls stop is. absurd is.1.0
 
 order_run : (edges : Text) → Plain (OrderRun edges)
-order_run edges = in_turn IsPlain (λ calls stop none. absurd none) λ read. in_turn IsPlain (listing_of read) order_of
+order_run edges = in_turn (λ calls stop none. absurd none) λ read. in_turn (listing_of read) order_of
 
 effect_run : (name edges dyndep : Text) → Plain (EffectRun name edges dyndep)
 effect_run name edges dyndep =
-    in_turn IsPlain (λ calls stop none. absurd none) λ listing.
-    in_turn IsPlain (λ calls stop none. absurd none) λ read.
-    in_turn IsPlain (name_of name) λ path.
-    in_turn IsPlain (listing_of listing) λ old.
-    in_turn IsPlain (dyndep_of read) λ statements.
-    in_turn IsPlain (effect_of old path statements) λ new.
-    in_turn IsPlain (listing_text_of new) λ text calls stop is. absurd is.1.0
+    in_turn (λ calls stop none. absurd none) λ listing.
+    in_turn (λ calls stop none. absurd none) λ read.
+    in_turn (name_of name) λ path.
+    in_turn (listing_of listing) λ old.
+    in_turn (dyndep_of read) λ statements.
+    in_turn (effect_of old path statements) λ new.
+    in_turn (listing_text_of new) λ text calls stop is. absurd is.1.0
 
 -- ---- a project
 
@@ -197,14 +172,14 @@ at_target index Run are calls stop (Err (Fault own), holds, is) =
 
 target_after : (earlier : List ReadTargetValue) (name : PathText) → Reported (TargetAfter earlier name)
 target_after earlier name =
-    in_turn IsErrorMessage (reported (ReadsDocument name) (reads IsPlain name (unread name))) λ bytes.
-    in_turn IsErrorMessage (at_target (length earlier) (SpecOf bytes) (spec_of bytes)) λ spec.
-    in_turn IsErrorMessage (at_target (length earlier) (FormOf earlier spec) (form_of earlier spec)) λ form.
-    in_turn IsErrorMessage (at_target (length earlier) (LinksOf earlier spec.linked) (links_of earlier spec.linked)) λ linked.
-    in_turn IsErrorMessage (reported (FilesOf spec []) (files spec [])) λ read calls stop is. absurd is.1.0
+    in_turn (reported (ReadsDocument name) (reads name)) λ bytes.
+    in_turn (at_target (length earlier) (SpecOf bytes) (spec_of bytes)) λ spec.
+    in_turn (at_target (length earlier) (FormOf earlier spec) (form_of earlier spec)) λ form.
+    in_turn (at_target (length earlier) (LinksOf earlier spec.linked) (links_of earlier spec.linked)) λ linked.
+    in_turn (reported (FilesOf spec []) (files spec [])) λ read calls stop is. absurd is.1.0
 
 reads_target : (earlier : List ReadTargetValue) (name : PathText) → Reported (ReadsTarget earlier name)
-reads_target earlier name = in_turn IsErrorMessage (target_after earlier name) λ target calls stop is. absurd is.1.0
+reads_target earlier name = in_turn (target_after earlier name) λ target calls stop is. absurd is.1.0
 
 project_of : (targets : List ReadTargetValue) → Reported (ProjectOf targets)
 project_of targets calls stop (none, (at, is, says)) =
@@ -216,15 +191,15 @@ all_pass : (index : ℕ) (pairs : List (ReadTargetValue × CollatedValue)) → R
 all_pass index [] = λ calls stop is. absurd is.1.0
 all_pass index ((t, c) ∷ others) =
     let listing = t.listing in
-    in_turn IsErrorMessage (at_target index (EdgesPass listing t.spec.dyndep_path c.dyndep) (edges_pass listing t.spec.dyndep_path c.dyndep)) λ passed.
+    in_turn (at_target index (EdgesPass listing t.spec.dyndep_path c.dyndep) (edges_pass listing t.spec.dyndep_path c.dyndep)) λ passed.
     all_pass (index + 1) others
 
 project_run : (bytes : Bytes) → Reported (ProjectRun bytes)
 project_run bytes =
-    in_turn IsErrorMessage (reported (ProjectDocumentOf bytes) (project_document_of bytes)) λ project.
-    in_turn IsErrorMessage (each IsErrorMessage ReadsTarget reads_target [] project.targets) λ targets.
-    in_turn IsErrorMessage (project_of targets) λ outs.
-    in_turn IsErrorMessage (all_pass 0 (zip targets outs)) λ passed calls stop is. absurd is.1.0
+    in_turn (reported (ProjectDocumentOf bytes) (project_document_of bytes)) λ project.
+    in_turn (each ReadsTarget reads_target [] project.targets) λ targets.
+    in_turn (project_of targets) λ outs.
+    in_turn (all_pass 0 (zip targets outs)) λ passed calls stop is. absurd is.1.0
 
 pub each_message : EachMessageIsOfAnError
 each_message = record {

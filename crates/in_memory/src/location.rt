@@ -142,10 +142,9 @@ fn from_space(text: &[u8]) -> &[u8]
     ensures { result.now ≡ from_space text.now }
 {
     let mut rest = text.strip_prefix(b" ").unwrap_or(text);
-    while let [byte, after @ ..] = rest {
-        if *byte == b' ' {
-            break;
-        }
+    while let [byte, after @ ..] = rest
+        && *byte != b' '
+    {
         rest = after;
     }
     rest
@@ -171,8 +170,7 @@ fn spot(letter: u8, number: usize, text: &[u8]) -> (usize, usize, usize, usize)
 fn in_document(text: &[u8]) -> (usize, usize, usize, usize)
     ensures { result ≡ in_document text.now }
 {
-    let found = numbered(text, b" rule ").or(numbered(text, b" module "));
-    let Some((item, rest)) = found else {
+    let Some((item, rest)) = numbered(text, b" rule ").or(numbered(text, b" module ")) else {
         return (0, ABSENT, ABSENT, ABSENT);
     };
     if let Some((entry, _)) = numbered(rest, b" provides ") {
@@ -191,10 +189,9 @@ fn in_statement(text: &[u8]) -> (usize, usize, usize, usize)
     let Some((statement, rest)) = numbered(text, b" statement ") else {
         return (0, ABSENT, ABSENT, ABSENT);
     };
-    if let Some((path, _)) = numbered(rest, b" path ") {
-        (PATHS, statement, path, ABSENT)
-    } else {
-        (0, statement, ABSENT, ABSENT)
+    match numbered(rest, b" path ") {
+        Some((path, _)) => (PATHS, statement, path, ABSENT),
+        None => (0, statement, ABSENT, ABSENT),
     }
 }
 

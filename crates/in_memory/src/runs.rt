@@ -56,8 +56,7 @@ pub fn collate_run(alloc: Global, document: &[u8], files: &[File<'_>]) -> Result
     ensures { Answers (Over files.now (CollateRun document.now)) result }
 {
     let mut folder = Files::new(alloc, files)?;
-    let outcome = commands::collate(alloc, document, &mut folder);
-    Answer::of(alloc, outcome)
+    Answer::of(alloc, commands::collate(alloc, document, &mut folder))
 }
 
 /// Runs `project FILE` on the bytes of a project document. The target documents are among the
@@ -66,8 +65,7 @@ pub fn project_run(alloc: Global, document: &[u8], files: &[File<'_>]) -> Result
     ensures { Answers (Over files.now (ProjectRun document.now)) result }
 {
     let mut folder = Files::new(alloc, files)?;
-    let outcome = commands::project(alloc, document, &mut folder);
-    Answer::of(alloc, outcome)
+    Answer::of(alloc, commands::project(alloc, document, &mut folder))
 }
 
 /// Returns the names of the target documents of a project document, in its order, or none if the
@@ -94,10 +92,7 @@ pub fn one_into(
     ensures { Puts (IsUtf8 dir.now × IsUtf8 ext.now) (Replies (OneRun scan.now dir.now ext.now []))
         numbers.old text.old numbers.new text.new result }
 {
-    let Ok(dir) = str::from_utf8(dir) else {
-        return Outcome::without(5);
-    };
-    let Ok(ext) = str::from_utf8(ext) else {
+    let (Ok(dir), Ok(ext)) = (str::from_utf8(dir), str::from_utf8(ext)) else {
         return Outcome::without(5);
     };
     put_answer(alloc, one_run(alloc, scan, dir, ext), numbers, text)
@@ -237,8 +232,6 @@ fn first_file<'a, 'l>(
     };
     let (name, others) = text.split_at_checked(*name_len)?;
     let (bytes, after) = others.split_at_checked(*bytes_len)?;
-    match str::from_utf8(name) {
-        Ok(name) => Some((File { name, bytes }, more, after)),
-        Err(_) => None,
-    }
+    let name = str::from_utf8(name).ok()?;
+    Some((File { name, bytes }, more, after))
 }

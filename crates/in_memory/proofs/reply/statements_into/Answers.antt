@@ -1,5 +1,4 @@
-use Rattle.std.proofs.Common.{subst}
-use Rattle.in_memory.specs.Prelude.{ForFault, IsReadFaultOf, Tells}
+use Rattle.in_memory.specs.Prelude.{Tells}
 use Rattle.in_memory.proofs.Replies.{put_ok}
 use Rattle.in_memory.proofs.StatementLists.{tells_fault, tells_stands}
 use Rattle.in_memory.proofs.reply.statements_into.Goals as goal

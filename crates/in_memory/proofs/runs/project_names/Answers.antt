@@ -1,5 +1,5 @@
 use Rattle.std.proofs.Common.{ap}
-use Rattle.in_memory.specs.Prelude.{ForFault, IsRefused, ProjectValue, project_checks, accepted, rejected}
+use Rattle.in_memory.specs.Prelude.{ProjectValue, accepted, rejected}
 use Rattle.in_memory.proofs.runs.project_names.Goals as goal
 
 pub returns-in-Ok : goal.returns-in-Ok

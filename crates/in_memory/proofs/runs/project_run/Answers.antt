@@ -8,11 +8,11 @@ use Rattle.in_memory.proofs.runs.project_run.Goals as goal
 pub returns : goal.returns
 returns c =
     let old = c.in_ok-folder.folder in
-    let new = c.project-outcome.new.folder in
+    let new = c.project.new.folder in
     let over = run_over c.args.files.now old.files.now new.files.now old.history.calls new.history.calls
-    (ProjectRun c.args.document.now) c.project-outcome.result c.in_ok-folder.ensures.files c.in_ok-folder.ensures.calls new.got
-    c.project-outcome.ensures in
-    (c.project-outcome.result, over, c.of.ensures)
+    (ProjectRun c.args.document.now) c.project.result c.in_ok-folder.ensures.files c.in_ok-folder.ensures.calls new.got
+    c.project.ensures in
+    (c.project.result, over, c.of.ensures)
 
 -- there was no memory for the folder, so no call was made
 pub returns-in_err-folder : goal.returns-in_err-folder
