@@ -104,11 +104,6 @@ own_fault : (V : Type 0) {F : Type 0} (failure : Failure F) → ForFault (λ (fa
 own_fault V Memory = tt
 own_fault V (Fault fault) = refl
 
-pub held_fault : (V : Type 0) {F : Type 0} (text : F → Text) (failure : Failure F) (stop : Stop) → Reports text failure stop →
-    ValueOf {V = V} text (Err failure) [] (Err stop)
-held_fault V text failure stop h =
-    fault_reported (λ (value : V). Err failure ≡ Ok value) (λ fault. Err failure ≡ Err (Fault fault)) text failure stop (own_fault V failure) h
-
 -- a result whose failure is reported as it is printed
 abbrev pub Printed : {V F : Type 0} → Text → (F → Text) → Result V (Failure F) → Outcome V → Type 0
 Printed prefix text = OrStops (ReportsPrinted prefix (λ fault. Some (text fault)))
@@ -123,7 +118,9 @@ or_printed IsValue IsFault prefix text (Err failure) (Err stop) none is h =
 -- one that was there before
 pub held : {V F : Type 0} (text : F → Text) (r : Result V (Failure F)) (s : Outcome V) → Printed [] text r s → ValueOf text r [] s
 held text (Ok value) s h = rw h (refl, refl)
-held {V = V} text (Err failure) (Err stop) h = held_fault V text failure stop (by_print [] text failure stop h)
+held {V = V} text (Err failure) (Err stop) h =
+    fault_reported (λ (value : V). Err failure ≡ Ok value) (λ fault. Err failure ≡ Err (Fault fault)) text failure stop (own_fault V failure)
+    (by_print [] text failure stop h)
 held text (Err failure) (Ok value) h = absurd h
 
 -- one of what can be made
