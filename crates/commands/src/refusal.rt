@@ -168,20 +168,14 @@ fn push_next(text: &mut Vec<u8>, name: &[u8]) -> Result<(), AllocError>
 fn object_path(objects: &[Rule], index: usize) -> &[u8]
     ensures { result.now ≡ object_path objects.now index }
 {
-    match objects.get(index) {
-        Some(rule) => rule.object.bytes(),
-        None => b"",
-    }
+    objects.get(index).map_or(b"", |rule| rule.object.bytes())
 }
 
 /// Returns the name of the target of the info file of that index.
 fn target_name<'t>(names: &[&'t TargetName], index: usize) -> &'t [u8]
     ensures { result.now ≡ target_name (map (λ n. n.now) names.now) index }
 {
-    match names.get(index) {
-        Some(name) => name.text().as_bytes(),
-        None => b"",
-    }
+    names.get(index).map_or(b"", |name| name.text().as_bytes())
 }
 
 /// Returns the parts, one after the other.
@@ -238,10 +232,6 @@ pub(crate) fn cycle_text(
 pub(crate) fn first_output(edges: &[Edge], index: usize) -> &[u8]
     ensures { result.now ≡ first_output edges.now index }
 {
-    if let Some(edge) = edges.get(index)
-        && let Some(output) = edge.outputs.first()
-    {
-        return output.bytes();
-    }
-    b""
+    let output = edges.get(index).and_then(|edge| edge.outputs.first());
+    output.map_or(b"", |output| output.bytes())
 }
