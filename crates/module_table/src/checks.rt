@@ -2,11 +2,10 @@
 //! they have passed. M1 to M4 are here: what is twice among the paths of objects, the targets of
 //! info files, the names of modules and the files. M5 to M10 are in `required.rt`.
 ghost use Rattle.std.specs.Prelude.{◌≡◌, IfErr, IfOk, List, map, OnOk};
-ghost use Rattle.module_table.specs.Prelude.{AllDiffer, AreModuleRows, AreRequiredIndexes, Covers};
-ghost use Rattle.module_table.specs.Prelude.{ForFault, HasNoFault, IsEmpty, IsIndex, IsReported};
-ghost use Rattle.module_table.specs.Prelude.{Name, names_of, Passed, paths_of, provision_of};
-ghost use Rattle.module_table.specs.Prelude.{provisions, Reports, rows, table_entries, table_with};
-ghost use Rattle.module_table.specs.Prelude.{TableValue};
+ghost use Rattle.module_table.specs.Prelude.{AllDiffer, Covers, provisions, table_with, TableValue};
+ghost use Rattle.module_table.specs.Prelude.{AreModuleRows, AreRequiredIndexes, Name, provision_of};
+ghost use Rattle.module_table.specs.Prelude.{ForFault, HasNoFault, IsReported, rows, table_entries};
+ghost use Rattle.module_table.specs.Prelude.{IsEmpty, IsIndex, names_of, Passed, paths_of, Reports};
 ghost use Rattle.indexmap.specs.IndexSet.{hasher_of};
 
 use crate::fault::{Maker, TableFault, failure_of};
@@ -44,8 +43,8 @@ impl Index {
     fn new(
         alloc: Global,
         modules: Modules<'_>,
-        needs: Vec<Vec<usize>>,
-        indexes: Vec<Vec<usize>>,
+        mut needs: Vec<Vec<usize>>,
+        mut indexes: Vec<Vec<usize>>,
     ) -> Result<Index, AllocError>
         requires needs { AreModuleRows modules (rows needs.items) }
         requires indexes { AreRequiredIndexes modules (rows indexes.items) }
@@ -54,9 +53,7 @@ impl Index {
         let required = all_pairs(alloc, &modules, indexes.as_slice())?;
         let origins = modules.provided().iter().map(|m| (m.maker, m.index));
         let origins: Vec<(Maker, usize)> = origins.collect(alloc)?;
-        let mut needs = needs;
-        let mut objects = indexes;
-        needs.append(&mut objects)?;
+        needs.append(&mut indexes)?;
         Ok(Index {
             names: modules.into_names(),
             origins,
@@ -131,12 +128,10 @@ pub(crate) fn check_objects(
 {
     paths.reserve(objects.len())?;
     for (index, rule) in objects.iter().enumerate() {
-        let path = rule.object.copy(alloc)?;
-        let (first, is_new) = paths.insert_full(path)?;
+        let (first, is_new) = paths.insert_full(rule.object.copy(alloc)?)?;
         if !is_new {
-            let path = rule.object.copy(alloc)?;
             let fault = TableFault::ObjectTwice {
-                path,
+                path: rule.object.copy(alloc)?,
                 first: Maker::Object(first),
                 second: Maker::Object(index),
             };
@@ -203,9 +198,8 @@ fn put_names(
     for module in provided {
         let (first, is_new) = names.insert_full(module.name.copy(alloc)?)?;
         if !is_new {
-            let name = module.name.copy(alloc)?;
             let fault = TableFault::ProvidedTwice {
-                name,
+                name: module.name.copy(alloc)?,
                 first: provided[first].maker,
                 second: module.maker,
             };
@@ -233,8 +227,7 @@ pub(crate) fn check_files(
     let objects = modules.objects();
     files.reserve(provided.len())?;
     for module in provided {
-        let file = module.file.copy(alloc)?;
-        let (first, is_new) = files.insert_full(file)?;
+        let (first, is_new) = files.insert_full(module.file.copy(alloc)?)?;
         if !is_new {
             let maker = if first < objects.len() {
                 Maker::Object(first)

@@ -1,12 +1,11 @@
 //! Who provides which module, by index and by name, and what modules need: those of objects their
 //! objects, and those of info files what they require, which is looked up once.
-ghost use Rattle.std.specs.Prelude.{◌++◌, ◌<◌, ◌≡◌, filter_map, flat_map, IfNone, IfOk, IfSome, ℕ};
+ghost use Rattle.std.specs.Prelude.{◌++◌, ◌<◌, ◌≡◌, filter_map, flat_map, map, option_map, Some, ℕ};
 ghost use Rattle.module_table.specs.Prelude.{AreLookedUp, AreNamed, AreProvided, DoNamesDiffer};
-ghost use Rattle.module_table.specs.Prelude.{enumerate_from, found, index_in, indexes_in};
-ghost use Rattle.module_table.specs.Prelude.{info_rows, length, looked_up, lookups_of, map};
-ghost use Rattle.module_table.specs.Prelude.{names_of, object_row, OnOk, option_map, origins_of};
-ghost use Rattle.module_table.specs.Prelude.{provision_of, provisions, rows, slice_get, Some};
-ghost use Rattle.module_table.specs.Prelude.{table_with, TableValue};
+ghost use Rattle.module_table.specs.Prelude.{enumerate_from, found, IfNone, IfOk, IfSome, index_in};
+ghost use Rattle.module_table.specs.Prelude.{indexes_in, info_rows, length, looked_up, lookups_of};
+ghost use Rattle.module_table.specs.Prelude.{names_of, object_row, OnOk, origins_of, provision_of};
+ghost use Rattle.module_table.specs.Prelude.{provisions, rows, slice_get, table_with, TableValue};
 
 use crate::fault::Maker;
 use document_values::{Info, InfoModule, Name, Rule, TargetName};
@@ -93,22 +92,15 @@ impl<'t> Modules<'t> {
         ensures index { option_map (λ m. m.0) result
             ≡ index_in (names_of (provisions self.now)) name.now }
     {
-        match index_of(&self.names, name) {
-            Some(index) => Some((index, module_at(self.provided.as_slice(), index))),
-            None => None,
-        }
+        let index = index_of(&self.names, name)?;
+        Some((index, module_at(&self.provided, index)))
     }
 
     /// Consumes the value and returns the names of all modules, by index.
     pub(crate) fn into_names(self) -> IndexSet<Name, TableKey>
         ensures { result.keys ≡ names_of (provisions self.entry) }
     {
-        let Modules {
-            objects: _,
-            infos: _,
-            provided: _,
-            names,
-        } = self;
+        let Modules { names, .. } = self;
         names
     }
 }
@@ -187,12 +179,9 @@ pub(crate) fn object_rows(alloc: Global, modules: &Modules) -> Result<Vec<Vec<us
     let provided = modules.provided();
     let mut needs = Vec::with_capacity(alloc, provided.len() + modules.objects().len())?;
     for module in provided {
-        match module.maker {
-            Maker::Object(object) => {
-                let row = vec![in alloc; provided.len() + object]?;
-                needs.push(row)?;
-            }
-            Maker::Info(_) => {}
+        if let Maker::Object(object) = module.maker {
+            let row = vec![in alloc; provided.len() + object]?;
+            needs.push(row)?;
         }
     }
     Ok(needs)
@@ -247,9 +236,8 @@ fn add_module<'m, 't>(
             file: &pair.1,
             module,
         })?;
-        match module {
-            Some((index, _)) => row.push(index)?,
-            None => {}
+        if let Some((index, _)) = module {
+            row.push(index)?;
         }
     }
     Ok(row)

@@ -16,6 +16,7 @@ use std::marker::Model;
 /// Finds the modules that the objects of a table need, for one object after another. It keeps its
 /// workspace between objects, so the work for an object grows with what the object needs, and not
 /// with the table. A contract sees it as the table.
+#[derive(Drop)]
 pub struct Needs<'t> {
     objects: &'t [Rule],
     infos: &'t [Info],
@@ -32,19 +33,6 @@ struct Numbered<'t> {
     name: &'t Name,
     file: &'t Path,
     index: usize,
-}
-
-// Not derived: a derived drop is written out, field by field, wherever a value goes.
-impl Drop for Needs<'_> {
-    fn drop(self) {
-        let Needs {
-            objects: _,
-            infos: _,
-            reaching: _,
-            modules: _,
-            ranks: _,
-        } = self;
-    }
 }
 
 impl<'t> Model for Needs<'t> {
@@ -80,11 +68,10 @@ impl<'t> Needs<'t> {
         for (rank, numbered) in modules.iter().enumerate() {
             ranks[numbered.index] = rank;
         }
-        let reaching = Reaching::new(alloc, graph)?;
         Ok(Needs {
             objects,
             infos,
-            reaching,
+            reaching: Reaching::new(alloc, graph)?,
             modules,
             ranks,
         })
@@ -106,9 +93,8 @@ impl<'t> Needs<'t> {
         let mut ranks = Vec::with_capacity(alloc, nodes.len())?;
         for node in &nodes {
             // nodes after all modules are objects
-            match self.ranks.get(*node) {
-                Some(rank) => ranks.push(*rank)?,
-                None => {}
+            if let Some(rank) = self.ranks.get(*node) {
+                ranks.push(*rank)?;
             }
         }
         ranks.sort_unstable();
@@ -190,7 +176,5 @@ pub(crate) fn copy_pair(alloc: Global, name: &Name, file: &Path) -> Result<(Name
     ensures name { IfOk result (λ pair. pair.0 ≡ name.now) }
     ensures file { IfOk result (λ pair. pair.1 ≡ file.now) }
 {
-    let name = name.copy(alloc)?;
-    let file = file.copy(alloc)?;
-    Ok((name, file))
+    Ok((name.copy(alloc)?, file.copy(alloc)?))
 }

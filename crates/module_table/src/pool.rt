@@ -22,22 +22,12 @@ use table_keys::TableKey;
 ///
 /// [`Pool::part`] returns the few linked modules that a target needs, so the work for a target
 /// grows with its rules and its links, and not with the modules of the linked targets.
+#[derive(Drop)]
 pub struct Pool {
     infos: Vec<Option<Info>>,
     listed: Listed,
     /// The relations of each known info file to those before it.
     related: Vec<Option<Related>>,
-}
-
-// Not derived: a derived drop is written out, field by field, wherever a value goes.
-impl Drop for Pool {
-    fn drop(self) {
-        let Pool {
-            infos: _,
-            listed: _,
-            related: _,
-        } = self;
-    }
 }
 
 impl Model for Pool {
@@ -127,34 +117,23 @@ impl Pool {
             × AreLinked self.now.infos linked.now infos × IsEnough objects.now part.items infos
             × (requirements ≡ Kept → KeepsRequired part.items infos))) }
     {
-        let Scratch {
-            indexes,
-            stamps,
-            picked,
-        } = scratch;
-        indexes.resize(self.infos.len(), 0)?;
-        stamps.resize(self.listed.numbers, ModuleAt { info: 0, module: 0 })?;
-        if !put_links(linked, &self.related, indexes, stamps) {
+        let (infos, listed, related) = (&self.infos, &self.listed, &self.related);
+        scratch.indexes.resize(infos.len(), 0)?;
+        scratch
+            .stamps
+            .resize(listed.numbers, ModuleAt { info: 0, module: 0 })?;
+        if !put_links(linked, related, &mut scratch.indexes, &mut scratch.stamps) {
             return Ok(None);
         }
         let links = Links {
             linked,
-            indexes,
-            stamps,
+            indexes: &scratch.indexes,
+            stamps: &scratch.stamps,
         };
-        if !links.are_fit(&self.related) || !links.are_apart(&self.listed, objects) {
+        if !links.are_fit(related) || !links.are_apart(listed, objects) {
             return Ok(None);
         }
-        let (infos, related) = (&self.infos, &self.related);
-        picked.pick(
-            alloc,
-            objects,
-            &links,
-            &self.listed,
-            infos,
-            related,
-            requirements,
-        )?;
-        part_of(alloc, infos, &links, &picked.modules, requirements)
+        scratch.picked.pick(alloc, objects, &links, listed, infos, related, requirements)?;
+        part_of(alloc, infos, &links, &scratch.picked.modules, requirements)
     }
 }

@@ -1,11 +1,10 @@
 //! The table of the modules of one target, and its look-ups.
-ghost use Rattle.std.specs.Prelude.{◌++◌, ◌<◌, ◌≡◌, flat_map, IfErr, IfNone, IfOk, IfSome, length};
+ghost use Rattle.std.specs.Prelude.{◌++◌, ◌<◌, ◌≡◌, flat_map, IfErr, IfNone, IfOk, slice_get, Some};
 ghost use Rattle.module_table.specs.Prelude.{ArePairs, AreRequired, AreStored, Builds, Covers};
-ghost use Rattle.module_table.specs.Prelude.{ForFault, ForSome, HasAdded, info_entries, IsKeyOf};
-ghost use Rattle.module_table.specs.Prelude.{IsNeeded, IsProvidedBy, IsSound, IsUnknown};
-ghost use Rattle.module_table.specs.Prelude.{object_entries, required_of, RuleValue, slice_get};
-ghost use Rattle.module_table.specs.Prelude.{Some, table_entries, table_with, TableEntries};
-ghost use Rattle.module_table.specs.Prelude.{TableValue};
+ghost use Rattle.module_table.specs.Prelude.{ForFault, ForSome, HasAdded, IfSome, info_entries};
+ghost use Rattle.module_table.specs.Prelude.{IsKeyOf, IsNeeded, IsProvidedBy, IsSound, IsUnknown};
+ghost use Rattle.module_table.specs.Prelude.{length, object_entries, required_of, RuleValue};
+ghost use Rattle.module_table.specs.Prelude.{table_entries, table_with, TableEntries, TableValue};
 
 use crate::checks::check_all;
 use crate::fault::{Maker, RefusedTable, TableFault};
@@ -20,6 +19,7 @@ use std::marker::Model;
 use table_keys::{KeyDigest, TableKey};
 
 /// The modules of one target and of the targets that it links. It has none of the faults M1 to M10.
+#[derive(Drop)]
 pub struct Table {
     resolved: Resolved,
     /// The names that the table mentions, in order of first mention: first those of the provided
@@ -32,19 +32,6 @@ pub struct Table {
     origins: Vec<(Maker, usize)>,
     /// The modules and objects that each module and each object needs, by index.
     graph: Digraph,
-}
-
-// Not derived: a derived drop is written out, field by field, wherever a value goes.
-impl Drop for Table {
-    fn drop(self) {
-        let Table {
-            resolved: _,
-            names: _,
-            paths: _,
-            origins: _,
-            graph: _,
-        } = self;
-    }
 }
 
 impl Model for Table {
@@ -93,20 +80,17 @@ impl Table {
     {
         let key = match key {
             Some(key) => key,
-            None => table_key(objects.as_slice(), infos.as_slice()),
+            None => table_key(&objects, &infos),
         };
         let mut paths = IndexSet::with_hasher(alloc, key);
-        let checked = check_all(
-            alloc,
-            objects.as_slice(),
-            infos.as_slice(),
-            kept,
-            &mut paths,
-            key,
-        );
+        let checked = check_all(alloc, &objects, &infos, kept, &mut paths, key);
         match checked {
             Ok(index) => Ok(Table {
-                resolved: Resolved::new(objects, infos, index.required),
+                resolved: Resolved {
+                    objects,
+                    infos,
+                    required: index.required,
+                },
                 names: index.names,
                 paths,
                 origins: index.origins,
@@ -125,13 +109,7 @@ impl Table {
     pub fn into_resolved(self) -> Resolved
         ensures { result ≡ self }
     {
-        let Table {
-            resolved,
-            names: _,
-            paths: _,
-            origins: _,
-            graph: _,
-        } = self;
+        let Table { resolved, .. } = self;
         resolved
     }
 
@@ -175,14 +153,10 @@ impl Table {
             (λ found. IsProvidedBy self.now found.1 name.now found.0.now) }
         ensures none { IfNone result (IsUnknown self.now name.now) }
     {
-        match index_of(&self.names, name) {
-            Some(index) => {
-                let origin = self.origins[index];
-                let (_, file) = named_at(self.resolved.objects(), self.resolved.infos(), origin);
-                Some((file, origin.0))
-            }
-            None => None,
-        }
+        let index = index_of(&self.names, name)?;
+        let origin = self.origins[index];
+        let (_, file) = named_at(self.resolved.objects(), self.resolved.infos(), origin);
+        Some((file, origin.0))
     }
 
     /// Returns all modules that the object requires, directly or through others, in byte order of
@@ -205,33 +179,18 @@ impl Table {
     pub fn needs(&self, alloc: Global) -> Result<Needs<'_>, AllocError>
         ensures { IfOk result (λ needs. needs ≡ self.now) }
     {
-        Needs::new(
-            alloc,
-            &self.graph,
-            self.resolved.objects(),
-            self.resolved.infos(),
-            &self.origins,
-        )
+        let (objects, infos) = (self.resolved.objects(), self.resolved.infos());
+        Needs::new(alloc, &self.graph, objects, infos, &self.origins)
     }
 }
 
 /// The objects of a [`Table`], and the modules that each requires. It has no look-ups.
+#[derive(Drop)]
 pub struct Resolved {
     objects: Vec<Rule>,
     infos: Vec<Info>,
     /// The modules that each object requires, with their files.
     required: Vec<Vec<(Name, Path)>>,
-}
-
-// Not derived: a derived drop is written out, field by field, wherever a value goes.
-impl Drop for Resolved {
-    fn drop(self) {
-        let Resolved {
-            objects: _,
-            infos: _,
-            required: _,
-        } = self;
-    }
 }
 
 impl Model for Resolved {
@@ -244,23 +203,6 @@ impl Model for Resolved {
 }
 
 impl Resolved {
-    /// Returns the objects of a sound table with what each requires.
-    pub(crate) fn new(
-        objects: Vec<Rule>,
-        infos: Vec<Info>,
-        required: Vec<Vec<(Name, Path)>>,
-    ) -> Resolved
-        requires sound { IsSound (table_with objects.items infos.items) }
-        requires required { AreRequired (table_with objects.items infos.items) required.items }
-        ensures { result ≡ table_with objects.items infos.items }
-    {
-        Resolved {
-            objects,
-            infos,
-            required,
-        }
-    }
-
     /// Returns the objects, by index.
     pub fn objects(&self) -> &[Rule]
         ensures objects { result.now ≡ self.now.objects }
@@ -274,11 +216,7 @@ impl Resolved {
         ensures objects { result.0.items ≡ self.objects }
         ensures infos { result.1.items ≡ self.infos }
     {
-        let Resolved {
-            objects,
-            infos,
-            required: _,
-        } = self;
+        let Resolved { objects, infos, .. } = self;
         (objects, infos)
     }
 

@@ -28,13 +28,11 @@ pub(crate) fn check_objects_known(
     for (object, rule) in objects.iter().enumerate() {
         let mut row = Vec::with_capacity(alloc, rule.required.len())?;
         for required in &rule.required {
-            match modules.find(required) {
-                Some((index, _)) => row.push(index)?,
-                None => {
-                    let name = required.copy(alloc)?;
-                    return Err(failure_of(alloc, TableFault::ModuleUnknown { name, object }));
-                }
-            }
+            let Some((index, _)) = modules.find(required) else {
+                let name = required.copy(alloc)?;
+                return Err(failure_of(alloc, TableFault::ModuleUnknown { name, object }));
+            };
+            row.push(index)?;
         }
         indexes.push(row)?;
     }
@@ -52,18 +50,15 @@ pub(crate) fn check_infos_known(
     ensures fault { FailsWith 6 modules.now result }
 {
     for required in all {
-        match required.module {
-            Some((_, module)) => match module.maker {
-                Maker::Info(_) => continue,
-                Maker::Object(_) => {}
-            },
-            None => {}
+        if let Some((_, module)) = required.module {
+            if let Maker::Info(_) = module.maker {
+                continue;
+            }
         }
-        let (target, module_name, name) = copy_names(alloc, required)?;
         let fault = TableFault::InfoUnknown {
-            target,
-            module_name,
-            name,
+            target: required.target.copy(alloc)?,
+            module_name: required.module_name.copy(alloc)?,
+            name: required.name.copy(alloc)?,
         };
         return Err(failure_of(alloc, fault));
     }
@@ -86,31 +81,15 @@ pub(crate) fn check_infos_agree(
             continue;
         };
         if *module.file != *required.file {
-            let (target, module_name, name) = copy_names(alloc, required)?;
             let fault = TableFault::InfoDisagrees {
-                target,
-                module_name,
-                name,
+                target: required.target.copy(alloc)?,
+                module_name: required.module_name.copy(alloc)?,
+                name: required.name.copy(alloc)?,
             };
             return Err(failure_of(alloc, fault));
         }
     }
     Ok(())
-}
-
-/// Returns copies of the names of the target, of the user and of what it requires.
-fn copy_names(
-    alloc: Global,
-    required: &InfoRequired,
-) -> Result<(TargetName, Name, Name), AllocError>
-    ensures target { IfOk result (λ names. names.0 ≡ required.now.target.now) }
-    ensures module_name { IfOk result (λ names. names.1 ≡ required.now.module_name.now) }
-    ensures name { IfOk result (λ names. names.2 ≡ required.now.name.now) }
-{
-    let target = required.target.copy(alloc)?;
-    let module_name = required.module_name.copy(alloc)?;
-    let name = required.name.copy(alloc)?;
-    Ok((target, module_name, name))
 }
 
 /// M8: no objects need each other's modules in a cycle. `indexes[i]` are the modules that object i
@@ -130,8 +109,7 @@ pub(crate) fn check_rings(
         let objects = row.iter().filter_map(|index| maker_at(provided, *index));
         needs.push(objects.collect(alloc)?)?;
     }
-    let graph = Digraph::new(needs);
-    match order(alloc, &graph)? {
+    match order(alloc, &Digraph::new(needs))? {
         Sorting::Order(_) => Ok(()),
         Sorting::Cycle(objects) => Err(failure_of(alloc, TableFault::ImportCycle { objects })),
     }
@@ -185,12 +163,9 @@ pub(crate) fn check_infos_allowed(
         let Some((_, module)) = required.module else {
             continue;
         };
-        let is_own = match module.maker {
-            Maker::Info(info) => info == required.info,
-            Maker::Object(_) => false,
-        };
-        if module.is_private && !is_own {
-            return Err(requires_private(alloc, module, Maker::Info(required.info)));
+        let user = Maker::Info(required.info);
+        if module.is_private && module.maker != user {
+            return Err(requires_private(alloc, module, user));
         }
     }
     Ok(())
@@ -207,12 +182,10 @@ pub(crate) fn check_kept(
     ensures fault { IfErr result (ForFault (λ fault. Reports 10 modules.now kept.now fault.value)) }
 {
     for name in kept {
-        match modules.find(name) {
-            Some((_, module)) => match module.maker {
-                Maker::Object(_) => continue,
-                Maker::Info(_) => {}
-            },
-            None => {}
+        if let Some((_, module)) = modules.find(name) {
+            if let Maker::Object(_) = module.maker {
+                continue;
+            }
         }
         let name = name.copy(alloc)?;
         return Err(failure_of(alloc, TableFault::PrivateUnknown { name }));
@@ -221,15 +194,14 @@ pub(crate) fn check_kept(
 }
 
 /// Returns the failure that a module of an info file is private to it and is required.
-fn requires_private(alloc: Global, module: &Module, user: Maker) -> Failure<Box<TableFault>>
-    requires { IsOfInfo module.now.maker }
-    ensures { ForFault (IsPrivateFault module.now user) result }
+fn requires_private(alloc: Global, required: &Module, user: Maker) -> Failure<Box<TableFault>>
+    requires { IsOfInfo required.now.maker }
+    ensures { ForFault (IsPrivateFault required.now user) result }
 {
-    let info = match module.maker {
-        Maker::Info(info) => info,
-        Maker::Object(_) => unreachable!(),
+    let Maker::Info(info) = required.maker else {
+        unreachable!()
     };
-    match module.name.copy(alloc) {
+    match required.name.copy(alloc) {
         Ok(name) => failure_of(alloc, TableFault::ModulePrivate { name, info, user }),
         Err(_) => Failure::Memory,
     }

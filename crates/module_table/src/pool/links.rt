@@ -80,11 +80,7 @@ impl Links<'_> {
         }
         let number = row.number?;
         let stamp = *self.stamps.get(number)?;
-        if self.has(stamp.info) {
-            Some(stamp)
-        } else {
-            None
-        }
+        self.has(stamp.info).then_some(stamp)
     }
 
     /// Returns whether the linked modules require only linked modules and share no name or file.

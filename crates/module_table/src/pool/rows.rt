@@ -4,7 +4,7 @@ ghost use Rattle.module_table.specs.Prelude.{AreListed, By, get, Has, hasher_of,
 ghost use Rattle.module_table.specs.Prelude.{IsRelated, IsSource, key_of, rows_of, Shared};
 ghost use Rattle.module_table.specs.Prelude.{StillKeyed, StillListed};
 
-use document_values::{Info, Name};
+use document_values::{Info, InfoModule, Name};
 use indexmap::IndexMap;
 use ninja_text::Path;
 use std::alloc::{AllocError, Global};
@@ -60,47 +60,32 @@ impl Listed {
     }
 }
 
-/// Lists the modules of the next info file, which gets this index. Returns the names and files that
+/// Lists the modules of the next info file, which has this index. Returns the names and files that
 /// they share with earlier modules.
 pub(crate) fn list_modules(
     alloc: Global,
-    number: usize,
-    info: &Info,
+    info: usize,
+    modules: &[InfoModule],
     listed: &mut Listed,
 ) -> Result<Vec<Shared>, AllocError>
     ensures still { OnOk result (StillListed listed.old listed.new) }
     ensures key { OnOk result (StillKeyed listed.old listed.new) }
     ensures listed { IfOk result (λ shared. (by : By) → AreListed (key_of by)
-        number info.now.modules (rows_of listed.new by) shared.items) }
+        info modules.now (rows_of listed.new by) shared.items) }
 {
-    let mut shared = Vec::new(alloc);
-    for (index, module) in info.modules.iter().enumerate() {
-        let at = ModuleAt {
-            info: number,
-            module: index,
-        };
-        let name = module.name.copy(alloc)?;
-        add(
-            &mut listed.names,
-            &mut listed.numbers,
-            name,
-            at,
-            &mut shared,
-        )?;
-        let file = module.file.copy(alloc)?;
-        let is_shared = add(
-            &mut listed.files,
-            &mut listed.numbers,
-            file,
-            at,
-            &mut shared,
-        )?;
-        if is_shared && !module.is_private {
-            let pair = (module.name.copy(alloc)?, module.file.copy(alloc)?);
+    let mut found = Vec::new(alloc);
+    for (module, entry) in modules.iter().enumerate() {
+        let at = ModuleAt { info, module };
+        let name = entry.name.copy(alloc)?;
+        add(&mut listed.names, &mut listed.numbers, name, at, &mut found)?;
+        let file = entry.file.copy(alloc)?;
+        let is_shared = add(&mut listed.files, &mut listed.numbers, file, at, &mut found)?;
+        if is_shared && !entry.is_private {
+            let pair = (entry.name.copy(alloc)?, entry.file.copy(alloc)?);
             let _ = listed.sharing.insert(pair, at)?;
         }
     }
-    Ok(shared)
+    Ok(found)
 }
 
 /// Adds a module to the row of a key. Returns whether the row has an earlier module, which is then
@@ -168,7 +153,7 @@ impl Related {
         ensures related { IfOk result (λ found. IfSome found
             (IsRelated infos.now info.now listed.new)) }
     {
-        let shared = list_modules(alloc, infos.len(), info, listed)?;
+        let shared = list_modules(alloc, infos.len(), &info.modules, listed)?;
         let mut required = Vec::with_capacity(alloc, info.modules.len())?;
         let mut sources = Vec::new(alloc);
         for module in &info.modules {

@@ -40,7 +40,7 @@ repeats c =
     let i = c.loop-module.module-index in
     let h = c.in_ok-first.ensures in
     repeats_if_found (λ n. n) (paths ++ files_of (map provision_of provided)) (length paths + i) _ c.loop-module.files.keys
-    (file_at paths provided i c.module-item.result (read_at provided i c.loop-module-test.true c.module-item.is) ∙ ap Some (sym c.in_ok-file.ensures))
+    (file_at paths provided i c.module-item.result (read_at provided i c.loop-module-test.true c.module-item.is) ∙ ap Some (sym c.in_ok-copy.ensures))
     (map-id c.loop-module.files.keys ∙ c.loop-module.invariant.same) c.loop-module.invariant.differ h.keys c.in_ok-first.first
     (sym c.if-not-is_new.true ∙ h.added) h.stored
 
@@ -88,18 +88,18 @@ returns-then-not-is_new-clause-fault c =
             sym w.maker-is,
           )
     ] in
-    let twice : IsMadeTwice objects (map provision_of provided) first (length objects + i) (BmiTwice c.in_ok-copy.field-0 c.if-first-objects.maker p.maker) = (
+    let twice : IsMadeTwice objects (map provision_of provided) first (length objects + i) (BmiTwice c.in_ok-copy-2.field-0 c.if-first-objects.maker p.maker) = (
       earlier.0,
       claim,
       earlier.1,
       module_claim_at objects (map provision_of provided) i (provision_of p) (to_map provision_of provided i p there),
-      ap (λ file. BmiTwice file c.if-first-objects.maker p.maker) c.in_ok-copy.ensures ∙ ap (λ maker. BmiTwice p.file.now maker p.maker) (sym earlier.2),
+      ap (λ file. BmiTwice file c.if-first-objects.maker p.maker) c.in_ok-copy-2.ensures ∙ ap (λ maker. BmiTwice p.file.now maker p.maker) (sym earlier.2),
     ) in
     for_boxed (λ fault. (kept : List Name) → Reports 4 t kept fault) _ _
     (λ kept. reported_made t kept first (length t.objects + i) _ c.requires.differ repeats
-    (subst (λ os. IsMadeTwice os (provisions t) first (length os + i) (BmiTwice c.in_ok-copy.field-0 c.if-first-objects.maker p.maker))
+    (subst (λ os. IsMadeTwice os (provisions t) first (length os + i) (BmiTwice c.in_ok-copy-2.field-0 c.if-first-objects.maker p.maker))
     c.objects-objects.ensures
-    (subst (λ ps. IsMadeTwice objects ps first (length objects + i) (BmiTwice c.in_ok-copy.field-0 c.if-first-objects.maker p.maker))
+    (subst (λ ps. IsMadeTwice objects ps first (length objects + i) (BmiTwice c.in_ok-copy-2.field-0 c.if-first-objects.maker p.maker))
     c.provided-provided.ensures.all.modules twice)))
     c.failure_of.ensures
 
@@ -110,7 +110,7 @@ loop-module-preserved c =
     let i = c.loop-module.module-index in
     let p = c.module-item.result in
     let texts = paths ++ files_of (map provision_of provided) in
-    let at = file_at paths provided i p (read_at provided i c.loop-module-test.true c.module-item.is) ∙ ap Some (sym c.in_ok-file.ensures) in
+    let at = file_at paths provided i p (read_at provided i c.loop-module-test.true c.module-item.is) ∙ ap Some (sym c.in_ok-copy.ensures) in
     let h = c.in_ok-first.ensures in
     let now = added_if_new (λ n. n) texts (length paths + i) _ c.loop-module.files.keys at (map-id c.loop-module.files.keys ∙ c.loop-module.invariant.same)
     c.loop-module.invariant.differ h.keys (sym c.if-not-is_new.false ∙ h.added) in

@@ -18,10 +18,10 @@ returns-then-not-is_new-clause-fault c =
     ap (λ (r : RuleValue). Some r.object) (sym c.rule.view_is) in
     let h = c.in_ok-first.ensures in
     let repeated = repeats_if_found (λ n. n) (map object_of objects) i _ c.loop-index.paths.keys
-    (at ∙ ap Some (sym c.in_ok-path.ensures)) (map-id c.loop-index.paths.keys ∙ c.loop-index.invariant.same) c.loop-index.invariant.differ h.keys first
+    (at ∙ ap Some (sym c.in_ok-copy.ensures)) (map-id c.loop-index.paths.keys ∙ c.loop-index.invariant.same) c.loop-index.invariant.differ h.keys first
     (sym c.if-not-is_new.true ∙ h.added) h.stored in
     for_boxed (λ fault. (t : TableValue) (kept : List Name) → objects ≡ t.objects → Reports 1 t kept fault) _ _
-    (λ t kept same. reports_same 1 t kept (ap (λ p. ObjectTwice p (Object first) (Object i)) c.in_ok-path-2.ensures)
+    (λ t kept same. reports_same 1 t kept (ap (λ p. ObjectTwice p (Object first) (Object i)) c.in_ok-copy-2.ensures)
     (record {
       present = (
         first,
@@ -41,7 +41,7 @@ loop-index-preserved c =
     let i = c.loop-index.index in
     let rule = c.index-objects-index.result in
     let at = to_map object_of objects i rule (read_at objects i c.loop-index-test.true c.index-objects-index.is) ∙
-    ap (λ (r : RuleValue). Some r.object) (sym c.rule.view_is) ∙ ap Some (sym c.in_ok-path.ensures) in
+    ap (λ (r : RuleValue). Some r.object) (sym c.rule.view_is) ∙ ap Some (sym c.in_ok-copy.ensures) in
     let h = c.in_ok-first.ensures in
     let now = added_if_new (λ n. n) (map object_of objects) i _ c.loop-index.paths.keys at (map-id c.loop-index.paths.keys ∙ c.loop-index.invariant.same)
     c.loop-index.invariant.differ h.keys (sym c.if-not-is_new.false ∙ h.added) in

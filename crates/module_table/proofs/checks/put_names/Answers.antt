@@ -34,7 +34,7 @@ returns-then-not-is_new-clause-fault c =
       provision_of m,
       to_map provision_of provided first e (slice_get-get_or provided first c.index-provided-first.result within),
       to_map provision_of provided i m there,
-      ap (λ name. ProvidedTwice name e.maker m.maker) c.in_ok-name.ensures,
+      ap (λ name. ProvidedTwice name e.maker m.maker) c.in_ok-copy-2.ensures,
     ))
     c.failure_of.ensures
 
@@ -57,8 +57,8 @@ bounds-provided-first c =
     let before = ap length c.loop-module.invariant.same ∙ length-take c.loop-module.module-index (names_of (map provision_of c.args.provided.now)) in
     omega (arith, h.within, not_more, before, c.loop-module-test.true)
 
-pub bounds-provided-first-in_ok-name : goal.bounds-provided-first-in_ok-name
-bounds-provided-first-in_ok-name c = bounds-provided-first c
+pub bounds-provided-first-in_ok-copy-2 : goal.bounds-provided-first-in_ok-copy-2
+bounds-provided-first-in_ok-copy-2 c = bounds-provided-first c
 
 pub offset_bounds-provided-first : goal.offset_bounds-provided-first
 offset_bounds-provided-first c = let h = bounds-provided-first c in omega (arith, h)

@@ -4,7 +4,7 @@ use Rattle.module_table.specs.inner.Found.{lookup_of}
 use Rattle.module_table.proofs.IndexRows.{takes_some, takes_none}
 use Rattle.module_table.proofs.Lists.{pushes_next, same_reads, read_at}
 use Rattle.module_table.proofs.modules.add_module.Goals as goal
-use Rattle.module_table.proofs.modules.add_module.Goals.{in-Some+in_ok-push-in-Some, in-None, After-loop-pair}
+use Rattle.module_table.proofs.modules.add_module.Goals.{in-Some+in_ok-push-2, in_default, After-loop-pair}
 use Rattle.ninja_text.proofs.ForCallers.{take_next}
 use Rattle.module_table.proofs.Words.{Pair}
 
@@ -30,13 +30,13 @@ loop-pair-preserved c =
           ∙ ap (λ (m : ModuleValue). lookup_of ps c.args.info c.args.target.now m.name pair) c.entry.view_is);
       row =
           elim c.match-module.branch [
-            | in-Some+in_ok-push-in-Some w ↦
+            | in-Some+in_ok-push-2 w ↦
                 ap (λ v. v.items) w.row-is
                 ∙ takes_some h entry.required i at c.loop-pair.invariant.row
-                (sym c.find-module.ensures.index ∙ ap (option_map _) w.in-Some.is) w.in_ok-push-in-Some.ensures.items
-            | in-None w ↦ ap (λ v. v.items) w.row-is ∙
+                (sym c.find-module.ensures.index ∙ ap (option_map _) w.in-Some.is) w.in_ok-push-2.ensures.items
+            | in_default w ↦ ap (λ v. v.items) w.row-is ∙
                 takes_none h entry.required i at c.loop-pair.invariant.row
-                (sym c.find-module.ensures.index ∙ ap (option_map _) w.in-None.is)
+                (sym c.find-module.ensures.index ∙ ap (option_map _) w.in_default.is)
           ];
     }
 

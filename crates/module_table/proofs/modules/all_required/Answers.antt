@@ -1,4 +1,4 @@
-use Rattle.std.proofs.Common.{◌∙◌, ◌+◌, ◌++◌, ap, map, sym, take, [], ℕ, take_all}
+use Rattle.std.proofs.Common.{◌∙◌, ◌++◌, ap, map, sym, take, [], ℕ, take_all}
 use Rattle.module_table.specs.Prelude.{flat_map, enumerate_from, InfoValue, ModuleValue, rows, provisions, names_of, indexes_in, info_rows, looked_up, lookups_of}
 use Rattle.module_table.proofs.Places.{lookups}
 use Rattle.module_table.proofs.Lists.{pushes_next, gathers_more, gathers_next, read_at}

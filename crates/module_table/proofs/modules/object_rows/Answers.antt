@@ -4,7 +4,7 @@ use Rattle.std.proofs.lemmas.List.{map-append}
 use Rattle.module_table.proofs.Graph.{object_within, filter_map_map}
 use Rattle.module_table.proofs.IndexRows.{takes_some, takes_none, length_mapped}
 use Rattle.module_table.proofs.modules.object_rows.Goals as goal
-use Rattle.module_table.proofs.modules.object_rows.Goals.{in-Object+in_ok-row-in-Object+in_ok-push-in-Object, in-Info}
+use Rattle.module_table.proofs.modules.object_rows.Goals.{in-Object+in_ok-row+in_ok-push, in_default}
 use Rattle.ninja_text.proofs.ForCallers.{to_map}
 use Rattle.module_table.proofs.Words.{items_of}
 use Rattle.module_table.proofs.Lists.{same_reads, read_at}
@@ -27,16 +27,16 @@ loop-module-preserved c =
     let h = λ (m : Module). object_row (length provided) (origin_of m) in
     let at = read_at provided i c.loop-module-test.true c.module-item.is in
     elim c.match-module.branch [
-      | in-Object+in_ok-row-in-Object+in_ok-push-in-Object w ↦
+      | in-Object+in_ok-row+in_ok-push w ↦
           ap (λ v. rows v.items) w.needs-is
           ∙ takes_some h provided i at c.loop-module.invariant
           (ap (λ maker. object_row (length provided) (maker, m.index)) w.in-Object.is)
-          (ap rows w.in_ok-push-in-Object.ensures.items ∙ map-append items_of c.loop-module.needs.items _ ∙
-          ap (λ row. rows c.loop-module.needs.items ++ row ∷ []) w.in_ok-row-in-Object.ensures.items)
-      | in-Info w ↦
+          (ap rows w.in_ok-push.ensures.items ∙ map-append items_of c.loop-module.needs.items _ ∙
+          ap (λ row. rows c.loop-module.needs.items ++ row ∷ []) w.in_ok-row.ensures.items)
+      | in_default w ↦
           ap (λ v. rows v.items) w.needs-is
           ∙ takes_none h provided i at c.loop-module.invariant
-          (ap (λ maker. object_row (length provided) (maker, m.index)) w.in-Info.is)
+          (ap (λ maker. object_row (length provided) (maker, m.index)) w.in_default.is)
     ]
 
 pub returns : goal.returns

@@ -1,4 +1,4 @@
-use Rattle.std.proofs.Common.{◌∙◌, ◌+◌, ◌++◌, [], ap, map, refl, take, ℕ, take_all}
+use Rattle.std.proofs.Common.{◌∙◌, ◌++◌, [], ap, map, refl, take, ℕ, take_all}
 use Rattle.module_table.specs.Prelude.{enumerate_from, RuleValue, ModuleValue, InfoValue, Provision, object_provisions, info_provisions, provision_of, Origin, origin_of, object_origins, info_origins, Object, Info}
 use Rattle.module_table.proofs.Lists.{numbered_next, gathers_next, pushes_next, read_at}
 use Rattle.module_table.proofs.modules.provided_modules.Goals as goal

@@ -29,9 +29,8 @@ returns-then-ne-clause-fault c =
     let t = c.args.modules.now in
     let i = c.loop-required.required-index in
     let at = read_at c.args.all.now i c.loop-required-test.true c.required-item.is in
-    let names = c.in_ok-target.ensures in
     let found = module_there t c.requires.all i at c.in-Some.is in
     for_boxed (λ fault. (kept : List Name) → Reports 7 t kept fault) _ _
     (λ kept. reports_info_disagrees t kept i c.requires.all.differ c.requires.known c.loop-required.invariant (required_there t c.requires.all i at)
     (found.0, _, found.1, λ same. true≢false (sym ((bytes_decides _ _).1 same) ∙ not-true _ (sym c.ne.ensures ∙ c.if-ne.true)))
-    (cc (names.target, names.module_name, names.name))) c.failure_of.ensures
+    (cc (c.in_ok-copy.ensures, c.in_ok-copy-2.ensures, c.in_ok-copy-3.ensures))) c.failure_of.ensures

@@ -5,7 +5,7 @@ use Rattle.module_table.proofs.Found.{object_not_info, for_boxed}
 use Rattle.module_table.proofs.Places.{required_there}
 use Rattle.module_table.proofs.Passing.{reports_info_unknown, no_module, module_there}
 use Rattle.module_table.proofs.checks.required.check_infos_known.Goals as goal
-use Rattle.module_table.proofs.checks.required.check_infos_known.Goals.{in-Some+in-Object, in-None}
+use Rattle.module_table.proofs.checks.required.check_infos_known.Goals.{in-Some+in_default-maker, in_default}
 
 pub loop-required-preserved : goal.loop-required-preserved
 loop-required-preserved c =
@@ -21,13 +21,12 @@ returns-in-loop-required-clause-fault c =
     let t = c.args.modules.now in
     let i = c.loop-required.required-index in
     let at = read_at c.args.all.now i c.loop-required-test.true c.required-item.is in
-    let names = c.in_ok-target.ensures in
     let none : IsNotByInfo (provisions t) (requirement_of c.required-item.result) = elim c.match-required.branch [
-      | in-Some+in-Object w ↦
+      | in-Some+in_default-maker w ↦
           let found = module_there t c.requires i at w.in-Some.is in
-          object_not_info (provisions t) c.requires.differ found.0 _ (requirement_of c.required-item.result) w.in-Object.field-0 found.1 w.in-Object.is
-      | in-None w ↦ λ by. no_module t c.requires i at w.in-None.is by.0 by.1 by.3
+          object_not_info (provisions t) c.requires.differ found.0 _ (requirement_of c.required-item.result) _ found.1 w.in_default-maker.is
+      | in_default w ↦ λ by. no_module t c.requires i at w.in_default.is by.0 by.1 by.3
     ] in
     for_boxed (λ fault. (kept : List Name) → Reports 6 t kept fault) _ _
-    (λ kept. reports_info_unknown t kept i c.loop-required.invariant (required_there t c.requires i at) none (cc (names.target, names.module_name, names.name)))
+    (λ kept. reports_info_unknown t kept i c.loop-required.invariant (required_there t c.requires i at) none (cc (c.in_ok-copy.ensures, c.in_ok-copy-2.ensures, c.in_ok-copy-3.ensures)))
     c.failure_of.ensures

@@ -33,11 +33,11 @@ made c =
     (map_take_all items_of required c.loop-row.row-index c.loop-row-test.false) ∙
     ap (λ ps. map (filter_map (maker_at ps)) (rows required)) c.provided-provided.ensures.all.modules
 
-pub new-graph-requires : goal.new-graph-requires
-new-graph-requires c =
+pub new-requires : goal.new-requires
+new-requires c =
     let t = c.args.modules.now in
     let required = rows c.args.required.now in
-    subst NeedsAreNodes (sym (made (goal.at.new-graph-requires c).After-loop-row))
+    subst NeedsAreNodes (sym (made (goal.at.new-requires c).After-loop-row))
     (are_nodes t (provisions t) required (numbered t required c.provided-provided.ensures.differ c.requires))
 
 pub returns-in-Order-clause-ok : goal.returns-in-Order-clause-ok
@@ -45,8 +45,8 @@ returns-in-Order-clause-ok c =
     let t = c.args.modules.now in
     let required = rows c.args.required.now in
     let sorted = subst (IsSortingOf (length t.objects) (DependsOn t)) c.in-Order.is
-    (sorting_of t (provisions t) required (numbered t required c.provided-provided.ensures.differ c.requires) c.new-graph.result _
-    (c.new-graph.ensures ∙ made (goal.at.returns-in-Order-clause-ok c).After-loop-row) c.in_ok-order.ensures) in
+    (sorting_of t (provisions t) required (numbered t required c.provided-provided.ensures.differ c.requires) c.new.result _
+    (c.new.ensures ∙ made (goal.at.returns-in-Order-clause-ok c).After-loop-row) c.in_ok-order.ensures) in
     sorted.0
 
 pub returns-clause-fault : goal.returns-clause-fault
@@ -54,8 +54,8 @@ returns-clause-fault c =
     let t = c.args.modules.now in
     let required = rows c.args.required.now in
     let sorted = subst (IsSortingOf (length t.objects) (DependsOn t)) c.in-Cycle.is
-    (sorting_of t (provisions t) required (numbered t required c.provided-provided.ensures.differ c.requires) c.new-graph.result _
-    (c.new-graph.ensures ∙ made (goal.at.returns-clause-fault c).After-loop-row) c.in_ok-order.ensures) in
+    (sorting_of t (provisions t) required (numbered t required c.provided-provided.ensures.differ c.requires) c.new.result _
+    (c.new.ensures ∙ made (goal.at.returns-clause-fault c).After-loop-row) c.in_ok-order.ensures) in
     for_boxed (λ fault. (kept : List Name) → Reports 8 t kept fault) _ _
     (λ kept. record { present = sorted.1; coded = refl })
     c.failure_of.ensures

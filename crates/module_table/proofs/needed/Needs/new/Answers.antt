@@ -74,4 +74,4 @@ invariant_of-result c =
     let ranked = are_ranked (provisions t) modules by c.loop-rank.ranks.items ranks (map lent (pairs_of modules)) (lent_modules modules) in
     let bound : length (provisions t) + length t.objects < 2 ^ 64 =
     omega (arith, (many_origins t), ap length c.requires.origins) in
-    record { sound = c.requires.sound; is_graph = subst (IsModuleGraph t) (sym c.in_ok-reaching.ensures) c.requires.graph; ranked = ranked; few = bound }
+    record { sound = c.requires.sound; is_graph = subst (IsModuleGraph t) (sym c.in_ok-new.ensures) c.requires.graph; ranked = ranked; few = bound }

@@ -8,7 +8,7 @@ use Rattle.module_table.proofs.Graph.{node_within, many_origins}
 use Rattle.module_table.proofs.IndexRows.{length_mapped, takes_some, takes_none}
 use Rattle.module_table.proofs.NeededPairs.{all_in_range, needed_lent}
 use Rattle.module_table.proofs.needed.Needs.of.Goals as goal
-use Rattle.module_table.proofs.needed.Needs.of.Goals.{in-Some+in_ok-push-in-Some, in-None, After-sort_unstable}
+use Rattle.module_table.proofs.needed.Needs.of.Goals.{in-Some+in_ok-push, in_default, After-sort_unstable}
 
 pub from-requires : goal.from-requires
 from-requires c =
@@ -32,14 +32,14 @@ loop-node-preserved c =
     let at = slice_get-get_or nodes i 0 c.loop-node-test.true in
     let list = same_reads n (sym c.deref.ensures.value) in
     elim c.match-get.branch [
-      | in-Some+in_ok-push-in-Some w ↦
+      | in-Some+in_ok-push w ↦
           let h = w.in-Some.ensures.lookup in
           ap (λ v. v.items) w.ranks-is ∙
           takes_some (slice_get ranks) nodes i at c.loop-node.invariant
-          (list ∙ read_at c.deref.result.now n h.3.0 h.1) w.in_ok-push-in-Some.ensures.items
-      | in-None w ↦ ap (λ v. v.items) w.ranks-is ∙
+          (list ∙ read_at c.deref.result.now n h.3.0 h.1) w.in_ok-push.ensures.items
+      | in_default w ↦ ap (λ v. v.items) w.ranks-is ∙
           takes_none (slice_get ranks) nodes i at c.loop-node.invariant
-          (list ∙ slice_get_past c.deref.result.now n w.in-None.ensures.lookup.3)
+          (list ∙ slice_get_past c.deref.result.now n w.in_default.ensures.lookup.3)
     ]
 
 -- the object is one of the table, the nodes are what it leads to, and the ranks are those of these nodes
@@ -94,8 +94,8 @@ invariant_of-self c = rw c.from.ensures.same c.self.invariant
 pub invariant_of-self-in_err-ranks : goal.invariant_of-self-in_err-ranks
 invariant_of-self-in_err-ranks c = rw c.from.ensures.same c.self.invariant
 
-pub invariant_of-self-in_err-push-in-Some : goal.invariant_of-self-in_err-push-in-Some
-invariant_of-self-in_err-push-in-Some c = rw c.from.ensures.same c.self.invariant
+pub invariant_of-self-in_err-push : goal.invariant_of-self-in_err-push
+invariant_of-self-in_err-push c = rw c.from.ensures.same c.self.invariant
 
 pub invariant_of-self-2 : goal.invariant_of-self-2
 invariant_of-self-2 c = rw c.from.ensures.same c.self.invariant

@@ -1,37 +1,34 @@
-use Rattle.std.proofs.Common.{◌≡◌, ◌∙◌, ap, refl, sym, subst, slice_get, take, length, bytes_eq, arith}
+use Rattle.std.proofs.Common.{◌≡◌, ◌∙◌, ap, refl, sym, subst, take, length, bytes_eq, arith}
 use Rattle.std.proofs.lemmas.Option.{slice_get_read}
 use Rattle.std.proofs.lemmas.List.{take_all, length-take-le}
 use Rattle.module_table.specs.Prelude.{get, hasher_of, ModuleValue, by_name, key_of, rows_of, module_at, AreListed}
-use Rattle.module_table.proofs.PoolLemmas.{row_kept, row_of_row, module_listed, put_more, each_put, modules_of}
+use Rattle.module_table.proofs.PoolLemmas.{row_kept, row_of_row, module_listed, put_more, each_put}
 use Rattle.ninja_text.proofs.ForCallers.{take_next}
 use Rattle.module_table.proofs.pool.rows.list_modules.Goals as goal
-use Rattle.module_table.proofs.pool.rows.list_modules.Goals.{then-is_shared+then-not-module+in_ok-copy+in_ok-copy-2+in_ok-insert, else-is_shared}
-use Rattle.module_table.proofs.Words.{At}
+use Rattle.module_table.proofs.pool.rows.list_modules.Goals.{then-is_shared+then-not-entry+in_ok-copy+in_ok-copy-2+in_ok-insert, else-is_shared}
 
-pub loop-index-preserved : goal.loop-index-preserved
-loop-index-preserved c =
-    let modules = c.args.info.now.modules in
-    let list = c.deref-module-items.ensures.value ∙ ap modules_of c.info.view_is in
-    let i = c.loop-index.index in
-    let m = c.module-item.result in
-    let found : At modules i m = ap (λ xs. slice_get xs i) (sym list)
-    ∙ slice_get_read c.deref-module-items.result.now _ i m refl c.loop-index-test.true c.module-item.is in
-    let next : length (take i modules) ≡ i = length-take-le i modules (omega (arith, c.loop-index-test.true, ap length list)) in
-    let number = c.args.number in
+pub loop-module-preserved : goal.loop-module-preserved
+loop-module-preserved c =
+    let modules = c.args.modules.now in
+    let i = c.loop-module.module in
+    let m = c.index-modules-module.result in
+    let found = slice_get_read modules _ i m refl c.loop-module-test.true c.index-modules-module.is in
+    let next : length (take i modules) ≡ i = length-take-le i modules (omega (arith, c.loop-module-test.true)) in
+    let number = c.args.info in
     let at = module_at number i in
-    let old = c.loop-index.listed in
+    let old = c.loop-module.listed in
     let new = c.if-is_shared.listed in
-    let shared = c.add-in-loop-index.new.shared.items in
-    let same : (new.names ≡ c.add.new.rows) × (new.files ≡ c.add-in-loop-index.new.rows) = elim c.if-is_shared.branch [
-      | then-is_shared+then-not-module+in_ok-copy+in_ok-copy-2+in_ok-insert w ↦ rw w.listed-is (refl, refl)
+    let shared = c.add-in-loop-module.new.shared.items in
+    let same : (new.names ≡ c.add.new.rows) × (new.files ≡ c.add-in-loop-module.new.rows) = elim c.if-is_shared.branch [
+      | then-is_shared+then-not-entry+in_ok-copy+in_ok-copy-2+in_ok-insert w ↦ rw w.listed-is (refl, refl)
       | else-is_shared w ↦ rw w.listed-is (refl, refl)
     ] in
     let sharing : hasher_of new.sharing ≡ hasher_of old.sharing = elim c.if-is_shared.branch [
-      | then-is_shared+then-not-module+in_ok-copy+in_ok-copy-2+in_ok-insert w ↦ rw w.listed-is w.in_ok-insert.ensures.hasher
+      | then-is_shared+then-not-entry+in_ok-copy+in_ok-copy-2+in_ok-insert w ↦ rw w.listed-is w.in_ok-insert.ensures.hasher
       | else-is_shared w ↦ rw w.listed-is refl
     ] in
-    let name = c.in_ok-name.ensures ∙ ap (λ (m : ModuleValue). m.name) c.module.view_is in
-    let file = c.in_ok-file.ensures ∙ ap (λ (m : ModuleValue). m.file) c.module.view_is in
+    let name = c.in_ok-name.ensures ∙ ap (λ (m : ModuleValue). m.name) c.entry.view_is in
+    let file = c.in_ok-file.ensures ∙ ap (λ (m : ModuleValue). m.file) c.entry.view_is in
     let named = rw name at c.in_ok-add.ensures.put in
     let filed = rw file at c.in_ok-is_shared.ensures.put in
     let put = each_put old new m at shared
@@ -39,25 +36,23 @@ loop-index-preserved c =
     (rw same.1 filed) in
     record {
       still = λ by key r h.
-          let kept = c.loop-index.invariant.still by key r h in
+          let kept = c.loop-module.invariant.still by key r h in
           let again = row_kept (rows_of old by) (rows_of new by) (key_of by m) at shared (put by) key kept.0 kept.1 in
           (again.0, again.1, row_of_row r kept.0 again.0 kept.2 again.2);
       keyed = λ key was.
-          let before = c.loop-index.invariant.keyed key was in
+          let before = c.loop-module.invariant.keyed key was in
           record {
             names = ap (λ rows. hasher_of rows) same.0 ∙ c.in_ok-add.ensures.key ∙ before.names;
             files = ap (λ rows. hasher_of rows) same.1 ∙ c.in_ok-is_shared.ensures.key ∙ before.files;
             sharing = sharing ∙ before.sharing;
           };
       all = rw (take_next modules i m found) (λ by. module_listed (rows_of old by) (rows_of new by) (key_of by m) at shared (put by) (key_of by) number
-          (take i modules) m c.loop-index.shared.items refl (ap (module_at number) (sym next))
+          (take i modules) m c.loop-module.found.items refl (ap (module_at number) (sym next))
           (λ s h. c.in_ok-is_shared.ensures.still s (c.in_ok-add.ensures.still s h))
-          (c.loop-index.invariant.all by));
+          (c.loop-module.invariant.all by));
     }
 
 pub returns-clause-listed : goal.returns-clause-listed
 returns-clause-listed c = λ by.
-    let modules = c.args.info.now.modules in
-    let list = c.deref-module-items.ensures.value ∙ ap modules_of c.info.view_is in
-    subst (λ ms. AreListed (key_of by) c.args.number ms (rows_of c.loop-index.listed by) c.loop-index.shared.items)
-    (take_all c.loop-index.index modules (omega (arith, c.loop-index-test.false, ap length list))) (c.loop-index.invariant.all by)
+    subst (λ ms. AreListed (key_of by) c.args.info ms (rows_of c.loop-module.listed by) c.loop-module.found.items)
+    (take_all c.loop-module.module c.args.modules.now c.loop-module-test.false) (c.loop-module.invariant.all by)

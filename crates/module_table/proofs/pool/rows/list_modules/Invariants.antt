@@ -2,9 +2,9 @@ use Rattle.std.proofs.Common.{take}
 use Rattle.module_table.specs.Prelude.{By, key_of, rows_of, AreListed, StillListed, StillKeyed}
 use Rattle.module_table.proofs.pool.rows.list_modules.Given as goal
 
-abbrev pub invariant-loop-index : goal.invariant-loop-index
-invariant-loop-index l = record {
+abbrev pub invariant-loop-module : goal.invariant-loop-module
+invariant-loop-module l = record {
   still : StillListed l.initial.listed l.listed;
   keyed : StillKeyed l.initial.listed l.listed;
-  all : (by : By) → AreListed (key_of by) l.number (take l.index l.info.modules) (rows_of l.listed by) l.shared.items;
+  all : (by : By) → AreListed (key_of by) l.info (take l.module l.modules) (rows_of l.listed by) l.found.items;
 }

@@ -1,7 +1,7 @@
 use Rattle.std.proofs.Common.{◌∙◌, ◌≤◌, ℕ, List, length, slice_get, refl, ap, sym, subst, arith, eqb}
 use Rattle.std.proofs.lemmas.Option.{slice_get_read}
 use Rattle.document_values.specs.Info.{ModuleValue}
-use Rattle.module_table.specs.inner.Pools.{Has}
+use Rattle.module_table.specs.inner.Pools.{AreListed, Has, key_of, rows_of}
 use Rattle.module_table.proofs.PoolLemmas.{IsSourced, below_next, below_all, below_map, has_grown, has_new, modules_of}
 use Rattle.ninja_text.proofs.ForCallers.{contained, placed}
 use Rattle.std.proofs.lemmas.List.Filters.{dedup_is}
@@ -43,7 +43,9 @@ loop-module-preserved c =
 
 pub returns-clause-related : goal.returns-clause-related
 returns-clause-related c = record {
-  are_listed = c.in_ok-shared.ensures.listed;
+  are_listed = λ by.
+      subst (λ ms. AreListed (key_of by) (length c.args.infos.now) ms (rows_of c.list_modules.new.listed by) c.in_ok-shared.shared.items)
+      (c.deref.ensures.value ∙ ap modules_of c.info.view_is) (c.in_ok-shared.ensures.listed by);
   sources = λ j m pair at h.
       let modules = c.args.info.now.modules in
       let list = c.deref-module-items.ensures.value ∙ ap modules_of c.info.view_is in
