@@ -22,12 +22,22 @@ use table_keys::TableKey;
 ///
 /// [`Pool::part`] returns the few linked modules that a target needs, so the work for a target
 /// grows with its rules and its links, and not with the modules of the linked targets.
-#[derive(Drop)]
 pub struct Pool {
     infos: Vec<Option<Info>>,
     listed: Listed,
     /// The relations of each known info file to those before it.
     related: Vec<Option<Related>>,
+}
+
+// Not derived: a derived drop is written out, field by field, wherever a value goes.
+impl Drop for Pool {
+    fn drop(self) {
+        let Pool {
+            infos: _,
+            listed: _,
+            related: _,
+        } = self;
+    }
 }
 
 impl Model for Pool {
