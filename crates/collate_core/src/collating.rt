@@ -1,12 +1,11 @@
 //! Collating a target: its documents make a table, and the objects of the table what is written.
-ghost use Rattle.std.specs.Prelude.{◌≡◌, map, option_copied, option_map, All, IfErr, IfOk, None};
-ghost use Rattle.collate_core.specs.Prelude.{all_rules, collated_of, table_of, AreReadAs};
-ghost use Rattle.collate_core.specs.Prelude.{AreScansAccepted, Collates, ForFault, ForInfo};
-ghost use Rattle.collate_core.specs.Prelude.{ForScan, HasReadOf, HasStatements, IsDyndepOf};
-ghost use Rattle.collate_core.specs.Prelude.{IsHeadline, IsInfoRefusal, IsOfTable, IsRefusal};
-ghost use Rattle.collate_core.specs.Prelude.{IsResolved, IsRuleText, IsScanRefusal, IsSound};
-ghost use Rattle.collate_core.specs.Prelude.{IsTableText, IsTextsRefusal, IsWrittenOf, Ok, OnOk};
-ghost use Rattle.collate_core.specs.Prelude.{Option, Turns, Written};
+ghost use Rattle.std.specs.Prelude.{◌≡◌, map, option_copied, option_map, IfErr, IfOk, None, Option};
+ghost use Rattle.collate_core.specs.Prelude.{all_rules, table_of, All, AreReadAs, AreScansAccepted};
+ghost use Rattle.collate_core.specs.Prelude.{Collates, ForFault, ForInfo, ForScan, HasReadOf};
+ghost use Rattle.collate_core.specs.Prelude.{HasStatements, IsDyndepOf, IsHeadline, IsInfoRefusal};
+ghost use Rattle.collate_core.specs.Prelude.{IsOfTable, IsRefusal, IsResolved, IsRuleText};
+ghost use Rattle.collate_core.specs.Prelude.{IsScanRefusal, IsSound, IsTableText, IsTextsRefusal};
+ghost use Rattle.collate_core.specs.Prelude.{IsWrittenOf, Ok, OnOk, TargetValue, Turns, Written};
 
 use crate::fault::{Refusal, RefusedTarget, nothing_read, refusal_alone};
 use crate::texts::{dyndep_text, lent_info, maps_of};
@@ -33,9 +32,6 @@ pub struct Target<'a> {
 }
 
 impl<'a> Model for Target<'a> {
-    ghost use Rattle.std.specs.Prelude.{map};
-    ghost use Rattle.collate_core.specs.Values.{TargetValue};
-
     ghost Value = { TargetValue };
 
     ghost view = { λ t. record {
@@ -116,12 +112,10 @@ pub(crate) fn written_of<M: MapStyle>(
     let text = dyndep_text(alloc, table.resolved())?;
     let maps = maps_of(alloc, table, style)?;
     let info = lent_info(alloc, target.name, target.kept, table)?;
-    let info = lent_info_write(alloc, &info)?;
-    let objects = objects_of(alloc, table)?;
     let parts = CollatedParts {
         dyndep: text,
-        info,
-        objects,
+        info: lent_info_write(alloc, &info)?,
+        objects: objects_of(alloc, table)?,
         maps,
     };
     Ok(Collated { parts })
@@ -299,8 +293,7 @@ pub(crate) fn rules_of_all(
     let mut rules = Vec::new(alloc);
     for (index, document) in scans.iter().enumerate() {
         match scan_with(alloc, document, &reduced) {
-            Ok(found) => {
-                let mut more = found;
+            Ok(mut more) => {
                 if more.len() > RULE_LIMIT - rules.len() {
                     let place = Place::Document;
                     let fault = DocFault::TooLarge { place };

@@ -4,10 +4,9 @@ ghost use Rattle.collate_core.specs.BuildLaws.{LeastOrderRuns, TargetHasNoFalseW
 ghost use Rattle.collate_core.specs.BuildLaws.{ProjectHasNoFalseWait, TargetHasNoFalseRebuild};
 ghost use Rattle.collate_core.specs.BuildLaws.{ProjectHasNoFalseRebuild, TargetHasNoFalseCycle};
 ghost use Rattle.collate_core.specs.BuildLaws.{ProjectHasNoFalseCycle};
-ghost use Rattle.collate_core.specs.Laws.{HeadlineHolds, CollatedIsNotRefused, OneRefusal};
-ghost use Rattle.collate_core.specs.Laws.{ProjectIsNotRefused, OneProjectRefusal, ProjectOrders};
-ghost use Rattle.collate_core.specs.Laws.{ProjectNumbered, ProjectEndOrderable, ProjectNeeds};
-ghost use Rattle.collate_core.specs.Laws.{ProjectMaps};
+ghost use Rattle.collate_core.specs.Laws.{CollatedIsNotRefused, HeadlineHolds, ProjectIsNotRefused};
+ghost use Rattle.collate_core.specs.Laws.{OneProjectRefusal, ProjectEndOrderable, ProjectNumbered};
+ghost use Rattle.collate_core.specs.Laws.{OneRefusal, ProjectMaps, ProjectNeeds, ProjectOrders};
 
 /// Whatever a target collates to has the headline.
 pub fn headline()

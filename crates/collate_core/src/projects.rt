@@ -1,12 +1,11 @@
 //! Projects: targets that link earlier ones.
-ghost use Rattle.std.specs.Prelude.{◌<◌, ◌≡◌, length, map, option_copied, option_map, take, All};
-ghost use Rattle.collate_core.specs.Prelude.{linked_infos, project_entries, table_with, target_of};
-ghost use Rattle.collate_core.specs.Prelude.{AreKnown, AreLinkedInfos, AreRulesOf, AreRulesOfEach};
-ghost use Rattle.collate_core.specs.Prelude.{CollatesAndReads, CollatesLinked, CoversLinked};
-ghost use Rattle.collate_core.specs.Prelude.{ForFault, HasReadOf, IfErr, IfOk, IfSome, IsEnoughFor};
-ghost use Rattle.collate_core.specs.Prelude.{IsKeyOf, IsLinkedRefusal, IsProjectOutcome, IsReadAs};
-ghost use Rattle.collate_core.specs.Prelude.{IsSound, IsTrue, MatchOption, PrivateAreProvided};
-ghost use Rattle.collate_core.specs.Prelude.{WasReadAt};
+ghost use Rattle.std.specs.Prelude.{◌<◌, ◌≡◌, length, option_copied, option_map, take, MatchOption};
+ghost use Rattle.collate_core.specs.Prelude.{linked_infos, map, project_entries, table_with};
+ghost use Rattle.collate_core.specs.Prelude.{target_of, All, AreKnown, AreLinkedInfos, AreRulesOf};
+ghost use Rattle.collate_core.specs.Prelude.{AreRulesOfEach, CollatesAndReads, CollatesLinked};
+ghost use Rattle.collate_core.specs.Prelude.{CoversLinked, ForFault, HasReadOf, IfErr, IfOk};
+ghost use Rattle.collate_core.specs.Prelude.{IfSome, IsKeyOf, IsLinkedRefusal, IsProjectOutcome};
+ghost use Rattle.collate_core.specs.Prelude.{IsReadAs, IsTrue, ProjectTargetValue, WasReadAt};
 
 use crate::collating::{Collated, Target, collate_or_refused, rules_of_all, written_of};
 use crate::fault::{Refusal, RefusedTarget, unless_faulty, without_table};
@@ -35,9 +34,6 @@ pub struct ProjectTarget<'a> {
 }
 
 impl<'a> Model for ProjectTarget<'a> {
-    ghost use Rattle.std.specs.Prelude.{map};
-    ghost use Rattle.collate_core.specs.Values.{ProjectTargetValue};
-
     ghost Value = { ProjectTargetValue };
 
     ghost view = { λ t. record {

@@ -1,8 +1,7 @@
 //! What a dyndep text does to a graph.
-ghost use Rattle.collate_core.specs.Prelude.{length, EdgeNeeds, EdgeValue, ForFault, HasEffect};
-ghost use Rattle.collate_core.specs.Prelude.{IfErr, IfOk, IsOrderedAt, IsReadFaultOf};
-ghost use Rattle.collate_core.specs.Prelude.{IsRehearseFault, IsSortingOf, LacksEffect, List};
-ghost use Rattle.collate_core.specs.Prelude.{StandsFor};
+ghost use Rattle.collate_core.specs.Prelude.{length, HasEffect, IfOk, List, StandsFor};
+ghost use Rattle.collate_core.specs.Prelude.{EdgeNeeds, EdgeValue, IfErr, IsSortingOf, LacksEffect};
+ghost use Rattle.collate_core.specs.Prelude.{ForFault, IsOrderedAt, IsReadFaultOf, IsRehearseFault};
 
 use crate::collating::Collated;
 use crate::fault::RehearseFault;
@@ -67,8 +66,7 @@ pub fn check_edges(
             RehearseFault::Read(_) => unreachable!(),
         },
     };
-    let sorting = edge_order(alloc, &new)?;
-    Ok(sorting)
+    Ok(edge_order(alloc, &new)?)
 }
 
 /// Returns the statements of a text that is fed in pieces of these lengths.

@@ -1,14 +1,13 @@
 //! What is written of a table: the dyndep text of its objects, the info file, and the module maps.
-ghost use Rattle.std.specs.Prelude.{◌++◌, ◌<◌, ◌∷◌, ◌≡◌, ◌≢◌, [], ℕ, length, map, option_copied};
-ghost use Rattle.collate_core.specs.Prelude.{hasher_of, info_of_table, is_private_name, lent_files};
-ghost use Rattle.collate_core.specs.Prelude.{map_fault, module_files, modules_of, option_map};
-ghost use Rattle.collate_core.specs.Prelude.{slice_get, statements_of, text_or_fault, All, AreMaps};
-ghost use Rattle.collate_core.specs.Prelude.{BadMapLine, ForFault, HasSpelled, IfErr, IfOk, IfSome};
-ghost use Rattle.collate_core.specs.Prelude.{IsKeyOf, IsLineRefusal, IsMapOf, IsMapText};
-ghost use Rattle.collate_core.specs.Prelude.{IsMapsRefusal, IsObjectRefusal, IsReadAs, IsSpelled};
-ghost use Rattle.collate_core.specs.Prelude.{IsTableText, IsTextOf, IsTrue, IsWriteRefusal, List};
-ghost use Rattle.collate_core.specs.Prelude.{Name, Ok, OnOk, ReadsBack, RuleValue, Some};
-ghost use Rattle.collate_core.specs.Prelude.{StandsForOnly, StatementValue};
+ghost use Rattle.std.specs.Prelude.{◌++◌, ◌<◌, ◌∷◌, ◌≡◌, ◌≢◌, length, option_copied, option_map};
+ghost use Rattle.collate_core.specs.Prelude.{[], ℕ, All, IfErr, IfOk, IsTrue, List, Ok, OnOk, Some};
+ghost use Rattle.collate_core.specs.Prelude.{hasher_of, modules_of, BadMapLine, HasSpelled, IfSome};
+ghost use Rattle.collate_core.specs.Prelude.{info_of_table, statements_of, AreMaps, StatementValue};
+ghost use Rattle.collate_core.specs.Prelude.{is_private_name, map, IsObjectRefusal, IsWriteRefusal};
+ghost use Rattle.collate_core.specs.Prelude.{lent_files, module_files, IsTableText, StandsForOnly};
+ghost use Rattle.collate_core.specs.Prelude.{map_fault, IsMapText, IsSpelled, ReadsBack, RuleValue};
+ghost use Rattle.collate_core.specs.Prelude.{slice_get, IsKeyOf, IsMapOf, IsReadAs, IsTextOf, Name};
+ghost use Rattle.collate_core.specs.Prelude.{text_or_fault, ForFault, IsLineRefusal, IsMapsRefusal};
 
 use crate::fault::Refusal;
 use document_values::{Info, Name, Rule, TargetName};
@@ -35,8 +34,7 @@ pub(crate) fn dyndep_text(alloc: Global, table: &Resolved) -> Result<Vec<u8>, Fa
     let mut text = DyndepText::new(alloc)?;
     let mut outputs = Vec::new(alloc);
     let mut inputs = Vec::new(alloc);
-    let objects = table.objects();
-    for (index, rule) in objects.iter().enumerate() {
+    for (index, rule) in table.objects().iter().enumerate() {
         lend_files(&rule.provided, &mut outputs)?;
         lend_files(table.required(index), &mut inputs)?;
         let statement = LentStatement {
@@ -97,10 +95,7 @@ pub(crate) fn info_again(
 {
     module_table::laws::added_files_can_be_ordered();
     scan_docs::laws::bytes_determine_the_value();
-    if !is_read {
-        return Ok(None);
-    }
-    if text.len() > DOCUMENT_LIMIT {
+    if !is_read || text.len() > DOCUMENT_LIMIT {
         return Ok(None);
     }
     let info = lent_info(alloc, name, kept, table)?;
@@ -118,11 +113,9 @@ pub(crate) fn lent_info<'t>(
     ensures { IfOk result (λ info. info ≡ info_of_table name.now kept.now table.now) }
 {
     let private_names = set_of(alloc, kept)?;
-    let objects = table.objects();
     let mut modules = Vec::new(alloc);
-    for (index, rule) in objects.iter().enumerate() {
-        let required = table.required(index);
-        add_modules(&private_names, rule, required, &mut modules)?;
+    for (index, rule) in table.objects().iter().enumerate() {
+        add_modules(&private_names, rule, table.required(index), &mut modules)?;
     }
     Ok(LentInfo {
         target: name,

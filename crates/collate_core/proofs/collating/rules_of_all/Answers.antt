@@ -11,7 +11,7 @@ accepted s scan rules same is = subst (IsAccepted (scan_checks s) (AreRules s) s
 pub returns-then-len-clause-refused : goal.returns-then-len-clause-refused
 returns-then-len-clause-refused c =
     let rules : List RuleValue = c.loop-index.rules.items in
-    let more : List RuleValue = c.in-Ok.found.items in
+    let more : List RuleValue = c.in-Ok.more.items in
     let past : 65536 < length (rules ++ more) =
     omega (arith, length-append rules more, c.loop-index.invariant.short, c.if-len.true, c.len.ensures, c.len-in-Ok.ensures) in
     let value = rw c.in_ok-reduced.ensures at c.in-Ok.ensures.value in
@@ -29,7 +29,7 @@ pub loop-index-preserved : goal.loop-index-preserved
 loop-index-preserved c =
     let i : ℕ = c.loop-index.index in
     let rules : List RuleValue = c.loop-index.rules.items in
-    let more : List RuleValue = c.in-Ok.found.items in
+    let more : List RuleValue = c.in-Ok.more.items in
     let short : length (rules ++ more) ≤ 65536 =
     omega (arith, length-append rules more, c.loop-index.invariant.short, c.if-len.false, c.len.ensures, c.len-in-Ok.ensures) in
     let value = rw c.in_ok-reduced.ensures at c.in-Ok.ensures.value in

@@ -29,8 +29,8 @@ invariant_of-result g c =
     let are = ap statements_of c.resolved.ensures in (
       statements_of c.args.table.now,
       collated_text c.args.table.now c.requires.sound c.added_files_can_be_ordered.ensures.orderable c.added_files_can_be_ordered.ensures.once
-          c.added_files_can_be_ordered.ensures.apart c.added_files_can_be_ordered.ensures.required c.in_ok-objects.objects.items c.in_ok-text.text.items
-          c.in_ok-objects.ensures (subst (StandsForOnly c.in_ok-text.text.items) are c.in_ok-text.ensures.meaning)
+          c.added_files_can_be_ordered.ensures.apart c.added_files_can_be_ordered.ensures.required c.in_ok-objects_of.field-0.items c.in_ok-text.text.items
+          c.in_ok-objects_of.ensures (subst (StandsForOnly c.in_ok-text.text.items) are c.in_ok-text.ensures.meaning)
           (has_paths (statements_of c.args.table.now) (subst (All HasSpelled) are c.in_ok-text.ensures.spelled)),
     )
 
@@ -41,8 +41,8 @@ returns-clause-written g c =
       spelled = subst (All HasSpelled) are c.in_ok-text.ensures.spelled;
       stands = subst (StandsForOnly c.in_ok-text.text.items) are c.in_ok-text.ensures.meaning;
       text = subst (λ (ss : List StatementValue). text_or_fault ss ≡ Ok c.in_ok-text.text.items) are c.in_ok-text.ensures.text;
-      objects = c.in_ok-objects.ensures;
-      info = rw (← c.target.view_is, ← c.in_ok-info.ensures) c.in_ok-info-2.ensures.text;
-      reads = rw (← c.target.view_is, ← c.in_ok-info.ensures) c.in_ok-info-2.ensures.reads_back;
+      objects = c.in_ok-objects_of.ensures;
+      info = rw (← c.target.view_is, ← c.in_ok-info.ensures) c.in_ok-lent_info_write.ensures.text;
+      reads = rw (← c.target.view_is, ← c.in_ok-info.ensures) c.in_ok-lent_info_write.ensures.reads_back;
       maps = c.in_ok-maps.ensures.maps;
     }

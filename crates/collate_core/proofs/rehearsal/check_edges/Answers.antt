@@ -20,7 +20,7 @@ ordered count Needs orderable (Cycle cycle) h = absurd (h.0 orderable)
 
 -- said here, so that the order of another graph is rejected soon
 pub returns-clause-sorted : goal.returns-clause-sorted
-returns-clause-sorted c = (c.in-Ok.new, rw (← c.dyndep.ensures.bytes) c.in-Ok.ensures.effect, c.in_ok-sorting.ensures)
+returns-clause-sorted c = (c.in-Ok.new, rw (← c.dyndep.ensures.bytes) c.in-Ok.ensures.effect, c.in_ok-edge_order.ensures)
 
 pub returns-clause-ordered : goal.returns-clause-ordered
 returns-clause-ordered c = λ statements text meets level.
@@ -35,7 +35,7 @@ returns-clause-ordered c = λ statements text meets level.
     let orderable : IsOrderable (length new) (EdgeNeeds new) =
     c.level_orders.ensures (dyndep_file c.args.name.now statements) old level.outputs new level.ranks meets gives level.has_outputs level.level text.orderable
     in
-    ordered (length new) (EdgeNeeds new) orderable c.in_ok-sorting.sorting c.in_ok-sorting.ensures
+    ordered (length new) (EdgeNeeds new) orderable c.in_ok-edge_order.field-0 c.in_ok-edge_order.ensures
 
 pub unreachable-requires : goal.unreachable-requires
 unreachable-requires c =

@@ -11,9 +11,9 @@ pub loop-index-preserved : goal.loop-index-preserved
 loop-index-preserved c =
     let t : TableValue = c.args.table.now in
     let index : ℕ = c.loop-index.index in
-    let rule : RuleValue = c.index-objects-index.result in
+    let rule : RuleValue = c.rule-item.result in
     let here : slice_get t.objects index ≡ Some rule =
-    rw (← c.objects-objects.ensures.objects) (slice_get_read _ _ _ _ refl c.loop-index-test.true c.index-objects-index.is) in
+    rw (← c.objects-rule-items.ensures.objects) (slice_get_read _ _ _ _ refl c.loop-index-test.true c.rule-item.is) in
     let lent = λ (fs : List (Bor (List ℕ))). All IsSpelled (lent_files fs) in
     let so_far : List StatementValue = map statement_of (take index (tasks_of t)) in
     let s : StatementValue = record {
@@ -44,9 +44,9 @@ returns-in_err-add-clause-refused c =
     let p = err_from_is_err_and c.from_residual-in_err-add.result c.from_residual-in_err-add.ensures.1 in
     let t : TableValue = c.args.table.now in
     let index : ℕ = c.loop-index.index in
-    let rule : RuleValue = c.index-objects-index.result in
+    let rule : RuleValue = c.rule-item.result in
     let here : slice_get t.objects index ≡ Some rule =
-    rw (← c.objects-objects.ensures.objects) (slice_get_read _ _ _ _ refl c.loop-index-test.true c.index-objects-index.is) in
+    rw (← c.objects-rule-items.ensures.objects) (slice_get_read _ _ _ _ refl c.loop-index-test.true c.rule-item.is) in
     let s : StatementValue = record {
       output = c.bytes.result.now;
       implicit_outputs = lent_files c.deref-in-loop-index.result.now;
@@ -75,7 +75,7 @@ add-requires c =
 at_end : (c : goal.After-drop-outputs-2) → map statement_of (take c.loop-index.index (tasks_of c.args.table.now)) ≡ statements_of c.args.table.now
 at_end c =
     all_statements c.args.table.now c.loop-index.index
-    (subst (λ (objects : List RuleValue). length objects ≤ c.loop-index.index) c.objects-objects.ensures.objects c.loop-index-test.false)
+    (subst (λ (objects : List RuleValue). length objects ≤ c.loop-index.index) c.objects-rule-items.ensures.objects c.loop-index-test.false)
 
 finished : (c : goal.After-drop-outputs-2) → IsFinished (statements_of c.args.table.now) c.finish.result.items
 finished c = c.finish.ensures (statements_of c.args.table.now) (subst (λ xs. IsTextOf xs c.loop-index.text) (at_end c) c.loop-index.invariant.text)

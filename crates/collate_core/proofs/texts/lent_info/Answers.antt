@@ -10,20 +10,20 @@ pub loop-index-preserved : goal.loop-index-preserved
 loop-index-preserved c =
     let t : TableValue = c.args.table.now in
     let kept : List (List ℕ) = c.args.kept.now in
-    let rule : RuleValue = c.index-objects-index.result in
+    let rule : RuleValue = c.rule-item.result in
     let here : slice_get t.objects c.loop-index.index ≡ Some rule =
-    rw (← c.objects-objects.ensures.objects) (slice_get_read _ _ _ _ refl c.loop-index-test.true c.index-objects-index.is) in
+    rw (← c.objects-rule-items.ensures.objects) (slice_get_read _ _ _ _ refl c.loop-index-test.true c.rule-item.is) in
     c.in_ok-add_modules.ensures
     ∙ ap (λ ms. c.loop-index.modules.items ++ ms)
-    (modules_same c.in_ok-private_names.private_names.keys kept c.in_ok-private_names.ensures.names c.required-required.result.now rule.provided)
-    ∙ more_modules kept t c.loop-index.index rule c.required-required.result.now c.loop-index.modules.items here (c.required-required.ensures rule here)
+    (modules_same c.in_ok-private_names.private_names.keys kept c.in_ok-private_names.ensures.names c.required.result.now rule.provided)
+    ∙ more_modules kept t c.loop-index.index rule c.required.result.now c.loop-index.modules.items here (c.required.ensures rule here)
     c.loop-index.invariant
 
 pub returns : goal.returns
 returns c =
     let t : TableValue = c.args.table.now in
     let many : length (tasks_of t) ≤ c.loop-index.index =
-    subst (λ n. n ≤ c.loop-index.index) (ap length c.objects-objects.ensures.objects ∙ sym (length-map t.objects (λ rule. (rule, required_of t rule))))
+    subst (λ n. n ≤ c.loop-index.index) (ap length c.objects-rule-items.ensures.objects ∙ sym (length-map t.objects (λ rule. (rule, required_of t rule))))
     c.loop-index-test.false in
     ap (λ (modules : List ModuleValue). let i : InfoValue = record { target = c.args.name.now; modules = modules } in i)
     (c.loop-index.invariant ∙ ap (flat_map (modules_of c.args.kept.now)) (take_all c.loop-index.index (tasks_of t) many))
