@@ -1,6 +1,6 @@
 -- No race, no false wait, no false rebuild and no false cycle, from what the edges of objects gain.
 use Rattle.ninja_text.proofs.ForCallers.{element_at, same_some, from_map, to_map, in_append, in_first, in_second, choose}
-use Rattle.std.proofs.Common.{◌≡◌, ◌⊎◌, ℕ, ◌+◌, ◌<◌, List, ◌++◌, length, Some, subst, sym, ◌∙◌, inl, inr, arith, slice_get, Contains, slice_index, zero, suc, [], ◌∷◌, Option, None, get_or, refl, ap}
+use Rattle.std.proofs.Common.{◌≡◌, ◌⊎◌, ℕ, ◌+◌, ◌<◌, List, ◌++◌, length, Some, subst, sym, ◌∙◌, inl, inr, arith, slice_get, Contains, zero, suc, [], ◌∷◌, Option, None, get_or, refl, ap}
 use Rattle.std.proofs.lemmas.Option.{slice_get_within, get_or_from_slice_get, slice_get-get_or}
 use Rattle.ninja_text.proofs.ForCallers.{placed as index_of}
 use Rattle.collate_core.proofs.Linked.{contained}
@@ -27,7 +27,7 @@ own_made e provided needs file h =
 added_made : (e : EdgeValue) (provided needs : Modules) (k : ℕ) (name file : Name) → slice_get provided k ≡ Some (name, file) →
     Makes (with_modules e provided needs) file
 added_made e provided needs k name file at =
-    let here : slice_get (module_files provided) k ≡ Some file = to_map (λ (p : Name × PathText). p.1) provided k (name, file) at in (
+    let here = to_map (λ (p : Name × PathText). p.1) provided k (name, file) at in (
       length e.outputs + (length e.implicit_outputs + k),
       in_second e.outputs (e.implicit_outputs ++ module_files provided) (length e.implicit_outputs + k) file
           (in_second e.implicit_outputs (module_files provided) k file here),
@@ -55,7 +55,7 @@ made_from e provided needs file h =
 -- the same of its inputs
 own_read : (e : EdgeValue) (provided needs : Modules) (file : PathText) → HasInput e file → HasInput (with_modules e provided needs) file
 own_read e provided needs file h =
-    let implicit : List Text = e.implicit_inputs ++ module_files needs in
+    let implicit = e.implicit_inputs ++ module_files needs in
     elim (in_append e.inputs (e.implicit_inputs ++ e.order_only) h.0 file h.1) [
       | inl input ↦ (h.0, in_first e.inputs (implicit ++ e.order_only) h.0 file input)
       | inr more ↦ elim (in_append e.implicit_inputs e.order_only more.0 file more.2) [
@@ -74,8 +74,8 @@ own_read e provided needs file h =
 added_read : (e : EdgeValue) (provided needs : Modules) (k : ℕ) (name file : Name) → slice_get needs k ≡ Some (name, file) →
     HasInput (with_modules e provided needs) file
 added_read e provided needs k name file at =
-    let here : slice_get (module_files needs) k ≡ Some file = to_map (λ (p : Name × PathText). p.1) needs k (name, file) at in
-    let implicit : List Text = e.implicit_inputs ++ module_files needs in (
+    let here = to_map (λ (p : Name × PathText). p.1) needs k (name, file) at in
+    let implicit = e.implicit_inputs ++ module_files needs in (
       length e.inputs + (length e.implicit_inputs + k),
       in_second e.inputs (implicit ++ e.order_only) (length e.implicit_inputs + k) file
           (in_first implicit e.order_only (length e.implicit_inputs + k) file (in_second e.implicit_inputs (module_files needs) k file here)),
@@ -83,7 +83,7 @@ added_read e provided needs k name file at =
 
 read_from : (e : EdgeValue) (provided needs : Modules) (file : PathText) → HasInput (with_modules e provided needs) file → HasInput e file ⊎ FileOf needs file
 read_from e provided needs file h =
-    let implicit : List Text = e.implicit_inputs ++ module_files needs in
+    let implicit = e.implicit_inputs ++ module_files needs in
     elim (in_append e.inputs (implicit ++ e.order_only) h.0 file h.1) [
       | inl input ↦ inl (h.0, in_first e.inputs (e.implicit_inputs ++ e.order_only) h.0 file input)
       | inr more ↦ elim (in_append implicit e.order_only more.0 file more.2) [
@@ -126,23 +126,23 @@ module _ (required_files : RequiredFiles) (all_required : AllRequired) (one_file
     (gained : Gained tables g new) where
   made : (i : ℕ) (file : PathText) → ProvidesFile tables g i file → IsMaker new i file
   made i file (t, o, k, name, inside, edge, provides) =
-      let e : EdgeValue = edge.2.1.0 in
-      let rule : RuleValue = edge.0 in
-      let same : provides.0 ≡ rule = same_some _ _ (sym provides.1 ∙ edge.1) in
-      let at : slice_get rule.provided k ≡ Some (name, file) = subst (λ (r : RuleValue). slice_get r.provided k ≡ Some (name, file)) same provides.2 in
+      let e = edge.2.1.0 in
+      let rule = edge.0 in
+      let same = same_some _ _ (sym provides.1 ∙ edge.1) in
+      let at = subst (λ (r : RuleValue). slice_get r.provided k ≡ Some (name, file)) same provides.2 in
       let makes = added_made e rule.provided (required_of t rule) k name file at in
       (makes.0, (with_modules e rule.provided (required_of t rule), gained.objects t o rule i e inside edge.1 edge.2.1.1 (edge.2.0, edge.2.1.2), makes.1))
 
   reads_required : (i : ℕ) (file : PathText) → RequiresFile tables g i file → IsReader new i file
   reads_required i file (t, o, name, inside, edge, requires, provided) =
-      let e : EdgeValue = edge.2.1.0 in
-      let rule : RuleValue = edge.0 in
-      let sound : IsSound t = gained.sound t inside in
-      let same : requires.0 ≡ rule = same_some _ _ (sym requires.1 ∙ edge.1) in
+      let e = edge.2.1.0 in
+      let rule = edge.0 in
+      let sound = gained.sound t inside in
+      let same = same_some _ _ (sym requires.1 ∙ edge.1) in
       let pair = all_required t sound o rule name edge.1 (subst (λ (r : RuleValue). Contains r.required name) same requires.2) in
       let at = index_of (required_of t rule) (name, pair.0) pair.1 in
       let known = required_files t rule at.0 name pair.0 at.1 in
-      let is_file : pair.0 ≡ file = one_file t sound name pair.0 file known.1 provided in (
+      let is_file = one_file t sound name pair.0 file known.1 provided in (
         with_modules e rule.provided (required_of t rule),
         gained.objects t o rule i e inside edge.1 edge.2.1.1 (edge.2.0, edge.2.1.2),
         subst (HasInput (with_modules e rule.provided (required_of t rule))) is_file (added_read e rule.provided (required_of t rule) at.0 name pair.0 at.1),
@@ -180,7 +180,7 @@ module _ (required_files : RequiredFiles) (all_required : AllRequired) (one_file
       elim (gained.each i e old.1) [
         | inl same ↦ inl (e, old.1, subst (λ (d : EdgeValue). HasInput d file) (same_some _ _ (sym there ∙ same)) reads)
         | inr (t, o, rule, inside, at, makes) ↦
-            let is : x ≡ with_modules e rule.provided (required_of t rule) = same_some _ _ (sym there ∙ gained.objects t o rule i e inside at old.1 makes) in
+            let is = same_some _ _ (sym there ∙ gained.objects t o rule i e inside at old.1 makes) in
             elim (read_from e rule.provided (required_of t rule) file (subst (λ (d : EdgeValue). HasInput d file) is reads)) [
               | inl own ↦ inl (e, old.1, own)
               | inr more ↦ inr (of_pair t o rule e i file inside at old.1 makes more)
@@ -196,11 +196,11 @@ module _ (required_files : RequiredFiles) (all_required : AllRequired) (one_file
   maker_from : (i : ℕ) (file : PathText) → IsMaker new i file → IsMaker g i file ⊎ ProvidesFile tables g i file
   maker_from i file (j, (x, there, makes_at)) =
       let old = edge_before i x there in
-      let e : EdgeValue = old.0 in
+      let e = old.0 in
       elim (gained.each i e old.1) [
         | inl same ↦ inl (j, (e, old.1, subst (λ (d : EdgeValue). slice_get (made_by d) j ≡ Some file) (same_some _ _ (sym there ∙ same)) makes_at))
         | inr (t, o, rule, inside, at, makes) ↦
-            let is : x ≡ with_modules e rule.provided (required_of t rule) = same_some _ _ (sym there ∙ gained.objects t o rule i e inside at old.1 makes) in
+            let is = same_some _ _ (sym there ∙ gained.objects t o rule i e inside at old.1 makes) in
             elim (made_from e rule.provided (required_of t rule) file (j, subst (λ (d : EdgeValue). slice_get (made_by d) j ≡ Some file) is makes_at)) [
               | inl own ↦ inl (own.0, (e, old.1, own.1))
               | inr more ↦ inr (of_pair t o rule e i file inside at old.1 makes more)
@@ -245,7 +245,7 @@ least_order_runs g order least = record {
   as_many = least.as_many;
   all = least.all;
   after_makers = λ i maker needs p at.
-      let here : slice_index order p ≡ i = get_or_from_slice_get order p i 0 at in
+      let here = get_or_from_slice_get order p i 0 at in
       (least.each p (slice_get_within _ _ _ at)).ready maker (subst (λ (n : ℕ). EdgeNeeds g n maker) (sym here) needs);
 }
 
@@ -282,15 +282,15 @@ needs_or_not : (g : List EdgeValue) (i j : ℕ) → Decided (EdgeNeeds g i j)
 needs_or_not g i j = by (slice_get g i) (slice_get g j) refl refl
   where
     by : (user maker : Option EdgeValue) → slice_get g i ≡ user → slice_get g j ≡ maker → Decided (EdgeNeeds g i j)
-    by None maker here there = inr (λ need. let at : None ≡ Some need.0 = sym here ∙ need.3 in cc)
-    by (Some e) None here there = inr (λ need. let at : None ≡ Some need.5.0 = sym there ∙ need.5.1 in cc)
+    by None maker here there = inr (λ need. let at = sym here ∙ need.3 in cc)
+    by (Some e) None here there = inr (λ need. let at = sym there ∙ need.5.1 in cc)
     by (Some e) (Some d) here there = found (some_or_none (Makes d) (makes_or_not d) (inputs_of e))
       where
         found : Decided (Some_of (Makes d) (inputs_of e)) → Decided (EdgeNeeds g i j)
         found (inl (k, file, at, makes)) = inl (e, file, makes.0, here, (k, at), (d, there, makes.1))
         found (inr none) = inr (λ need.
-            let read : HasInput e need.1 = subst (λ (x : EdgeValue). HasInput x need.1) (same_some _ _ (sym need.3 ∙ here)) need.4 in
-            let made : slice_get (made_by d) need.2 ≡ Some need.1 =
+            let read = subst (λ (x : EdgeValue). HasInput x need.1) (same_some _ _ (sym need.3 ∙ here)) need.4 in
+            let made =
             subst (λ (x : EdgeValue). slice_get (made_by x) need.2 ≡ Some need.1) (same_some _ _ (sym need.5.1 ∙ there)) need.5.2 in
             none (read.0, need.1, read.1, (need.2, made)))
 
@@ -305,7 +305,7 @@ those P decide zero = ([], ((λ k inside. let none = (index_of [] k inside).1 in
 those P decide (suc n) = by (those P decide n) (decide n)
   where
     from : (row : Numbers) → P n → AreThose P n row → (k m : ℕ) → slice_get (n ∷ row) m ≡ Some k → P k × (k < suc n)
-    from row holds are k zero at = let same : n ≡ k = same_some _ _ at in (subst P same holds, omega (arith, same))
+    from row holds are k zero at = let same = same_some _ _ at in (subst P same holds, omega (arith, same))
     from row holds are k (suc m) at = let known = are.0 k (contained row m k at) in (known.0, omega (arith, known.1))
 
     to : (row : Numbers) → AreThose P n row → (k : ℕ) → P k → k < suc n → Contains (n ∷ row) k
@@ -398,7 +398,7 @@ gained_stripped tables g new gained = record {
   edges = λ t o rule inside at. let edge = gained.edges t o rule inside at in (edge.0, strip_maker g edge.0 rule.object edge.1);
   objects = λ t o rule i e inside at here makes.
       let old = from_map without_order_only g i e here in
-      let made : Makes old.0 rule.object = subst (λ (d : EdgeValue). Makes d rule.object) (sym old.2) makes in
+      let made = subst (λ (d : EdgeValue). Makes d rule.object) (sym old.2) makes in
       subst (λ (d : EdgeValue). slice_get (rebuild_graph new) i ≡ Some (with_modules d rule.provided (required_of t rule))) old.2
       (to_map without_order_only new i (with_modules old.0 rule.provided (required_of t rule)) (gained.objects t o rule i old.0 inside at old.1 made));
   each = λ i e here.

@@ -26,7 +26,7 @@ pub more_scans : (s : SettingValue) (scans : List Text) (i : ℕ) (scan : Text) 
     ScansSoFar s scans i rules →
     IsScanAccepted s scan → more ≡ rules_of s scan → All IsRuleText more → length (rules ++ more) ≤ rule_limit → ScansSoFar s scans (i + 1) (rules ++ more)
 more_scans s scans i scan rules more here so_far accepted are text short =
-    let same : rules ++ more ≡ all_rules s (take (i + 1) scans) = one_scan s scans i scan rules more here so_far.same are in
+    let same = one_scan s scans i scan rules more here so_far.same are in
     record {
       accepted = record {
         each = subst (All (IsScanAccepted s)) (sym (take_next scans i scan here))
@@ -111,7 +111,7 @@ pub lent_infos : {X : Type 0} (bytes : X → Text) (documents : List X) (i : ℕ
     AreReadAs (take i (map bytes documents)) infos →
     IsReadAs (bytes (get_or documents i other)) info → AreReadAs (take (i + 1) (map bytes documents)) (infos ++ info ∷ [])
 lent_infos bytes documents i other infos info within so_far is =
-    let document : Text = bytes (get_or documents i other) in
+    let document = bytes (get_or documents i other) in
     let next = take_next (map bytes documents) i document (document_at bytes documents i other within) in
     subst (λ (ds : List Text). AreReadAs ds (infos ++ info ∷ [])) (sym next) (more_read (take i (map bytes documents)) infos document info so_far is)
 
@@ -152,7 +152,7 @@ pub with_rest : (t : TableValue) (index : ℕ) (rule : RuleValue) (required : Mo
     slice_get t.objects index ≡ Some rule → required ≡ required_of t rule → s ≡ statement_of (rule, required) →
     map statement_of (take index (tasks_of t)) ++ s ∷ map statement_of (drop (index + 1) (tasks_of t)) ≡ statements_of t
 with_rest t index rule required s here same is =
-    let after : List StatementValue = map statement_of (drop (index + 1) (tasks_of t)) in
+    let after = map statement_of (drop (index + 1) (tasks_of t)) in
     sym (append_assoc (map statement_of (take index (tasks_of t))) (s ∷ []) after) ∙
     ap (λ xs. xs ++ after) (one_more t index rule required s _ here same is refl)
     ∙ sym (map-append statement_of (take (index + 1) (tasks_of t)) (drop (index + 1) (tasks_of t))) ∙
@@ -181,7 +181,7 @@ module _ (t : TableValue) (text : IsTableText t) (files : RequiredFiles) where
 
   required : (rule : RuleValue) → All (λ pair. IsText pair.1) (required_of t rule)
   required rule k d within =
-      let pair : Name × PathText = get_or (required_of t rule) k d in
+      let pair = get_or (required_of t rule) k d in
       let found = files t rule k pair.0 pair.1 (slice_get-get_or (required_of t rule) k d within) in
       provided_by found.1.0 pair.0 pair.1 found.1.1
 
@@ -205,7 +205,7 @@ module _ (t : TableValue) (text : IsTableText t) (files : RequiredFiles) where
 
   required_names : (rule : RuleValue) → IsRuleText rule → All (λ pair. IsName pair.0) (required_of t rule)
   required_names rule h k d within =
-      let pair : Name × PathText = get_or (required_of t rule) k d in
+      let pair = get_or (required_of t rule) k d in
       let found = files t rule k pair.0 pair.1 (slice_get-get_or (required_of t rule) k d within) in
       All-contains IsName rule.required pair.0 h.required found.0
 

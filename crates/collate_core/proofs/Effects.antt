@@ -70,7 +70,7 @@ module _ (t : TableValue) (sound : IsSound t) (ordered : AddedOrderable) (once :
   unfolding task_of
   orderable =
       let given = ordered t sound in
-      let count : length statements ≡ length t.objects = length-map (tasks_of t) statement_of ∙ length-map t.objects task_of in
+      let count = length-map (tasks_of t) statement_of ∙ length-map t.objects task_of in
       (given.0, record { one_each = given.1.one_each ∙ sym count; below = λ a b h. given.1.below a b (needs a b h) })
 
   object_at : (o : ℕ) (object : PathText) → slice_get (map (λ (rule : RuleValue). rule.object) t.objects) o ≡ Some object →
@@ -110,14 +110,14 @@ module _ (t : TableValue) (sound : IsSound t) (ordered : AddedOrderable) (once :
         same_edges = gives.same_edges;
         others = gives.others;
         objects = λ o rule i e there here makes.
-            let s : StatementValue = statement_of (rule, required_of t rule) in
-            let at : slice_get statements o ≡ Some s = to_map statement_of (tasks_of t) o (rule, required_of t rule) (to_map task_of t.objects o rule there) in
+            let s = statement_of (rule, required_of t rule) in
+            let at = to_map statement_of (tasks_of t) o (rule, required_of t rule) (to_map task_of t.objects o rule there) in
             let bound = meets.names.bound o rule.object (to_map (λ (a : StatementValue). a.output) statements o s at) in
             let index = meets.made_once i makes.0 bound.0 bound.4.0 rule.object (e, here, makes.1) (bound.1, bound.2, bound.4.1) in
-            let edge : bound.1 ≡ e = same_some _ _ (sym bound.2 ∙ ap (slice_get g) (sym index.0) ∙ here) in
+            let edge = same_some _ _ (sym bound.2 ∙ ap (slice_get g) (sym index.0) ∙ here) in
             let gained = gives.named i e here (subst (λ (d : EdgeValue). Names name d) edge bound.3) in
-            let same_index : o ≡ gained.0 = gained.2.only o s at makes in
-            let same : gained.1 ≡ s = same_some _ _ (sym gained.2.is ∙ ap (slice_get statements) (sym same_index) ∙ at) in
+            let same_index = gained.2.only o s at makes in
+            let same = same_some _ _ (sym gained.2.is ∙ ap (slice_get statements) (sym same_index) ∙ at) in
             gained.3 ∙ ap (λ a. Some (extended e a)) same;
       }
 
@@ -125,8 +125,8 @@ module _ (t : TableValue) (sound : IsSound t) (ordered : AddedOrderable) (once :
 pub headline : OneEffect → AddedOrderable → FilesOnce → FilesApart → RequiredFiles → (target : TargetValue) (style : Option Written) (c : CollatedValue) →
     Collates target style c → IsHeadline target c
 headline one ordered once apart required target style c k =
-    let t : TableValue = table_of target in
-    let sound : IsSound t = k.resolved.sound in
+    let t = table_of target in
+    let sound = k.resolved.sound in
     record {
       no_fault = k.resolved;
       dyndep = k.dyndep;
@@ -142,7 +142,7 @@ headline one ordered once apart required target style c k =
 pub in_zip : {A B : Type 0} (xs : List A) (ys : List B) (k : ℕ) (p : A × B) → slice_get (zip xs ys) k ≡ Some p → slice_get ys k ≡ Some p.1
 in_zip [] ys k p e = cc
 in_zip (x ∷ xs) [] k p e = cc
-in_zip {A} {B} (x ∷ xs) (y ∷ ys) zero p e = let same : (x, y) ≡ p = same_some _ _ e in ap (λ (q : A × B). Some q.1) same
+in_zip {A} {B} (x ∷ xs) (y ∷ ys) zero p e = let same = same_some _ _ e in ap (λ (q : A × B). Some q.1) same
 in_zip (x ∷ xs) (y ∷ ys) (suc k) p e = in_zip xs ys k p e
 
 abbrev pub as_file : Text × TableValue → NamedFile
@@ -231,8 +231,8 @@ module _ (files_order : FilesOrder) (required : RequiredFiles) (style : Option W
   not_later n m (inl same) = omega (arith, same)
   not_later n m (inr link) =
       let index = index_of link.0.linked m link.2 in
-      let within : index.0 < length link.0.linked = slice_get_within _ _ _ index.1 in
-      let less : m < n = subst (λ v. v < n) (get_or_from_slice_get link.0.linked index.0 m 0 index.1) (project.earlier n link.0 link.1 index.0 0 within) in
+      let within = slice_get_within _ _ _ index.1 in
+      let less = subst (λ v. v < n) (get_or_from_slice_get link.0.linked index.0 m 0 index.1) (project.earlier n link.0 link.1 index.0 0 within) in
       omega arith
 
   -- the provider of an added input
@@ -245,7 +245,7 @@ module _ (files_order : FilesOrder) (required : RequiredFiles) (style : Option W
       let x = task_input (tasks_of t.0) k i a file (subst (λ xs. slice_get xs k ≡ Some a) t.2 here) input in
       let rule = from_map (task_in t.0) t.0.objects k x.0 x.2 in
       let index = index_of x.0.1 (x.1, file) x.3 in
-      let pair : slice_get (required_of t.0 rule.0) index.0 ≡ Some (x.1, file) =
+      let pair =
       subst (λ (z : Task). slice_get z.1 index.0 ≡ Some (x.1, file)) (sym rule.2) index.1 in
       let known = required t.0 rule.0 index.0 x.1 file pair in
       let low = ordered.below n k t.0 x.1 file t.1 (rule.0, rule.1, known.0) known.1 in
@@ -257,8 +257,8 @@ module _ (files_order : FilesOrder) (required : RequiredFiles) (style : Option W
     below = λ n m k l i j f d a file at at_d here input adds.
         let by = provider n k i f a file at here input in
         let there = adds_at n by.1 by.2 by.0 file by.3 in
-        let target : m ≡ by.1 = meets.added_apart m by.1 l by.2 j there.1 d there.0 file at_d there.2 adds there.3 in
-        let same : d ≡ there.0 = same_some _ _ (sym at_d ∙ ap (slice_get files) target ∙ there.2) in
+        let target = meets.added_apart m by.1 l by.2 j there.1 d there.0 file at_d there.2 adds there.3 in
+        let same = same_some _ _ (sym at_d ∙ ap (slice_get files) target ∙ there.2) in
         let object : l ≡ by.2 = (there.4 l j by.2 there.1 file (subst (λ (z : NamedFile). AddsAt z.additions l j file) same adds) there.3).0 in (
           subst (λ v. v ≤ n) (sym target) (not_later n by.1 by.3.2),
           subst (λ v. rank_at ordered.ranks v l < rank_at ordered.ranks n k) (sym target)
@@ -278,12 +278,12 @@ module _ (files_order : FilesOrder) (required : RequiredFiles) (style : Option W
       IsOrderable (length new) (EdgeNeeds new)
   end_orderable order h ranks new outputs level all indices applies =
       let gained = orders.gains g names order count meets indices in
-      let same : gained.0 ≡ new =
+      let same =
       orders.alike g names order order gained.0 new count meets indices indices ((λ p n e. (p, e)), (λ p n e. (p, e))) gained.1 applies in
-      let gains : GainsExactly files g order new = subst (λ x. GainsExactly files g order x) same gained.2 in
+      let gains = subst (λ x. GainsExactly files g order x) same gained.2 in
       let every : (n : ℕ) → n < length files → Contains order n =
       λ n within.
-      let at : (f : NamedFile) × (slice_get files n ≡ Some f) = element_at files n within in
+      let at = element_at files n within in
       let row = from_file n at.0 at.1 in
       all n (slice_get_within _ _ _ row.1) in
       files_order files g h new order ranks meets every gains outputs level (all_added h ranks) are_ordered

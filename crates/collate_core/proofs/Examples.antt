@@ -89,15 +89,15 @@ makes_of g i e file here maker =
     (maker.0, subst (λ (d : EdgeValue). slice_get (made_by d) maker.0 ≡ Some file) (same_some _ _ (sym maker.1.1 ∙ here)) maker.1.2)
 
 b_reads : (file : PathText) → IsReader before 1 file → codes "b.cpp" ≡ file
-b_reads file reader = let reads : HasInput (edge (codes "b.o") [] (codes "b.cpp") []) file = reads_of before 1 _ file refl reader in
+b_reads file reader = let reads = reads_of before 1 _ file refl reader in
     one_of (codes "b.cpp") file reads.0 reads.1
 
 a_makes : (file : PathText) → IsMaker before 0 file → codes "a.o" ≡ file
-a_makes file maker = let makes : Makes (edge (codes "a.o") [] (codes "a.cpp") []) file = makes_of before 0 _ file refl maker in
+a_makes file maker = let makes = makes_of before 0 _ file refl maker in
     one_of (codes "a.o") file makes.0 makes.1
 
 b_makes : (file : PathText) → IsMaker before 1 file → codes "b.o" ≡ file
-b_makes file maker = let makes : Makes (edge (codes "b.o") [] (codes "b.cpp") []) file = makes_of before 1 _ file refl maker in
+b_makes file maker = let makes = makes_of before 1 _ file refl maker in
     one_of (codes "b.o") file makes.0 makes.1
 
 -- `b.o` has no reason to wait for `a.o`, whatever comes after
@@ -109,31 +109,31 @@ b_not_for_a new (inr (required {file} (t, o, name, inside, is_edge, requires, pr
   where
     at : (o : ℕ) → IsEdgeOf before 1 t o → Requires t o name → two_objects ≡ t → ⊥
     at zero edge_at requires same =
-        let mine : IsEdgeOf before 1 two_objects 0 = subst (λ (u : TableValue). IsEdgeOf before 1 u 0) (sym same) edge_at in
+        let mine = subst (λ (u : TableValue). IsEdgeOf before 1 u 0) (sym same) edge_at in
         differ (codes "a.o") (codes "b.o") mine.0.object refl (ap (λ (r : RuleValue). r.object) (same_some _ _ mine.1)) (b_makes mine.0.object mine.2)
     at (suc zero) edge_at requires same =
-        let mine : Requires two_objects 1 name = subst (λ (u : TableValue). Requires u 1 name) (sym same) requires in
-        let none : [] ≡ mine.0.required = ap (λ (r : RuleValue). r.required) (same_some _ _ mine.1) in
+        let mine = subst (λ (u : TableValue). Requires u 1 name) (sym same) requires in
+        let none = ap (λ (r : RuleValue). r.required) (same_some _ _ mine.1) in
         let found = index_of [] name (subst (λ (names : List Name). Contains names name) (sym none) mine.2) in
         nothing name found.1
     at (suc (suc o)) edge_at requires same =
-        let mine : IsEdgeOf before 1 two_objects (suc (suc o)) = subst (λ (u : TableValue). IsEdgeOf before 1 u (suc (suc o))) (sym same) edge_at in
+        let mine = subst (λ (u : TableValue). IsEdgeOf before 1 u (suc (suc o))) (sym same) edge_at in
         nothing mine.0 mine.1
 b_not_for_a new (inr (listed {file} reader (t, o, k, name, inside, is_edge, provides))) =
     at o is_edge provides (one_of two_objects t (index_of tables t inside).0 (index_of tables t inside).1)
   where
     at : (o : ℕ) → IsEdgeOf before 0 t o → Provides t o k name file → two_objects ≡ t → ⊥
     at zero edge_at provides same =
-        let mine : Provides two_objects 0 k name file = subst (λ (u : TableValue). Provides u 0 k name file) (sym same) provides in
-        let rule : (codes "A", codes "A.bmi") ∷ [] ≡ mine.0.provided = ap (λ (r : RuleValue). r.provided) (same_some _ _ mine.1) in
-        let pair : (codes "A", codes "A.bmi") ≡ (name, file) =
+        let mine = subst (λ (u : TableValue). Provides u 0 k name file) (sym same) provides in
+        let rule = ap (λ (r : RuleValue). r.provided) (same_some _ _ mine.1) in
+        let pair =
         one_of _ _ k (subst (λ (ps : Modules). slice_get ps k ≡ Some (name, file)) (sym rule) mine.2) in
         differ (codes "A.bmi") (codes "b.cpp") file refl (ap (λ (p : Name × PathText). p.1) pair) (b_reads file reader)
     at (suc zero) edge_at provides same =
-        let mine : IsEdgeOf before 0 two_objects 1 = subst (λ (u : TableValue). IsEdgeOf before 0 u 1) (sym same) edge_at in
+        let mine = subst (λ (u : TableValue). IsEdgeOf before 0 u 1) (sym same) edge_at in
         differ (codes "b.o") (codes "a.o") mine.0.object refl (ap (λ (r : RuleValue). r.object) (same_some _ _ mine.1)) (a_makes mine.0.object mine.2)
     at (suc (suc o)) edge_at provides same =
-        let mine : IsEdgeOf before 0 two_objects (suc (suc o)) = subst (λ (u : TableValue). IsEdgeOf before 0 u (suc (suc o))) (sym same) edge_at in
+        let mine = subst (λ (u : TableValue). IsEdgeOf before 0 u (suc (suc o))) (sym same) edge_at in
         nothing mine.0 mine.1
 
 -- ---- graphs that are rejected
@@ -149,7 +149,7 @@ false_cycle h = b_not_for_a _
 
 -- and one too few leaves `a.o` without a wait that it has a reason for
 a_reads : (file : PathText) → IsReader (with_inputs [] []) 0 file → codes "a.cpp" ≡ file
-a_reads file reader = let reads : HasInput (edge (codes "a.o") (codes "A.bmi" ∷ []) (codes "a.cpp") []) file =
+a_reads file reader = let reads =
     reads_of (with_inputs [] []) 0 _ file refl reader in one_of (codes "a.cpp") file reads.0 reads.1
 
 too_few : HasNoFalseWait tables before (with_inputs [] []) → ⊥
@@ -215,11 +215,11 @@ made_file (suc (suc m)) file maker = absurd (nothing maker.1.0 maker.1.1)
 none_needed : (i maker : ℕ) → EdgeNeeds two_after i maker → ⊥
 none_needed zero maker (e, file, j, here, reads, makes) =
     let made = made_file maker file (j, makes) in
-    let read : HasInput first_after file = reads_of two_after 0 first_after file refl (e, here, reads) in
+    let read = reads_of two_after 0 first_after file refl (e, here, reads) in
     differ made.0 (codes "a.cpp") file made.1 made.3 (one_of (codes "a.cpp") file read.0 read.1)
 none_needed (suc zero) maker (e, file, j, here, reads, makes) =
     let made = made_file maker file (j, makes) in
-    let read : HasInput second_after file = reads_of two_after 1 second_after file refl (e, here, reads) in
+    let read = reads_of two_after 1 second_after file refl (e, here, reads) in
     differ made.0 (codes "b.cpp") file made.2 made.3 (one_of (codes "b.cpp") file read.0 read.1)
 none_needed (suc (suc i)) maker (e, file, j, here, reads, makes) = nothing e here
 

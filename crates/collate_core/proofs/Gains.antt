@@ -42,7 +42,7 @@ of_named tables t inside g name meets i e here names =
 pub edge_of : (t : TableValue) (g : List EdgeValue) (name : Name) → MeetsPremises g name (statements_of t) → (o : ℕ) (rule : RuleValue) →
     slice_get t.objects o ≡ Some rule → (i : ℕ) × IsMaker g i rule.object
 edge_of t g name meets o rule there =
-    let at : slice_get (statements_of t) o ≡ Some (statement_of (rule, required_of t rule)) =
+    let at =
     to_map statement_of (tasks_of t) o (rule, required_of t rule) (to_map (task_in t) t.objects o rule there) in
     let bound = meets.names.bound o rule.object (to_map (λ (a : StatementValue). a.output) (statements_of t) o (statement_of (rule, required_of t rule)) at) in
     (bound.0, (bound.4.0, (bound.1, bound.2, bound.4.1)))
@@ -77,10 +77,10 @@ gained_exactly t sound g new name meets adds = record {
 
 pub gained_after_target : (target : TargetValue) (g new : List EdgeValue) → IsAfterTarget target g new → Gained (table_of target ∷ []) g new
 gained_after_target target g new after =
-    let t : TableValue = table_of target in
+    let t = table_of target in
     let found = after.headline.effect g after.name after.meets in
-    let same : after.effect.0 ≡ statements_of t = after.headline.dyndep.only after.effect.0 after.effect.1.stands in
-    let effect : Effect g after.name (statements_of t) new = subst (λ (ss : List StatementValue). Effect g after.name ss new) same after.effect.2.effect in
+    let same = after.headline.dyndep.only after.effect.0 after.effect.1.stands in
+    let effect = subst (λ (ss : List StatementValue). Effect g after.name ss new) same after.effect.2.effect in
     gained_exactly t after.headline.no_fault.sound g new after.name after.meets (subst (AddsExactly t after.name g) (sym (found.1.only new effect)) found.2)
 
 -- ---- what the edges of objects gain after targets of a project
@@ -110,7 +110,7 @@ to_tables : (tables : List TableValue) (applied : Numbers) (p n : ℕ) (t : Tabl
     (k : ℕ) × (slice_get (filter_map (λ n. slice_get tables n) applied) k ≡ Some t)
 to_tables tables [] p n t at there = cc
 to_tables tables (m ∷ applied) zero n t at there =
-    let here : slice_get tables m ≡ Some t = ap (slice_get tables) (same_some _ _ at) ∙ there in
+    let here = ap (slice_get tables) (same_some _ _ at) ∙ there in
     (0, rw here refl)
 to_tables tables (m ∷ applied) (suc p) n t at there = by (slice_get tables m) refl (to_tables tables applied p n t at there)
   where
@@ -140,7 +140,7 @@ one_or_none files (m ∷ applied) e = by (slice_get files m) refl (one_or_none f
     by : (found : Option NamedFile) → slice_get files m ≡ found → NamesOne files applied e ⊎ NamesNone files applied e →
         NamesOne files (m ∷ applied) e ⊎ NamesNone files (m ∷ applied) e
     by found is (inl (p, n, f, at, there, names)) = inl (suc p, n, f, at, there, names)
-    by None is (inr rest) = inr (none_of_all rest (λ f there. let no : None ≡ Some f = sym is ∙ there in cc))
+    by None is (inr rest) = inr (none_of_all rest (λ f there. let no = sym is ∙ there in cc))
     by (Some d) is (inr rest) =
         elim (names_or_not e d.name) [
           | inl names ↦ inl (0, m, d, refl, is, names)
@@ -158,7 +158,7 @@ module _ (targets : List ProjectTargetValue) (outs : List CollatedValue) (orders
   gains : GainsExactly files g applied new
   gains =
       let gained = orders.gains g after.names applied after.count after.meets after.indices in
-      let same : gained.0 ≡ new =
+      let same =
       orders.alike g after.names applied applied gained.0 new after.count after.meets after.indices after.indices ((λ p n e. (p, e)), (λ p n e. (p, e)))
       gained.1 after.applies in
       subst (λ x. GainsExactly files g applied x) same gained.2
@@ -176,26 +176,26 @@ module _ (targets : List ProjectTargetValue) (outs : List CollatedValue) (orders
   objects_of p n t listed at_n o rule i e there here makes =
       let file = file_of n t at_n in
       let f : NamedFile = as_file (file.0, t) in
-      let s : StatementValue = statement_of (rule, required_of t rule) in
-      let at : slice_get (statements_of t) o ≡ Some s =
+      let s = statement_of (rule, required_of t rule) in
+      let at =
       to_map statement_of (tasks_of t) o (rule, required_of t rule) (to_map (task_in t) t.objects o rule there) in
-      let meets : MeetsPremises g f.name (statements_of t) = after.meets.each n f file.1 in
+      let meets = after.meets.each n f file.1 in
       let bound = meets.names.bound o rule.object (to_map (λ (a : StatementValue). a.output) (statements_of t) o s at) in
       let index = meets.made_once i makes.0 bound.0 bound.4.0 rule.object (e, here, makes.1) (bound.1, bound.2, bound.4.1) in
-      let edge : bound.1 ≡ e = same_some _ _ (sym bound.2 ∙ ap (slice_get g) (sym index.0) ∙ here) in
+      let edge = same_some _ _ (sym bound.2 ∙ ap (slice_get g) (sym index.0) ∙ here) in
       let gained = gains.named p n f i e listed file.1 here (subst (λ (d : EdgeValue). Names f.name d) edge bound.3) in
-      let same_index : o ≡ gained.0 = gained.2.only o s at makes in
-      let same : gained.1 ≡ s = same_some _ _ (sym gained.2.is ∙ ap (slice_get (statements_of t)) (sym same_index) ∙ at) in
+      let same_index = gained.2.only o s at makes in
+      let same = same_some _ _ (sym gained.2.is ∙ ap (slice_get (statements_of t)) (sym same_index) ∙ at) in
       gained.3 ∙ ap (λ a. Some (extended e a)) same
 
   -- an edge that names a file of these is that of an object
   of_file : (i : ℕ) (e : EdgeValue) → slice_get g i ≡ Some e → NamesOne files applied e → IsOfObject (tables_of targets outs applied) e
   of_file i e here (p, n, f, listed, at, names) =
       let pair = from_map as_file (zip after.names tables) n f at in
-      let t : TableValue = pair.0.1 in
-      let at_n : slice_get tables n ≡ Some t = in_zip after.names tables n pair.0 pair.1 in
+      let t = pair.0.1 in
+      let at_n = in_zip after.names tables n pair.0 pair.1 in
       let inside = to_tables tables applied p n t listed at_n in
-      let meets : MeetsPremises g pair.0.0 (statements_of t) =
+      let meets =
       subst (λ (x : NamedFile). MeetsPremises g x.name x.additions) (sym pair.2) (after.meets.each n f at) in
       of_named (tables_of targets outs applied) t (contained (tables_of targets outs applied) inside.0 t inside.1) g pair.0.0 meets i e here
       (names ∙ ap (λ (x : NamedFile). Some x.name) (sym pair.2))

@@ -60,13 +60,13 @@ module _ (style : Option Written) (targets : List ProjectTargetValue) (outs : Li
       let earlier : k < n = subst (λ v. v < n) (get_or_from_slice_get p.linked i k 0 link.1) (project.earlier n p all.2 i 0 inside_link) in
       let inside_n : n < length targets = slice_get_within _ _ _ all.2 in
       let q : (v : ProjectTargetValue) × (slice_get targets k ≡ Some v) = element_at targets k (omega (arith, earlier, inside_n)) in
-      let u : TableValue = table_at q.0 in
-      let at_u : slice_get tables k ≡ Some u = to_map table_at targets k q.0 q.1 in
-      let c : (v : CollatedValue) × (slice_get outs k ≡ Some v) = element_at outs k (omega (arith, earlier, inside_n, project.count)) in
+      let u = table_at q.0 in
+      let at_u = to_map table_at targets k q.0 q.1 in
+      let c = element_at outs k (omega (arith, earlier, inside_n, project.count)) in
       let low = project.each k q.0 c.0 q.1 c.1 in
-      let same_text : text.0 ≡ c.0.info = sym link.2 ∙ ap (λ (z : Option CollatedValue). option_map_or (λ (x : CollatedValue). x.info) z []) c.1 in
-      let mine : IsInfoAccepted c.0.info = subst IsInfoAccepted same_text accepted in
-      let same_info : info_of_table q.0.name q.0.kept u ≡ info_of c.0.info =
+      let same_text = sym link.2 ∙ ap (λ (z : Option CollatedValue). option_map_or (λ (x : CollatedValue). x.info) z []) c.1 in
+      let mine = subst IsInfoAccepted same_text accepted in
+      let same_info =
       info_is c.0.info (info_of_table q.0.name q.0.kept u) (low.info_reads.same mine.small) in
       (p, k, all.2, link.1, (u, q.0.name, q.0.kept, earlier, at_u, same_info ∙ ap info_of (sym same_text) ∙ text.2))
 
@@ -76,16 +76,16 @@ module _ (style : Option Written) (targets : List ProjectTargetValue) (outs : Li
       (info : InfoValue) × (slice_get t.infos i ≡ Some info) × IsInfoOf tables n k info
   info_of_link info_is n t p i k at target link =
       let all = collation_at n t at in
-      let is_p : p ≡ all.0 = same_some _ _ (sym target ∙ all.2) in
-      let there : slice_get all.0.linked i ≡ Some k = subst (λ (z : ProjectTargetValue). slice_get z.linked i ≡ Some k) is_p link in
-      let infos : List Text = linked_infos outs all.0.linked in
-      let text : slice_get infos i ≡ Some (bytes_of k) = to_map bytes_of all.0.linked i k there in
-      let info : InfoValue = info_of (bytes_of k) in
-      let here : slice_get t.infos i ≡ Some info =
+      let is_p = same_some _ _ (sym target ∙ all.2) in
+      let there = subst (λ (z : ProjectTargetValue). slice_get z.linked i ≡ Some k) is_p link in
+      let infos = linked_infos outs all.0.linked in
+      let text = to_map bytes_of all.0.linked i k there in
+      let info = info_of (bytes_of k) in
+      let here =
       subst (λ (v : TableValue). slice_get v.infos i ≡ Some info) all.5 (to_map info_of infos i (bytes_of k) text) in
       let back = info_at info_is n t i info at here in
-      let is_p2 : back.0 ≡ all.0 = same_some _ _ (sym back.2 ∙ all.2) in
-      let is_k : back.1 ≡ k = same_some _ _ (sym back.3 ∙ subst (λ (z : ProjectTargetValue). slice_get z.linked i ≡ Some k) (sym is_p2) there) in
+      let is_p2 = same_some _ _ (sym back.2 ∙ all.2) in
+      let is_k = same_some _ _ (sym back.3 ∙ subst (λ (z : ProjectTargetValue). slice_get z.linked i ≡ Some k) (sym is_p2) there) in
       (info, here, subst (λ z. IsInfoOf tables n z info) is_k back.4)
 
 -- ---- a part of what is known of linked info files is enough for the target that links them
@@ -122,7 +122,7 @@ module _ (part infos : List InfoValue) (is : IsPartOf part infos) (text : All Is
   module_text : (i j : ℕ) (m : ModuleValue) → HasModule part i j m → IsModuleText m
   module_text i j m has =
       let w = is.modules i j m has in
-      let whole : IsModuleText w.1 = all_at IsModuleText w.2.0.modules w.0 w.1 (all_at IsInfoText infos i w.2.0 text w.2.1) w.2.2 in
+      let whole = all_at IsModuleText w.2.0.modules w.0 w.1 (all_at IsInfoText infos i w.2.0 text w.2.1) w.2.2 in
       record {
         file = subst IsText (sym w.3.file) whole.file;
         required = all_from (λ (pair : Name × PathText). IsText pair.1) m.required (λ k pair at.
@@ -143,7 +143,7 @@ pub enough_for_target :
     AreLinked known linked infos → IsEnough objects part infos → IfSome style (λ _. KeepsRequired part infos) →
     IsEnoughFor target style (table_with objects part)
 enough_for_target style target outs known linked objects part infos are earlier documents scans same text links enough keeps =
-    let read : AreReadAs target.infos infos =
+    let read =
     subst (λ (ds : List Text). AreReadAs ds infos) (sym documents) (linked_read outs known are linked infos links earlier) in
     record {
       accepted = record { scans = scans; infos = read.accepted };

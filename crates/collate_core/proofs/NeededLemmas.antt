@@ -43,7 +43,7 @@ module _ (required : RequiredFiles) (all_required : AllRequired) (one_file : One
       let part = from_flat_map (modules_of kept) (tasks_of u) j m here in
       let pair = from_map (module_of kept part.2.0.1) part.2.0.0.provided part.1 m part.2.2 in
       let rule = from_map (task_in u) u.objects part.0 part.2.0 part.2.1 in
-      let inside : slice_get part.2.0.0.provided part.1 ≡ Some (m.name, m.file) =
+      let inside =
       subst (λ (z : ModuleValue). slice_get part.2.0.0.provided part.1 ≡ Some (z.name, z.file)) pair.2 pair.1 in (
         part.0,
         part.1,
@@ -104,7 +104,7 @@ module _ (required : RequiredFiles) (all_required : AllRequired) (one_file : One
       let info = info_of_link style targets outs project info_is n t target i.0 m at at_target i.1 in
       let of = info.2 in
       let x : Task = task_in u provides.0 in
-      let row : slice_get (tasks_of of.0) p ≡ Some x =
+      let row =
       subst (λ (v : TableValue). slice_get (tasks_of v) p ≡ Some x) (same_table m u of.0 at_u of.4) (to_map (task_in u) u.objects p provides.0 provides.1)
       in
       let found = to_module m of.0 of.1 of.2 info.0 of.5 p j x (name, file) row provides.2 in
@@ -121,7 +121,7 @@ module _ (required : RequiredFiles) (all_required : AllRequired) (one_file : One
       RequiresIn m p name → (file : PathText) × Contains (required_of u rule) (name, file)
   pair_for m p u rule name at here requires =
       let needs = to_requires m p u name at requires in
-      let same : needs.0 ≡ rule = same_some _ _ (sym needs.1 ∙ here) in
+      let same = same_some _ _ (sym needs.1 ∙ here) in
       all_required u (sound_at m u at) p rule name here (subst (λ (r : RuleValue). Contains r.required name) same needs.2)
 
   -- an object leads from a name that it provides to one that it requires
@@ -153,7 +153,7 @@ module _ (required : RequiredFiles) (all_required : AllRequired) (one_file : One
   leads_from n t name second at (inl (o, j, file, provides, needs)) = (n, o, file, (t, j, inl refl, at, provides), (t, at, needs))
   leads_from n t name second at (inr (i, j, m, file, is, needs)) =
       let found = from_info n i j t m at needs.0 in
-      let pair : Contains (required_of found.1 found.3) (second, file) = subst (λ ps. Contains ps (second, file)) found.7 needs.1 in (
+      let pair = subst (λ ps. Contains ps (second, file)) found.7 needs.1 in (
         found.0,
         found.2,
         m.file,
@@ -165,7 +165,7 @@ module _ (required : RequiredFiles) (all_required : AllRequired) (one_file : One
     -- objects that provide one file are one
     adds_at : (p j : ℕ) (u : TableValue) (name : Name) (file : PathText) → Provides u p j name file → AddsAt (statements_of u) p j file
     adds_at p j u name file provides =
-        let x : Task = task_in u provides.0 in (
+        let x = task_in u provides.0 in (
           statement_of x,
           to_map statement_of (tasks_of u) p x (to_map (task_in u) u.objects p provides.0 provides.1),
           to_map (λ (q : Name × PathText). q.1) provides.0.provided j (name, file) provides.2,
@@ -173,15 +173,15 @@ module _ (required : RequiredFiles) (all_required : AllRequired) (one_file : One
 
     same_provider : (n l m p k q : ℕ) (name other : Name) (file : PathText) → Gives n m p name file → Gives l k q other file → (m ≡ k) × (p ≡ q)
     same_provider n l m p k q name other file (u, i, sees, at_u, provides) (v, j, sees_v, at_v, others) =
-        let target : m ≡ k = apart m k p q i j u v file at_u at_v (adds_at p i u name file provides) (adds_at q j v other file others) in
-        let theirs : Provides u q j other file = same_provides m k q j u v other file at_u target at_v others in
+        let target = apart m k p q i j u v file at_u at_v (adds_at p i u name file provides) (adds_at q j v other file others) in
+        let theirs = same_provides m k q j u v other file at_u target at_v others in
         (target, (once u (sound_at m u at_u) p q i j name other file provides theirs).0)
 
     -- one target sees one provider of a name, with one file
     one_provider : (n : ℕ) (t : TableValue) (m p k q : ℕ) (name : Name) (file other : PathText) → slice_get tables n ≡ Some t → Gives n m p name file →
         Gives n k q name other → (m ≡ k) × (p ≡ q) × (file ≡ other)
     one_provider n t m p k q name file other at a b =
-        let same : file ≡ other = one_file t (sound_at n t at) name file other (provides_by n m p t name file at a) (provides_by n k q t name other at b) in
+        let same = one_file t (sound_at n t at) name file other (provides_by n m p t name file at a) (provides_by n k q t name other at b) in
         let both = same_provider n n m p k q name name other (subst (λ f. Gives n m p name f) same a) b in
         (both.0, both.1, same)
 
@@ -222,15 +222,15 @@ module _ (required : RequiredFiles) (all_required : AllRequired) (one_file : One
         IsProjectNeeded targets tables m p name file
     forward n t at name file provided [] first m p reached requires is =
         let v = view n m p t first at reached requires in
-        let same : v.2 ≡ file =
+        let same =
         one_file t (sound_at n t at) name v.2 file (provides_by n v.0 v.1 t name v.2 at (subst (λ w. Gives n v.0 v.1 w v.2) is v.3)) provided in
-        let given : Gives m v.0 v.1 name file = subst (λ f. Gives m v.0 v.1 name f) same (subst (λ w. Gives m v.0 v.1 w v.2) is v.4) in
+        let given = subst (λ f. Gives m v.0 v.1 name f) same (subst (λ w. Gives m v.0 v.1 w v.2) is v.4) in
         direct requires.1 (subst (λ w. Requires requires.0 p w) is requires.2) given
     forward n t at name file provided (second ∷ names) first m p reached requires leads =
         let v = view n m p t first at reached requires in
         let s = leads_from n t first second at leads.0 in
         let same = one_provider n t s.0 s.1 v.0 v.1 first s.2 v.2 at s.3 v.3 in
-        let next : RequiresIn v.0 v.1 second = subst (λ k. RequiresIn k v.1 second) same.0 (subst (λ q. RequiresIn s.0 q second) same.1 s.4) in
+        let next = subst (λ k. RequiresIn k v.1 second) same.0 (subst (λ q. RequiresIn s.0 q second) same.1 s.4) in
         onward requires.1 requires.2 v.4 (forward n t at name file provided names second v.0 v.1 (inr (first, v.2, v.3)) next leads.1)
 
     -- a list of names that lead on from one that the object requires
@@ -247,7 +247,7 @@ module _ (required : RequiredFiles) (all_required : AllRequired) (one_file : One
     backward n t at m p name file (onward {m = k} {p = q} {t = u} {first = first} {between = between} at_u needs given rest) reached =
         let v = view n m p t first at reached (u, at_u, needs) in
         let same = one_provider m u v.0 v.1 k q first v.2 between at_u v.4 given in
-        let from_n : Gives n k q first v.2 = subst (λ a. Gives n a q first v.2) same.0 (subst (λ b. Gives n v.0 b first v.2) same.1 v.3) in
+        let from_n = subst (λ a. Gives n a q first v.2) same.0 (subst (λ b. Gives n v.0 b first v.2) same.1 v.3) in
         let more = backward n t at k q name file rest (inr (first, v.2, from_n)) in
         (first, more.0 ∷ more.1, (u, at_u, needs), (leads_to n k q t first more.0 v.2 at from_n more.2, more.3), more.4)
 
@@ -278,8 +278,8 @@ module _ (required : RequiredFiles) (all_required : AllRequired) (one_file : One
       let is_c : c ≡ all.1 = same_some _ _ (sym at_c ∙ all.3) in
       let map = all.4.maps.1 o rule text (subst (λ (v : TableValue). slice_get v.objects o ≡ Some rule) (sym all.5) here)
       (subst (λ (v : CollatedValue). slice_get v.maps o ≡ Some text) is_c at_text) in
-      let m : ModuleMapValue = map.0 in
-      let needed : ArePairs (IsNeeded t o) m.needed = subst (λ (v : TableValue). ArePairs (IsNeeded v o) m.needed) all.5 map.1.needed in
+      let m = map.0 in
+      let needed = subst (λ (v : TableValue). ArePairs (IsNeeded v o) m.needed) all.5 map.1.needed in
       record {
         needed = m.needed;
         found = kept m;

@@ -1,6 +1,6 @@
 -- What collates has no rejection, and nothing has two: targets and projects.
 use Rattle.ninja_text.proofs.ForCallers.{element_at, take_next, same_some, three_ways, in_first, from_push}
-use Rattle.std.proofs.Common.{◌≡◌, ℕ, ◌+◌, ◌<◌, List, ◌++◌, length, take, get_or, Some, None, Ok, Err, ap, ap₂, sym, ◌∙◌, inl, inr, arith, slice_get, length-append, All, ◌⊎◌, subst, suc, ◌≤◌, [], ◌∷◌, map, Option, Result, refl, IfSome, option_map, zero}
+use Rattle.std.proofs.Common.{◌≡◌, ℕ, ◌+◌, ◌<◌, List, ◌++◌, length, take, Some, None, ap, ap₂, sym, ◌∙◌, inl, inr, arith, slice_get, length-append, All, ◌⊎◌, subst, suc, ◌≤◌, [], ◌∷◌, map, Option, Result, refl, IfSome, option_map, zero}
 use Rattle.std.proofs.lemmas.List.Folds.{length-flat_map-take}
 use Rattle.std.proofs.lemmas.Option.{slice_get_within, get_or_from_slice_get}
 use Rattle.dyndep_file.specs.declared.fault.WriteFault.TheVariants as write
@@ -30,13 +30,13 @@ module _ (answers : OneAnswer) where
   no_scan s scans i fault all r (inl refused) =
       (answers.scan s r.scan).not_both (rules_of s r.scan) fault (all_at (IsScanAccepted s) scans i r.scan all.each r.here) refused
   no_scan s scans i fault all r (inr (accepted, past, is)) =
-      let next : all_rules s (take (i + 1) scans) ≡ all_rules s (take i scans) ++ rules_of s r.scan = ap (all_rules s) (take_next scans i r.scan r.here) ∙
+      let next = ap (all_rules s) (take_next scans i r.scan r.here) ∙
       flat_map_last (rules_of s) (take i scans) r.scan in
-      let within : i < length scans = slice_get_within _ _ _ r.here in
+      let within = slice_get_within _ _ _ r.here in
       let part = length-flat_map-take (rules_of s) scans i r.scan within in
-      let same : length (rules_of s (get_or scans i r.scan)) ≡ length (rules_of s r.scan) =
+      let same =
       ap (λ x. length (rules_of s x)) (get_or_from_slice_get scans i r.scan r.scan r.here) in
-      let longer : length (all_rules s (take (i + 1) scans)) ≡ length (all_rules s (take i scans)) + length (rules_of s r.scan) = ap length next ∙
+      let longer = ap length next ∙
       length-append (all_rules s (take i scans)) (rules_of s r.scan) in
       omega (arith, past, all.limit, part, same, longer)
 
@@ -47,7 +47,7 @@ module _ (answers : OneAnswer) where
   pub no_map_fault : (t : TableValue) (written : Written) (o : ℕ) (rule : RuleValue) (fault : UnwritableMap) → IsMapWritten t written o rule →
       IsMapFault t written o rule fault → ⊥
   no_map_fault t written o rule fault good bad =
-      let both : Ok good.0 ≡ Err (map_fault fault) = sym good.1.2 ∙ ap written (one_map t o rule good.1.0 bad.0 good.1.1 bad.1) ∙ bad.2 in
+      let both = sym good.1.2 ∙ ap written (one_map t o rule good.1.0 bad.0 good.1.1 bad.1) ∙ bad.2 in
       cc
 
   no_map : (t : TableValue) (written : Written) (texts : List Text) (o : ℕ) (fault : UnwritableMap) → AreMaps t (Some written) texts →
@@ -114,8 +114,8 @@ module _ (answers : OneAnswer) (one_fault : OneTableFault) where
     | inl less ↦ absurd (scan_later s scans i j fault other less r q)
     | inr more ↦ elim more [
       | inl same ↦
-          let scan : q.scan ≡ r.scan = same_some _ _ (sym q.here ∙ ap (slice_get scans) (sym same) ∙ r.here) in
-          let theirs : IsScanFault s scans i r.scan other =
+          let scan = same_some _ _ (sym q.here ∙ ap (slice_get scans) (sym same) ∙ r.here) in
+          let theirs =
           subst (λ x. IsScanFault s scans i x other) scan (subst (λ n. IsScanFault s scans n q.scan other) (sym same) q.faulty) in
           ap₂ (λ n f. Scan n f) same (scan_faults s scans i r.scan fault other r.faulty theirs)
       | inr above ↦ absurd (scan_later s scans j i other fault above q r)
@@ -139,7 +139,7 @@ module _ (answers : OneAnswer) (one_fault : OneTableFault) where
     | inl less ↦ absurd (info_later infos i j fault other less r q)
     | inr more ↦ elim more [
       | inl same ↦
-          let info : q.info ≡ r.info = same_some _ _ (sym q.here ∙ ap (slice_get infos) (sym same) ∙ r.here) in
+          let info = same_some _ _ (sym q.here ∙ ap (slice_get infos) (sym same) ∙ r.here) in
           ap₂ (λ n f. Info n f) same ((answers.info r.info).one_fault fault other r.faulty (subst (λ x. IsRefused info_checks x other) info q.faulty))
       | inr above ↦ absurd (info_later infos j i other fault above q r)
     ]
@@ -154,7 +154,7 @@ module _ (answers : OneAnswer) (one_fault : OneTableFault) where
   map_faults : (t : TableValue) (written : Written) (o : ℕ) (rule : RuleValue) (fault other : UnwritableMap) → IsMapFault t written o rule fault →
       IsMapFault t written o rule other → fault ≡ other
   map_faults t written o rule fault other a b =
-      let both : Err (map_fault fault) ≡ Err (map_fault other) = sym a.2 ∙ ap written (one_map t o rule a.0 b.0 a.1 b.1) ∙ b.2 in
+      let both = sym a.2 ∙ ap written (one_map t o rule a.0 b.0 a.1 b.1) ∙ b.2 in
       one_unwritable fault other cc
 
   one_map_refusal : (t : TableValue) (written : Written) (o p : ℕ) (fault other : UnwritableMap) → IsMapRefusal t written o fault →
@@ -163,8 +163,8 @@ module _ (answers : OneAnswer) (one_fault : OneTableFault) where
     | inl less ↦ absurd (map_later t written o p fault other less r q)
     | inr more ↦ elim more [
       | inl same ↦
-          let rule : q.rule ≡ r.rule = same_some _ _ (sym q.here ∙ ap (slice_get t.objects) (sym same) ∙ r.here) in
-          let theirs : IsMapFault t written o r.rule other =
+          let rule = same_some _ _ (sym q.here ∙ ap (slice_get t.objects) (sym same) ∙ r.here) in
+          let theirs =
           subst (λ x. IsMapFault t written o x other) rule (subst (λ n. IsMapFault t written n q.rule other) (sym same) q.faulty) in
           ap₂ (λ n f. Map n f) same (map_faults t written o r.rule fault other r.faulty theirs)
       | inr above ↦ absurd (map_later t written p o other fault above q r)
@@ -206,7 +206,7 @@ module _ (answers : OneAnswer) (one_fault : OneTableFault) where
   one_refusal target style (StatementTooLong k) (Scan j g) r q = scan_excluded target j g r.0.documents.scans q
   one_refusal target style (StatementTooLong k) (Info j g) r q = info_excluded target j g r.0.documents.infos q.1
   one_refusal target style (StatementTooLong k) (Table g) r q = absurd (r.0.no_fault g q.1.present)
-  one_refusal target style (StatementTooLong k) (StatementTooLong l) r q = let both : Some (write.StatementTooLong k) ≡ Some (write.StatementTooLong l) =
+  one_refusal target style (StatementTooLong k) (StatementTooLong l) r q = let both =
       sym r.1 ∙ q.1 in let same : k ≡ l = cc in equal _ _ (ap (λ n. StatementTooLong n) same)
   one_refusal target None (StatementTooLong k) (Map o g) r q = absurd q
   one_refusal target (Some written) (StatementTooLong k) (Map o g) r q = absurd (let both : None ≡ Some (write.StatementTooLong k) = sym q.1 ∙ r.1 in cc)
@@ -235,15 +235,15 @@ bytes_at outs k = option_map_or (λ (c : CollatedValue). c.info) (slice_get outs
 -- what a target wrote stays if more targets follow
 same_bytes : (outs more : List CollatedValue) (k : ℕ) → k < length outs → bytes_at (outs ++ more) k ≡ bytes_at outs k
 same_bytes outs more k within =
-    let c : (x : CollatedValue) × (slice_get outs k ≡ Some x) = element_at outs k within in
+    let c = element_at outs k within in
     ap (λ (z : Option CollatedValue). option_map_or (λ (c : CollatedValue). c.info) z []) (in_first outs more k c.0 c.1 ∙ sym c.1)
 
 same_infos : (outs more : List CollatedValue) (linked : Numbers) → All (λ k. k < length outs) linked →
     linked_infos (outs ++ more) linked ≡ linked_infos outs linked
 same_infos outs more [] all = refl
 same_infos outs more (k ∷ ks) all =
-    let head : bytes_at (outs ++ more) k ≡ bytes_at outs k = same_bytes outs more k (all 0 0 (omega arith)) in
-    let tail : linked_infos (outs ++ more) ks ≡ linked_infos outs ks = same_infos outs more ks (λ j d within. all (suc j) d (omega (arith, within))) in
+    let head = same_bytes outs more k (all 0 0 (omega arith)) in
+    let tail = same_infos outs more ks (λ j d within. all (suc j) d (omega (arith, within))) in
     cc
 
 pub same_target : (outs more : List CollatedValue) (p : ProjectTargetValue) → All (λ k. k < length outs) p.linked →
@@ -252,7 +252,7 @@ same_target outs more p all =
     ap (λ infos. record { name = p.name; setting = p.setting; scans = p.scans; infos = infos; kept = p.kept }) (sym (same_infos outs more p.linked all))
 
 pub lower : (a b : ℕ) (linked : Numbers) → a ≤ b → All (λ k. k < a) linked → All (λ k. k < b) linked
-lower a b linked le all i d within = let less : get_or linked i d < a = all i d within in omega arith
+lower a b linked le all i d within = let less = all i d within in omega arith
 
 module _ (style : Option Written) (targets : List ProjectTargetValue) (outs : List CollatedValue) (project : CollatesProject style targets outs)
     (p : ProjectTargetValue) (c : CollatedValue) (all : All (λ k. k < length outs) p.linked) (collates : Collates (target_of outs p) style c) where
@@ -266,11 +266,11 @@ module _ (style : Option Written) (targets : List ProjectTargetValue) (outs : Li
   each_more n q d (inl h) at_d =
       let within : n < length targets = slice_get_within _ _ _ h in
       let known = project.each n q d h (at_first outs c n d (omega (arith, project.count, within)) at_d) in
-      let linked : All (λ k. k < length outs) q.linked = lower n (length outs) q.linked (omega (arith, project.count, within)) (project.earlier n q h) in
+      let linked = lower n (length outs) q.linked (omega (arith, project.count, within)) (project.earlier n q h) in
       subst (λ z. Collates z style d) (same_target outs (c ∷ []) q linked) known
   each_more n q d (inr h) at_d =
-      let is_c : c ≡ d = at_last outs c n d (omega (arith, h.0, project.count)) at_d in
-      let here : Collates (target_of (outs ++ c ∷ []) p) style c = subst (λ z. Collates z style c) (same_target outs (c ∷ []) p all) collates in
+      let is_c = at_last outs c n d (omega (arith, h.0, project.count)) at_d in
+      let here = subst (λ z. Collates z style c) (same_target outs (c ∷ []) p all) collates in
       subst (λ (z : ProjectTargetValue). Collates (target_of (outs ++ c ∷ []) z) style d) h.1
       (subst (λ z. Collates (target_of (outs ++ c ∷ []) p) style z) is_c here)
 
@@ -309,8 +309,8 @@ infos_agree : (outs others : List CollatedValue) (bound : ℕ) → ((k : ℕ) �
     All (λ k. k < bound) linked → linked_infos outs linked ≡ linked_infos others linked
 infos_agree outs others bound same [] all = refl
 infos_agree outs others bound same (k ∷ ks) all =
-    let head : bytes_at outs k ≡ bytes_at others k = same k (all 0 0 (omega arith)) in
-    let tail : linked_infos outs ks ≡ linked_infos others ks = infos_agree outs others bound same ks (λ j d within. all (suc j) d (omega (arith, within))) in
+    let head = same k (all 0 0 (omega arith)) in
+    let tail = infos_agree outs others bound same ks (λ j d within. all (suc j) d (omega (arith, within))) in
     cc
 
 pub targets_agree : (outs others : List CollatedValue) (bound : ℕ) → ((k : ℕ) → k < bound → bytes_at outs k ≡ bytes_at others k) → (p : ProjectTargetValue) →
@@ -327,13 +327,13 @@ module _ (answers : OneAnswer) (style : Option Written) (targets : List ProjectT
     (n : ℕ) (inside : n ≤ length targets) (others : List CollatedValue) (part : CollatesProject style (take n targets) others) where
   same_at : (k : ℕ) → k < n → ((j : ℕ) → j < k → bytes_at outs j ≡ bytes_at others j) → bytes_at outs k ≡ bytes_at others k
   same_at k less before =
-      let count : length (take n targets) ≡ n = length-take-le n targets inside in
-      let p : (x : ProjectTargetValue) × (slice_get targets k ≡ Some x) = element_at targets k (omega (arith, less, inside)) in
-      let c : (x : CollatedValue) × (slice_get outs k ≡ Some x) = element_at outs k (omega (arith, less, inside, project.count)) in
-      let d : (x : CollatedValue) × (slice_get others k ≡ Some x) = element_at others k (omega (arith, less, count, part.count)) in
+      let count = length-take-le n targets inside in
+      let p = element_at targets k (omega (arith, less, inside)) in
+      let c = element_at outs k (omega (arith, less, inside, project.count)) in
+      let d = element_at others k (omega (arith, less, count, part.count)) in
       let one = project.each k p.0 c.0 p.1 c.1 in
       let two = part.each k p.0 d.0 (in_take targets n k p.0 p.1 less) d.1 in
-      let same : target_of others p.0 ≡ target_of outs p.0 = targets_agree outs others k before p.0 (project.earlier k p.0 p.1) in
+      let same = targets_agree outs others k before p.0 (project.earlier k p.0 p.1) in
       written_at outs k c.0 c.1 ∙ one.info ∙ ap (λ (v : TargetValue). info_text (info_of_table v.name v.kept (table_of v))) (sym same) ∙ sym two.info ∙
       sym (written_at others k d.0 d.1)
 
@@ -353,7 +353,7 @@ module _ (answers : OneAnswer) (style : Option Written) (targets : List ProjectT
   not_here p refusal at (inr (all, refused)) =
       let within : n < length targets = slice_get_within _ _ _ at in
       let c : (x : CollatedValue) × (slice_get outs n ≡ Some x) = element_at outs n (omega (arith, within, project.count)) in
-      let same : target_of others p ≡ target_of outs p = targets_agree outs others n (up_to n (omega arith)) p (project.earlier n p at) in
+      let same = targets_agree outs others n (up_to n (omega arith)) p (project.earlier n p at) in
       not_refused answers (target_of outs p) style c.0 refusal (project.each n p c.0 at c.1) (subst (λ z. IsRefusal z style refusal) same refused)
 
 pub project_not_refused : OneAnswer → (style : Option Written) (targets : List ProjectTargetValue) (outs : List CollatedValue) (n : ℕ) (refusal : Refusal) →
@@ -385,11 +385,11 @@ module _ (answers : OneAnswer) (one_fault : OneTableFault) (style : Option Writt
   linked n p outs others refusal other inside project part (inl (later, is)) (inr (all, refused)) = absurd (later all)
   linked n p outs others refusal other inside project part (inr (all, refused)) (inl (later, is)) = absurd (later all)
   linked n p outs others refusal other inside project part (inr (all, refused)) (inr (all_q, refused_q)) =
-      let whole : take n (take n targets) ≡ take n targets = take_less n n targets (omega arith) in
-      let again : CollatesProject style (take n (take n targets)) others =
+      let whole = take_less n n targets (omega arith) in
+      let again =
       subst (λ (xs : List ProjectTargetValue). CollatesProject style xs others) (sym whole) part in
-      let count : length (take n targets) ≡ n = length-take-le n targets inside in
-      let same : target_of others p ≡ target_of outs p =
+      let count = length-take-le n targets inside in
+      let same =
       targets_agree outs others n (up_to answers style (take n targets) outs project n (omega (arith, count)) others again n (omega arith)) p all in
       one_refusal answers one_fault (target_of outs p) style refusal other refused (subst (λ z. IsRefusal z style other) same refused_q)
 

@@ -193,7 +193,7 @@ last_map : (t : TableValue) (written : Written) (object : ℕ) (text : Text) →
     IsMapText t written o rule other
 last_map t written object text is o zero rule other index at here =
     let same_index : o ≡ object = omega (arith, index) in
-    let same : text ≡ other = same_some _ _ at in
+    let same = same_some _ _ at in
     subst (λ x. IsMapText t written o rule x) same
     (subst (λ n. IsMapText t written n rule text) (sym same_index) (is rule (subst (λ n. slice_get t.objects n ≡ Some rule) same_index here)))
 last_map t written object text is o (suc m) rule other index at here = absurd (cc)
@@ -225,7 +225,7 @@ pub object_refused : (t : TableValue) (written : Written) (texts : List (Vec ℕ
     (failure : Failure Refusal) → ForFault (IsObjectRefusal t written object) failure → ForFault (IsMapsRefusal t (Some written)) failure
 object_refused t written texts object count each within Memory h = tt
 object_refused t written texts object count each within (Fault (Map k fault)) h =
-    let at : (rule : RuleValue) × (slice_get t.objects object ≡ Some rule) = element_at t.objects object within in
+    let at = element_at t.objects object within in
     subst (λ o. IsMapRefusal t written o fault) (sym h.0) (record {
       before = map_before t written texts object count each;
       rule = at.0;
@@ -304,6 +304,6 @@ module _ (target : TargetValue) (part : List InfoValue) where
 pub table_collates : (target : TargetValue) (style : Option Written) (u : TableValue) → PartLaws → IsEnoughFor target style u → IsSound u →
     PrivateAreProvided u target.kept → (c : CollatedValue) → IsWrittenOf target style u c → Collates target style c
 table_collates target style u laws is sound kept c texts =
-    let same : u ≡ table_with (table_of target).objects u.infos = ap (λ (objects : List RuleValue). table_with objects u.infos) is.objects in
+    let same = ap (λ (objects : List RuleValue). table_with objects u.infos) is.objects in
     part_collates target u.infos laws is.enough (subst IsSound same sound) style c is.keeps is.accepted
     (subst (λ v. PrivateAreProvided v target.kept) same kept) (subst (λ v. IsWrittenOf target style v c) same texts)

@@ -19,13 +19,13 @@ IsRow bound base n ys = (xs : Numbers) → slice_get base n ≡ Some xs → (o x
 
 row_of : (bound : ℕ) (xss : List Text) (n : ℕ) → n < length xss → (ys : Numbers) × IsRow bound xss n ys
 row_of bound xss n within =
-    let xs : (x : Text) × (slice_get xss n ≡ Some x) = element_at xss n within in
+    let xs = element_at xss n within in
     let ys : (zs : Numbers) × (length zs ≡ length xs.0) × ((o z : ℕ) → slice_get zs o ≡ Some z → z ≡ n * bound + slice_index xs.0 o)
     = choose (λ o z. z ≡ n * bound + slice_index xs.0 o) (length xs.0) (λ o h. (n * bound + slice_index xs.0 o, refl)) in (
       ys.0,
       λ us at o x e.
-          let same : xs.0 ≡ us = same_some _ _ (sym xs.1 ∙ at) in
-          let here : slice_get xs.0 o ≡ Some x = subst (λ vs. slice_get vs o ≡ Some x) (sym same) e in
+          let same = same_some _ _ (sym xs.1 ∙ at) in
+          let here = subst (λ vs. slice_get vs o ≡ Some x) (sym same) e in
           let inside : o < length xs.0 = slice_get_within _ _ _ here in
           let z : (y : ℕ) × (slice_get ys.0 o ≡ Some y) = element_at ys.0 o (omega (arith, ys.1)) in
           get_or_from_slice_get ys.0 o z.0 0 z.1 ∙ ys.2 o z.0 z.1 ∙ ap (λ v. n * bound + v) (get_or_from_slice_get xs.0 o x 0 here),
@@ -56,10 +56,10 @@ module _ (required : RequiredFiles) (all_required : AllRequired) (one_file : One
         (rank_at rows n o ≡ n * bound + slice_index xs o) × (slice_index xs o < bound)
     rank_of n o t xs at base_at within =
         let long : length xs ≡ length t.objects = (is_base n xs base_at t at).0 in
-        let x : (y : ℕ) × (slice_get xs o ≡ Some y) = element_at xs o (omega (arith, long, within)) in
+        let x = element_at xs o (omega (arith, long, within)) in
         let inside : n < length bases = slice_get_within _ _ _ base_at in
         let ys : (zs : Numbers) × (slice_get rows n ≡ Some zs) = element_at rows n (omega (arith, count, inside)) in
-        let value : slice_index xs o ≡ x.0 = get_or_from_slice_get xs o x.0 0 x.1 in (
+        let value = get_or_from_slice_get xs o x.0 0 x.1 in (
           ap (λ (z : Option Text). option_map_or (λ row. slice_index row o) z 0) ys.1 ∙ is_row n ys.0 ys.1 xs base_at o x.0 x.1 ∙
               ap (λ v. n * bound + v) (sym value),
           subst (λ v. v < bound) (sym value) (small n xs o x.0 base_at x.1),
@@ -75,16 +75,16 @@ module _ (required : RequiredFiles) (all_required : AllRequired) (one_file : One
         let provided : Provides t p j name file =
         same_provides required all_required one_file once info_is style targets outs project n m p j t u name file at same at_u provides in
         let xs = base_at n t at in
-        let inside_o : o < length t.objects = slice_get_within _ _ _ needs.1 in
-        let inside_p : p < length t.objects = slice_get_within _ _ _ provided.1 in
+        let inside_o = slice_get_within _ _ _ needs.1 in
+        let inside_p = slice_get_within _ _ _ provided.1 in
         let less = (is_base n xs.0 xs.1 t at).1 o p (name, file, j, needs, provided) in
         let ro = rank_of n o t xs.0 at xs.1 inside_o in
         let rp = rank_of n p t xs.0 at xs.1 inside_p in
         subst (λ k. rank_at rows k p < rank_at rows n o) same (omega (arith, ro.0, rp.0, less))
     provider_below n o m p t name file at needs (u, j, inr link, at_u, provides) =
         let index = index_of link.0.linked m link.2 in
-        let within : index.0 < length link.0.linked = slice_get_within _ _ _ index.1 in
-        let earlier : m < n = subst (λ v. v < n) (get_or_from_slice_get link.0.linked index.0 m 0 index.1) (project.earlier n link.0 link.1 index.0 0 within) in
+        let within = slice_get_within _ _ _ index.1 in
+        let earlier = subst (λ v. v < n) (get_or_from_slice_get link.0.linked index.0 m 0 index.1) (project.earlier n link.0 link.1 index.0 0 within) in
         let xs = base_at n t at in
         let ys = base_at m u at_u in
         let ro = rank_of n o t xs.0 at xs.1 (slice_get_within _ _ _ needs.1) in

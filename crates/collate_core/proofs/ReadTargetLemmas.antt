@@ -26,7 +26,7 @@ pub rules_of_one_more :
 rules_of_one_more targets all n p rules count here is before k q found at_q at =
     ⊎_elim (λ earlier. before k q found at_q earlier)
     (λ last.
-    let same : p ≡ q = same_some _ _ (sym here ∙ subst (λ m. slice_get targets m ≡ Some q) (last.0 ∙ count) at_q) in
+    let same = same_some _ _ (sym here ∙ subst (λ m. slice_get targets m ≡ Some q) (last.0 ∙ count) at_q) in
     subst (λ (x : ProjectTargetValue). AreRulesOf x.setting x.scans found.items) same
     (subst (λ (v : Vec RuleValue Global). AreRulesOf p.setting p.scans v.items) last.1 is))
     (from_push all rules k found at)
@@ -56,7 +56,7 @@ module _ (known : List (Option InfoValue)) (linked : Numbers) (part infos : List
   -- of a linked info file
   held_info : (i : ℕ) (w : InfoValue) → slice_get infos i ≡ Some w → AreHeld all (info_entries w)
   held_info i w at =
-      let there : slice_get (map (λ k. get_or known k None) linked) i ≡ Some (Some w) =
+      let there =
       subst (λ (os : List (Option InfoValue)). slice_get os i ≡ Some (Some w)) links (to_map (λ (v : InfoValue). Some v) infos i w at) in
       let k = from_map (λ k. get_or known k None) linked i (Some w) there in
       held k.0 w (known_there known k.0 w k.2)
@@ -72,7 +72,7 @@ module _ (known : List (Option InfoValue)) (linked : Numbers) (part infos : List
 
   held_part : AreHeld all (flat_map info_entries part)
   held_part = all_of_parts (Contains all) info_entries part (λ i v at.
-      let there : slice_get (map (λ (w : InfoValue). w.target) infos) i ≡ Some v.target =
+      let there =
       subst (λ (ts : List Text). slice_get ts i ≡ Some v.target) is.targets (to_map (λ (w : InfoValue). w.target) part i v at) in
       let w = from_map (λ (w : InfoValue). w.target) infos i v.target there in
       All-cons (Contains all) v.target (flat_map entries_of_module v.modules)
@@ -112,7 +112,7 @@ pub held_read : (all : TableEntries) (name : Name) (kept : List Name) (t : Table
     ReadsBack (info_of_table name kept t) document → IsReadAs document info → AreHeld all (name ∷ flat_map object_entries t.objects) →
     AreHeld all (info_entries info)
 held_read all name kept t document info info_is back read held =
-    let same : info_of_table name kept t ≡ info = info_is document (info_of_table name kept t) (back.same read.accepted.small) ∙ sym read.value in
+    let same = info_is document (info_of_table name kept t) (back.same read.accepted.small) ∙ sym read.value in
     subst (λ (i : InfoValue). AreHeld all (info_entries i)) same
     (All-cons (Contains all) name _ (All-head (Contains all) name _ held)
     (held_modules (Contains all) kept (required_of t) t.objects (All-tail (Contains all) name _ held)))
@@ -144,7 +144,7 @@ left_at (y ∷ ys) zero x rest e = cc
 left_at (y ∷ ys) (suc n) x rest e = left_at ys n x rest e
 
 one_less : {X : Type 0} (own : Option X) (old new : List X) → old ≡ option_to_list own ++ new → (own ≡ None → length old ≡ 0) → new ≡ drop 1 old
-one_less None old new is none = let nil : old ≡ [] = nil_from_length old (none refl) in sym is ∙ nil ∙ sym (ap (drop 1) nil)
+one_less None old new is none = let nil = nil_from_length old (none refl) in sym is ∙ nil ∙ sym (ap (drop 1) nil)
 one_less (Some x) old new is none = sym (ap (drop 1) is)
 
 pub taken_next : {X : Type 0} (all old new : List X) (n : ℕ) (own : Option X) → old ≡ drop n all → old ≡ option_to_list own ++ new →

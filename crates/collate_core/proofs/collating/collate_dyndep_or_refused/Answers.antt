@@ -1,6 +1,6 @@
 use Rattle.std.proofs.Common.{◌≡◌, List, [], map, None, Ok, refl, ap, subst, All, sym}
 use Rattle.std.proofs.lemmas.Result.{err_from_is_err_and}
-use Rattle.collate_core.specs.Prelude.{StatementValue, text_or_fault, StandsForOnly, IsTargetName, InfoValue, info_text, TableValue, TargetValue, CollatedValue, statements_of, info_of_table, HasPaths, Collates, HasSpelled, IsRefusal, RefusedTarget}
+use Rattle.collate_core.specs.Prelude.{StatementValue, text_or_fault, StandsForOnly, IsTargetName, info_text, TargetValue, CollatedValue, statements_of, info_of_table, HasPaths, HasSpelled, IsRefusal, RefusedTarget}
 use Rattle.collate_core.proofs.Parts.{collates, any_style, has_paths, texts_refused, write_refused, turned}
 use Rattle.collate_core.proofs.Documents.{info_is_sound}
 use Rattle.collate_core.proofs.collating.collate_dyndep_or_refused.Goals as goal
@@ -12,7 +12,7 @@ returns-in_err-table-clause-refused c =
 
 pub returns-clause-refused : goal.returns-clause-refused
 returns-clause-refused c =
-    let target : TargetValue = c.args.target.now in
+    let target = c.args.target.now in
     let table = c.in_ok-table.ensures in
     let refused = texts_refused target None c.in_ok-table.table table.table table.resolved _
     (write_refused None c.in_ok-table.table (statements_of c.into_resolved-resolved.result) (ap statements_of c.into_resolved-resolved.ensures) _
@@ -24,20 +24,20 @@ returns-clause-refused c =
 -- what the target collates to has the text, and the info that is not written
 pub returns-in-Ok-clause-dyndep : goal.returns-in-Ok-clause-dyndep
 returns-in-Ok-clause-dyndep c =
-    let target : TargetValue = c.args.target.now in
-    let t : TableValue = c.in_ok-table.table in
+    let target = c.args.target.now in
+    let t = c.in_ok-table.table in
     let table = c.in_ok-table.ensures in
     let text = c.in-Ok.ensures in
-    let statements : List StatementValue = statements_of c.into_resolved-resolved.result in
-    let are : statements ≡ statements_of t = ap statements_of c.into_resolved-resolved.ensures in
-    let info : InfoValue = info_of_table target.name target.kept t in
-    let named : IsTargetName target.name =
+    let statements = statements_of c.into_resolved-resolved.result in
+    let are = ap statements_of c.into_resolved-resolved.ensures in
+    let info = info_of_table target.name target.kept t in
+    let named =
     subst IsTargetName (ap (λ (t : TargetValue). t.name) c.target.view_is)
     (record { accepted = c.target_names_are_valid.ensures.accepted; utf8 = c.target_names_are_valid.ensures.utf8 }) in
     let sound = info_is_sound t table.text c.added_files_can_be_ordered.ensures.required target.name target.kept named
     (subst (All HasPaths) are (has_paths statements text.spelled)) in
     let collated : CollatedValue = record { dyndep = c.in-Ok.dyndep.items; info = info_text info; objects = map (λ rule. rule.object) t.objects; maps = [] } in
-    let is : Collates target None collated =
+    let is =
     collates target None t collated table.table table.resolved (record {
       spelled = subst (All HasSpelled) are text.spelled;
       stands = subst (StandsForOnly collated.dyndep) are text.meaning;

@@ -1,6 +1,6 @@
-use Rattle.std.proofs.Common.{rules, ◌≡◌, Option, ◌∙◌, subst, sym, option_copied, option_map}
+use Rattle.std.proofs.Common.{rules, ◌≡◌, ◌∙◌, subst, sym, option_copied, option_map}
 use Rattle.std.proofs.lemmas.Result.{err_from_is_err_and}
-use Rattle.collate_core.specs.Prelude.{TableValue, table_with, IsSound, Written, IsRefusal, WasRead, IsTextsRefusal, RefusedTarget}
+use Rattle.collate_core.specs.Prelude.{TableValue, table_with, IsSound, IsRefusal, WasRead, IsTextsRefusal, RefusedTarget}
 use Rattle.collate_core.proofs.Parts.{any_style, collates, was_read, turned, turns_weaker, texts_refused}
 use Rattle.collate_core.proofs.collating.collate_or_refused.Goals as goal
 
@@ -31,7 +31,7 @@ returns-in-Ok-clause-headline g c =
 
 pub returns-in-Err-clause-refused : goal.returns-in-Err-clause-refused
 returns-in-Err-clause-refused g c =
-    let style : Option Written = option_map g.M.MapStyle.written (option_copied c.args.style) in
+    let style = option_map g.M.MapStyle.written (option_copied c.args.style) in
     let table = c.in_ok-table.ensures in
     turned (λ refusal (refused : RefusedTarget). refused.refusal ≡ refusal) (IsRefusal c.args.target.now style)
     (λ (refused : RefusedTarget). IsRefusal c.args.target.now style refused.refusal)
@@ -43,7 +43,7 @@ returns-in-Err-clause-refused g c =
 -- said here, so that a body which does something else is rejected soon
 pub returns-in-Err-clause-read : goal.returns-in-Err-clause-read
 returns-in-Err-clause-read g c =
-    let style : Option Written = option_map g.M.MapStyle.written (option_copied c.args.style) in
+    let style = option_map g.M.MapStyle.written (option_copied c.args.style) in
     let read : RefusedTarget → TableValue = λ refused. table_with refused.objects.items refused.infos.items in
     turned (λ refusal (refused : RefusedTarget). read refused ≡ c.in_ok-table.table) (IsTextsRefusal c.in_ok-table.table style)
     (λ (refused : RefusedTarget). WasRead c.args.target.now refused.refusal (read refused))

@@ -10,8 +10,8 @@ accepted s scan rules same is = subst (IsAccepted (scan_checks s) (AreRules s) s
 
 pub returns-then-len-clause-refused : goal.returns-then-len-clause-refused
 returns-then-len-clause-refused c =
-    let rules : List RuleValue = c.loop-index.rules.items in
-    let more : List RuleValue = c.in-Ok.more.items in
+    let rules = c.loop-index.rules.items in
+    let more = c.in-Ok.more.items in
     let past : 65536 < length (rules ++ more) =
     omega (arith, length-append rules more, c.loop-index.invariant.short, c.if-len.true, c.len.ensures, c.len-in-Ok.ensures) in
     let value = rw c.in_ok-reduced.ensures at c.in-Ok.ensures.value in
@@ -20,16 +20,16 @@ returns-then-len-clause-refused c =
 
 pub returns-in-Err-Fault-clause-refused : goal.returns-in-Err-Fault-clause-refused
 returns-in-Err-Fault-clause-refused c =
-    let i : ℕ = c.loop-index.index in
+    let i = c.loop-index.index in
     subst (IsScanRefusal c.args.setting.now (map (λ scan. scan.now) c.args.scans.now) i) (sym c.in-Err-Fault.fault-is)
     (refused_scan (λ scan. scan.now) c.args.scans.now i _ c.args.setting.now c.loop-index.rules.items c.in-Err-Fault.field-0 c.in-Err-Fault.fault
     c.loop-index-test.true c.loop-index.invariant c.in-Err-Fault.field-0-is (rw c.in_ok-reduced.ensures at c.in-Err-Fault.ensures.refused))
 
 pub loop-index-preserved : goal.loop-index-preserved
 loop-index-preserved c =
-    let i : ℕ = c.loop-index.index in
-    let rules : List RuleValue = c.loop-index.rules.items in
-    let more : List RuleValue = c.in-Ok.more.items in
+    let i = c.loop-index.index in
+    let rules = c.loop-index.rules.items in
+    let more = c.in-Ok.more.items in
     let short : length (rules ++ more) ≤ 65536 =
     omega (arith, length-append rules more, c.loop-index.invariant.short, c.if-len.false, c.len.ensures, c.len-in-Ok.ensures) in
     let value = rw c.in_ok-reduced.ensures at c.in-Ok.ensures.value in

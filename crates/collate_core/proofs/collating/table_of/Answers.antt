@@ -1,6 +1,6 @@
 use Rattle.std.proofs.Common.{◌≡◌, ◌∙◌, ap₂, subst, sym, List, rules, Option, IfErr, IfOk}
 use Rattle.std.proofs.lemmas.Result.{IfOk-weaker}
-use Rattle.collate_core.specs.Prelude.{RuleValue, InfoValue, TableValue, table_with, TargetValue, IsResolved, AreAccepted, table_of, IsTableText, IsOfTable, ForFault, Written, IsReported, RefusedTable, IsRefusal, WasRead, RefusedTarget}
+use Rattle.collate_core.specs.Prelude.{RuleValue, InfoValue, TableValue, table_with, IsResolved, AreAccepted, table_of, IsTableText, IsOfTable, ForFault, Written, IsReported, RefusedTable, IsRefusal, WasRead, RefusedTarget}
 use Rattle.collate_core.proofs.Parts.{value_stays, built_resolved, turned, error_turned, was_read}
 use Rattle.collate_core.proofs.collating.table_of.Goals as goal
 
@@ -19,7 +19,7 @@ returns-clause-table c =
 
 pub returns-clause-resolved : goal.returns-clause-resolved
 returns-clause-resolved c =
-    let target : TargetValue = c.args.target.now in
+    let target = c.args.target.now in
     let built = c.build_or_refused.ensures.builds in
     value_stays (λ table. IsResolved target) _ c.build_or_refused.result c.map_err.result c.map_err.ensures.cases
     (built_resolved target (table_with c.in-Ok.objects.items c.in-Ok-infos_of_all.infos.items) c.build_or_refused.result (same_table c) (accepted c)
@@ -27,7 +27,7 @@ returns-clause-resolved c =
 
 pub returns-clause-text : goal.returns-clause-text
 returns-clause-text c =
-    let read : TableValue = table_with c.in-Ok.objects.items c.in-Ok-infos_of_all.infos.items in
+    let read = table_with c.in-Ok.objects.items c.in-Ok-infos_of_all.infos.items in
     value_stays IsTableText _ c.build_or_refused.result c.map_err.result c.map_err.ensures.cases
     (IfOk-weaker c.build_or_refused.result (λ table. table ≡ read) IsTableText
     (λ table same. subst IsTableText (sym same) (record { objects = c.in-Ok.ensures.text; infos = c.in-Ok-infos_of_all.ensures.read.text }))
@@ -35,7 +35,7 @@ returns-clause-text c =
 
 pub returns-clause-refused : goal.returns-clause-refused
 returns-clause-refused c =
-    let target : TargetValue = c.args.target.now in
+    let target = c.args.target.now in
     let reported = λ (refused : RefusedTable). IsReported (table_of target) target.kept refused.fault in
     let refusal = λ (refused : RefusedTarget). (style : Option Written) → IsRefusal target style refused.refusal in
     error_turned _ (ForFault reported) (ForFault refusal)
@@ -48,7 +48,7 @@ returns-clause-refused c =
 
 pub returns-clause-read : goal.returns-clause-read
 returns-clause-read c =
-    let target : TargetValue = c.args.target.now in
+    let target = c.args.target.now in
     let given = λ (refused : RefusedTable). table_with refused.objects.items refused.infos.items ≡
     table_with c.in-Ok.objects.items c.in-Ok-infos_of_all.infos.items in
     let was = λ (refused : RefusedTarget). WasRead target refused.refusal (table_with refused.objects.items refused.infos.items) in

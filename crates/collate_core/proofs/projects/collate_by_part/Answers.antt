@@ -1,5 +1,5 @@
 use Rattle.std.proofs.Common.{◌≡◌, ◌∙◌, List, ℕ, Option, Vec, Global, None, Some, subst, sym, IfSome, IsTrue, option_copied, option_map}
-use Rattle.collate_core.specs.Prelude.{RuleValue, InfoValue, ReadsBack, Written, AreLinked, Kept, IsEnough, KeepsRequired, IsSound, PrivateAreProvided, table_with, table_entries, Covers, TableKey, TargetValue, info_of_table, IsTableText, IsWrittenOf, IsEnoughFor, IsReadAs, AreRulesOf, CoversLinked}
+use Rattle.collate_core.specs.Prelude.{RuleValue, InfoValue, ReadsBack, AreLinked, Kept, IsEnough, KeepsRequired, IsSound, PrivateAreProvided, table_with, table_entries, Covers, TableKey, TargetValue, info_of_table, IsWrittenOf, IsEnoughFor, IsReadAs, AreRulesOf, CoversLinked}
 use Rattle.ninja_text.proofs.ForCallers.{same_some}
 use Rattle.collate_core.proofs.Linked.{enough_for_target, keeps_for_style}
 use Rattle.collate_core.proofs.Parts.{PartLaws, table_collates, without_fault}
@@ -12,16 +12,16 @@ use Rattle.collate_core.proofs.projects.collate_by_part.Goals.{In-Some-3, In-Som
 enough : (g : given.Over) (c : In-Some-3 g) →
     IsEnoughFor c.args.target.now (option_map g.M.MapStyle.written (option_copied c.args.style)) c.in-Some-3.table
 enough g c =
-    let target : TargetValue = c.args.target.now in
-    let objects : List RuleValue = c.in-Some.objects.items in
-    let read : AreRulesOf target.setting target.scans objects =
+    let target = c.args.target.now in
+    let objects = c.in-Some.objects.items in
+    let read =
     subst (λ (r : Option (Vec RuleValue Global)). IfSome r (λ rules. AreRulesOf target.setting target.scans rules.items)) c.in-Some.is c.requires.rules in
     let found = subst (λ found.
     IfSome found (λ part. (infos : List InfoValue) × AreLinked c.args.pool.now.infos c.args.linked.now infos × IsEnough c.deref.result.now part.items infos ×
     (c.match-style.requirements ≡ Kept → KeepsRequired part.items infos))) c.in-Some-2.is c.in_ok-part.ensures in
     let kept : (s : _) → c.args.style ≡ Some s →
     c.match-style.requirements ≡ Kept = λ s e. elim c.match-style.branch
-    [ in-Some-style w ↦ w.requirements-is | in-None w ↦ let none : None ≡ Some s = sym w.in-None.is ∙ e in absurd cc ] in
+    [ in-Some-style w ↦ w.requirements-is | in-None w ↦ let none = sym w.in-None.is ∙ e in absurd cc ] in
     let enough_here = enough_for_target (option_map g.M.MapStyle.written (option_copied c.args.style)) target c.requires.infos.0 c.args.pool.now.infos
     c.args.linked.now objects c.in-Some-2.part.items found.0
     c.requires.infos.1 c.requires.infos.2 c.requires.infos.3 read.accepted read.same read.text found.1

@@ -1,6 +1,6 @@
 use Rattle.std.proofs.Common.{◌≡◌, ◌∙◌, ◌⊎◌, List, ℕ, map, ap, subst, inl, inr, Option, Some, None, IfSome, IsTrue, MatchOption, Result, Ok, IfOk}
 use Rattle.std.proofs.lemmas.Result.{err_from_is_err_and}
-use Rattle.collate_core.specs.Prelude.{ForFault, Failure, Memory, Fault, IsAccepted, IsInfo, info_checks, IsInfoText, info_of, InfoValue, linked_infos, IsReadAs}
+use Rattle.collate_core.specs.Prelude.{ForFault, Failure, Memory, Fault, IsAccepted, IsInfo, info_checks, IsInfoText, info_of, InfoValue, IsReadAs}
 use Rattle.collate_core.proofs.Lists.{of_none}
 use Rattle.collate_core.proofs.projects.collate_linked.Goals as goal
 
@@ -19,7 +19,7 @@ read_as : {E : Type 0} (text : List ℕ) (result : Result InfoValue E) (found : 
     IfSome found (IsReadAs text)
 read_as text result None same accepted value is = tt
 read_as text result (Some found) same accepted value is =
-    let here : found ≡ info_of text = subst (λ r. IfOk r (λ info. info ≡ info_of text)) same value in
+    let here = subst (λ r. IfOk r (λ info. info ≡ info_of text)) same value in
     record {
       accepted = subst (IsAccepted info_checks IsInfo text) here (subst (λ r. IfOk r (IsAccepted info_checks IsInfo text)) same accepted);
       value = here;
@@ -34,14 +34,14 @@ with_both P (Some value) a h = (a, h)
 pub collate_by_part-requires-clause-infos : goal.collate_by_part-requires-clause-infos
 collate_by_part-requires-clause-infos g c =
     let wrote = of_some _ _ _ _ c.in-Some.is c.in_ok-infos.ensures in
-    let infos : map (λ info. info.now) c.deref.result.now ≡ linked_infos c.args.outs.now c.target.inside.linked.now =
+    let infos =
     ap (map (λ info. info.now)) c.deref.ensures.value ∙ wrote.1 in
     (c.args.outs.now, c.requires.known, wrote.0, infos)
 
 pub returns-in-Some-found-clause-collated : goal.returns-in-Some-found-clause-collated
 returns-in-Some-found-clause-collated g c =
     let wrote = of_some _ _ _ _ c.in-Some.is c.in_ok-infos.ensures in
-    let infos : map (λ info. info.now) c.deref.result.now ≡ linked_infos c.args.outs.now c.target.inside.linked.now =
+    let infos =
     ap (map (λ info. info.now)) c.deref.ensures.value ∙ wrote.1 in
     rw (← c.target.view_is, ← infos) (wrote.0, (of_some _ _ _ _ c.in-Some-found.is c.in_ok-found.ensures).0)
 
@@ -52,7 +52,7 @@ returns-in-Some-found-clause-known g c =
 pub returns-in_err-out-clause-refused : goal.returns-in_err-out-clause-refused
 returns-in_err-out-clause-refused g c =
     let wrote = of_some _ _ _ _ c.in-Some.is c.in_ok-infos.ensures in
-    let infos : map (λ info. info.now) c.deref.result.now ≡ linked_infos c.args.outs.now c.target.inside.linked.now =
+    let infos =
     ap (map (λ info. info.now)) c.deref.ensures.value ∙ wrote.1 in
     let p = err_from_is_err_and c.from_residual-in_err-out.result c.from_residual-in_err-out.ensures.1 in
     rw (p.1, p.2, ← c.target.view_is, ← infos) (refused_linked _ _ _ wrote.0 _ c.in_err-out.ensures.refused)
@@ -60,7 +60,7 @@ returns-in_err-out-clause-refused g c =
 pub returns-in_err-out-clause-read : goal.returns-in_err-out-clause-read
 returns-in_err-out-clause-read g c =
     let wrote = of_some _ _ _ _ c.in-Some.is c.in_ok-infos.ensures in
-    let infos : map (λ info. info.now) c.deref.result.now ≡ linked_infos c.args.outs.now c.target.inside.linked.now =
+    let infos =
     ap (map (λ info. info.now)) c.deref.ensures.value ∙ wrote.1 in
     let p = err_from_is_err_and c.from_residual-in_err-out.result c.from_residual-in_err-out.ensures.1 in
     rw (p.1, p.2, ← c.target.view_is, ← infos) c.in_err-out.ensures.read
@@ -68,14 +68,14 @@ returns-in_err-out-clause-read g c =
 pub returns-then-not-is_read-clause-collated : goal.returns-then-not-is_read-clause-collated
 returns-then-not-is_read-clause-collated g c =
     let wrote = of_some _ _ _ _ c.in-Some.is c.in_ok-infos.ensures in
-    let infos : map (λ info. info.now) c.deref.result.now ≡ linked_infos c.args.outs.now c.target.inside.linked.now =
+    let infos =
     ap (map (λ info. info.now)) c.deref.ensures.value ∙ wrote.1 in
     rw (← c.target.view_is, ← infos) (wrote.0, c.in_ok-out.ensures.collated)
 
 pub returns-clause-collated : goal.returns-clause-collated
 returns-clause-collated g c =
     let wrote = of_some _ _ _ _ c.in-Some.is c.in_ok-infos.ensures in
-    let infos : map (λ info. info.now) c.deref.result.now ≡ linked_infos c.args.outs.now c.target.inside.linked.now =
+    let infos =
     ap (map (λ info. info.now)) c.deref.ensures.value ∙ wrote.1 in
     rw (← c.target.view_is, ← infos) (wrote.0, c.in_ok-out.ensures.collated)
 

@@ -1,5 +1,5 @@
 use Rattle.ninja_text.proofs.ForCallers.{take_next}
-use Rattle.std.proofs.Common.{◌≡◌, ◌+◌, ◌++◌, ◌∷◌, ℕ, ◌<◌, List, [], All, length, take, get_or, Option, Some, refl, ap, subst, sym, ◌∙◌, slice_get}
+use Rattle.std.proofs.Common.{ℕ, ◌<◌, [], All, length, take, get_or, Option, Some, refl, ap, subst, sym, ◌∙◌, slice_get}
 use Rattle.std.proofs.lemmas.List.{map-append, take_all}
 use Rattle.std.proofs.lemmas.List.Elements.{All-push}
 use Rattle.std.proofs.lemmas.Option.{slice_get-get_or, slice_get_read}
@@ -9,14 +9,14 @@ use Rattle.collate_core.proofs.projects.infos_of.Goals as goal
 
 pub loop-target-preserved : goal.loop-target-preserved
 loop-target-preserved c =
-    let outs : List CollatedValue = c.args.outs.now in
-    let linked : List ℕ = c.args.linked.now in
-    let i : ℕ = c.loop-target.target-index in
-    let k : ℕ = get_or linked i 0 in
+    let outs = c.args.outs.now in
+    let linked = c.args.linked.now in
+    let i = c.loop-target.target-index in
+    let k = get_or linked i 0 in
     let found = c.in-Some.ensures.lookup in
-    let next : take (i + 1) linked ≡ take i linked ++ k ∷ [] = take_next linked i k (slice_get-get_or linked i 0 c.loop-target-test.true) in
-    let out : slice_get outs k ≡ Some c.in-Some.out.now = slice_get_read outs _ k c.in-Some.out.now refl found.3.0 found.1 in
-    let value : c.info.result.now ≡ option_map_or (λ (x : CollatedValue). x.info) (slice_get outs k) [] = c.info.ensures ∙
+    let next = take_next linked i k (slice_get-get_or linked i 0 c.loop-target-test.true) in
+    let out = slice_get_read outs _ k c.in-Some.out.now refl found.3.0 found.1 in
+    let value = c.info.ensures ∙
     ap (λ (z : Option CollatedValue). option_map_or (λ (x : CollatedValue). x.info) z []) (sym out) in
     record {
       earlier = rw next (All-push (λ k. k < length outs) (take i linked) k c.loop-target.invariant.earlier found.3.0);

@@ -1,5 +1,5 @@
 use Rattle.ninja_text.proofs.ForCallers.{take_next}
-use Rattle.std.proofs.Common.{rules, ◌≡◌, ℕ, List, take, length, Option, Some, None, Vec, Global, IsTrue, ◌∙◌, is_some, true, refl, subst, sym, slice_get, option_copied, option_map}
+use Rattle.std.proofs.Common.{rules, ◌≡◌, ℕ, List, take, length, Option, None, Vec, Global, IsTrue, ◌∙◌, is_some, true, refl, subst, sym, option_copied, option_map}
 use Rattle.std.proofs.lemmas.List.{take_all}
 use Rattle.std.proofs.lemmas.Option.{slice_get_read}
 use Rattle.collate_core.specs.Prelude.{ForFault, Written, CollatedValue, ProjectTargetValue, TableValue, table_with, WasRead, CollatesProject, IsLinkedRefusal, IsProjectRefusal, WasReadAt, target_of, RefusedTarget, CollatesLinked, AreKnown, into_iter_items, IsKeyOf, RuleValue, AreRulesOfEach, project_entries}
@@ -25,11 +25,11 @@ loop-index-init g c =
 pub returns-in-Err-clause-outcome : goal.returns-in-Err-clause-outcome
 returns-in-Err-clause-outcome g c =
     let style : Option Written = option_map g.M.MapStyle.written (option_copied c.args.style) in
-    let targets : List ProjectTargetValue = c.args.targets.now in
-    let outs : List CollatedValue = c.loop-index.outs.items in
-    let n : ℕ = c.loop-index.index-counter in
-    let p : ProjectTargetValue = c.index-targets-index.result in
-    let here : slice_get targets n ≡ Some p = slice_get_read targets _ n _ refl c.loop-index-test.true c.index-targets-index.is in
+    let targets = c.args.targets.now in
+    let outs = c.loop-index.outs.items in
+    let n = c.loop-index.index-counter in
+    let p = c.index-targets-index.result in
+    let here = slice_get_read targets _ n _ refl c.loop-index-test.true c.index-targets-index.is in
     let refused = turned (λ refused (found : ℕ × RefusedTarget). found ≡ (n, refused))
     (λ (refused : RefusedTarget). IsLinkedRefusal style outs (length outs) p refused.refusal)
     (λ (found : ℕ × RefusedTarget). IsProjectRefusal style targets found.0 found.1.refusal)
@@ -44,12 +44,12 @@ returns-in-Err-clause-outcome g c =
 
 pub returns-in-Err-clause-read : goal.returns-in-Err-clause-read
 returns-in-Err-clause-read g c =
-    let style : Option Written = option_map g.M.MapStyle.written (option_copied c.args.style) in
-    let targets : List ProjectTargetValue = c.args.targets.now in
-    let outs : List CollatedValue = c.loop-index.outs.items in
-    let n : ℕ = c.loop-index.index-counter in
-    let p : ProjectTargetValue = c.index-targets-index.result in
-    let here : slice_get targets n ≡ Some p = slice_get_read targets _ n _ refl c.loop-index-test.true c.index-targets-index.is in
+    let style = option_map g.M.MapStyle.written (option_copied c.args.style) in
+    let targets = c.args.targets.now in
+    let outs = c.loop-index.outs.items in
+    let n = c.loop-index.index-counter in
+    let p = c.index-targets-index.result in
+    let here = slice_get_read targets _ n _ refl c.loop-index-test.true c.index-targets-index.is in
     let read : RefusedTarget → TableValue = λ refused. table_with refused.objects.items refused.infos.items in
     turned (λ refused (found : ℕ × RefusedTarget). found ≡ (n, refused))
     (λ (refused : RefusedTarget). WasRead (target_of outs p) refused.refusal (read refused))
@@ -63,20 +63,20 @@ returns-in-Err-clause-read g c =
 
 pub collate_linked-requires-clause-rules : goal.collate_linked-requires-clause-rules
 collate_linked-requires-clause-rules g c =
-    let targets : List ProjectTargetValue = c.args.targets.now in
-    let n : ℕ = c.loop-index.index-counter in
-    let p : ProjectTargetValue = c.index-targets-index.result in
-    let here : slice_get targets n ≡ Some p = slice_get_read targets _ n _ refl c.loop-index-test.true c.index-targets-index.is in
+    let targets = c.args.targets.now in
+    let n = c.loop-index.index-counter in
+    let p = c.index-targets-index.result in
+    let here = slice_get_read targets _ n _ refl c.loop-index-test.true c.index-targets-index.is in
     let all = into_iter_items c.into_iter-rules.result in
     let each = subst (AreRulesOfEach targets) (sym c.into_iter-rules.ensures.rest) c.in_ok-read.ensures.rules in
     own_rules targets all each n p here _ _ c.loop-index.invariant.rules c.next-own.result c.next-own.ensures.items
 
 pub collate_linked-requires-clause-key : goal.collate_linked-requires-clause-key
 collate_linked-requires-clause-key g c =
-    let targets : List ProjectTargetValue = c.args.targets.now in
-    let n : ℕ = c.loop-index.index-counter in
-    let p : ProjectTargetValue = c.index-targets-index.result in
-    let here : slice_get targets n ≡ Some p = slice_get_read targets _ n _ refl c.loop-index-test.true c.index-targets-index.is in
+    let targets = c.args.targets.now in
+    let n = c.loop-index.index-counter in
+    let p = c.index-targets-index.result in
+    let here = slice_get_read targets _ n _ refl c.loop-index-test.true c.index-targets-index.is in
     let all = into_iter_items c.into_iter-rules.result in
     let each = subst (AreRulesOfEach targets) (sym c.into_iter-rules.ensures.rest) c.in_ok-read.ensures.rules in
     own_covered targets all each n p here _ _ c.loop-index.invariant.rules c.loop-index.pool c.loop-index.invariant.made c.loop-index.invariant.held
@@ -85,13 +85,13 @@ collate_linked-requires-clause-key g c =
 -- its own info file may be added to the pool
 pub push-requires : goal.push-requires
 push-requires g c =
-    let style : Option Written = option_map g.M.MapStyle.written (option_copied c.args.style) in
-    let targets : List ProjectTargetValue = c.args.targets.now in
-    let n : ℕ = c.loop-index.index-counter in
-    let p : ProjectTargetValue = c.index-targets-index.result in
-    let here : slice_get targets n ≡ Some p = slice_get_read targets _ n _ refl c.loop-index-test.true c.index-targets-index.is in
-    let outs : List CollatedValue = c.loop-index.outs.items in
-    let linked : CollatesLinked style outs p c.in-Ok.out =
+    let style = option_map g.M.MapStyle.written (option_copied c.args.style) in
+    let targets = c.args.targets.now in
+    let n = c.loop-index.index-counter in
+    let p = c.index-targets-index.result in
+    let here = slice_get_read targets _ n _ refl c.loop-index-test.true c.index-targets-index.is in
+    let outs = c.loop-index.outs.items in
+    let linked =
     subst (λ (os : List CollatedValue). CollatesLinked style os p c.in-Ok.out) c.deref-in-loop-index.ensures.value c.in-Ok.ensures.collated in
     let all = into_iter_items c.into_iter-rules.result in
     let each = subst (AreRulesOfEach targets) (sym c.into_iter-rules.ensures.rest) c.in_ok-read.ensures.rules in
@@ -105,12 +105,12 @@ push-requires g c =
 pub loop-index-preserved : goal.loop-index-preserved
 loop-index-preserved g c =
     let style : Option Written = option_map g.M.MapStyle.written (option_copied c.args.style) in
-    let targets : List ProjectTargetValue = c.args.targets.now in
-    let n : ℕ = c.loop-index.index-counter in
-    let p : ProjectTargetValue = c.index-targets-index.result in
-    let here : slice_get targets n ≡ Some p = slice_get_read targets _ n _ refl c.loop-index-test.true c.index-targets-index.is in
-    let outs : List CollatedValue = c.loop-index.outs.items in
-    let linked : CollatesLinked style outs p c.in-Ok.out =
+    let targets = c.args.targets.now in
+    let n = c.loop-index.index-counter in
+    let p = c.index-targets-index.result in
+    let here = slice_get_read targets _ n _ refl c.loop-index-test.true c.index-targets-index.is in
+    let outs = c.loop-index.outs.items in
+    let linked =
     subst (λ (os : List CollatedValue). CollatesLinked style os p c.in-Ok.out) c.deref-in-loop-index.ensures.value c.in-Ok.ensures.collated in
     let all = into_iter_items c.into_iter-rules.result in
     let each = subst (AreRulesOfEach targets) (sym c.into_iter-rules.ensures.rest) c.in_ok-read.ensures.rules in

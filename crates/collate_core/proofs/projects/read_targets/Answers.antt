@@ -1,4 +1,4 @@
-use Rattle.std.proofs.Common.{◌≡◌, ◌∙◌, ◌+◌, List, ℕ, All, Some, ap, refl, subst, sym, slice_get, length, length-append, take, [], ◌∷◌, ◌++◌}
+use Rattle.std.proofs.Common.{◌≡◌, ◌∙◌, ◌+◌, List, ℕ, All, Some, ap, refl, subst, sym, length, length-append, take, [], ◌∷◌, ◌++◌}
 use Rattle.std.proofs.lemmas.Option.{slice_get_read}
 use Rattle.collate_core.specs.Prelude.{flat_map, object_entries, RuleValue, IsRuleText, HasAdded, ProjectTargetValue, all_rules, AreRulesOf, AreRulesOfEach, project_entries}
 use Rattle.collate_core.proofs.Parts.{without_fault}
@@ -7,22 +7,22 @@ use Rattle.collate_core.proofs.projects.read_targets.Goals as goal
 
 pub loop-target-preserved : goal.loop-target-preserved
 loop-target-preserved c =
-    let targets : List ProjectTargetValue = c.args.targets.now in
-    let n : ℕ = c.loop-target.target-index in
-    let p : ProjectTargetValue = c.target-item.result in
-    let here : slice_get targets n ≡ Some p = slice_get_read targets _ n _ refl c.loop-target-test.true c.target-item.is in
+    let targets = c.args.targets.now in
+    let n = c.loop-target.target-index in
+    let p = c.target-item.result in
+    let here = slice_get_read targets _ n _ refl c.loop-target-test.true c.target-item.is in
     let read = c.rules_of_all-read.ensures in
     let rules = c.in-Some.rules in
-    let is : AreRulesOf p.setting p.scans rules.items = subst (λ (q : ProjectTargetValue). AreRulesOf q.setting q.scans rules.items) c.target.view_is (record {
+    let is = subst (λ (q : ProjectTargetValue). AreRulesOf q.setting q.scans rules.items) c.target.view_is (record {
       accepted = without_fault _ _ _ _ c.in-Some.is c.in_ok-rules.ensures read.accepted;
       same = without_fault (λ rules. rules.items ≡ all_rules c.target.inside.setting.now _) _ _ _ c.in-Some.is c.in_ok-rules.ensures read.rules;
       text = without_fault (λ rules. All IsRuleText rules.items) _ _ _ c.in-Some.is c.in_ok-rules.ensures read.text;
     }) in
-    let count : length c.push.new.self.items ≡ n + 1 = ap length c.in_ok-push.ensures.items ∙ length-append c.loop-target.all.items (rules ∷ []) ∙
+    let count = ap length c.in_ok-push.ensures.items ∙ length-append c.loop-target.all.items (rules ∷ []) ∙
     ap (λ m. m + 1) c.loop-target.invariant.count in
-    let before : List (List ℕ) = project_entries (take (length c.loop-target.all.items) targets) in
-    let name : c.as_bytes.result.now ≡ p.name = c.as_bytes.ensures.value ∙ c.text.ensures.text ∙ ap (λ (q : ProjectTargetValue). q.name) c.target.view_is in
-    let added : (before ++ c.as_bytes.result.now ∷ []) ++ flat_map object_entries c.deref.result.now ≡ project_entries (take (n + 1) targets) =
+    let before = project_entries (take (length c.loop-target.all.items) targets) in
+    let name = c.as_bytes.ensures.value ∙ c.text.ensures.text ∙ ap (λ (q : ProjectTargetValue). q.name) c.target.view_is in
+    let added =
     ap (λ (x : List ℕ). (before ++ x ∷ []) ++ flat_map object_entries c.deref.result.now) name
     ∙ ap (λ (rs : List RuleValue). (before ++ p.name ∷ []) ++ flat_map object_entries rs) c.deref.ensures.value
     ∙ ap (λ (m : ℕ). (project_entries (take m targets) ++ p.name ∷ []) ++ flat_map object_entries rules.items) c.loop-target.invariant.count

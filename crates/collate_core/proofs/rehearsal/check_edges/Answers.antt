@@ -1,13 +1,11 @@
-use Rattle.std.proofs.Common.{◌≡◌, ℕ, List, length, subst, sym}
+use Rattle.std.proofs.Common.{ℕ, length, subst, sym}
 use Rattle.ninja_text.specs.Failure.{ForFault}
 use Rattle.dep_order.specs.Needs.{IsOrderable}
 use Rattle.dep_order.specs.Sortings.{IsSortingOf}
 use Rattle.dep_order.specs.declared.Sorting.{Sorting}
 use Rattle.dep_order.specs.declared.Sorting.TheVariants.{Order, Cycle}
-use Rattle.dyndep_file.specs.Reading.{StandsFor}
-use Rattle.build_effect.specs.EdgeValue.{EdgeValue}
 use Rattle.build_effect.specs.Graphs.{EdgeNeeds}
-use Rattle.build_effect.specs.Effect.{Effect, Extends}
+use Rattle.build_effect.specs.Effect.{Effect}
 use Rattle.collate_core.specs.Rehearsal.{HasEffect, IsOrder, IsRehearseFault}
 use Rattle.collate_core.specs.ProjectOrders.{dyndep_file}
 use Rattle.collate_core.proofs.Effects.{are_canonical}
@@ -24,22 +22,22 @@ returns-clause-sorted c = (c.in-Ok.new, rw (← c.dyndep.ensures.bytes) c.in-Ok.
 
 pub returns-clause-ordered : goal.returns-clause-ordered
 returns-clause-ordered c = λ statements text meets level.
-    let old : List EdgeValue = c.args.graph.now in
-    let new : List EdgeValue = c.in-Ok.new in
+    let old = c.args.graph.now in
+    let new = c.in-Ok.new in
     let found : HasEffect c.args.collated.now.dyndep c.args.name.now old new = rw (← c.dyndep.ensures.bytes) c.in-Ok.ensures.effect in
-    let here : StandsFor c.args.collated.now.dyndep found.0 = found.1.stands in
-    let same : found.0 ≡ statements = text.dyndep.only found.0 here in
-    let effect : Effect old c.args.name.now statements new = subst (λ xs. Effect old c.args.name.now xs new) same found.2.effect in
-    let gives : Extends old c.args.name.now statements new =
+    let here = found.1.stands in
+    let same = text.dyndep.only found.0 here in
+    let effect = subst (λ xs. Effect old c.args.name.now xs new) same found.2.effect in
+    let gives =
     c.one_effect.ensures.gives old new c.args.name.now statements statements (are_canonical statements text.canonical) effect in
-    let orderable : IsOrderable (length new) (EdgeNeeds new) =
+    let orderable =
     c.level_orders.ensures (dyndep_file c.args.name.now statements) old level.outputs new level.ranks meets gives level.has_outputs level.level text.orderable
     in
     ordered (length new) (EdgeNeeds new) orderable c.in_ok-edge_order.field-0 c.in_ok-edge_order.ensures
 
 pub unreachable-requires : goal.unreachable-requires
 unreachable-requires c =
-    let text : List ℕ = c.dyndep.result.now in
+    let text = c.dyndep.result.now in
     let fault = subst (ForFault (IsRehearseFault text c.args.name.now c.args.graph.now)) c.in-Err-Fault.field-0-is c.in-Err-Fault.ensures.fault in
     let unread = subst (IsRehearseFault text c.args.name.now c.args.graph.now) c.in-Read.is
     (subst (IsRehearseFault text c.args.name.now c.args.graph.now) (sym c.in-Err-Fault.fault-is) fault) in

@@ -1,4 +1,4 @@
-use Rattle.std.proofs.Common.{◌≡◌, ℕ, List, [], ◌++◌, ap, sym, ◌∙◌, append_assoc, append-nil}
+use Rattle.std.proofs.Common.{◌≡◌, [], ◌++◌, ap, sym, ◌∙◌, append_assoc, append-nil}
 use Rattle.std.proofs.lemmas.List.{take-append-drop}
 use Rattle.std.proofs.lemmas.Result.{err_from_is_err_and}
 use Rattle.ninja_text.specs.Bytes.{Text}
@@ -12,8 +12,8 @@ whole text fed rest piece more first second = first ∙ ap (λ x. fed ++ x) seco
 pub returns-in_err-feed-clause-refused : goal.returns-in_err-feed-clause-refused
 returns-in_err-feed-clause-refused c =
     let fed = c.loop-cut.invariant in
-    let piece : Text = c.split_at.result.0.now in
-    let more : Text = c.split_at.result.1.now in
+    let piece = c.split_at.result.0.now in
+    let more = c.split_at.result.1.now in
     let parts : c.loop-cut.rest.now ≡ piece ++ more =
     rw (c.split_at.ensures.front, c.split_at.ensures.back) (sym (take-append-drop c.if-cut-rest.len c.loop-cut.rest.now)) in
     let reads = c.in_err-feed.ensures.all fed.0 fed.2 in
@@ -24,8 +24,8 @@ returns-in_err-feed-clause-refused c =
 pub loop-cut-preserved : goal.loop-cut-preserved
 loop-cut-preserved c =
     let fed = c.loop-cut.invariant in
-    let piece : Text = c.split_at.result.0.now in
-    let more : Text = c.split_at.result.1.now in
+    let piece = c.split_at.result.0.now in
+    let more = c.split_at.result.1.now in
     let parts : c.loop-cut.rest.now ≡ piece ++ more =
     rw (c.split_at.ensures.front, c.split_at.ensures.back) (sym (take-append-drop c.if-cut-rest.len c.loop-cut.rest.now)) in
     (fed.0 ++ piece, whole c.args.text.now fed.0 c.loop-cut.rest.now piece more fed.1 parts, c.in_ok-feed.ensures.all fed.0 fed.2)

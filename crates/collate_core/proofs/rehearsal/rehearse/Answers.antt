@@ -1,4 +1,4 @@
-use Rattle.std.proofs.Common.{rules, ℕ, List, IfOk, IfErr, subst, sym}
+use Rattle.std.proofs.Common.{rules, List, IfOk, IfErr, subst, sym}
 use Rattle.std.proofs.lemmas.Result.{IfOk-weaker, IfErr-weaker}
 use Rattle.collate_core.specs.Prelude.{Text, ForFault, Failure, Memory, Fault, StatementValue, StandsFor, StandsForOnly, IsReadFaultOf, OneList, NotBoth, ReadFault, AtLine, Io, EdgeValue, OnlyEffect, HasEffect, IsWithoutEffect, IsRehearseFault, ForEffect, RehearseFault, Read}
 use Rattle.collate_core.specs.declared.fault.RehearseFault.TheVariants.{Effect}
@@ -19,7 +19,7 @@ lacks text name old statements stands (Fault (Read fault)) h = absurd h
 
 pub returns-in-Ok-clause-effect : goal.returns-in-Ok-clause-effect
 returns-in-Ok-clause-effect c =
-    let statements : List StatementValue = c.in-Ok.dyndep in
+    let statements = c.in-Ok.dyndep in
     let effect : IfOk c.map_err.result (OnlyEffect c.args.graph.now c.args.name.now statements) = search rules in
     IfOk-weaker c.map_err.result (OnlyEffect c.args.graph.now c.args.name.now statements) (HasEffect c.args.text.now c.args.name.now c.args.graph.now)
     (λ new h. (statements, only c.one_list.ensures c.args.text.now statements c.in-Ok.ensures.read, h))
@@ -27,7 +27,7 @@ returns-in-Ok-clause-effect c =
 
 pub returns-in-Ok-clause-fault : goal.returns-in-Ok-clause-fault
 returns-in-Ok-clause-fault c =
-    let statements : List StatementValue = c.in-Ok.dyndep in
+    let statements = c.in-Ok.dyndep in
     let fault : IfErr c.map_err.result (ForFault (ForEffect (IsWithoutEffect c.args.graph.now c.args.name.now statements))) = search rules in
     IfErr-weaker c.map_err.result (ForFault (ForEffect (IsWithoutEffect c.args.graph.now c.args.name.now statements)))
     (ForFault (IsRehearseFault c.args.text.now c.args.name.now c.args.graph.now))

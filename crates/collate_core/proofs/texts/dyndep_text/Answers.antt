@@ -1,34 +1,34 @@
-use Rattle.std.proofs.Common.{Bor, ◌≡◌, ◌==◌, ℕ, ◌+◌, ◌≤◌, not, List, [], ◌∷◌, ◌++◌, length, map, take, drop, Some, Ok, refl, ap, subst, sym, ◌∙◌, All, slice_get}
+use Rattle.std.proofs.Common.{Bor, ◌≡◌, ◌==◌, ℕ, ◌+◌, ◌≤◌, not, List, length, map, take, drop, Some, Ok, refl, ap, subst, sym, ◌∙◌, All, slice_get}
 use Rattle.std.proofs.lemmas.Option.{slice_get_read}
 use Rattle.std.proofs.lemmas.List.Elements.{All-push}
 use Rattle.std.proofs.lemmas.Result.{err_from_is_err_and}
-use Rattle.collate_core.specs.Prelude.{StatementValue, IsTextOf, IsFinished, RuleValue, TableValue, tasks_of, module_files, statement_of, statements_of, lent_files, HasSpelled, IsSpelled}
+use Rattle.collate_core.specs.Prelude.{StatementValue, IsTextOf, IsFinished, RuleValue, tasks_of, module_files, statement_of, statements_of, lent_files, HasSpelled, IsSpelled}
 use Rattle.collate_core.proofs.Documents.{built_statement, with_rest, one_more, all_statements}
 use Rattle.collate_core.proofs.Parts.{all_spelled, line_refused}
 use Rattle.collate_core.proofs.texts.dyndep_text.Goals as goal
 
 pub loop-index-preserved : goal.loop-index-preserved
 loop-index-preserved c =
-    let t : TableValue = c.args.table.now in
-    let index : ℕ = c.loop-index.index in
-    let rule : RuleValue = c.rule-item.result in
+    let t = c.args.table.now in
+    let index = c.loop-index.index in
+    let rule = c.rule-item.result in
     let here : slice_get t.objects index ≡ Some rule =
     rw (← c.objects-rule-items.ensures.objects) (slice_get_read _ _ _ _ refl c.loop-index-test.true c.rule-item.is) in
     let lent = λ (fs : List (Bor (List ℕ))). All IsSpelled (lent_files fs) in
-    let so_far : List StatementValue = map statement_of (take index (tasks_of t)) in
+    let so_far = map statement_of (take index (tasks_of t)) in
     let s : StatementValue = record {
       output = c.bytes.result.now;
       implicit_outputs = lent_files c.deref-in-loop-index.result.now;
       implicit_inputs = lent_files c.deref-in-loop-index-2.result.now;
       restat = not c.is_empty.result;
     } in
-    let same : s ≡ statement_of (rule, c.required.result.now) =
+    let same =
     built_statement rule c.required.result.now s (c.bytes.ensures.text ∙ ap (λ (r : RuleValue). r.object) c.rule.view_is)
     (ap lent_files c.deref-in-loop-index.ensures.value ∙ c.in_ok-lend_files.ensures.files ∙
     ap module_files (c.deref.ensures.value ∙ ap (λ (r : RuleValue). r.provided) c.rule.view_is))
     (ap lent_files c.deref-in-loop-index-2.ensures.value ∙ c.in_ok-lend_files-2.ensures.files)
     (ap not (c.is_empty.ensures ∙ ap (λ n. n == 0) c.rule.inside.provided.ok.0 ∙ ap (λ (r : RuleValue). length r.provided == 0) c.rule.view_is)) in
-    let next : so_far ++ s ∷ [] ≡ map statement_of (take (index + 1) (tasks_of t)) =
+    let next =
     one_more t index rule c.required.result.now s so_far here (c.required.ensures rule here) same refl in
     record {
       text = subst (λ xs. IsTextOf xs c.add.new.text) next (c.in_ok-add.ensures.added so_far c.loop-index.invariant.text);
@@ -42,9 +42,9 @@ loop-index-preserved c =
 pub returns-in_err-add-clause-refused : goal.returns-in_err-add-clause-refused
 returns-in_err-add-clause-refused c =
     let p = err_from_is_err_and c.from_residual-in_err-add.result c.from_residual-in_err-add.ensures.1 in
-    let t : TableValue = c.args.table.now in
-    let index : ℕ = c.loop-index.index in
-    let rule : RuleValue = c.rule-item.result in
+    let t = c.args.table.now in
+    let index = c.loop-index.index in
+    let rule = c.rule-item.result in
     let here : slice_get t.objects index ≡ Some rule =
     rw (← c.objects-rule-items.ensures.objects) (slice_get_read _ _ _ _ refl c.loop-index-test.true c.rule-item.is) in
     let s : StatementValue = record {
@@ -53,7 +53,7 @@ returns-in_err-add-clause-refused c =
       implicit_inputs = lent_files c.deref-in-loop-index-2.result.now;
       restat = not c.is_empty.result;
     } in
-    let same : s ≡ statement_of (rule, c.required.result.now) =
+    let same =
     built_statement rule c.required.result.now s (c.bytes.ensures.text ∙ ap (λ (r : RuleValue). r.object) c.rule.view_is)
     (ap lent_files c.deref-in-loop-index.ensures.value ∙ c.in_ok-lend_files.ensures.files ∙
     ap module_files (c.deref.ensures.value ∙ ap (λ (r : RuleValue). r.provided) c.rule.view_is))

@@ -1,14 +1,14 @@
-use Rattle.std.proofs.Common.{◌≡◌, subst, sym, ◌∙◌}
-use Rattle.collate_core.specs.Prelude.{IsAccepted, IsInfo, InfoValue, info_checks, IsInfoText, info_of, info_of_table}
+use Rattle.std.proofs.Common.{subst, sym, ◌∙◌}
+use Rattle.collate_core.specs.Prelude.{IsAccepted, IsInfo, info_checks, IsInfoText, info_of_table}
 use Rattle.collate_core.proofs.Documents.{info_is_text}
 use Rattle.collate_core.proofs.texts.info_again.Goals as goal
 
 pub returns : goal.returns
 returns c =
-    let info : InfoValue = info_of_table c.args.name.now c.args.kept.now c.args.table.now in
+    let info = info_of_table c.args.name.now c.args.kept.now c.args.table.now in
     let copy = c.in_ok-to_info.ensures ∙ c.in_ok-info.ensures in
-    let accepted : IsAccepted info_checks IsInfo c.args.text.now info = c.requires.text.same c.if-text-gt-DOCUMENT_LIMIT.false in
-    let value : info ≡ info_of c.args.text.now = c.bytes_determine_the_value.ensures.info c.args.text.now info accepted in (
+    let accepted = c.requires.text.same c.if-text-gt-DOCUMENT_LIMIT.false in
+    let value = c.bytes_determine_the_value.ensures.info c.args.text.now info accepted in (
       c.if-not-is_read.false,
       record {
         accepted = subst (IsAccepted info_checks IsInfo c.args.text.now) value accepted;

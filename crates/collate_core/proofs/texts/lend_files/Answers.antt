@@ -1,18 +1,18 @@
 use Rattle.ninja_text.proofs.ForCallers.{take_next}
-use Rattle.std.proofs.Common.{◌≡◌, ◌+◌, ◌++◌, ◌∷◌, [], ℕ, List, take, refl, ap, sym, ◌∙◌, Ok}
+use Rattle.std.proofs.Common.{take, refl, ap, sym, ◌∙◌, Ok}
 use Rattle.std.proofs.lemmas.List.{map-append, take_all}
 use Rattle.std.proofs.lemmas.List.Elements.{All-push}
 use Rattle.std.proofs.lemmas.Option.{slice_get_read}
-use Rattle.collate_core.specs.Prelude.{PathText, Name, Modules, module_files, lent_files, IsSpelled}
+use Rattle.collate_core.specs.Prelude.{PathText, Name, module_files, lent_files, IsSpelled}
 use Rattle.collate_core.proofs.Outcomes.{map_push}
 use Rattle.collate_core.proofs.texts.lend_files.Goals as goal
 
 pub loop-module-preserved : goal.loop-module-preserved
 loop-module-preserved c =
-    let modules : Modules = c.args.modules.now in
-    let i : ℕ = c.loop-module.module-index in
-    let pair : Name × PathText = c.module-item.result in
-    let next : take (i + 1) modules ≡ take i modules ++ pair ∷ [] =
+    let modules = c.args.modules.now in
+    let i = c.loop-module.module-index in
+    let pair = c.module-item.result in
+    let next =
     take_next modules i pair (slice_get_read modules _ i pair refl c.loop-module-test.true c.module-item.is) in
     let file = c.bytes.ensures in
     record {

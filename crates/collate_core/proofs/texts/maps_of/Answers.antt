@@ -1,13 +1,12 @@
 use Rattle.std.proofs.Common.{rules, ◌<◌, [], ◌∷◌, length, map, subst, sym, ap, ◌∙◌, arith, length-append}
 use Rattle.std.proofs.lemmas.Result.{err_from_is_err_and}
-use Rattle.collate_core.specs.Prelude.{TableValue, Written}
 use Rattle.collate_core.proofs.Parts.{EachMap, more_maps, object_refused}
 use Rattle.collate_core.proofs.texts.maps_of.Goals as goal
 
 pub returns-in_err-map_text-clause-refused : goal.returns-in_err-map_text-clause-refused
 returns-in_err-map_text-clause-refused g c =
-    let t : TableValue = c.args.table.now in
-    let written : Written = g.M.MapStyle.written c.in-Some.style.now in
+    let t = c.args.table.now in
+    let written = g.M.MapStyle.written c.in-Some.style.now in
     let within : c.loop-object.object < length t.objects = rw (← c.objects-object-end.ensures.objects) (omega arith) in
     let p = err_from_is_err_and c.from_residual-in_err-map_text.result c.from_residual-in_err-map_text.ensures.1 in
     rw (c.in-Some.is, p.1, p.2)
@@ -16,8 +15,8 @@ returns-in_err-map_text-clause-refused g c =
 
 pub loop-object-preserved : goal.loop-object-preserved
 loop-object-preserved g c =
-    let t : TableValue = c.args.table.now in
-    let written : Written = g.M.MapStyle.written c.in-Some.style.now in
+    let t = c.args.table.now in
+    let written = g.M.MapStyle.written c.in-Some.style.now in
     record {
       needs = search rules;
       count = ap length c.in_ok-push.ensures.items ∙

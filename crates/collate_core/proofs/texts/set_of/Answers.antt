@@ -1,4 +1,4 @@
-use Rattle.std.proofs.Common.{◌≡◌, ℕ, List, Some, refl, ap, sym, subst, ◌∙◌, slice_get, take_all}
+use Rattle.std.proofs.Common.{ℕ, List, Some, refl, ap, sym, subst, ◌∙◌, take_all}
 use Rattle.std.proofs.lemmas.Option.{slice_get_read}
 use Rattle.collate_core.specs.Prelude.{IsKeyOf, TableKey, is_private_name}
 use Rattle.collate_core.proofs.Lists.{one_more_name}
@@ -6,8 +6,8 @@ use Rattle.collate_core.proofs.texts.set_of.Goals as goal
 
 pub loop-name-preserved : goal.loop-name-preserved
 loop-name-preserved c =
-    let names : List (List ℕ) = c.args.names.now in
-    let here : slice_get names c.loop-name.name-index ≡ Some c.name-item.result =
+    let names = c.args.names.now in
+    let here =
     slice_get_read names _ c.loop-name.name-index _ refl c.loop-name-test.true c.name-item.is in
     record {
       names = λ name.
