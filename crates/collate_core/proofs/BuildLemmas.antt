@@ -13,8 +13,8 @@ use Rattle.collate_core.proofs.Lists.{same_or_not}
 -- ---- one edge and what its object adds
 
 -- the files that an edge makes with these modules are its own and theirs
-own_made : (e : EdgeValue) (provided needs : Modules) (file : PathText) → Makes e file → Makes (with_modules e provided needs) file
-own_made e provided needs file h =
+own_made : (e : EdgeValue) (provided needs : Modules) {file : PathText} → Makes e file → Makes (with_modules e provided needs) file
+own_made e provided needs {file} h =
     elim (in_append e.outputs e.implicit_outputs h.0 file h.1) [
       | inl out ↦ (h.0, in_first e.outputs (e.implicit_outputs ++ module_files provided) h.0 file out)
       | inr more ↦ (
@@ -24,9 +24,9 @@ own_made e provided needs file h =
       )
     ]
 
-added_made : (e : EdgeValue) (provided needs : Modules) (k : ℕ) (name file : Name) → slice_get provided k ≡ Some (name, file) →
+added_made : (e : EdgeValue) (provided needs : Modules) (k : ℕ) {name file : Name} → slice_get provided k ≡ Some (name, file) →
     Makes (with_modules e provided needs) file
-added_made e provided needs k name file at =
+added_made e provided needs k {name} {file} at =
     let here = to_map (λ (p : Name × PathText). p.1) provided k (name, file) at in (
       length e.outputs + (length e.implicit_outputs + k),
       in_second e.outputs (e.implicit_outputs ++ module_files provided) (length e.implicit_outputs + k) file
@@ -37,24 +37,24 @@ added_made e provided needs k name file at =
 abbrev FileOf : Modules → Text → Type 0
 FileOf modules file = (k : ℕ) × (name : Name) × (slice_get modules k ≡ Some (name, file))
 
-file_at : (modules : Modules) (k : ℕ) (file : PathText) → slice_get (module_files modules) k ≡ Some file → FileOf modules file
-file_at modules k file at =
+file_at : (modules : Modules) (k : ℕ) {file : PathText} → slice_get (module_files modules) k ≡ Some file → FileOf modules file
+file_at modules k {file} at =
     let pair = from_map (λ (p : Name × PathText). p.1) modules k file at in
     (k, pair.0.0, subst (λ (f : PathText). slice_get modules k ≡ Some (pair.0.0, f)) pair.2 pair.1)
 
-made_from : (e : EdgeValue) (provided needs : Modules) (file : PathText) → Makes (with_modules e provided needs) file → Makes e file ⊎ FileOf provided file
-made_from e provided needs file h =
+made_from : (e : EdgeValue) (provided needs : Modules) {file : PathText} → Makes (with_modules e provided needs) file → Makes e file ⊎ FileOf provided file
+made_from e provided needs {file} h =
     elim (in_append e.outputs (e.implicit_outputs ++ module_files provided) h.0 file h.1) [
       | inl out ↦ inl (h.0, in_first e.outputs e.implicit_outputs h.0 file out)
       | inr more ↦ elim (in_append e.implicit_outputs (module_files provided) more.0 file more.2) [
         | inl own ↦ inl (length e.outputs + more.0, in_second e.outputs e.implicit_outputs more.0 file own)
-        | inr new ↦ inr (file_at provided new.0 file new.2)
+        | inr new ↦ inr (file_at provided new.0 new.2)
       ]
     ]
 
 -- the same of its inputs
-own_read : (e : EdgeValue) (provided needs : Modules) (file : PathText) → HasInput e file → HasInput (with_modules e provided needs) file
-own_read e provided needs file h =
+own_read : (e : EdgeValue) (provided needs : Modules) {file : PathText} → HasInput e file → HasInput (with_modules e provided needs) file
+own_read e provided needs {file} h =
     let implicit = e.implicit_inputs ++ module_files needs in
     elim (in_append e.inputs (e.implicit_inputs ++ e.order_only) h.0 file h.1) [
       | inl input ↦ (h.0, in_first e.inputs (implicit ++ e.order_only) h.0 file input)
@@ -71,9 +71,9 @@ own_read e provided needs file h =
       ]
     ]
 
-added_read : (e : EdgeValue) (provided needs : Modules) (k : ℕ) (name file : Name) → slice_get needs k ≡ Some (name, file) →
+added_read : (e : EdgeValue) (provided needs : Modules) (k : ℕ) {name file : Name} → slice_get needs k ≡ Some (name, file) →
     HasInput (with_modules e provided needs) file
-added_read e provided needs k name file at =
+added_read e provided needs k {name} {file} at =
     let here = to_map (λ (p : Name × PathText). p.1) needs k (name, file) at in
     let implicit = e.implicit_inputs ++ module_files needs in (
       length e.inputs + (length e.implicit_inputs + k),
@@ -81,8 +81,8 @@ added_read e provided needs k name file at =
           (in_first implicit e.order_only (length e.implicit_inputs + k) file (in_second e.implicit_inputs (module_files needs) k file here)),
     )
 
-read_from : (e : EdgeValue) (provided needs : Modules) (file : PathText) → HasInput (with_modules e provided needs) file → HasInput e file ⊎ FileOf needs file
-read_from e provided needs file h =
+read_from : (e : EdgeValue) (provided needs : Modules) {file : PathText} → HasInput (with_modules e provided needs) file → HasInput e file ⊎ FileOf needs file
+read_from e provided needs {file} h =
     let implicit = e.implicit_inputs ++ module_files needs in
     elim (in_append e.inputs (implicit ++ e.order_only) h.0 file h.1) [
       | inl input ↦ inl (h.0, in_first e.inputs (e.implicit_inputs ++ e.order_only) h.0 file input)
@@ -92,7 +92,7 @@ read_from e provided needs file h =
             length e.inputs + more.0,
             in_second e.inputs (e.implicit_inputs ++ e.order_only) more.0 file (in_first e.implicit_inputs e.order_only more.0 file own),
           )
-          | inr new ↦ inr (file_at needs new.0 file new.2)
+          | inr new ↦ inr (file_at needs new.0 new.2)
         ]
         | inr last ↦ inl (
           length e.inputs + (length e.implicit_inputs + last.0),
@@ -130,7 +130,7 @@ module _ (required_files : RequiredFiles) (all_required : AllRequired) (one_file
       let rule = edge.0 in
       let same = same_some _ _ (sym provides.1 ∙ edge.1) in
       let at = subst (λ (r : RuleValue). slice_get r.provided k ≡ Some (name, file)) same provides.2 in
-      let makes = added_made e rule.provided (required_of t rule) k name file at in
+      let makes = added_made e rule.provided (required_of t rule) k at in
       (makes.0, (with_modules e rule.provided (required_of t rule), gained.objects t o rule i e inside edge.1 edge.2.1.1 (edge.2.0, edge.2.1.2), makes.1))
 
   reads_required : (i : ℕ) (file : PathText) → RequiresFile tables g i file → IsReader new i file
@@ -145,7 +145,7 @@ module _ (required_files : RequiredFiles) (all_required : AllRequired) (one_file
       let is_file = one_file t sound name pair.0 file known.1 provided in (
         with_modules e rule.provided (required_of t rule),
         gained.objects t o rule i e inside edge.1 edge.2.1.1 (edge.2.0, edge.2.1.2),
-        subst (HasInput (with_modules e rule.provided (required_of t rule))) is_file (added_read e rule.provided (required_of t rule) at.0 name pair.0 at.1),
+        subst (HasInput (with_modules e rule.provided (required_of t rule))) is_file (added_read e rule.provided (required_of t rule) at.0 at.1),
       )
 
   keeps_reader : (i : ℕ) (file : PathText) → IsReader g i file → IsReader new i file
@@ -155,7 +155,7 @@ module _ (required_files : RequiredFiles) (all_required : AllRequired) (one_file
         | inr (t, o, rule, inside, at, makes) ↦ (
           with_modules e rule.provided (required_of t rule),
           gained.objects t o rule i e inside at here makes,
-          own_read e rule.provided (required_of t rule) file reads,
+          own_read e rule.provided (required_of t rule) reads,
         )
       ]
 
@@ -164,7 +164,7 @@ module _ (required_files : RequiredFiles) (all_required : AllRequired) (one_file
       elim (gained.each i e here) [
         | inl same ↦ (j, (e, same, makes_at))
         | inr (t, o, rule, inside, at, makes) ↦
-            let own = own_made e rule.provided (required_of t rule) file (j, makes_at) in
+            let own = own_made e rule.provided (required_of t rule) (j, makes_at) in
             (own.0, (with_modules e rule.provided (required_of t rule), gained.objects t o rule i e inside at here makes, own.1))
       ]
 
@@ -181,7 +181,7 @@ module _ (required_files : RequiredFiles) (all_required : AllRequired) (one_file
         | inl same ↦ inl (e, old.1, subst (λ (d : EdgeValue). HasInput d file) (same_some _ _ (sym there ∙ same)) reads)
         | inr (t, o, rule, inside, at, makes) ↦
             let is = same_some _ _ (sym there ∙ gained.objects t o rule i e inside at old.1 makes) in
-            elim (read_from e rule.provided (required_of t rule) file (subst (λ (d : EdgeValue). HasInput d file) is reads)) [
+            elim (read_from e rule.provided (required_of t rule) (subst (λ (d : EdgeValue). HasInput d file) is reads)) [
               | inl own ↦ inl (e, old.1, own)
               | inr more ↦ inr (of_pair t o rule e i file inside at old.1 makes more)
             ]
@@ -201,7 +201,7 @@ module _ (required_files : RequiredFiles) (all_required : AllRequired) (one_file
         | inl same ↦ inl (j, (e, old.1, subst (λ (d : EdgeValue). slice_get (made_by d) j ≡ Some file) (same_some _ _ (sym there ∙ same)) makes_at))
         | inr (t, o, rule, inside, at, makes) ↦
             let is = same_some _ _ (sym there ∙ gained.objects t o rule i e inside at old.1 makes) in
-            elim (made_from e rule.provided (required_of t rule) file (j, subst (λ (d : EdgeValue). slice_get (made_by d) j ≡ Some file) is makes_at)) [
+            elim (made_from e rule.provided (required_of t rule) (j, subst (λ (d : EdgeValue). slice_get (made_by d) j ≡ Some file) is makes_at)) [
               | inl own ↦ inl (own.0, (e, old.1, own.1))
               | inr more ↦ inr (of_pair t o rule e i file inside at old.1 makes more)
             ]
@@ -306,13 +306,13 @@ those P decide (suc n) = by (those P decide n) (decide n)
   where
     from : (row : Numbers) → P n → AreThose P n row → (k m : ℕ) → slice_get (n ∷ row) m ≡ Some k → P k × (k < suc n)
     from row holds are k zero at = let same = same_some _ _ at in (subst P same holds, omega (arith, same))
-    from row holds are k (suc m) at = let known = are.0 k (contained row m k at) in (known.0, omega (arith, known.1))
+    from row holds are k (suc m) at = let known = are.0 k (contained row m at) in (known.0, omega (arith, known.1))
 
     to : (row : Numbers) → AreThose P n row → (k : ℕ) → P k → k < suc n → Contains (n ∷ row) k
     to row are k p less =
         elim (cases_lt k n) [
-          | inl below ↦ let at = index_of row k (are.1 k p below) in contained (n ∷ row) (suc at.0) k at.1
-          | inr above ↦ let same : n ≡ k = omega (arith, less, above) in contained (n ∷ row) 0 k (ap (λ x. Some x) same)
+          | inl below ↦ let at = index_of row k (are.1 k p below) in contained (n ∷ row) (suc at.0) at.1
+          | inr above ↦ let same : n ≡ k = omega (arith, less, above) in contained (n ∷ row) 0 (ap (λ x. Some x) same)
         ]
 
     by : (row : Numbers) × AreThose P n row → Decided (P n) → (row : Numbers) × AreThose P (suc n) row
@@ -363,7 +363,7 @@ ordered count Needs within decide acyclic =
 
         nodes : NeedsAreNodes rows
         nodes i d less k c less_k =
-            let inside = contained (get_or rows i d) k (get_or (get_or rows i d) k c) (slice_get-get_or (get_or rows i d) k c less_k) in
+            let inside = contained (get_or rows i d) k (slice_get-get_or (get_or rows i d) k c less_k) in
             omega (arith, many, ((are i (get_or rows i d) (slice_get-get_or rows i d less)).0 (get_or (get_or rows i d) k c) inside).1)
 
 -- ---- chains and cycles, if each need has a reason and each reason is a need
@@ -412,9 +412,9 @@ gained_stripped tables g new gained = record {
 
 -- ---- no false rebuild
 
-pub no_false_rebuild : RequiredFiles → AllRequired → OneFile → (tables : List TableValue) (g new : List EdgeValue) → Gained tables g new →
+pub no_false_rebuild : RequiredFiles → AllRequired → OneFile → {tables : List TableValue} {g new : List EdgeValue} → Gained tables g new →
     HasNoFalseRebuild tables g new
-no_false_rebuild required_files all_required one_file tables g new gained = record {
+no_false_rebuild required_files all_required one_file {tables} {g} {new} gained = record {
   waits = same_chains tables g new (no_false_wait required_files all_required one_file tables g new gained);
   rebuilds = same_chains tables (rebuild_graph g) (rebuild_graph new)
       (no_false_wait required_files all_required one_file tables (rebuild_graph g) (rebuild_graph new) (gained_stripped tables g new gained));

@@ -54,26 +54,26 @@ get_or_again (x ∷ xs) zero other = refl
 get_or_again (x ∷ xs) (suc i) other = get_or_again xs i other
 
 -- the document at an index, of values that hold documents
-document_at : {X : Type 0} (bytes : X → Text) (documents : List X) (i : ℕ) (other : X) → i < length documents →
+document_at : {X : Type 0} (bytes : X → Text) (documents : List X) {i : ℕ} (other : X) → i < length documents →
     slice_get (map bytes documents) i ≡ Some (bytes (get_or documents i other))
-document_at bytes documents i other within =
+document_at bytes documents {i} other within =
     slice_get-map bytes documents i ∙
     ap (option_map bytes) (slice_get_read documents (length documents) i (get_or documents i other) refl within (sym (get_or_again documents i other)))
 
-pub lent_scans : {X : Type 0} (bytes : X → Text) (documents : List X) (i : ℕ) (other : X) (s : SettingValue) (rules more : List RuleValue) →
+pub lent_scans : {X : Type 0} (bytes : X → Text) (documents : List X) {i : ℕ} (other : X) {s : SettingValue} {rules more : List RuleValue} →
     i < length documents → ScansSoFar s (map bytes documents) i rules →
     IsScanAccepted s (bytes (get_or documents i other)) → more ≡ rules_of s (bytes (get_or documents i other)) → All IsRuleText more →
     length (rules ++ more) ≤ rule_limit → ScansSoFar s (map bytes documents) (i + 1) (rules ++ more)
-lent_scans bytes documents i other s rules more within so_far accepted are text short =
-    more_scans s (map bytes documents) i (bytes (get_or documents i other)) rules more (document_at bytes documents i other within) so_far accepted are text
+lent_scans bytes documents {i} other {s} {rules} {more} within so_far accepted are text short =
+    more_scans s (map bytes documents) i (bytes (get_or documents i other)) rules more (document_at bytes documents other within) so_far accepted are text
     short
 
-pub past_limit : {X : Type 0} (bytes : X → Text) (documents : List X) (i : ℕ) (other : X) (s : SettingValue) (rules more : List RuleValue) →
+pub past_limit : {X : Type 0} (bytes : X → Text) (documents : List X) {i : ℕ} (other : X) {s : SettingValue} {rules more : List RuleValue} →
     i < length documents → ScansSoFar s (map bytes documents) i rules →
     IsScanAccepted s (bytes (get_or documents i other)) → more ≡ rules_of s (bytes (get_or documents i other)) → rule_limit < length (rules ++ more) →
     IsScanRefusal s (map bytes documents) i (TooLarge Document)
-past_limit bytes documents i other s rules more within so_far accepted are past =
-    let here = document_at bytes documents i other within in
+past_limit bytes documents {i} other {s} {rules} {more} within so_far accepted are past =
+    let here = document_at bytes documents other within in
     record {
       before = so_far.accepted;
       scan = bytes (get_or documents i other);
@@ -85,98 +85,98 @@ past_limit bytes documents i other s rules more within so_far accepted are past 
       );
     }
 
-pub refused_scan : {X : Type 0} (bytes : X → Text) (documents : List X) (i : ℕ) (other : X) (s : SettingValue) (rules : List RuleValue)
-    (failure : Failure DocFault) (fault : DocFault) → i < length documents →
+pub refused_scan : {X : Type 0} (bytes : X → Text) (documents : List X) {i : ℕ} (other : X) {s : SettingValue} {rules : List RuleValue}
+    {failure : Failure DocFault} {fault : DocFault} → i < length documents →
     ScansSoFar s (map bytes documents) i rules → failure ≡ Fault fault → ForFault (IsRefused (scan_checks s) (bytes (get_or documents i other))) failure →
     IsScanRefusal s (map bytes documents) i fault
-refused_scan bytes documents i other s rules failure fault within so_far is refused = record {
+refused_scan bytes documents {i} other {s} {rules} {failure} {fault} within so_far is refused = record {
   before = so_far.accepted;
   scan = bytes (get_or documents i other);
-  here = document_at bytes documents i other within;
+  here = document_at bytes documents other within;
   faulty = inl (subst (ForFault (IsRefused (scan_checks s) (bytes (get_or documents i other)))) is refused);
 }
 
-pub refused_info : {X : Type 0} (bytes : X → Text) (documents : List X) (i : ℕ) (other : X) (infos : List InfoValue) (failure : Failure DocFault)
-    (fault : DocFault) → i < length documents →
+pub refused_info : {X : Type 0} (bytes : X → Text) (documents : List X) {i : ℕ} (other : X) {infos : List InfoValue} {failure : Failure DocFault}
+    {fault : DocFault} → i < length documents →
     AreReadAs (take i (map bytes documents)) infos → failure ≡ Fault fault → ForFault (IsRefused info_checks (bytes (get_or documents i other))) failure →
     IsInfoRefusal (map bytes documents) i fault
-refused_info bytes documents i other infos failure fault within so_far is refused = record {
+refused_info bytes documents {i} other {infos} {failure} {fault} within so_far is refused = record {
   before = so_far.accepted;
   info = bytes (get_or documents i other);
-  here = document_at bytes documents i other within;
+  here = document_at bytes documents other within;
   faulty = subst (ForFault (IsRefused info_checks (bytes (get_or documents i other)))) is refused;
 }
 
-pub lent_infos : {X : Type 0} (bytes : X → Text) (documents : List X) (i : ℕ) (other : X) (infos : List InfoValue) (info : InfoValue) → i < length documents →
+pub lent_infos : {X : Type 0} (bytes : X → Text) (documents : List X) {i : ℕ} (other : X) {infos : List InfoValue} {info : InfoValue} → i < length documents →
     AreReadAs (take i (map bytes documents)) infos →
     IsReadAs (bytes (get_or documents i other)) info → AreReadAs (take (i + 1) (map bytes documents)) (infos ++ info ∷ [])
-lent_infos bytes documents i other infos info within so_far is =
+lent_infos bytes documents {i} other {infos} {info} within so_far is =
     let document = bytes (get_or documents i other) in
-    let next = take_next (map bytes documents) i document (document_at bytes documents i other within) in
+    let next = take_next (map bytes documents) i document (document_at bytes documents other within) in
     subst (λ (ds : List Text). AreReadAs ds (infos ++ info ∷ [])) (sym next) (more_read (take i (map bytes documents)) infos document info so_far is)
 
 -- ---- one more object, with what it requires, and all objects
 
 -- the task of an object
-task_here : (t : TableValue) (index : ℕ) (rule : RuleValue) (required : Modules) →
+task_here : (t : TableValue) (index : ℕ) {rule : RuleValue} {required : Modules} →
     slice_get t.objects index ≡ Some rule → required ≡ required_of t rule → slice_get (tasks_of t) index ≡ Some (rule, required)
-task_here t index rule required here same =
+task_here t index {rule} {required} here same =
     slice_get-map (λ (r : RuleValue). let x : Task = (r, required_of t r) in x) t.objects index ∙
     ap (option_map (λ (r : RuleValue). let x : Task = (r, required_of t r) in x)) here ∙ ap (λ r. Some (rule, r)) (sym same)
 
 -- a statement of these parts is that of the object
-pub built_statement : (rule : RuleValue) (required : Modules) (s : StatementValue) → s.output ≡ rule.object →
+pub built_statement : (rule : RuleValue) (required : Modules) {s : StatementValue} → s.output ≡ rule.object →
     s.implicit_outputs ≡ module_files rule.provided →
     s.implicit_inputs ≡ module_files required → s.restat ≡ not (length rule.provided == 0) → s ≡ statement_of (rule, required)
-built_statement rule required s output outputs inputs restat = rw (← output, ← outputs, ← inputs, ← restat) refl
+built_statement rule required {s} output outputs inputs restat = rw (← output, ← outputs, ← inputs, ← restat) refl
 
 -- the statement of one more object
-pub one_more : (t : TableValue) (index : ℕ) (rule : RuleValue) (required : Modules) (statement : StatementValue)
-    (statements : List StatementValue) →
+pub one_more : (t : TableValue) (index : ℕ) {rule : RuleValue} {required : Modules} {statement : StatementValue}
+    {statements : List StatementValue} →
     slice_get t.objects index ≡ Some rule → required ≡ required_of t rule → statement ≡ statement_of (rule, required) →
     statements ≡ map statement_of (take index (tasks_of t)) → statements ++ statement ∷ [] ≡ map statement_of (take (index + 1) (tasks_of t))
-one_more t index rule required statement statements here same is so_far =
-    rw (take_next (tasks_of t) index (rule, required) (task_here t index rule required here same), map-append, so_far, is) refl
+one_more t index {rule} {required} {statement} {statements} here same is so_far =
+    rw (take_next (tasks_of t) index (rule, required) (task_here t index here same), map-append, so_far, is) refl
 
 -- the tasks of all objects
-all_tasks : (t : TableValue) (index : ℕ) → length t.objects ≤ index → take index (tasks_of t) ≡ tasks_of t
-all_tasks t index past =
+all_tasks : (t : TableValue) {index : ℕ} → length t.objects ≤ index → take index (tasks_of t) ≡ tasks_of t
+all_tasks t {index} past =
     take_all index (tasks_of t) (subst (λ n. n ≤ index) (sym (length-map t.objects (λ (r : RuleValue). let x : Task = (r, required_of t r) in x))) past)
 
 -- the statements of all objects
-pub all_statements : (t : TableValue) (index : ℕ) → length t.objects ≤ index → map statement_of (take index (tasks_of t)) ≡ statements_of t
-all_statements t index past = ap (map statement_of) (all_tasks t index past)
+pub all_statements : (t : TableValue) {index : ℕ} → length t.objects ≤ index → map statement_of (take index (tasks_of t)) ≡ statements_of t
+all_statements t {index} past = ap (map statement_of) (all_tasks t past)
 
 -- the statements before an object, its own and those after it
-pub with_rest : (t : TableValue) (index : ℕ) (rule : RuleValue) (required : Modules) (s : StatementValue) →
+pub with_rest : (t : TableValue) (index : ℕ) {rule : RuleValue} {required : Modules} {s : StatementValue} →
     slice_get t.objects index ≡ Some rule → required ≡ required_of t rule → s ≡ statement_of (rule, required) →
     map statement_of (take index (tasks_of t)) ++ s ∷ map statement_of (drop (index + 1) (tasks_of t)) ≡ statements_of t
-with_rest t index rule required s here same is =
+with_rest t index {rule} {required} {s} here same is =
     let after = map statement_of (drop (index + 1) (tasks_of t)) in
     sym (append_assoc (map statement_of (take index (tasks_of t))) (s ∷ []) after) ∙
-    ap (λ xs. xs ++ after) (one_more t index rule required s _ here same is refl)
+    ap (λ xs. xs ++ after) (one_more t index here same is refl)
     ∙ sym (map-append statement_of (take (index + 1) (tasks_of t)) (drop (index + 1) (tasks_of t))) ∙
     ap (map statement_of) (take-append-drop (index + 1) (tasks_of t))
 
 -- the modules of one more object
-pub more_modules : (kept : List Name) (t : TableValue) (index : ℕ) (rule : RuleValue) (required : Modules) (modules : List ModuleValue) →
+pub more_modules : (kept : List Name) (t : TableValue) (index : ℕ) {rule : RuleValue} {required : Modules} {modules : List ModuleValue} →
     slice_get t.objects index ≡ Some rule → required ≡ required_of t rule →
     modules ≡ flat_map (modules_of kept) (take index (tasks_of t)) →
     modules ++ modules_of kept (rule, required) ≡ flat_map (modules_of kept) (take (index + 1) (tasks_of t))
-more_modules kept t index rule required modules here same so_far =
+more_modules kept t index {rule} {required} {modules} here same so_far =
     ap (λ xs. xs ++ modules_of kept (rule, required)) so_far ∙ sym (flat_map_last (modules_of kept) (take index (tasks_of t)) (rule, required))
-    ∙ ap (flat_map (modules_of kept)) (sym (take_next (tasks_of t) index (rule, required) (task_here t index rule required here same)))
+    ∙ ap (flat_map (modules_of kept)) (sym (take_next (tasks_of t) index (rule, required) (task_here t index here same)))
 
 -- ---- the info of a table: its paths are text, if those of the table are, and it can be read again
 
 module _ (t : TableValue) (text : IsTableText t) (files : RequiredFiles) where
   provided_by : (maker : Maker) (name file : Name) → IsProvidedBy t maker name file → IsText file
   provided_by (Object o) name file h =
-      let rule = all_at IsRuleText t.objects o h.1.0 text.objects h.1.1 in
-      all_at (λ (pair : Name × PathText). IsText pair.1) h.1.0.provided h.0 (name, file) rule.provided h.1.2
+      let rule = all_at IsRuleText t.objects o text.objects h.1.1 in
+      all_at (λ (pair : Name × PathText). IsText pair.1) h.1.0.provided h.0 rule.provided h.1.2
   provided_by (Info i) name file h =
-      let info = all_at IsInfoText t.infos i h.2.0 text.infos h.2.1 in
-      let entry = all_at IsModuleText h.2.0.modules h.0 h.1 info h.2.2 in
+      let info = all_at IsInfoText t.infos i text.infos h.2.1 in
+      let entry = all_at IsModuleText h.2.0.modules h.0 info h.2.2 in
       subst IsText h.4 entry.file
 
   required : (rule : RuleValue) → All (λ pair. IsText pair.1) (required_of t rule)
@@ -203,8 +203,8 @@ module _ (t : TableValue) (text : IsTableText t) (files : RequiredFiles) where
 
   -- ---- if the paths of the statements are canonical, the info is sound
 
-  required_names : (rule : RuleValue) → IsRuleText rule → All (λ pair. IsName pair.0) (required_of t rule)
-  required_names rule h k d within =
+  required_names : {rule : RuleValue} → IsRuleText rule → All (λ pair. IsName pair.0) (required_of t rule)
+  required_names {rule} h k d within =
       let pair = get_or (required_of t rule) k d in
       let found = files t rule k pair.0 pair.1 (slice_get-get_or (required_of t rule) k d within) in
       All-contains IsName rule.required pair.0 h.required found.0
@@ -222,14 +222,14 @@ module _ (t : TableValue) (text : IsTableText t) (files : RequiredFiles) where
     provided : All (λ pair. IsSoundPair pair.0 pair.1) task.0.provided
     required : All (λ pair. IsSoundPair pair.0 pair.1) task.1
 
-  sound_task : (rule : RuleValue) → IsRuleText rule → HasPaths (statement_of (rule, required_of t rule)) → IsSoundTask (rule, required_of t rule)
-  sound_task rule h paths =
+  sound_task : {rule : RuleValue} → IsRuleText rule → HasPaths (statement_of (rule, required_of t rule)) → IsSoundTask (rule, required_of t rule)
+  sound_task {rule} h paths =
       let provided = module_files rule.provided in
       let inputs = module_files (required_of t rule) in
       let rest = All-tail IsPath rule.object (provided ++ inputs) paths in
       record {
         provided = sound rule.provided h.names h.provided (all_front IsPath provided inputs rest);
-        required = sound (required_of t rule) (required_names rule h) (required rule) (all_back IsPath provided inputs rest);
+        required = sound (required_of t rule) (required_names h) (required rule) (all_back IsPath provided inputs rest);
       }
 
   abbrev task_of : RuleValue → Task
@@ -238,7 +238,7 @@ module _ (t : TableValue) (text : IsTableText t) (files : RequiredFiles) where
   sound_tasks : (rules : List RuleValue) → AllByRecursion IsRuleText rules → AllByRecursion HasPaths (map statement_of (map task_of rules)) →
       AllByRecursion IsSoundTask (map task_of rules)
   sound_tasks [] h paths = tt
-  sound_tasks (rule ∷ rules) h paths = (sound_task rule h.0 paths.0, sound_tasks rules h.1 paths.1)
+  sound_tasks (rule ∷ rules) h paths = (sound_task h.0 paths.0, sound_tasks rules h.1 paths.1)
 
   sound_modules : (kept : List Name) (task : Task) → IsSoundTask task → All IsSoundModule (modules_of kept task)
   sound_modules kept task h =
@@ -246,8 +246,8 @@ module _ (t : TableValue) (text : IsTableText t) (files : RequiredFiles) where
       (All-weaker (λ pair. IsSoundPair pair.0 pair.1) (λ pair. IsSoundModule (module_of kept task.1 pair))
       (λ pair named. record { named = named; required = h.required }) task.0.provided h.provided)
 
-  pub info_is_sound : (name : Name) (kept : List Name) → IsTargetName name → All HasPaths (statements_of t) → IsSoundInfo (info_of_table name kept t)
-  info_is_sound name kept is_name paths = record {
+  pub info_is_sound : {name : Name} (kept : List Name) → IsTargetName name → All HasPaths (statements_of t) → IsSoundInfo (info_of_table name kept t)
+  info_is_sound {name} kept is_name paths = record {
     target = is_name;
     modules =
         all_parts IsSoundModule (modules_of kept) IsSoundTask (sound_modules kept) (tasks_of t)

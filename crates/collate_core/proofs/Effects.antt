@@ -8,14 +8,14 @@ use Rattle.collate_core.proofs.Parts.{all_images}
 use Rattle.ninja_text.proofs.ForCallers.{placed as index_of}
 use Rattle.collate_core.proofs.Linked.{collation_at, sound_of, contained}
 use Rattle.std.proofs.lemmas.Option.{slice_get_within, get_or_from_slice_get}
-use Rattle.collate_core.specs.Prelude.{IsPath, IsOrderable, StatementValue, StandsForOnly, RuleValue, EdgeValue, Names, EdgeNeeds, IsCanonical, AreCanonical, Extends, extended, AddsAt, AddedOnce, AdditionNeeds, MeetsPremises, OneEffect, Written, TableValue, Provides, IsSound, Task, tasks_of, required_of, AddedNeeds, AddedOrderable, FilesOnce, FilesApart, RequiredFiles, TargetValue, CollatedValue, ProjectTargetValue, table_of, statement_of, statements_of, HasPaths, Collates, AddsExactly, IsCollatedText, IsHeadline, NamedFile, AreFiles, AnyOrder, OrdersEndAlike, FilesMeet, AreFileIndices, Applies, GainsExactly, target_of, CollatesProject, project_tables, dyndep_files, AllOrders, Sees, ProjectProvides, IsProjectOrdered, Text, PathText, Name, Numbers, HasOutputsOnly, IsRisingNumbering, IsAboveOthers, AreOrdered, rank_at, FilesOrder}
+use Rattle.collate_core.specs.Prelude.{IsPath, IsOrderable, StatementValue, StandsForOnly, RuleValue, EdgeValue, Names, EdgeNeeds, IsCanonical, AreCanonical, Extends, extended, AddsAt, AddedOnce, AdditionNeeds, MeetsPremises, OneEffect, Written, TableValue, Provides, IsSound, Task, tasks_of, required_of, AddedNeeds, AddedOrderable, FilesOnce, FilesApart, RequiredFiles, TargetValue, CollatedValue, ProjectTargetValue, table_of, statement_of, statements_of, HasPaths, Collates, AddsExactly, IsCollatedText, IsHeadline, NamedFile, AreFiles, AnyOrder, OrdersEndAlike, FilesMeet, AreFileIndices, Applies, GainsExactly, CollatesProject, project_tables, dyndep_files, AllOrders, Sees, ProjectProvides, IsProjectOrdered, Text, PathText, Name, Numbers, HasOutputsOnly, IsRisingNumbering, IsAboveOthers, AreOrdered, rank_at, FilesOrder}
 use Rattle.collate_core.proofs.NeededLemmas.{task_in}
 
 -- ---- what a table without a fault gives has exactly one effect, which adds exactly what the objects add
 
 -- the canonical form of a statement with canonical paths is that statement
-own_canonical : (s : StatementValue) → HasPaths s → IsCanonical s s
-own_canonical s h =
+own_canonical : {s : StatementValue} → HasPaths s → IsCanonical s s
+own_canonical {s} h =
     let rest = All-tail IsPath s.output (s.implicit_outputs ++ s.implicit_inputs) h in
     record {
       output = All-head IsPath s.output (s.implicit_outputs ++ s.implicit_inputs) h;
@@ -24,10 +24,10 @@ own_canonical s h =
       restat = refl;
     }
 
-pub are_canonical : (ss : List StatementValue) → All HasPaths ss → AreCanonical ss ss
-are_canonical ss all = record {
+pub are_canonical : {ss : List StatementValue} → All HasPaths ss → AreCanonical ss ss
+are_canonical {ss} all = record {
   count = refl;
-  each = λ k s a at also. subst (IsCanonical s) (same_some _ _ (sym at ∙ also)) (own_canonical s (all_at HasPaths ss k s all at));
+  each = λ k s a at also. subst (IsCanonical s) (same_some _ _ (sym at ∙ also)) (own_canonical (all_at HasPaths ss k all at));
 }
 
 module _ (t : TableValue) (sound : IsSound t) (ordered : AddedOrderable) (once : FilesOnce) (apart : FilesApart) (required : RequiredFiles) where
@@ -37,33 +37,33 @@ module _ (t : TableValue) (sound : IsSound t) (ordered : AddedOrderable) (once :
   task_of : RuleValue → Task
   task_of rule = (rule, required_of t rule)
 
-  task_at : (k : ℕ) (a : StatementValue) → slice_get statements k ≡ Some a →
+  task_at : (k : ℕ) {a : StatementValue} → slice_get statements k ≡ Some a →
       (rule : RuleValue) × (slice_get t.objects k ≡ Some rule) × (statement_of (rule, required_of t rule) ≡ a)
   unfolding task_of
-  task_at k a e =
+  task_at k {a} e =
       let x = from_map statement_of (tasks_of t) k a e in
       let r = from_map task_of t.objects k x.0 x.1 in
       (r.0, r.1, ap statement_of r.2 ∙ x.2)
 
-  provides_at : (k m : ℕ) (file : PathText) → AddsAt statements k m file → (name : Name) × Provides t k m name file
-  provides_at k m file h =
-      let task = task_at k h.0 h.1 in
+  provides_at : (k m : ℕ) {file : PathText} → AddsAt statements k m file → (name : Name) × Provides t k m name file
+  provides_at k m {file} h =
+      let task = task_at k h.1 in
       let p = from_map (λ (q : Name × PathText). q.1) task.0.provided m file (ap (λ (a : StatementValue). slice_get a.implicit_outputs m) task.2 ∙ h.2) in
       (p.0.0, (task.0, task.1, subst (λ (f : PathText). slice_get task.0.provided m ≡ Some (p.0.0, f)) p.2 p.1))
 
   pub added_once : AddedOnce statements
   added_once k m l n file p q =
-      let a = provides_at k m file p in
-      let b = provides_at l n file q in
+      let a = provides_at k m p in
+      let b = provides_at l n q in
       once t sound k l m n a.0 b.0 file a.1 b.1
 
   needs : (a b : ℕ) → AdditionNeeds statements a b → AddedNeeds t a b
   needs a b h =
-      let task = task_at a h.0 h.5 in
+      let task = task_at a h.5 in
       let p = from_map (λ (q : Name × PathText). q.1) (required_of t task.0) h.3 h.2 (ap (λ (x : StatementValue). slice_get x.implicit_inputs h.3) task.2 ∙ h.7)
       in
       let r = required t task.0 h.3 p.0.0 h.2 (subst (λ (f : PathText). slice_get (required_of t task.0) h.3 ≡ Some (p.0.0, f)) p.2 p.1) in
-      let out = provides_at b h.4 h.2 (h.1, h.6, h.8) in
+      let out = provides_at b h.4 (h.1, h.6, h.8) in
       (h.2, (p.0.0, (task.0, task.1, r.0), r.1), (h.4, out.0, out.1))
 
   pub orderable : IsOrderable (length statements) (AdditionNeeds statements)
@@ -82,9 +82,9 @@ module _ (t : TableValue) (sound : IsSound t) (ordered : AddedOrderable) (once :
   outputs_of [] = refl
   outputs_of (rule ∷ rules) = ap (λ xs. rule.object ∷ xs) (outputs_of rules)
 
-  pub collated_text : (objects : List Text) (text : Text) → objects ≡ map (λ rule. rule.object) t.objects →
+  pub collated_text : (objects : List Text) {text : Text} → objects ≡ map (λ rule. rule.object) t.objects →
       StandsForOnly text statements → All HasPaths statements → IsCollatedText objects text statements
-  collated_text objects text same stands canonical =
+  collated_text objects {text} same stands canonical =
       record {
         dyndep = stands;
         canonical = canonical;
@@ -96,16 +96,16 @@ module _ (t : TableValue) (sound : IsSound t) (ordered : AddedOrderable) (once :
         added_once = added_once;
         apart = λ o k m object a adds.
             let x = object_at o object (ap (λ xs. slice_get xs o) (sym same) ∙ a) in
-            let p = provides_at k m object adds in
+            let p = provides_at k m adds in
             apart t sound o k m x.0 p.0 x.1 (subst (λ f. Provides t k m p.0 f) (sym x.2) p.1);
         orderable = orderable;
       }
 
   -- the effect adds exactly what the objects add
-  pub adds_exactly : (g : List EdgeValue) (name : Name) (new : List EdgeValue) → MeetsPremises g name statements → Extends g name statements new →
+  pub adds_exactly : {g : List EdgeValue} {name : Name} {new : List EdgeValue} → MeetsPremises g name statements → Extends g name statements new →
       AddsExactly t name g new
   unfolding task_of
-  adds_exactly g name new meets gives =
+  adds_exactly {g} {name} {new} meets gives =
       record {
         same_edges = gives.same_edges;
         others = gives.others;
@@ -131,9 +131,9 @@ headline one ordered once apart required target style c k =
       no_fault = k.resolved;
       dyndep = k.dyndep;
       effect = λ g name meets.
-          let found = one g name (statements_of t) (statements_of t) (are_canonical (statements_of t) k.canonical)
+          let found = one g name (statements_of t) (statements_of t) (are_canonical k.canonical)
           (added_once t sound ordered once apart required) meets in
-          (found.0, found.2, adds_exactly t sound ordered once apart required g name found.0 meets found.1);
+          (found.0, found.2, adds_exactly t sound ordered once apart required meets found.1);
       orderable = ordered t sound;
     }
 
@@ -154,23 +154,23 @@ module _ (ordered : AddedOrderable) (once : FilesOnce) (apart : FilesApart) (req
   tables = project_tables targets outs
 
   -- each table's statements
-  table_facts : (n : ℕ) (t : TableValue) → slice_get tables n ≡ Some t → AreCanonical (statements_of t) (statements_of t) × AddedOnce (statements_of t)
-  table_facts n t at =
-      let all = collation_at style targets outs project n t at in (
+  table_facts : (n : ℕ) {t : TableValue} → slice_get tables n ≡ Some t → AreCanonical (statements_of t) (statements_of t) × AddedOnce (statements_of t)
+  table_facts n {t} at =
+      let all = collation_at style targets outs project n at in (
         subst (λ (v : TableValue). AreCanonical (statements_of v) (statements_of v)) all.5
-            (are_canonical (statements_of (table_of (target_of outs all.0))) all.4.canonical),
-        added_once t (sound_of style targets outs project n t at) ordered once apart required,
+            (are_canonical all.4.canonical),
+        added_once t (sound_of style targets outs project n at) ordered once apart required,
       )
 
-  file_at : (names : List Name) (n : ℕ) (f : NamedFile) → slice_get (dyndep_files names tables) n ≡ Some f →
+  file_at : (names : List Name) (n : ℕ) {f : NamedFile} → slice_get (dyndep_files names tables) n ≡ Some f →
       AreCanonical f.statements f.additions × AddedOnce f.additions
-  file_at names n f at =
+  file_at names n {f} at =
       let pair = from_map as_file (zip names tables) n f at in
-      let known = table_facts n pair.0.1 (in_zip names tables n pair.0 pair.1) in
+      let known = table_facts n (in_zip names tables n pair.0 pair.1) in
       subst (λ (x : NamedFile). AreCanonical x.statements x.additions × AddedOnce x.additions) pair.2 known
 
   are_files : (names : List Name) → AreFiles (dyndep_files names tables)
-  are_files names = record { canonical = λ n f at. (file_at names n f at).0; added_once = λ n f at. (file_at names n f at).1 }
+  are_files names = record { canonical = λ n f at. (file_at names n at).0; added_once = λ n f at. (file_at names n at).1 }
 
   pub orders : AllOrders (project_tables targets outs)
   orders = record {
@@ -182,12 +182,12 @@ module _ (ordered : AddedOrderable) (once : FilesOnce) (apart : FilesApart) (req
 -- ---- the graph after all targets of a project can be ordered
 
 -- the task of an addition, and the name of one of its inputs
-task_input : (row : List Task) (k i : ℕ) (a : StatementValue) (file : PathText) → slice_get (map statement_of row) k ≡ Some a →
+task_input : (row : List Task) (k i : ℕ) {a : StatementValue} {file : PathText} → slice_get (map statement_of row) k ≡ Some a →
     slice_get a.implicit_inputs i ≡ Some file → (x : Task) × (name : Name) × (slice_get row k ≡ Some x) × Contains x.1 (name, file)
-task_input row k i a file e input =
+task_input row k i {a} {file} e input =
     let x = from_map statement_of row k a e in
     let q = from_map (λ (p : Name × PathText). p.1) x.0.1 i file (ap (λ (z : StatementValue). slice_get z.implicit_inputs i) x.2 ∙ input) in
-    (x.0, q.0.0, x.1, contained x.0.1 i (q.0.0, file) (subst (λ (f : PathText). slice_get x.0.1 i ≡ Some (q.0.0, f)) q.2 q.1))
+    (x.0, q.0.0, x.1, contained x.0.1 i (subst (λ (f : PathText). slice_get x.0.1 i ≡ Some (q.0.0, f)) q.2 q.1))
 
 module _ (files_order : FilesOrder) (required : RequiredFiles) (style : Option Written) (targets : List ProjectTargetValue) (outs : List CollatedValue)
     (project : CollatesProject style targets outs) (orders : AllOrders (project_tables targets outs))
@@ -198,15 +198,15 @@ module _ (files_order : FilesOrder) (required : RequiredFiles) (style : Option W
   abbrev files : List NamedFile
   files = dyndep_files names (project_tables targets outs)
 
-  from_file : (n : ℕ) (f : NamedFile) → slice_get files n ≡ Some f →
+  from_file : (n : ℕ) {f : NamedFile} → slice_get files n ≡ Some f →
       (t : TableValue) × (slice_get (project_tables targets outs) n ≡ Some t) × (f.additions ≡ statements_of t)
-  from_file n f at =
+  from_file n {f} at =
       let pair = from_map as_file (zip names (project_tables targets outs)) n f at in
       (pair.0.1, in_zip names (project_tables targets outs) n pair.0 pair.1, sym (ap (λ (z : NamedFile). z.additions) pair.2))
 
-  to_file : (n : ℕ) (row : TableValue) → slice_get (project_tables targets outs) n ≡ Some row →
+  to_file : (n : ℕ) {row : TableValue} → slice_get (project_tables targets outs) n ≡ Some row →
       (f : NamedFile) × (slice_get files n ≡ Some f) × (f.additions ≡ statements_of row)
-  to_file n row at =
+  to_file n {row} at =
       let within : n < length (project_tables targets outs) = slice_get_within _ _ _ at in
       let name : (x : Text) × (slice_get names n ≡ Some x) = element_at names n (omega (arith, count)) in (
         as_file (name.0, row),
@@ -215,10 +215,10 @@ module _ (files_order : FilesOrder) (required : RequiredFiles) (style : Option W
       )
 
   -- who provides the file in the project adds it
-  adds_at : (n m p : ℕ) (name : Name) (file : PathText) → ProjectProvides targets (project_tables targets outs) n m p name file →
+  adds_at : {n m p : ℕ} {name : Name} {file : PathText} → ProjectProvides targets (project_tables targets outs) n m p name file →
       (f : NamedFile) × (j : ℕ) × (slice_get files m ≡ Some f) × AddsAt f.additions p j file × AddedOnce f.additions
-  adds_at n m p name file (u, j, sees, at_u, provides) =
-      let f = to_file m u at_u in
+  adds_at {n} {m} {p} {name} {file} (u, j, sees, at_u, provides) =
+      let f = to_file m at_u in
       let x : Task = task_in u provides.0 in
       let adds : AddsAt (statements_of u) p j file = (
         statement_of x,
@@ -227,22 +227,22 @@ module _ (files_order : FilesOrder) (required : RequiredFiles) (style : Option W
       ) in
       (f.0, j, f.1, subst (λ xs. AddsAt xs p j file) (sym f.2) adds, subst AddedOnce (sym f.2) (single m u at_u))
 
-  not_later : (n m : ℕ) → Sees targets n m → m ≤ n
-  not_later n m (inl same) = omega (arith, same)
-  not_later n m (inr link) =
+  not_later : {n m : ℕ} → Sees targets n m → m ≤ n
+  not_later {n} {m} (inl same) = omega (arith, same)
+  not_later {n} {m} (inr link) =
       let index = index_of link.0.linked m link.2 in
       let within = slice_get_within _ _ _ index.1 in
       let less = subst (λ v. v < n) (get_or_from_slice_get link.0.linked index.0 m 0 index.1) (project.earlier n link.0 link.1 index.0 0 within) in
       omega arith
 
   -- the provider of an added input
-  provider : (n k i : ℕ) (f : NamedFile) (a : StatementValue) (file : PathText) → slice_get files n ≡ Some f → slice_get f.additions k ≡ Some a →
+  provider : (n k i : ℕ) {f : NamedFile} {a : StatementValue} {file : PathText} → slice_get files n ≡ Some f → slice_get f.additions k ≡ Some a →
       slice_get a.implicit_inputs i ≡ Some file →
       (name : Name) × (m : ℕ) × (p : ℕ) × ProjectProvides targets (project_tables targets outs) n m p name file ×
       (rank_at ordered.ranks m p < rank_at ordered.ranks n k)
-  provider n k i f a file at here input =
-      let t = from_file n f at in
-      let x = task_input (tasks_of t.0) k i a file (subst (λ xs. slice_get xs k ≡ Some a) t.2 here) input in
+  provider n k i {f} {a} {file} at here input =
+      let t = from_file n at in
+      let x = task_input (tasks_of t.0) k i (subst (λ xs. slice_get xs k ≡ Some a) t.2 here) input in
       let rule = from_map (task_in t.0) t.0.objects k x.0 x.2 in
       let index = index_of x.0.1 (x.1, file) x.3 in
       let pair =
@@ -255,12 +255,12 @@ module _ (files_order : FilesOrder) (required : RequiredFiles) (style : Option W
   are_ordered = record {
     ranks = ordered.ranks;
     below = λ n m k l i j f d a file at at_d here input adds.
-        let by = provider n k i f a file at here input in
-        let there = adds_at n by.1 by.2 by.0 file by.3 in
+        let by = provider n k i at here input in
+        let there = adds_at by.3 in
         let target = meets.added_apart m by.1 l by.2 j there.1 d there.0 file at_d there.2 adds there.3 in
         let same = same_some _ _ (sym at_d ∙ ap (slice_get files) target ∙ there.2) in
         let object : l ≡ by.2 = (there.4 l j by.2 there.1 file (subst (λ (z : NamedFile). AddsAt z.additions l j file) same adds) there.3).0 in (
-          subst (λ v. v ≤ n) (sym target) (not_later n by.1 by.3.2),
+          subst (λ v. v ≤ n) (sym target) (not_later by.3.2),
           subst (λ v. rank_at ordered.ranks v l < rank_at ordered.ranks n k) (sym target)
               (subst (λ v. rank_at ordered.ranks by.1 v < rank_at ordered.ranks n k) (sym object) by.4),
         );
@@ -268,8 +268,8 @@ module _ (files_order : FilesOrder) (required : RequiredFiles) (style : Option W
 
   all_added : (h : List EdgeValue) (ranks : Numbers) → IsAboveOthers files g h ranks
   all_added h ranks n k m i j l f a e file at here input none makes edge names =
-      let by = provider n k m f a file at here input in
-      let there = adds_at n by.1 by.2 by.0 file by.3 in
+      let by = provider n k m at here input in
+      let there = adds_at by.3 in
       absurd (none by.1 by.2 there.1 there.0 there.2 there.3)
 
   pub end_orderable : (order : Numbers) (h : List EdgeValue) (ranks : Numbers) (new : List EdgeValue) → HasOutputsOnly files g h →
@@ -284,6 +284,6 @@ module _ (files_order : FilesOrder) (required : RequiredFiles) (style : Option W
       let every : (n : ℕ) → n < length files → Contains order n =
       λ n within.
       let at = element_at files n within in
-      let row = from_file n at.0 at.1 in
+      let row = from_file n at.1 in
       all n (slice_get_within _ _ _ row.1) in
       files_order files g h new order ranks meets every gains outputs level (all_added h ranks) are_ordered

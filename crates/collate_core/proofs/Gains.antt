@@ -31,17 +31,17 @@ rule_at t o object at =
     (rule.0, rule.1, ap (λ (z : Task). z.0.object) rule.2 ∙ ap (λ (s : StatementValue). s.output) x.2 ∙ a.2)
 
 -- an edge that names the file of a table makes one of its objects
-pub of_named : (tables : List TableValue) (t : TableValue) → Contains tables t → (g : List EdgeValue) (name : Name) → MeetsPremises g name (statements_of t) →
-    (i : ℕ) (e : EdgeValue) → slice_get g i ≡ Some e → Names name e → IsOfObject tables e
-of_named tables t inside g name meets i e here names =
+pub of_named : (tables : List TableValue) {t : TableValue} → Contains tables t → {g : List EdgeValue} {name : Name} → MeetsPremises g name (statements_of t) →
+    (i : ℕ) {e : EdgeValue} → slice_get g i ≡ Some e → Names name e → IsOfObject tables e
+of_named tables {t} inside {g} {name} meets i {e} here names =
     let o = meets.names.one_object i e here names in
     let rule = rule_at t o.0 o.1 o.2 in
     (t, o.0, rule.0, inside, rule.1, (o.3.0, o.3.1 ∙ ap Some (sym rule.2)))
 
 -- each object of the statements has an edge
-pub edge_of : (t : TableValue) (g : List EdgeValue) (name : Name) → MeetsPremises g name (statements_of t) → (o : ℕ) (rule : RuleValue) →
+pub edge_of : (t : TableValue) {g : List EdgeValue} {name : Name} → MeetsPremises g name (statements_of t) → (o : ℕ) {rule : RuleValue} →
     slice_get t.objects o ≡ Some rule → (i : ℕ) × IsMaker g i rule.object
-edge_of t g name meets o rule there =
+edge_of t {g} {name} meets o {rule} there =
     let at =
     to_map statement_of (tasks_of t) o (rule, required_of t rule) (to_map (task_in t) t.objects o rule there) in
     let bound = meets.names.bound o rule.object (to_map (λ (a : StatementValue). a.output) (statements_of t) o (statement_of (rule, required_of t rule)) at) in
@@ -49,39 +49,39 @@ edge_of t g name meets o rule there =
 
 -- ---- after a target
 
-only_one : (t u : TableValue) → Contains (t ∷ []) u → u ≡ t
-only_one t u inside = by (index_of (t ∷ []) u inside)
+only_one : {t u : TableValue} → Contains (t ∷ []) u → u ≡ t
+only_one {t} {u} inside = by (index_of (t ∷ []) u inside)
   where
     by : (k : ℕ) × (slice_get (t ∷ []) k ≡ Some u) → u ≡ t
     by (zero, at) = sym (same_some _ _ at)
     by (suc k, at) = cc
 
-gained_exactly : (t : TableValue) → IsSound t → (g new : List EdgeValue) (name : Name) → MeetsPremises g name (statements_of t) → AddsExactly t name g new →
+gained_exactly : {t : TableValue} → IsSound t → {g new : List EdgeValue} {name : Name} → MeetsPremises g name (statements_of t) → AddsExactly t name g new →
     Gained (t ∷ []) g new
-gained_exactly t sound g new name meets adds = record {
+gained_exactly {t} sound {g} {new} {name} meets adds = record {
   same_edges = adds.same_edges;
-  sound = λ u inside. subst IsSound (sym (only_one t u inside)) sound;
+  sound = λ u inside. subst IsSound (sym (only_one inside)) sound;
   edges = λ u o rule inside at.
-      subst (λ (v : TableValue). slice_get v.objects o ≡ Some rule → (i : ℕ) × IsMaker g i rule.object) (sym (only_one t u inside))
-      (edge_of t g name meets o rule) at;
+      subst (λ (v : TableValue). slice_get v.objects o ≡ Some rule → (i : ℕ) × IsMaker g i rule.object) (sym (only_one inside))
+      (edge_of t meets o) at;
   objects = λ u o rule i e inside at here makes.
       subst (λ (v : TableValue). slice_get v.objects o ≡ Some rule → slice_get new i ≡ Some (with_modules e rule.provided (required_of v rule)))
-      (sym (only_one t u inside))
+      (sym (only_one inside))
       (λ there. adds.objects o rule i e there here makes) at;
   each = λ i e here.
       elim (names_or_not e name) [
-        | inl names ↦ inr (of_named (t ∷ []) t (contained (t ∷ []) 0 t refl) g name meets i e here names)
+        | inl names ↦ inr (of_named (t ∷ []) (contained (t ∷ []) 0 refl) meets i here names)
         | inr others ↦ inl (adds.others i e here others)
       ];
 }
 
-pub gained_after_target : (target : TargetValue) (g new : List EdgeValue) → IsAfterTarget target g new → Gained (table_of target ∷ []) g new
-gained_after_target target g new after =
+pub gained_after_target : {target : TargetValue} {g new : List EdgeValue} → IsAfterTarget target g new → Gained (table_of target ∷ []) g new
+gained_after_target {target} {g} {new} after =
     let t = table_of target in
     let found = after.headline.effect g after.name after.meets in
     let same = after.headline.dyndep.only after.effect.0 after.effect.1.stands in
     let effect = subst (λ (ss : List StatementValue). Effect g after.name ss new) same after.effect.2.effect in
-    gained_exactly t after.headline.no_fault.sound g new after.name after.meets (subst (AddsExactly t after.name g) (sym (found.1.only new effect)) found.2)
+    gained_exactly after.headline.no_fault.sound after.meets (subst (AddsExactly t after.name g) (sym (found.1.only new effect)) found.2)
 
 -- ---- what the edges of objects gain after targets of a project
 
@@ -91,13 +91,13 @@ gained_after_target target g new after =
 abbrev AtIndex : List TableValue → Text → TableValue → Type 0
 AtIndex tables applied t = (p : ℕ) × (n : ℕ) × (slice_get applied p ≡ Some n) × (slice_get tables n ≡ Some t)
 
-one_later : (tables : List TableValue) (m : ℕ) (applied : Numbers) (t : TableValue) → AtIndex tables applied t → AtIndex tables (m ∷ applied) t
-one_later tables m applied t (p, n, at, there) = (suc p, n, at, there)
+one_later : (tables : List TableValue) (m : ℕ) (applied : Numbers) {t : TableValue} → AtIndex tables applied t → AtIndex tables (m ∷ applied) t
+one_later tables m applied {t} (p, n, at, there) = (suc p, n, at, there)
 
 from_tables : (tables : List TableValue) (applied : Numbers) (k : ℕ) (t : TableValue) → slice_get (filter_map (λ n. slice_get tables n) applied) k ≡ Some t →
     AtIndex tables applied t
 from_tables tables [] k t e = cc
-from_tables tables (n ∷ applied) k t e = by (slice_get tables n) refl (λ j at. one_later tables n applied t (from_tables tables applied j t at)) k e
+from_tables tables (n ∷ applied) k t e = by (slice_get tables n) refl (λ j at. one_later tables n applied (from_tables tables applied j t at)) k e
   where
     by : (found : Option TableValue) → slice_get tables n ≡ found →
         ((j : ℕ) → slice_get (filter_map (λ m. slice_get tables m) applied) j ≡ Some t → AtIndex tables (n ∷ applied) t) →
@@ -164,17 +164,17 @@ module _ (targets : List ProjectTargetValue) (outs : List CollatedValue) (orders
       subst (λ x. GainsExactly files g applied x) same gained.2
 
   -- the dyndep file of a table
-  file_of : (n : ℕ) (t : TableValue) → slice_get tables n ≡ Some t → (name : Name) × (slice_get files n ≡ Some (as_file (name, t)))
-  file_of n t at =
+  file_of : (n : ℕ) {t : TableValue} → slice_get tables n ≡ Some t → (name : Name) × (slice_get files n ≡ Some (as_file (name, t)))
+  file_of n {t} at =
       let within : n < length tables = slice_get_within _ _ _ at in
       let name : (x : Text) × (slice_get after.names n ≡ Some x) = element_at after.names n (omega (arith, after.count)) in
       (name.0, to_map as_file (zip after.names tables) n (name.0, t) (to_zip after.names tables n name.0 t name.1 at))
 
-  objects_of : (p n : ℕ) (t : TableValue) → slice_get applied p ≡ Some n → slice_get tables n ≡ Some t → (o : ℕ) (rule : RuleValue) (i : ℕ) (e : EdgeValue) →
+  objects_of : (p n : ℕ) {t : TableValue} → slice_get applied p ≡ Some n → slice_get tables n ≡ Some t → (o : ℕ) {rule : RuleValue} (i : ℕ) {e : EdgeValue} →
       slice_get t.objects o ≡ Some rule →
       slice_get g i ≡ Some e → Makes e rule.object → slice_get new i ≡ Some (with_modules e rule.provided (required_of t rule))
-  objects_of p n t listed at_n o rule i e there here makes =
-      let file = file_of n t at_n in
+  objects_of p n {t} listed at_n o {rule} i {e} there here makes =
+      let file = file_of n at_n in
       let f : NamedFile = as_file (file.0, t) in
       let s = statement_of (rule, required_of t rule) in
       let at =
@@ -189,32 +189,32 @@ module _ (targets : List ProjectTargetValue) (outs : List CollatedValue) (orders
       gained.3 ∙ ap (λ a. Some (extended e a)) same
 
   -- an edge that names a file of these is that of an object
-  of_file : (i : ℕ) (e : EdgeValue) → slice_get g i ≡ Some e → NamesOne files applied e → IsOfObject (tables_of targets outs applied) e
-  of_file i e here (p, n, f, listed, at, names) =
+  of_file : (i : ℕ) {e : EdgeValue} → slice_get g i ≡ Some e → NamesOne files applied e → IsOfObject (tables_of targets outs applied) e
+  of_file i {e} here (p, n, f, listed, at, names) =
       let pair = from_map as_file (zip after.names tables) n f at in
       let t = pair.0.1 in
       let at_n = in_zip after.names tables n pair.0 pair.1 in
       let inside = to_tables tables applied p n t listed at_n in
       let meets =
       subst (λ (x : NamedFile). MeetsPremises g x.name x.additions) (sym pair.2) (after.meets.each n f at) in
-      of_named (tables_of targets outs applied) t (contained (tables_of targets outs applied) inside.0 t inside.1) g pair.0.0 meets i e here
+      of_named (tables_of targets outs applied) (contained (tables_of targets outs applied) inside.0 inside.1) meets i here
       (names ∙ ap (λ (x : NamedFile). Some x.name) (sym pair.2))
 
-  at_index : (t : TableValue) → Contains (tables_of targets outs applied) t → AtIndex tables applied t
-  at_index t inside = let at = index_of (tables_of targets outs applied) t inside in from_tables tables applied at.0 t at.1
+  at_index : {t : TableValue} → Contains (tables_of targets outs applied) t → AtIndex tables applied t
+  at_index {t} inside = let at = index_of (tables_of targets outs applied) t inside in from_tables tables applied at.0 t at.1
 
   pub gained_after_project : Gained (tables_of targets outs applied) g new
   gained_after_project = record {
     same_edges = gains.same_edges;
-    sound = λ t inside. let at = at_index t inside in sound_of after.style targets outs after.project at.1 t at.3;
+    sound = λ t inside. let at = at_index inside in sound_of after.style targets outs after.project at.1 at.3;
     edges = λ t o rule inside there.
-        let at = at_index t inside in
-        let file = file_of at.1 t at.3 in
-        edge_of t g file.0 (after.meets.each at.1 (as_file (file.0, t)) file.1) o rule there;
-    objects = λ t o rule i e inside there here makes. let at = at_index t inside in objects_of at.0 at.1 t at.2 at.3 o rule i e there here makes;
+        let at = at_index inside in
+        let file = file_of at.1 at.3 in
+        edge_of t (after.meets.each at.1 (as_file (file.0, t)) file.1) o there;
+    objects = λ t o rule i e inside there here makes. let at = at_index inside in objects_of at.0 at.1 at.2 at.3 o i there here makes;
     each = λ i e here.
         elim (one_or_none files applied e) [
-          | inl names ↦ inr (of_file i e here names)
+          | inl names ↦ inr (of_file i here names)
           | inr none ↦ inl (gains.others i e here none)
         ];
   }
@@ -224,10 +224,10 @@ module _ (targets : List ProjectTargetValue) (outs : List CollatedValue) (orders
       (closed : HasLinked targets applied) where
     pub all_made : (i : ℕ) (file : PathText) → RequiresFile (tables_of targets outs applied) g i file → (maker : ℕ) × IsMaker new maker file
     all_made i file (t, o, name, inside, edge, requires, provided) =
-        let at = at_index t inside in
+        let at = at_index inside in
         let by = ordered.below at.1 o t name file at.3 requires provided in
         let provides = by.2 in
-        let listed = index_of applied by.0 (closed at.1 by.0 (contained applied at.0 at.1 at.2) provides.2) in
+        let listed = index_of applied by.0 (closed at.1 by.0 (contained applied at.0 at.2) provides.2) in
         let here = to_tables tables applied listed.0 by.0 provides.0 listed.1 provides.3 in
-        let found = race.made provides.0 by.1 provides.1 name file (contained (tables_of targets outs applied) here.0 provides.0 here.1) provides.4 in
+        let found = race.made provides.0 by.1 provides.1 name file (contained (tables_of targets outs applied) here.0 here.1) provides.4 in
         (found.0, found.2)

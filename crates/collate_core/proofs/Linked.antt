@@ -9,8 +9,8 @@ use Rattle.collate_core.proofs.Lists.{all_at}
 
 -- ---- what the info files of a project's tables are
 
-pub contained : {X : Type 0} (xs : List X) (k : ℕ) (x : X) → slice_get xs k ≡ Some x → Contains xs x
-contained xs k x e = (k, slice_get_within _ _ _ e, get_or_from_slice_get xs k x x e)
+pub contained : {X : Type 0} (xs : List X) (k : ℕ) {x : X} → slice_get xs k ≡ Some x → Contains xs x
+contained xs k {x} e = (k, slice_get_within _ _ _ e, get_or_from_slice_get xs k x x e)
 
 -- an accepted info is that of the function of its bytes
 abbrev pub InfoIs : Type 0
@@ -28,32 +28,32 @@ module _ (style : Option Written) (targets : List ProjectTargetValue) (outs : Li
   abbrev table_at : ProjectTargetValue → TableValue
   table_at p = table_of (target_of outs p)
 
-  pub collation_at : (n : ℕ) (t : TableValue) → slice_get tables n ≡ Some t →
+  pub collation_at : (n : ℕ) {t : TableValue} → slice_get tables n ≡ Some t →
       (p : ProjectTargetValue) × (c : CollatedValue) × (slice_get targets n ≡ Some p) × (slice_get outs n ≡ Some c) × Collates (target_of outs p) style c ×
       (table_of (target_of outs p) ≡ t)
-  collation_at n t at =
+  collation_at n {t} at =
       let p = from_map table_at targets n t at in
       let within : n < length targets = slice_get_within _ _ _ p.1 in
       let c : (x : CollatedValue) × (slice_get outs n ≡ Some x) = element_at outs n (omega (arith, project.count, within)) in
       (p.0, c.0, p.1, c.1, project.each n p.0 c.0 p.1 c.1, p.2)
 
-  pub sound_of : (n : ℕ) (t : TableValue) → slice_get tables n ≡ Some t → IsSound t
-  sound_of n t at = let all = collation_at n t at in subst IsSound all.5 all.4.resolved.sound
+  pub sound_of : (n : ℕ) {t : TableValue} → slice_get tables n ≡ Some t → IsSound t
+  sound_of n {t} at = let all = collation_at n at in subst IsSound all.5 all.4.resolved.sound
 
   -- the bytes that target k wrote
   abbrev bytes_of : ℕ → Text
   bytes_of k = option_map_or (λ (c : CollatedValue). c.info) (slice_get outs k) []
 
   -- each info of a table is that of the linked target at its index
-  pub info_at : InfoIs → (n : ℕ) (t : TableValue) (i : ℕ) (info : InfoValue) → slice_get tables n ≡ Some t → slice_get t.infos i ≡ Some info →
+  pub info_at : InfoIs → {n : ℕ} {t : TableValue} {i : ℕ} {info : InfoValue} → slice_get tables n ≡ Some t → slice_get t.infos i ≡ Some info →
       (p : ProjectTargetValue) × (k : ℕ) × (slice_get targets n ≡ Some p) × (slice_get p.linked i ≡ Some k) × IsInfoOf tables n k info
-  info_at info_is n t i info at here =
-      let all = collation_at n t at in
+  info_at info_is {n} {t} {i} {info} at here =
+      let all = collation_at n at in
       let p : ProjectTargetValue = all.0 in
       let infos : List Text = linked_infos outs p.linked in
       let read : slice_get (map info_of infos) i ≡ Some info = subst (λ (v : TableValue). slice_get v.infos i ≡ Some info) (sym all.5) here in
       let text = from_map info_of infos i info read in
-      let accepted : IsInfoAccepted text.0 = all_at IsInfoAccepted infos i text.0 all.4.resolved.documents.infos text.1 in
+      let accepted : IsInfoAccepted text.0 = all_at IsInfoAccepted infos i all.4.resolved.documents.infos text.1 in
       let link = from_map bytes_of p.linked i text.0 text.1 in
       let k : ℕ = link.0 in
       let inside_link : i < length p.linked = slice_get_within _ _ _ link.1 in
@@ -71,11 +71,11 @@ module _ (style : Option Written) (targets : List ProjectTargetValue) (outs : Li
       (p, k, all.2, link.1, (u, q.0.name, q.0.kept, earlier, at_u, same_info ∙ ap info_of (sym same_text) ∙ text.2))
 
   -- and each linked target has its info in the table
-  pub info_of_link : InfoIs → (n : ℕ) (t : TableValue) (p : ProjectTargetValue) (i k : ℕ) → slice_get tables n ≡ Some t → slice_get targets n ≡ Some p →
+  pub info_of_link : InfoIs → {n : ℕ} {t : TableValue} {p : ProjectTargetValue} (i k : ℕ) → slice_get tables n ≡ Some t → slice_get targets n ≡ Some p →
       slice_get p.linked i ≡ Some k →
       (info : InfoValue) × (slice_get t.infos i ≡ Some info) × IsInfoOf tables n k info
-  info_of_link info_is n t p i k at target link =
-      let all = collation_at n t at in
+  info_of_link info_is {n} {t} {p} i k at target link =
+      let all = collation_at n at in
       let is_p = same_some _ _ (sym target ∙ all.2) in
       let there = subst (λ (z : ProjectTargetValue). slice_get z.linked i ≡ Some k) is_p link in
       let infos = linked_infos outs all.0.linked in
@@ -83,7 +83,7 @@ module _ (style : Option Written) (targets : List ProjectTargetValue) (outs : Li
       let info = info_of (bytes_of k) in
       let here =
       subst (λ (v : TableValue). slice_get v.infos i ≡ Some info) all.5 (to_map info_of infos i (bytes_of k) text) in
-      let back = info_at info_is n t i info at here in
+      let back = info_at info_is at here in
       let is_p2 = same_some _ _ (sym back.2 ∙ all.2) in
       let is_k = same_some _ _ (sym back.3 ∙ subst (λ (z : ProjectTargetValue). slice_get z.linked i ≡ Some k) (sym is_p2) there) in
       (info, here, subst (λ z. IsInfoOf tables n z info) is_k back.4)
@@ -94,9 +94,9 @@ all_from : {X : Type 0} (P : X → Type 0) (xs : List X) → ((k : ℕ) (x : X) 
 all_from P xs h k d lt = let e = element_at xs k lt in subst P (sym (get_or_from_slice_get xs k e.0 d e.1)) (h k e.0 e.1)
 
 module _ (outs : List CollatedValue) (known : List (Option InfoValue)) (are : AreKnown outs known) where
-  linked_one : (k : ℕ) (info : InfoValue) → k < length outs → get_or known k None ≡ Some info →
+  linked_one : {k : ℕ} {info : InfoValue} → k < length outs → get_or known k None ≡ Some info →
       IsReadAs (option_map_or (λ (c : CollatedValue). c.info) (slice_get outs k) []) info
-  linked_one k info within at =
+  linked_one {k} {info} within at =
       let out = element_at outs k within in
       subst (λ (d : Numbers). IsReadAs d info) (ap (λ (o : Option CollatedValue). option_map_or (λ (c : CollatedValue). c.info) o []) (sym out.1))
       (are.each k out.0 info out.1 (known_there known k info at))
@@ -109,7 +109,7 @@ module _ (outs : List CollatedValue) (known : List (Option InfoValue)) (are : Ar
   linked_read (k ∷ ks) (info ∷ infos) e all =
       let head : get_or known k None ≡ Some info = cc in
       let tail : AreLinked known ks infos = cc in
-      let one = linked_one k info (all 0 0 (omega arith)) head in
+      let one = linked_one (all 0 0 (omega arith)) head in
       let rest = linked_read ks infos tail (λ j d within. all (suc j) d (omega (arith, within))) in
       record {
         accepted = All-cons IsInfoAccepted _ (linked_infos outs ks) one.accepted rest.accepted;
@@ -119,19 +119,19 @@ module _ (outs : List CollatedValue) (known : List (Option InfoValue)) (are : Ar
 
 -- the paths of a part are paths of the info files
 module _ (part infos : List InfoValue) (is : IsPartOf part infos) (text : All IsInfoText infos) where
-  module_text : (i j : ℕ) (m : ModuleValue) → HasModule part i j m → IsModuleText m
-  module_text i j m has =
+  module_text : (i j : ℕ) {m : ModuleValue} → HasModule part i j m → IsModuleText m
+  module_text i j {m} has =
       let w = is.modules i j m has in
-      let whole = all_at IsModuleText w.2.0.modules w.0 w.1 (all_at IsInfoText infos i w.2.0 text w.2.1) w.2.2 in
+      let whole = all_at IsModuleText w.2.0.modules w.0 (all_at IsInfoText infos i text w.2.1) w.2.2 in
       record {
         file = subst IsText (sym w.3.file) whole.file;
         required = all_from (λ (pair : Name × PathText). IsText pair.1) m.required (λ k pair at.
-            let there = index_of w.1.required pair (w.3.fewer pair.0 pair.1 (contained m.required k pair at)) in
-            all_at (λ (pair : Name × PathText). IsText pair.1) w.1.required there.0 pair whole.required there.1);
+            let there = index_of w.1.required pair (w.3.fewer pair.0 pair.1 (contained m.required k at)) in
+            all_at (λ (pair : Name × PathText). IsText pair.1) w.1.required there.0 whole.required there.1);
       }
 
   part_text : All IsInfoText part
-  part_text = all_from IsInfoText part (λ i value at. all_from IsModuleText value.modules (λ j m here. module_text i j m (value, at, here)))
+  part_text = all_from IsInfoText part (λ i value at. all_from IsModuleText value.modules (λ j m here. module_text i j (value, at, here)))
 
 -- the table of a target's objects and of a part that is enough of the known info files that it
 -- links

@@ -11,8 +11,8 @@ use Rattle.collate_core.specs.Prelude.{AllByRecursion, list_any, InfoValue, Modu
 -- ---- lists of any elements
 
 -- what holds of each element holds of one of them
-pub all_at : {X : Type 0} (P : X → Type 0) (xs : List X) (k : ℕ) (x : X) → All P xs → slice_get xs k ≡ Some x → P x
-all_at P xs k x all here = subst P (get_or_from_slice_get xs k x x here) (All-get_or P xs k x (slice_get_within xs k x here) all)
+pub all_at : {X : Type 0} (P : X → Type 0) (xs : List X) (k : ℕ) {x : X} → All P xs → slice_get xs k ≡ Some x → P x
+all_at P xs k {x} all here = subst P (get_or_from_slice_get xs k x x here) (All-get_or P xs k x (slice_get_within xs k x here) all)
 
 pub flat_map_last : {A B : Type 0} (f : A → List B) (xs : List A) (x : A) → flat_map f (xs ++ x ∷ []) ≡ flat_map f xs ++ f x
 flat_map_last f xs x = flat_map-append f xs (x ∷ []) ∙ ap (λ ys. flat_map f xs ++ ys) (append-nil (f x))
@@ -77,34 +77,34 @@ above [] = (0, λ k x e. cc)
 above (y ∷ xs) = let rest = above xs in (suc y + rest.0, below_of y xs rest.0 rest.1)
 
 -- a first number that falls, or stays while a second falls, is one number that falls
-pub two_levels : (bound r s p q : ℕ) → q < bound → (r < p) ⊎ ((r ≡ p) × (s < q)) → s < bound → r * bound + s < p * bound + q
-two_levels bound r s p q lq (inl less) ls = let step : (r + 1) * bound ≤ p * bound = mul-le-mul_right bound (omega arith) in omega (arith, step)
-two_levels bound r s p q lq (inr same) ls = let first = ap (λ x. x * bound) same.0 in omega (arith, first, same.1)
+pub two_levels : {bound r s p q : ℕ} → q < bound → (r < p) ⊎ ((r ≡ p) × (s < q)) → s < bound → r * bound + s < p * bound + q
+two_levels {bound} {r} {s} {p} {q} lq (inl less) ls = let step : (r + 1) * bound ≤ p * bound = mul-le-mul_right bound (omega arith) in omega (arith, step)
+two_levels {bound} {r} {s} {p} {q} lq (inr same) ls = let first = ap (λ x. x * bound) same.0 in omega (arith, first, same.1)
 
 -- ---- what the info files of a project's targets are read as: one more target
 
 module _ (outs : List CollatedValue) (known : List (Option InfoValue)) (are : AreKnown outs known) (out : CollatedValue) (entry : Option InfoValue)
     (read : IfSome entry (IsReadAs out.info)) where
   -- the target is an earlier one, and so is what is known, or both are the last
-  each_more : (k : ℕ) (o : CollatedValue) (info : InfoValue) → (slice_get outs k ≡ Some o) ⊎ ((k ≡ length outs) × (out ≡ o)) →
+  each_more : {k : ℕ} {o : CollatedValue} {info : InfoValue} → (slice_get outs k ≡ Some o) ⊎ ((k ≡ length outs) × (out ≡ o)) →
       (slice_get known k ≡ Some (Some info)) ⊎ ((k ≡ length known) × (entry ≡ Some info)) → IsReadAs o.info info
-  each_more k o info (inl at) (inl also) = are.each k o info at also
-  each_more k o info (inl at) (inr also) = absurd (let within : k < length outs = slice_get_within _ _ _ at in omega (arith, also.0, are.count))
-  each_more k o info (inr at) (inl also) = absurd (let within : k < length known = slice_get_within _ _ _ also in omega (arith, at.0, are.count))
-  each_more k o info (inr at) (inr also) =
+  each_more {k} {o} {info} (inl at) (inl also) = are.each k o info at also
+  each_more {k} {o} {info} (inl at) (inr also) = absurd (let within : k < length outs = slice_get_within _ _ _ at in omega (arith, also.0, are.count))
+  each_more {k} {o} {info} (inr at) (inl also) = absurd (let within : k < length known = slice_get_within _ _ _ also in omega (arith, at.0, are.count))
+  each_more {k} {o} {info} (inr at) (inr also) =
       subst (λ (x : CollatedValue). IsReadAs x.info info) at.1 (subst (λ (e : Option InfoValue). IfSome e (IsReadAs out.info)) also.1 read)
 
   known_push : AreKnown (outs ++ out ∷ []) (known ++ entry ∷ [])
   known_push = record {
     count = omega (arith, length-append outs (out ∷ []), length-append known (entry ∷ []), are.count);
-    each = λ k o info at also. each_more k o info (from_push outs out k o at) (from_push known entry k (Some info) also);
+    each = λ k o info at also. each_more (from_push outs out k o at) (from_push known entry k (Some info) also);
   }
 
 -- so it is when the pool has the info, or nothing in its place
-pub known_added : (outs : List CollatedValue) (known : List (Option InfoValue)) → AreKnown outs known → (out : CollatedValue) (info : Option InfoValue) →
-    IfSome info (IsReadAs out.info) → (new : List (Option InfoValue)) → IsAdded known info new → AreKnown (outs ++ out ∷ []) new
-known_added outs known are out info read new (inl same) = subst (AreKnown (outs ++ out ∷ [])) (sym same) (known_push outs known are out info read)
-known_added outs known are out info read new (inr same) = subst (AreKnown (outs ++ out ∷ [])) (sym same) (known_push outs known are out None tt)
+pub known_added : {outs : List CollatedValue} {known : List (Option InfoValue)} → AreKnown outs known → (out : CollatedValue) (info : Option InfoValue) →
+    IfSome info (IsReadAs out.info) → {new : List (Option InfoValue)} → IsAdded known info new → AreKnown (outs ++ out ∷ []) new
+known_added {outs} {known} are out info read {new} (inl same) = subst (AreKnown (outs ++ out ∷ [])) (sym same) (known_push outs known are out info read)
+known_added {outs} {known} are out info read {new} (inr same) = subst (AreKnown (outs ++ out ∷ [])) (sym same) (known_push outs known are out None tt)
 
 -- ---- the names of private modules, as a set
 
@@ -136,10 +136,10 @@ inserted keys key name = by (list_any (bytes_eq key) keys) refl
         (λ same. ap (λ n. list_any (bytes_eq n) keys) ((bytes_eq-Decides name key).0 same) ∙ there)
     by false absent = any_last (bytes_eq name) keys key
 
-pub one_more_name : (names keys : List Name) (k : ℕ) (key : Name) → slice_get names k ≡ Some key →
+pub one_more_name : (names keys : List Name) (k : ℕ) {key : Name} → slice_get names k ≡ Some key →
     ((name : Name) → is_private_name keys name ≡ is_private_name (take k names) name)
     → (name : Name) → is_private_name (insert_key bytes_eq keys key) name ≡ is_private_name (take (k + 1) names) name
-one_more_name names keys k key here so_far name =
+one_more_name names keys k {key} here so_far name =
     inserted keys key name ∙ ap (λ t. t || bytes_eq name key) (so_far name) ∙ sym (any_last (bytes_eq name) (take k names) key) ∙
     ap (λ xs. is_private_name xs name) (sym (take_next names k key here))
 
@@ -152,5 +152,5 @@ modules_same kept other same required (pair ∷ pairs) =
     (modules_same kept other same required pairs)
 
 -- what holds where there is no value
-pub of_none : {T : Type 0} (No : Type 0) (P : T → Type 0) (found : Option T) → found ≡ None → MatchOption found No P → No
-of_none No P found is h = subst (λ o. MatchOption o No P) is h
+pub of_none : {T : Type 0} {No : Type 0} (P : T → Type 0) {found : Option T} → found ≡ None → MatchOption found No P → No
+of_none {No} P {found} is h = subst (λ o. MatchOption o No P) is h

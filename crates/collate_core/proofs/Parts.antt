@@ -28,16 +28,16 @@ value_stays P R (Err e) (Ok x) same h = absurd same
 value_stays P R (Err e) (Err d) same h = tt
 
 -- what holds of what the error is turned into, by what holds of the error
-pub error_turned : {T E D : Type 0} (R : E → D → Type 0) (P : E → Type 0) (Q : D → Type 0) → ((e : E) (d : D) → R e d → P e → Q d) →
+pub error_turned : {T E D : Type 0} (R : E → D → Type 0) {P : E → Type 0} (Q : D → Type 0) → ((e : E) (d : D) → R e d → P e → Q d) →
     (old : Result T E) (new : Result T D) → MatchResult old (λ x. new ≡ Ok x) (λ e. IsErrAnd new (R e)) → IfErr old P → IfErr new Q
-error_turned R P Q step (Ok x) new same h = subst (λ r. IfErr r Q) (sym same) tt
-error_turned R P Q step (Err e) (Ok x) same h = absurd same
-error_turned R P Q step (Err e) (Err d) same h = step e d same h
+error_turned R {P} Q step (Ok x) new same h = subst (λ r. IfErr r Q) (sym same) tt
+error_turned R {P} Q step (Err e) (Ok x) same h = absurd same
+error_turned R {P} Q step (Err e) (Err d) same h = step e d same h
 
 -- what holds of the value of a call holds of the value that `unless_faulty` finds in its result
-pub without_fault : {T E : Type 0} (P : T → Type 0) (result : Result T E) (found : Option T) (value : T) → found ≡ Some value →
+pub without_fault : {T E : Type 0} (P : T → Type 0) (result : Result T E) {found : Option T} {value : T} → found ≡ Some value →
     IfSome found (λ x. result ≡ Ok x) → IfOk result P → P value
-without_fault P result found value is same h = subst (λ r. IfOk r P) (subst (λ o. IfSome o (λ x. result ≡ Ok x)) is same) h
+without_fault P result {found} {value} is same h = subst (λ r. IfOk r P) (subst (λ o. IfSome o (λ x. result ≡ Ok x)) is same) h
 
 -- ---- what a reader of dyndep files reports of the bytes so far is what it reports of the whole text
 
@@ -51,9 +51,9 @@ reported stays bytes more text (Fault Io) same h = h
 -- ---- the paths of statements
 
 -- the paths of an escaped statement
-pub all_spelled : (output : PathText) (outputs inputs : List Text) → IsSpelled output → All IsSpelled outputs → All IsSpelled inputs →
+pub all_spelled : {output : PathText} (outputs inputs : List Text) → IsSpelled output → All IsSpelled outputs → All IsSpelled inputs →
     All IsSpelled (output ∷ (outputs ++ inputs))
-all_spelled output outputs inputs a b c = All-cons IsSpelled output (outputs ++ inputs) a (All-append IsSpelled outputs inputs b c)
+all_spelled {output} outputs inputs a b c = All-cons IsSpelled output (outputs ++ inputs) a (All-append IsSpelled outputs inputs b c)
 
 pub has_paths : (ss : List StatementValue) → All HasSpelled ss → All HasPaths ss
 has_paths ss all = All-weaker HasSpelled HasPaths (λ s h. All-weaker IsSpelled IsPath (λ path p. p.canonical) (paths_of s) h) ss all
@@ -66,37 +66,37 @@ images (x ∷ xs) h = rw (h.0, images xs h.1) refl
 pub all_images : (xs : List Numbers) → All IsPath xs → map path_of xs ≡ map (λ p. Ok p) xs
 all_images xs h = images xs (recursion_from_All IsPath xs h)
 
-unless_ok : (o : Option WriteFault) (ss : List StatementValue) (text : Text) → text_unless o ss ≡ Ok text → o ≡ None
-unless_ok None ss text h = refl
-unless_ok (Some fault) ss text h = absurd (cc)
+unless_ok : {o : Option WriteFault} (ss : List StatementValue) {text : Text} → text_unless o ss ≡ Ok text → o ≡ None
+unless_ok {o = None} ss {text} h = refl
+unless_ok {o = Some fault} ss {text} h = absurd (cc)
 
 -- statements that have a text have no fault
 pub no_fault : (ss : List StatementValue) (text : Text) → text_or_fault ss ≡ Ok text → write_fault ss ≡ None
-no_fault ss text h = unless_ok (write_fault ss) ss text h
+no_fault ss text h = unless_ok ss h
 
-line_refusal : FirstFault → (before : List StatementValue) (s : StatementValue) (after : List StatementValue) (count : ℕ) (refusal : Refusal) →
+line_refusal : FirstFault → (before : List StatementValue) (s : StatementValue) (after : List StatementValue) {count : ℕ} (refusal : Refusal) →
     write_fault before ≡ None → count ≡ length before
     → IsLineRefusal count s refusal → IsWriteRefusal (before ++ s ∷ after) refusal
-line_refusal first before s after count (StatementTooLong k) none is h =
+line_refusal first before s after {count} (StatementTooLong k) none is h =
     first before s after _ none (subst (λ n. statement_fault n s ≡ Some (write.StatementTooLong k)) is h)
-line_refusal first before s after count (Scan i fault) none is h = absurd h
-line_refusal first before s after count (Info i fault) none is h = absurd h
-line_refusal first before s after count (Table fault) none is h = absurd h
-line_refusal first before s after count (Map o fault) none is h = absurd h
-line_refusal first before s after count LinkedLater none is h = absurd h
+line_refusal first before s after {count} (Scan i fault) none is h = absurd h
+line_refusal first before s after {count} (Info i fault) none is h = absurd h
+line_refusal first before s after {count} (Table fault) none is h = absurd h
+line_refusal first before s after {count} (Map o fault) none is h = absurd h
+line_refusal first before s after {count} LinkedLater none is h = absurd h
 
 -- the rejection of a statement's build line, after statements without a fault, is that of all
-pub line_refused : FirstFault → (before : List StatementValue) (s : StatementValue) (after : List StatementValue) (count : ℕ) (failure : Failure Refusal) →
+pub line_refused : FirstFault → (before : List StatementValue) (s : StatementValue) (after : List StatementValue) {count : ℕ} (failure : Failure Refusal) →
     write_fault before ≡ None → count ≡ length before
     → ForFault (IsLineRefusal count s) failure → ForFault (IsWriteRefusal (before ++ s ∷ after)) failure
-line_refused first before s after count Memory none is h = tt
-line_refused first before s after count (Fault refusal) none is h = line_refusal first before s after count refusal none is h
+line_refused first before s after {count} Memory none is h = tt
+line_refused first before s after {count} (Fault refusal) none is h = line_refusal first before s after refusal none is h
 
 -- ---- from the parts of collating to the whole
 
-of_table : (target : TargetValue) (style : Option Written) (c : CollatedValue) → IsResolved target → IsWrittenOf target style (table_of target) c →
+of_table : {target : TargetValue} {style : Option Written} {c : CollatedValue} → IsResolved target → IsWrittenOf target style (table_of target) c →
     Collates target style c
-of_table target style c resolved h = record {
+of_table {target} {style} {c} resolved h = record {
   resolved = resolved;
   text = h.text;
   dyndep = h.stands;
@@ -110,7 +110,7 @@ of_table target style c resolved h = record {
 -- what is written of the target's table is what the target collates to
 pub collates : (target : TargetValue) (style : Option Written) (t : TableValue) (c : CollatedValue) → t ≡ table_of target → IsResolved target →
     IsWrittenOf target style t c → Collates target style c
-collates target style t c same resolved h = of_table target style c resolved (subst (λ u. IsWrittenOf target style u c) same h)
+collates target style t c same resolved h = of_table resolved (subst (λ u. IsWrittenOf target style u c) same h)
 
 resolved : (target : TargetValue) (t : TableValue) → t ≡ table_of target → AreAccepted target → ((fault : TableFault) → IsFault t target.kept fault → ⊥) →
     IsSound t → PrivateAreProvided t target.kept → IsResolved target
@@ -122,12 +122,12 @@ resolved target t table documents no_fault sound kept =
       kept = subst (λ u. PrivateAreProvided u target.kept) table kept;
     }
 
-pub built_resolved : {E : Type 0} (target : TargetValue) (read : TableValue) (built : Result TableValue E) → read ≡ table_of target → AreAccepted target →
+pub built_resolved : {E : Type 0} {target : TargetValue} {read : TableValue} (built : Result TableValue E) → read ≡ table_of target → AreAccepted target →
     IfOk built (λ t. t ≡ read) →
     IfOk built (λ t. (fault : TableFault) → IsFault t target.kept fault → ⊥) → IfOk built IsSound → IfOk built (λ t. PrivateAreProvided t target.kept) →
     OnOk built (IsResolved target)
-built_resolved target read (Ok t) same documents table no_fault sound kept = resolved target t (table ∙ same) documents no_fault sound kept
-built_resolved target read (Err e) same documents table no_fault sound kept = tt
+built_resolved {target} {read} (Ok t) same documents table no_fault sound kept = resolved target t (table ∙ same) documents no_fault sound kept
+built_resolved {target} {read} (Err e) same documents table no_fault sound kept = tt
 
 pub any_style : (target : TargetValue) (style : Option Written) (failure : Failure RefusedTarget) →
     ForFault (λ (refused : RefusedTarget). (s : Option Written) → IsRefusal target s refused.refusal) failure →
@@ -135,43 +135,43 @@ pub any_style : (target : TargetValue) (style : Option Written) (failure : Failu
 any_style target style Memory h = tt
 any_style target style (Fault refused) h = h style
 
-write_refusal : (target : TargetValue) (style : Option Written) → IsResolved target → (refusal : Refusal) →
+write_refusal : {target : TargetValue} (style : Option Written) → IsResolved target → (refusal : Refusal) →
     IsWriteRefusal (statements_of (table_of target)) refusal → IsRefusal target style refusal
-write_refusal target style resolved (StatementTooLong k) h = (resolved, h)
-write_refusal target style resolved (Scan i fault) h = absurd h
-write_refusal target style resolved (Info i fault) h = absurd h
-write_refusal target style resolved (Table fault) h = absurd h
-write_refusal target style resolved (Map o fault) h = absurd h
-write_refusal target style resolved LinkedLater h = absurd h
+write_refusal {target} style resolved (StatementTooLong k) h = (resolved, h)
+write_refusal {target} style resolved (Scan i fault) h = absurd h
+write_refusal {target} style resolved (Info i fault) h = absurd h
+write_refusal {target} style resolved (Table fault) h = absurd h
+write_refusal {target} style resolved (Map o fault) h = absurd h
+write_refusal {target} style resolved LinkedLater h = absurd h
 
-pub write_refused : (style : Option Written) (t : TableValue) (ss : List StatementValue) → ss ≡ statements_of t →
+pub write_refused : (style : Option Written) (t : TableValue) {ss : List StatementValue} → ss ≡ statements_of t →
     (failure : Failure Refusal) → ForFault (IsWriteRefusal ss) failure → ForFault (IsTextsRefusal t style) failure
-write_refused style t ss same Memory h = tt
-write_refused style t ss same (Fault refusal) h = λ target table resolved.
-    write_refusal target style resolved refusal (subst (λ xs. IsWriteRefusal xs refusal) (same ∙ ap statements_of table) h)
+write_refused style t {ss} same Memory h = tt
+write_refused style t {ss} same (Fault refusal) h = λ target table resolved.
+    write_refusal style resolved refusal (subst (λ xs. IsWriteRefusal xs refusal) (same ∙ ap statements_of table) h)
 
-maps_refusal : (target : TargetValue) (style : Option Written) → IsResolved target → write_fault (statements_of (table_of target)) ≡ None →
+maps_refusal : {target : TargetValue} (style : Option Written) → IsResolved target → write_fault (statements_of (table_of target)) ≡ None →
     (refusal : Refusal) → IsMapsRefusal (table_of target) style refusal → IsRefusal target style refusal
-maps_refusal target None resolved fits refusal h = absurd h
-maps_refusal target (Some written) resolved fits (Map o fault) h = (resolved, fits, h)
-maps_refusal target (Some written) resolved fits (StatementTooLong k) h = absurd h
-maps_refusal target (Some written) resolved fits (Scan i fault) h = absurd h
-maps_refusal target (Some written) resolved fits (Info i fault) h = absurd h
-maps_refusal target (Some written) resolved fits (Table fault) h = absurd h
-maps_refusal target (Some written) resolved fits LinkedLater h = absurd h
+maps_refusal {target} None resolved fits refusal h = absurd h
+maps_refusal {target} (Some written) resolved fits (Map o fault) h = (resolved, fits, h)
+maps_refusal {target} (Some written) resolved fits (StatementTooLong k) h = absurd h
+maps_refusal {target} (Some written) resolved fits (Scan i fault) h = absurd h
+maps_refusal {target} (Some written) resolved fits (Info i fault) h = absurd h
+maps_refusal {target} (Some written) resolved fits (Table fault) h = absurd h
+maps_refusal {target} (Some written) resolved fits LinkedLater h = absurd h
 
-pub maps_refused : (style : Option Written) (t : TableValue) (ss : List StatementValue) → ss ≡ statements_of t → write_fault ss ≡ None →
+pub maps_refused : (style : Option Written) (t : TableValue) {ss : List StatementValue} → ss ≡ statements_of t → write_fault ss ≡ None →
     (failure : Failure Refusal) → ForFault (IsMapsRefusal t style) failure → ForFault (IsTextsRefusal t style) failure
-maps_refused style t ss same fits Memory h = tt
-maps_refused style t ss same fits (Fault refusal) h = λ target table resolved.
-    maps_refusal target style resolved (subst (λ xs. write_fault xs ≡ None) (same ∙ ap statements_of table) fits) refusal
+maps_refused style t {ss} same fits Memory h = tt
+maps_refused style t {ss} same fits (Fault refusal) h = λ target table resolved.
+    maps_refusal style resolved (subst (λ xs. write_fault xs ≡ None) (same ∙ ap statements_of table) fits) refusal
     (subst (λ u. IsMapsRefusal u style refusal) table h)
 
 -- of a target whose documents have this table
-pub texts_refused : (target : TargetValue) (style : Option Written) (t : TableValue) → t ≡ table_of target → IsResolved target →
+pub texts_refused : {target : TargetValue} (style : Option Written) {t : TableValue} → t ≡ table_of target → IsResolved target →
     (failure : Failure Refusal) → ForFault (IsTextsRefusal t style) failure → ForFault (IsRefusal target style) failure
-texts_refused target style t table resolved Memory h = tt
-texts_refused target style t table resolved (Fault refusal) h = h target table resolved
+texts_refused {target} style {t} table resolved Memory h = tt
+texts_refused {target} style {t} table resolved (Fault refusal) h = h target table resolved
 
 -- the table of the target's documents is what was read of it, whatever the rejection
 pub was_read : (target : TargetValue) (refusal : Refusal) (read : TableValue) → read ≡ table_of target → WasRead target refusal read
@@ -187,56 +187,56 @@ abbrev pub EachMap : TableValue → Written → List Text → Type 0
 EachMap t written texts = (o : ℕ) (rule : RuleValue) (text : Text) → slice_get t.objects o ≡ Some rule → slice_get texts o ≡ Some text →
     IsMapText t written o rule text
 
-last_map : (t : TableValue) (written : Written) (object : ℕ) (text : Text) →
+last_map : {t : TableValue} (written : Written) {object : ℕ} {text : Text} →
     ((rule : RuleValue) → slice_get t.objects object ≡ Some rule → IsMapText t written object rule text) →
-    (o m : ℕ) (rule : RuleValue) (other : Text) → o ≡ object + m → slice_get (text ∷ []) m ≡ Some other → slice_get t.objects o ≡ Some rule →
+    (o m : ℕ) {rule : RuleValue} {other : Text} → o ≡ object + m → slice_get (text ∷ []) m ≡ Some other → slice_get t.objects o ≡ Some rule →
     IsMapText t written o rule other
-last_map t written object text is o zero rule other index at here =
+last_map {t} written {object} {text} is o zero {rule} {other} index at here =
     let same_index : o ≡ object = omega (arith, index) in
     let same = same_some _ _ at in
     subst (λ x. IsMapText t written o rule x) same
     (subst (λ n. IsMapText t written n rule text) (sym same_index) (is rule (subst (λ n. slice_get t.objects n ≡ Some rule) same_index here)))
-last_map t written object text is o (suc m) rule other index at here = absurd (cc)
+last_map {t} written {object} {text} is o (suc m) {rule} {other} index at here = absurd (cc)
 
-pub more_maps : (t : TableValue) (written : Written) (texts : List (Vec ℕ Global)) (object : ℕ) (text : Vec ℕ Global) → length texts ≡ object →
+pub more_maps : (t : TableValue) (written : Written) (texts : List (Vec ℕ Global)) {object : ℕ} (text : Vec ℕ Global) → length texts ≡ object →
     EachMap t written (map (λ m. m.items) texts) →
     ((rule : RuleValue) → slice_get t.objects object ≡ Some rule → IsMapText t written object rule text.items) →
     EachMap t written (map (λ m. m.items) (texts ++ text ∷ []))
-more_maps t written texts object text count each is o rule other here at =
+more_maps t written texts {object} text count each is o rule other here at =
     elim (in_append (map (λ (m : Vec ℕ Global). m.items) texts) (text.items ∷ []) o other
     (ap (λ xs. slice_get xs o) (sym (map_push (λ (m : Vec ℕ Global). m.items) texts text)) ∙ at)) [
       | inl before ↦ each o rule other here before
-      | inr last ↦ last_map t written object text.items is o last.0 rule other (omega (arith, last.1, count, length-map texts (λ (m : Vec ℕ Global). m.items)))
+      | inr last ↦ last_map written is o last.0 (omega (arith, last.1, count, length-map texts (λ (m : Vec ℕ Global). m.items)))
           last.2 here
     ]
 
-pub map_before : (t : TableValue) (written : Written) (texts : List (Vec ℕ Global)) (object : ℕ) → length texts ≡ object →
+pub map_before : {t : TableValue} (written : Written) (texts : List (Vec ℕ Global)) {object : ℕ} → length texts ≡ object →
     EachMap t written (map (λ m. m.items) texts) →
     (p : ℕ) (earlier : RuleValue) → p < object → slice_get t.objects p ≡ Some earlier → (text : Text) × IsMapText t written p earlier text
-map_before t written texts object count each p earlier less here =
+map_before {t} written texts {object} count each p earlier less here =
     let x : (text : Text) ×
     (slice_get (map (λ (m : Vec ℕ Global). m.items) texts) p ≡ Some text) =
     element_at (map (λ (m : Vec ℕ Global). m.items) texts) p (omega (arith, less, count, length-map texts (λ (m : Vec ℕ Global). m.items))) in
     (x.0, each p earlier x.0 here x.1)
 
 -- the first map that is rejected is that of this object, if those before are written
-pub object_refused : (t : TableValue) (written : Written) (texts : List (Vec ℕ Global)) (object : ℕ) → length texts ≡ object →
+pub object_refused : {t : TableValue} {written : Written} (texts : List (Vec ℕ Global)) {object : ℕ} → length texts ≡ object →
     EachMap t written (map (λ m. m.items) texts) → object < length t.objects →
     (failure : Failure Refusal) → ForFault (IsObjectRefusal t written object) failure → ForFault (IsMapsRefusal t (Some written)) failure
-object_refused t written texts object count each within Memory h = tt
-object_refused t written texts object count each within (Fault (Map k fault)) h =
+object_refused {t} {written} texts {object} count each within Memory h = tt
+object_refused {t} {written} texts {object} count each within (Fault (Map k fault)) h =
     let at = element_at t.objects object within in
     subst (λ o. IsMapRefusal t written o fault) (sym h.0) (record {
-      before = map_before t written texts object count each;
+      before = map_before written texts count each;
       rule = at.0;
       here = at.1;
       faulty = h.1 at.0 at.1;
     })
-object_refused t written texts object count each within (Fault (Scan i fault)) h = absurd h
-object_refused t written texts object count each within (Fault (Info i fault)) h = absurd h
-object_refused t written texts object count each within (Fault (Table fault)) h = absurd h
-object_refused t written texts object count each within (Fault (StatementTooLong k)) h = absurd h
-object_refused t written texts object count each within (Fault LinkedLater) h = absurd h
+object_refused {t} {written} texts {object} count each within (Fault (Scan i fault)) h = absurd h
+object_refused {t} {written} texts {object} count each within (Fault (Info i fault)) h = absurd h
+object_refused {t} {written} texts {object} count each within (Fault (Table fault)) h = absurd h
+object_refused {t} {written} texts {object} count each within (Fault (StatementTooLong k)) h = absurd h
+object_refused {t} {written} texts {object} count each within (Fault LinkedLater) h = absurd h
 
 -- ---- what a target collates to, by the table of a part of its info files
 
@@ -269,27 +269,27 @@ module _ (target : TargetValue) (part : List InfoValue) where
     part_resolved : AreAccepted target → PrivateAreProvided u target.kept → IsResolved target
     part_resolved accepted kept = record { documents = accepted; no_fault = laws.no_fault t target.kept whole kept; sound = whole; kept = kept }
 
-    same_pairs : KeepsRequired part t.infos → (o : ℕ) (pairs : Modules) → ArePairs (IsNeeded u o) pairs → ArePairs (IsNeeded t o) pairs
-    same_pairs keeps o pairs are = record {
+    same_pairs : KeepsRequired part t.infos → (o : ℕ) {pairs : Modules} → ArePairs (IsNeeded u o) pairs → ArePairs (IsNeeded t o) pairs
+    same_pairs keeps o {pairs} are = record {
       each = λ name file.
           let needs = laws.needed t.objects part t.infos is keeps sound o name file in
           (λ has. needs.0 ((are.each name file).0 has), λ needed. (are.each name file).1 (needs.1 needed));
       rising = are.rising;
     }
 
-    same_map : KeepsRequired part t.infos → (written : Written) (o : ℕ) (rule : RuleValue) (text : Text) → IsMapText u written o rule text →
+    same_map : KeepsRequired part t.infos → {written : Written} {o : ℕ} {rule : RuleValue} {text : Text} → IsMapText u written o rule text →
         IsMapText t written o rule text
-    same_map keeps written o rule text h = (h.0, record { is_map = h.1.is_map; provided = h.1.provided; needed = same_pairs keeps o _ h.1.needed }, h.2)
+    same_map keeps {written} {o} {rule} {text} h = (h.0, record { is_map = h.1.is_map; provided = h.1.provided; needed = same_pairs keeps o h.1.needed }, h.2)
 
     same_maps : (style : Option Written) (texts : List Text) → IfSome style (λ _. KeepsRequired part t.infos) → AreMaps u style texts →
         AreMaps t style texts
     same_maps None texts keeps h = h
-    same_maps (Some written) texts keeps h = (h.0, λ o rule text at_rule at_text. same_map keeps written o rule text (h.1 o rule text at_rule at_text))
+    same_maps (Some written) texts keeps h = (h.0, λ o rule text at_rule at_text. same_map keeps (h.1 o rule text at_rule at_text))
 
     -- what is written of the table with the part is what the target collates to
-    part_collates : (style : Option Written) (c : CollatedValue) → IfSome style (λ _. KeepsRequired part t.infos) → AreAccepted target →
+    part_collates : {style : Option Written} {c : CollatedValue} → IfSome style (λ _. KeepsRequired part t.infos) → AreAccepted target →
         PrivateAreProvided u target.kept → IsWrittenOf target style u c → Collates target style c
-    part_collates style c keeps accepted kept texts =
+    part_collates {style} {c} keeps accepted kept texts =
         collates target style t c refl (part_resolved accepted kept) (record {
           spelled = subst (λ (tasks : List Task). All HasSpelled (map statement_of tasks)) same_tasks texts.spelled;
           stands = subst (λ (tasks : List Task). StandsForOnly c.dyndep (map statement_of tasks)) same_tasks texts.stands;
@@ -301,9 +301,9 @@ module _ (target : TargetValue) (part : List InfoValue) where
         })
 
 -- and so of each table that is enough for the target
-pub table_collates : (target : TargetValue) (style : Option Written) (u : TableValue) → PartLaws → IsEnoughFor target style u → IsSound u →
-    PrivateAreProvided u target.kept → (c : CollatedValue) → IsWrittenOf target style u c → Collates target style c
-table_collates target style u laws is sound kept c texts =
+pub table_collates : {target : TargetValue} {style : Option Written} {u : TableValue} → PartLaws → IsEnoughFor target style u → IsSound u →
+    PrivateAreProvided u target.kept → {c : CollatedValue} → IsWrittenOf target style u c → Collates target style c
+table_collates {target} {style} {u} laws is sound kept {c} texts =
     let same = ap (λ (objects : List RuleValue). table_with objects u.infos) is.objects in
-    part_collates target u.infos laws is.enough (subst IsSound same sound) style c is.keeps is.accepted
+    part_collates target u.infos laws is.enough (subst IsSound same sound) is.keeps is.accepted
     (subst (λ v. PrivateAreProvided v target.kept) same kept) (subst (λ v. IsWrittenOf target style v c) same texts)

@@ -39,7 +39,7 @@ module _ (required : RequiredFiles) (all_required : AllRequired) (one_file : One
   base_of : (n : ℕ) → n < length tables → (xs : Numbers) × IsBase tables n xs
   base_of n within =
       let t : (x : TableValue) × (slice_get tables n ≡ Some x) = element_at tables n within in
-      let given = (sound_of style targets outs project n t.0 t.1).orderable in (
+      let given = (sound_of style targets outs project n t.1).orderable in (
         given.0,
         λ u at. subst (λ (v : TableValue). (length given.0 ≡ length v.objects) × ((o p : ℕ) → DependsOn v o p → slice_index given.0 p < slice_index given.0 o))
             (same_some _ _ (sym t.1 ∙ at)) (given.1.one_each, given.1.below),
@@ -52,9 +52,9 @@ module _ (required : RequiredFiles) (all_required : AllRequired) (one_file : One
       (is_base : (n : ℕ) (xs : Numbers) → slice_get bases n ≡ Some xs → IsBase tables n xs)
       (count : length rows ≡ length bases) (is_row : (n : ℕ) (ys : Numbers) → slice_get rows n ≡ Some ys → IsRow bound bases n ys)
       (small : (n : ℕ) (xs : Numbers) (o x : ℕ) → slice_get bases n ≡ Some xs → slice_get xs o ≡ Some x → x < bound) where
-    rank_of : (n o : ℕ) (t : TableValue) (xs : Numbers) → slice_get tables n ≡ Some t → slice_get bases n ≡ Some xs → o < length t.objects →
+    rank_of : (n o : ℕ) {t : TableValue} {xs : Numbers} → slice_get tables n ≡ Some t → slice_get bases n ≡ Some xs → o < length t.objects →
         (rank_at rows n o ≡ n * bound + slice_index xs o) × (slice_index xs o < bound)
-    rank_of n o t xs at base_at within =
+    rank_of n o {t} {xs} at base_at within =
         let long : length xs ≡ length t.objects = (is_base n xs base_at t at).0 in
         let x = element_at xs o (omega (arith, long, within)) in
         let inside : n < length bases = slice_get_within _ _ _ base_at in
@@ -69,34 +69,34 @@ module _ (required : RequiredFiles) (all_required : AllRequired) (one_file : One
     base_at n t at = let within : n < length tables = slice_get_within _ _ _ at in element_at bases n (omega (arith, bases_count, within))
 
     -- who provides a required name, seen from the target of its user, is below the user
-    provider_below : (n o m p : ℕ) (t : TableValue) (name file : Name) → slice_get tables n ≡ Some t → Requires t o name →
+    provider_below : (n o m p : ℕ) {t : TableValue} {name file : Name} → slice_get tables n ≡ Some t → Requires t o name →
         ProjectProvides targets tables n m p name file → rank_at rows m p < rank_at rows n o
-    provider_below n o m p t name file at needs (u, j, inl same, at_u, provides) =
+    provider_below n o m p {t} {name} {file} at needs (u, j, inl same, at_u, provides) =
         let provided : Provides t p j name file =
-        same_provides required all_required one_file once info_is style targets outs project n m p j t u name file at same at_u provides in
+        same_provides required all_required one_file once info_is style targets outs project n m p j at same at_u provides in
         let xs = base_at n t at in
         let inside_o = slice_get_within _ _ _ needs.1 in
         let inside_p = slice_get_within _ _ _ provided.1 in
         let less = (is_base n xs.0 xs.1 t at).1 o p (name, file, j, needs, provided) in
-        let ro = rank_of n o t xs.0 at xs.1 inside_o in
-        let rp = rank_of n p t xs.0 at xs.1 inside_p in
+        let ro = rank_of n o at xs.1 inside_o in
+        let rp = rank_of n p at xs.1 inside_p in
         subst (λ k. rank_at rows k p < rank_at rows n o) same (omega (arith, ro.0, rp.0, less))
-    provider_below n o m p t name file at needs (u, j, inr link, at_u, provides) =
+    provider_below n o m p {t} {name} {file} at needs (u, j, inr link, at_u, provides) =
         let index = index_of link.0.linked m link.2 in
         let within = slice_get_within _ _ _ index.1 in
         let earlier = subst (λ v. v < n) (get_or_from_slice_get link.0.linked index.0 m 0 index.1) (project.earlier n link.0 link.1 index.0 0 within) in
         let xs = base_at n t at in
         let ys = base_at m u at_u in
-        let ro = rank_of n o t xs.0 at xs.1 (slice_get_within _ _ _ needs.1) in
-        let rp = rank_of m p u ys.0 at_u ys.1 (slice_get_within _ _ _ provides.1) in
-        let fall = two_levels bound m (slice_index ys.0 p) n (slice_index xs.0 o) ro.1 (inl earlier) rp.1 in
+        let ro = rank_of n o at xs.1 (slice_get_within _ _ _ needs.1) in
+        let rp = rank_of m p at_u ys.1 (slice_get_within _ _ _ provides.1) in
+        let fall = two_levels ro.1 (inl earlier) rp.1 in
         omega (arith, ro.0, rp.0, fall)
 
     below : (n o : ℕ) (t : TableValue) (name file : Name) → slice_get tables n ≡ Some t → Requires t o name → IsProvided t name file →
         (m : ℕ) × (p : ℕ) × ProjectProvides targets tables n m p name file × (rank_at rows m p < rank_at rows n o)
     below n o t name file at needs provided =
-        let by = provided_from required all_required one_file once info_is style targets outs project n t name file at provided.0 provided.1 in
-        (by.0, by.1, by.2, provider_below n o by.0 by.1 t name file at needs by.2)
+        let by = provided_from required all_required one_file once info_is style targets outs project at provided.0 provided.1 in
+        (by.0, by.1, by.2, provider_below n o by.0 by.1 at needs by.2)
 
   pub ordered : IsProjectOrdered targets (project_tables targets outs)
   ordered =
@@ -107,7 +107,7 @@ module _ (required : RequiredFiles) (all_required : AllRequired) (one_file : One
       let small : (n : ℕ) (xs : Numbers) (o x : ℕ) → slice_get b.0 n ≡ Some xs → slice_get xs o ≡ Some x → x < top.0
       = λ n xs o x at e. top.1 (offset (λ (ys : Numbers). ys) b.0 n + o) x (in_flat_map (λ (ys : Numbers). ys) b.0 n o x (xs, at, e)) in
       record {
-        files = λ n o t name at needs. (sound_of style targets outs project n t at).known o name needs;
+        files = λ n o t name at needs. (sound_of style targets outs project n at).known o name needs;
         ranks = rows.0;
         below = λ n o t name file at needs provided. below top.0 b.0 rows.0 b.1 b.2 rows.1 rows.2 small n o t name file at needs provided;
       }

@@ -14,8 +14,8 @@ pub returns-clause-refused : goal.returns-clause-refused
 returns-clause-refused c =
     let target = c.args.target.now in
     let table = c.in_ok-table.ensures in
-    let refused = texts_refused target None c.in_ok-table.table table.table table.resolved _
-    (write_refused None c.in_ok-table.table (statements_of c.into_resolved-resolved.result) (ap statements_of c.into_resolved-resolved.ensures) _
+    let refused = texts_refused None table.table table.resolved _
+    (write_refused None c.in_ok-table.table (ap statements_of c.into_resolved-resolved.ensures) _
     c.in-Err.ensures.refused) in
     turned (λ refusal (refused : RefusedTarget). refused.refusal ≡ refusal) (IsRefusal target None)
     (λ (refused : RefusedTarget). IsRefusal target None refused.refusal)
@@ -34,7 +34,7 @@ returns-in-Ok-clause-dyndep c =
     let named =
     subst IsTargetName (ap (λ (t : TargetValue). t.name) c.target.view_is)
     (record { accepted = c.target_names_are_valid.ensures.accepted; utf8 = c.target_names_are_valid.ensures.utf8 }) in
-    let sound = info_is_sound t table.text c.added_files_can_be_ordered.ensures.required target.name target.kept named
+    let sound = info_is_sound t table.text c.added_files_can_be_ordered.ensures.required target.kept named
     (subst (All HasPaths) are (has_paths statements text.spelled)) in
     let collated : CollatedValue = record { dyndep = c.in-Ok.dyndep.items; info = info_text info; objects = map (λ rule. rule.object) t.objects; maps = [] } in
     let is =

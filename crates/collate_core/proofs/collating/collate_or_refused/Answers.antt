@@ -38,7 +38,7 @@ returns-in-Err-clause-refused g c =
     (λ refusal refused same h. subst (IsRefusal c.args.target.now style) (sym same) h) c.in-Err.failure c.map.result
     (turns_weaker _ (λ refusal (refused : RefusedTarget). refused.refusal ≡ refusal) (λ refusal refused post. search rules) c.in-Err.failure c.map.result
     c.map.ensures)
-    (texts_refused c.args.target.now style c.in_ok-table.table table.table table.resolved c.in-Err.failure c.in-Err.ensures.refused)
+    (texts_refused style table.table table.resolved c.in-Err.failure c.in-Err.ensures.refused)
 
 -- said here, so that a body which does something else is rejected soon
 pub returns-in-Err-clause-read : goal.returns-in-Err-clause-read

@@ -8,14 +8,14 @@ pub returns-in-Err-Fault-clause-refused : goal.returns-in-Err-Fault-clause-refus
 returns-in-Err-Fault-clause-refused c =
     let i = c.loop-index.index in
     subst (IsInfoRefusal (map (λ info. info.now) c.args.documents.now) i) (sym c.in-Err-Fault.fault-is)
-    (refused_info (λ info. info.now) c.args.documents.now i _ c.loop-index.infos.items c.in-Err-Fault.field-0 c.in-Err-Fault.fault c.loop-index-test.true
+    (refused_info (λ info. info.now) c.args.documents.now _ c.loop-index-test.true
     c.loop-index.invariant c.in-Err-Fault.field-0-is c.in-Err-Fault.ensures.refused)
 
 pub loop-index-preserved : goal.loop-index-preserved
 loop-index-preserved c =
     let i = c.loop-index.index in
     subst (AreReadAs (take (i + 1) (map (λ info. info.now) c.args.documents.now))) (sym c.in_ok-push-in-Ok.ensures.items)
-    (lent_infos (λ info. info.now) c.args.documents.now i _ c.loop-index.infos.items c.in-Ok.info c.loop-index-test.true c.loop-index.invariant (record {
+    (lent_infos (λ info. info.now) c.args.documents.now _ c.loop-index-test.true c.loop-index.invariant (record {
       accepted = subst (IsAccepted info_checks IsInfo _) c.in-Ok.ensures.value c.in-Ok.ensures.accepted;
       value = c.in-Ok.ensures.value;
       text = c.in-Ok.ensures.text;

@@ -22,7 +22,7 @@ returns-clause-resolved c =
     let target = c.args.target.now in
     let built = c.build_or_refused.ensures.builds in
     value_stays (λ table. IsResolved target) _ c.build_or_refused.result c.map_err.result c.map_err.ensures.cases
-    (built_resolved target (table_with c.in-Ok.objects.items c.in-Ok-infos_of_all.infos.items) c.build_or_refused.result (same_table c) (accepted c)
+    (built_resolved c.build_or_refused.result (same_table c) (accepted c)
     built.table (rw (← c.target.view_is) built.no_fault) built.sound (rw (← c.target.view_is) built.kept))
 
 pub returns-clause-text : goal.returns-clause-text
@@ -38,7 +38,7 @@ returns-clause-refused c =
     let target = c.args.target.now in
     let reported = λ (refused : RefusedTable). IsReported (table_of target) target.kept refused.fault in
     let refusal = λ (refused : RefusedTarget). (style : Option Written) → IsRefusal target style refused.refusal in
-    error_turned _ (ForFault reported) (ForFault refusal)
+    error_turned _ (ForFault refusal)
     (λ failure new post. turned IsOfTable reported refusal (λ given refused same h style. subst (IsRefusal target style) (sym same.0) (accepted c, h)) failure
     new (search rules))
     c.build_or_refused.result c.map_err.result c.map_err.ensures.cases
@@ -52,7 +52,7 @@ returns-clause-read c =
     let given = λ (refused : RefusedTable). table_with refused.objects.items refused.infos.items ≡
     table_with c.in-Ok.objects.items c.in-Ok-infos_of_all.infos.items in
     let was = λ (refused : RefusedTarget). WasRead target refused.refusal (table_with refused.objects.items refused.infos.items) in
-    error_turned _ (ForFault given) (ForFault was)
+    error_turned _ (ForFault was)
     (λ failure new post. turned IsOfTable given was
     (λ refused new same h.
     was_read target new.refusal (table_with new.objects.items new.infos.items)

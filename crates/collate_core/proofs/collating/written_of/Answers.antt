@@ -10,13 +10,13 @@ pub returns-in_err-text-clause-refused : goal.returns-in_err-text-clause-refused
 returns-in_err-text-clause-refused g c =
     let statements = statements_of c.resolved.result.now in
     let p = err_from_is_err_and c.from_residual.result c.from_residual.ensures.1 in
-    rw (p.1, p.2) (write_refused _ c.args.table.now statements (ap statements_of c.resolved.ensures) _ c.in_err-text.ensures.refused)
+    rw (p.1, p.2) (write_refused _ c.args.table.now (ap statements_of c.resolved.ensures) _ c.in_err-text.ensures.refused)
 
 pub returns-in_err-maps-clause-refused : goal.returns-in_err-maps-clause-refused
 returns-in_err-maps-clause-refused g c =
     let statements = statements_of c.resolved.result.now in
     let p = err_from_is_err_and c.from_residual-in_err-maps.result c.from_residual-in_err-maps.ensures.1 in
-    rw (p.1, p.2) (maps_refused _ c.args.table.now statements (ap statements_of c.resolved.ensures)
+    rw (p.1, p.2) (maps_refused _ c.args.table.now (ap statements_of c.resolved.ensures)
     (no_fault statements c.in_ok-text.text.items c.in_ok-text.ensures.text) _ c.in_err-maps.ensures.refused)
 
 pub lent_info_write-requires : goal.lent_info_write-requires
@@ -29,7 +29,7 @@ invariant_of-result g c =
     let are = ap statements_of c.resolved.ensures in (
       statements_of c.args.table.now,
       collated_text c.args.table.now c.requires.sound c.added_files_can_be_ordered.ensures.orderable c.added_files_can_be_ordered.ensures.once
-          c.added_files_can_be_ordered.ensures.apart c.added_files_can_be_ordered.ensures.required c.in_ok-objects_of.field-0.items c.in_ok-text.text.items
+          c.added_files_can_be_ordered.ensures.apart c.added_files_can_be_ordered.ensures.required c.in_ok-objects_of.field-0.items
           c.in_ok-objects_of.ensures (subst (StandsForOnly c.in_ok-text.text.items) are c.in_ok-text.ensures.meaning)
           (has_paths (statements_of c.args.table.now) (subst (All HasSpelled) are c.in_ok-text.ensures.spelled)),
     )

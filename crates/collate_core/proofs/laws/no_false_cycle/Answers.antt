@@ -8,7 +8,7 @@ pub returns-clause-target : goal.returns-clause-target
 returns-clause-target c = λ target g new after.
     let laws = c.added_files_can_be_ordered.ensures in
     no_false_cycle (table_of target ∷ []) g new
-    (no_false_wait laws.required laws.all_required laws.one_file (table_of target ∷ []) g new (gained_after_target target g new after))
+    (no_false_wait laws.required laws.all_required laws.one_file (table_of target ∷ []) g new (gained_after_target after))
 
 pub returns-clause-project : goal.returns-clause-project
 returns-clause-project c = λ targets outs applied g new after.

@@ -1,5 +1,3 @@
-use Rattle.std.proofs.Common.{[], ◌∷◌}
-use Rattle.collate_core.specs.Prelude.{table_of, tables_of}
 use Rattle.collate_core.proofs.BuildLemmas.{no_false_rebuild}
 use Rattle.collate_core.proofs.Gains.{gained_after_target, gained_after_project}
 use Rattle.collate_core.proofs.laws.no_false_rebuild.Goals as goal
@@ -7,11 +5,11 @@ use Rattle.collate_core.proofs.laws.no_false_rebuild.Goals as goal
 pub returns-clause-target : goal.returns-clause-target
 returns-clause-target c = λ target g new after.
     let laws = c.added_files_can_be_ordered.ensures in
-    no_false_rebuild laws.required laws.all_required laws.one_file (table_of target ∷ []) g new (gained_after_target target g new after)
+    no_false_rebuild laws.required laws.all_required laws.one_file (gained_after_target after)
 
 pub returns-clause-project : goal.returns-clause-project
 returns-clause-project c = λ targets outs applied g new after.
     let laws = c.added_files_can_be_ordered.ensures in
     let orders = c.project_orders.ensures.orders after.style targets outs after.project in
-    no_false_rebuild laws.required laws.all_required laws.one_file (tables_of targets outs applied) g new
+    no_false_rebuild laws.required laws.all_required laws.one_file
     (gained_after_project targets outs orders applied g new after)

@@ -7,7 +7,7 @@ use Rattle.collate_core.proofs.laws.no_race.Goals as goal
 pub returns-clause-target : goal.returns-clause-target
 returns-clause-target c = λ target g new after.
     let laws = c.added_files_can_be_ordered.ensures in
-    build.no_race laws.required laws.all_required laws.one_file (table_of target ∷ []) g new (gained_after_target target g new after)
+    build.no_race laws.required laws.all_required laws.one_file (table_of target ∷ []) g new (gained_after_target after)
 
 pub returns-clause-project : goal.returns-clause-project
 returns-clause-project c = λ targets outs applied g new after.

@@ -20,5 +20,5 @@ returns-clause-orderable c = λ style targets outs project g names order_of h ra
     project in
     let ordered = order.ordered laws.required laws.all_required laws.one_file laws.once c.bytes_determine_the_value.ensures.info style targets outs project in
     lemmas.end_orderable c.files_order.ensures laws.required style targets outs project orders ordered
-    (λ n t at. lemmas.added_once t (sound_of style targets outs project n t at) laws.orderable laws.once laws.apart laws.required) g names count meets order_of
+    (λ n t at. lemmas.added_once t (sound_of style targets outs project n at) laws.orderable laws.once laws.apart laws.required) g names count meets order_of
     h ranks new outputs level all indices applies

@@ -28,11 +28,11 @@ enough g c =
     (subst (λ (os : List RuleValue). IsEnough os c.in-Some-2.part.items found.0) c.deref.ensures.value found.2)
     (keeps_for_style c.args.style g.M.MapStyle.written (c.match-style.requirements ≡ Kept) c.in-Some-2.part.items found.0 kept found.3) in
     subst (IsEnoughFor target (option_map g.M.MapStyle.written (option_copied c.args.style)))
-    (sym (without_fault _ _ _ _ c.in-Some-3.is c.in_ok-table.ensures c.build_or_refused-built.ensures.builds.table)) enough_here
+    (sym (without_fault _ _ c.in-Some-3.is c.in_ok-table.ensures c.build_or_refused-built.ensures.builds.table)) enough_here
 
 -- and it has no fault
 sound : (g : given.Over) (c : In-Some-3 g) → IsSound c.in-Some-3.table
-sound g c = without_fault IsSound _ _ _ c.in-Some-3.is c.in_ok-table.ensures c.build_or_refused-built.ensures.builds.sound
+sound g c = without_fault IsSound _ c.in-Some-3.is c.in_ok-table.ensures c.build_or_refused-built.ensures.builds.sound
 
 pub written_of-requires-clause-sound : goal.written_of-requires-clause-sound
 written_of-requires-clause-sound g c = sound g (goal.at.written_of-requires-clause-sound g c).In-Some-3
@@ -47,12 +47,12 @@ build_or_refused-built-requires g c = λ key is.
     (c.match-style.requirements ≡ Kept → KeepsRequired part.items infos))) c.in-Some-2.is c.in_ok-part.ensures in
     let covers = subst (λ (r : Option (Vec RuleValue Global)). IfSome r (λ rules. CoversLinked c.args.pool.now rules.items)) c.in-Some.is c.requires.key in
     subst (λ (k : TableKey). Covers k (table_entries (table_with c.in-Some.objects.items c.in-Some-2.part.items))) (sym c.key.ensures ∙ same_some _ _ is)
-    (covers_part c.args.pool.now c.args.linked.now c.in-Some.objects.items c.in-Some-2.part.items found.0 covers found.1 found.2.is_part)
+    (covers_part c.args.linked.now covers found.1 found.2.is_part)
 
 -- what is written of the table
 written : (g : given.Over) (c : In-Some-4 g) →
     IsWrittenOf c.args.target.now (option_map g.M.MapStyle.written (option_copied c.args.style)) c.in-Some-3.table c.in-Some-4.out
-written g c = without_fault (IsWrittenOf c.args.target.now (option_map g.M.MapStyle.written (option_copied c.args.style)) c.in-Some-3.table) _ _ _
+written g c = without_fault (IsWrittenOf c.args.target.now (option_map g.M.MapStyle.written (option_copied c.args.style)) c.in-Some-3.table) _
     c.in-Some-4.is c.in_ok-out.ensures c.written_of.ensures.written
 
 pub info_again-requires-clause-table : goal.info_again-requires-clause-table
@@ -74,9 +74,8 @@ returns g c =
     } in
     let here = (goal.at.returns g c).In-Some-3 in
     let kept = subst (λ (t : TargetValue). PrivateAreProvided c.in-Some-3.table t.kept) c.target.view_is
-    (without_fault (λ table. PrivateAreProvided table c.target.inside.kept.now) _ _ _ c.in-Some-3.is c.in_ok-table.ensures
+    (without_fault (λ table. PrivateAreProvided table c.target.inside.kept.now) _ c.in-Some-3.is c.in_ok-table.ensures
     c.build_or_refused-built.ensures.builds.kept) in (
-      table_collates c.args.target.now (option_map g.M.MapStyle.written (option_copied c.args.style)) c.in-Some-3.table laws (enough g here) (sound g here) kept
-          c.in-Some-4.out (written g (goal.at.returns g c).In-Some-4),
+      table_collates laws (enough g here) (sound g here) kept (written g (goal.at.returns g c).In-Some-4),
       subst (λ (text : List ℕ). IfSome c.in_ok-info.info (λ info. IsTrue c.args.is_read × IsReadAs text info)) c.info.ensures c.in_ok-info.ensures,
     )

@@ -4,14 +4,14 @@ use Rattle.collate_core.specs.Prelude.{ForFault, Failure, Memory, Fault, IsAccep
 use Rattle.collate_core.proofs.Lists.{of_none}
 use Rattle.collate_core.proofs.projects.collate_linked.Goals as goal
 
-of_some : {T : Type 0} (No : Type 0) (P : T → Type 0) (found : Option T) (value : T) → found ≡ Some value → MatchOption found No P → P value
-of_some No P found value is h = subst (λ o. MatchOption o No P) is h
+of_some : {T : Type 0} (No : Type 0) (P : T → Type 0) {found : Option T} {value : T} → found ≡ Some value → MatchOption found No P → P value
+of_some No P {found} {value} is h = subst (λ o. MatchOption o No P) is h
 
 -- what holds of the fault, and that all linked targets are earlier
-refused_linked : {F : Type 0} (Later : F → Type 0) (Earlier : Type 0) (P : F → Type 0) → Earlier → (failure : Failure F) → ForFault P failure →
+refused_linked : {F : Type 0} (Later : F → Type 0) {Earlier : Type 0} (P : F → Type 0) → Earlier → (failure : Failure F) → ForFault P failure →
     ForFault (λ fault. Later fault ⊎ (Earlier × P fault)) failure
-refused_linked Later Earlier P earlier Memory h = tt
-refused_linked Later Earlier P earlier (Fault fault) h = inr (earlier, h)
+refused_linked Later {Earlier} P earlier Memory h = tt
+refused_linked Later {Earlier} P earlier (Fault fault) h = inr (earlier, h)
 
 -- the info in the result of reading a text, if there is one, is what the text is read as
 read_as : {E : Type 0} (text : List ℕ) (result : Result InfoValue E) (found : Option InfoValue) → IfSome found (λ info. result ≡ Ok info) →
@@ -33,33 +33,33 @@ with_both P (Some value) a h = (a, h)
 
 pub collate_by_part-requires-clause-infos : goal.collate_by_part-requires-clause-infos
 collate_by_part-requires-clause-infos g c =
-    let wrote = of_some _ _ _ _ c.in-Some.is c.in_ok-infos.ensures in
+    let wrote = of_some _ _ c.in-Some.is c.in_ok-infos.ensures in
     let infos =
     ap (map (λ info. info.now)) c.deref.ensures.value ∙ wrote.1 in
     (c.args.outs.now, c.requires.known, wrote.0, infos)
 
 pub returns-in-Some-found-clause-collated : goal.returns-in-Some-found-clause-collated
 returns-in-Some-found-clause-collated g c =
-    let wrote = of_some _ _ _ _ c.in-Some.is c.in_ok-infos.ensures in
+    let wrote = of_some _ _ c.in-Some.is c.in_ok-infos.ensures in
     let infos =
     ap (map (λ info. info.now)) c.deref.ensures.value ∙ wrote.1 in
-    rw (← c.target.view_is, ← infos) (wrote.0, (of_some _ _ _ _ c.in-Some-found.is c.in_ok-found.ensures).0)
+    rw (← c.target.view_is, ← infos) (wrote.0, (of_some _ _ c.in-Some-found.is c.in_ok-found.ensures).0)
 
 pub returns-in-Some-found-clause-known : goal.returns-in-Some-found-clause-known
 returns-in-Some-found-clause-known g c =
-    (of_some _ _ _ _ c.in-Some-found.is c.in_ok-found.ensures).1
+    (of_some _ _ c.in-Some-found.is c.in_ok-found.ensures).1
 
 pub returns-in_err-out-clause-refused : goal.returns-in_err-out-clause-refused
 returns-in_err-out-clause-refused g c =
-    let wrote = of_some _ _ _ _ c.in-Some.is c.in_ok-infos.ensures in
+    let wrote = of_some _ _ c.in-Some.is c.in_ok-infos.ensures in
     let infos =
     ap (map (λ info. info.now)) c.deref.ensures.value ∙ wrote.1 in
     let p = err_from_is_err_and c.from_residual-in_err-out.result c.from_residual-in_err-out.ensures.1 in
-    rw (p.1, p.2, ← c.target.view_is, ← infos) (refused_linked _ _ _ wrote.0 _ c.in_err-out.ensures.refused)
+    rw (p.1, p.2, ← c.target.view_is, ← infos) (refused_linked _ _ wrote.0 _ c.in_err-out.ensures.refused)
 
 pub returns-in_err-out-clause-read : goal.returns-in_err-out-clause-read
 returns-in_err-out-clause-read g c =
-    let wrote = of_some _ _ _ _ c.in-Some.is c.in_ok-infos.ensures in
+    let wrote = of_some _ _ c.in-Some.is c.in_ok-infos.ensures in
     let infos =
     ap (map (λ info. info.now)) c.deref.ensures.value ∙ wrote.1 in
     let p = err_from_is_err_and c.from_residual-in_err-out.result c.from_residual-in_err-out.ensures.1 in
@@ -67,14 +67,14 @@ returns-in_err-out-clause-read g c =
 
 pub returns-then-not-is_read-clause-collated : goal.returns-then-not-is_read-clause-collated
 returns-then-not-is_read-clause-collated g c =
-    let wrote = of_some _ _ _ _ c.in-Some.is c.in_ok-infos.ensures in
+    let wrote = of_some _ _ c.in-Some.is c.in_ok-infos.ensures in
     let infos =
     ap (map (λ info. info.now)) c.deref.ensures.value ∙ wrote.1 in
     rw (← c.target.view_is, ← infos) (wrote.0, c.in_ok-out.ensures.collated)
 
 pub returns-clause-collated : goal.returns-clause-collated
 returns-clause-collated g c =
-    let wrote = of_some _ _ _ _ c.in-Some.is c.in_ok-infos.ensures in
+    let wrote = of_some _ _ c.in-Some.is c.in_ok-infos.ensures in
     let infos =
     ap (map (λ info. info.now)) c.deref.ensures.value ∙ wrote.1 in
     rw (← c.target.view_is, ← infos) (wrote.0, c.in_ok-out.ensures.collated)
@@ -88,4 +88,4 @@ returns-clause-known g c =
 
 pub returns-in_default-clause-refused : goal.returns-in_default-clause-refused
 returns-in_default-clause-refused g c =
-    rw (← c.target.view_is) (inl (of_none _ _ _ c.in_default.is c.in_ok-infos.ensures, c.without_table.ensures))
+    rw (← c.target.view_is) (inl (of_none _ c.in_default.is c.in_ok-infos.ensures, c.without_table.ensures))

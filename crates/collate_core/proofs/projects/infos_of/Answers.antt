@@ -21,7 +21,7 @@ loop-target-preserved c =
     record {
       earlier = rw next (All-push (λ k. k < length outs) (take i linked) k c.loop-target.invariant.earlier found.3.0);
       infos = rw (c.in_ok-push.ensures.items, next, map-append)
-          (map_push (λ (x : ℕ). option_map_or (λ (y : CollatedValue). y.info) (slice_get outs x) []) (take i linked) k _ c.info.result.now
+          (map_push (λ (x : ℕ). option_map_or (λ (y : CollatedValue). y.info) (slice_get outs x) []) (take i linked)
           c.loop-target.invariant.infos value);
     }
 

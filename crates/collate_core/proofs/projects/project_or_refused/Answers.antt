@@ -98,9 +98,9 @@ push-requires g c =
     let read : IsTrue c.if-is_some.is_read →
     is_some c.next-own.result ≡ true = λ is. elim c.if-is_some.branch
     [ then-is_some w ↦ sym c.is_some.ensures ∙ w.if-is_some.true | else-is_some w ↦ absurd (cc (is, w.is_read-is)) ] in
-    may_be_added c.loop-index.pool.key (project_entries (take (length all) targets)) c.loop-index.invariant.made c.in-Ok.info
+    may_be_added (project_entries (take (length all) targets)) c.loop-index.invariant.made c.in-Ok.info
     (own_info targets all each n p here _ _ c.loop-index.invariant.rules c.next-own.result c.next-own.ensures.items c.if-is_some.is_read read
-    c.bytes_determine_the_value.ensures.info style outs c.in-Ok.out linked.1 c.in-Ok.info c.in-Ok.ensures.known)
+    c.bytes_determine_the_value.ensures.info outs linked.1 c.in-Ok.info c.in-Ok.ensures.known)
 
 pub loop-index-preserved : goal.loop-index-preserved
 loop-index-preserved g c =
@@ -115,22 +115,22 @@ loop-index-preserved g c =
     let all = into_iter_items c.into_iter-rules.result in
     let each = subst (AreRulesOfEach targets) (sym c.into_iter-rules.ensures.rest) c.in_ok-read.ensures.rules in
     let none : c.next-own.result ≡ None → length (into_iter_items c.loop-index.rules) ≡ 0 = λ is. sym c.loop-index.rules.rest.ok.0 ∙
-    (of_none _ _ _ is c.next-own.ensures.cases).0 in
+    (of_none _ is c.next-own.ensures.cases).0 in
     let read : IsTrue c.if-is_some.is_read →
     is_some c.next-own.result ≡ true = λ is. elim c.if-is_some.branch
     [ then-is_some w ↦ sym c.is_some.ensures ∙ w.if-is_some.true | else-is_some w ↦ absurd (cc (is, w.is_read-is)) ] in
     let info_held = own_info targets all each n p here _ _ c.loop-index.invariant.rules c.next-own.result c.next-own.ensures.items c.if-is_some.is_read read
-    c.bytes_determine_the_value.ensures.info style outs c.in-Ok.out linked.1 c.in-Ok.info c.in-Ok.ensures.known in
+    c.bytes_determine_the_value.ensures.info outs linked.1 c.in-Ok.info c.in-Ok.ensures.known in
     let added = c.in_ok-pool-in-Ok.ensures.added in
     record {
       collated = rw (take_next targets n p here, c.in_ok-push-in-Ok.ensures.items)
           (project_push style (take n targets) outs c.loop-index.invariant.collated p c.in-Ok.out linked.0 linked.1);
-      rules = taken_next all _ _ n c.next-own.result c.loop-index.invariant.rules c.next-own.ensures.items none;
+      rules = taken_next all _ _ n c.loop-index.invariant.rules c.next-own.ensures.items none;
       made = rw c.in_ok-pool-in-Ok.ensures.key c.loop-index.invariant.made;
-      held = held_added _ c.loop-index.pool.infos c.in-Ok.info c.in_ok-pool-in-Ok.pool.infos c.loop-index.invariant.held info_held added;
+      held = held_added _ c.loop-index.pool.infos c.in-Ok.info c.loop-index.invariant.held info_held added;
       known = subst (λ (os : List CollatedValue). AreKnown os c.in_ok-pool-in-Ok.pool.infos) (sym c.in_ok-push-in-Ok.ensures.items)
-          (known_added outs c.loop-index.pool.infos c.loop-index.invariant.known c.in-Ok.out c.in-Ok.info
-          (known_read _ _ c.in-Ok.info c.in-Ok.ensures.known) c.in_ok-pool-in-Ok.pool.infos added);
+          (known_added c.loop-index.invariant.known c.in-Ok.out c.in-Ok.info
+          (known_read _ _ c.in-Ok.info c.in-Ok.ensures.known) added);
     }
 
 pub returns-clause-outcome : goal.returns-clause-outcome
@@ -141,13 +141,13 @@ returns-clause-outcome g c =
       collated = collated;
       orders = c.project_orders.ensures.orders _ _ _ collated;
       numbered = c.project_orders.ensures.numbered _ _ _ collated;
-      maps = maps_of_style (option_copied c.args.style) g.M.MapStyle.written g.M.MapStyle.kept g.M.MapStyle.entries
+      maps = maps_of_style (option_copied c.args.style) g.M.MapStyle.kept g.M.MapStyle.entries
           (λ s. record {
             reads_back = λ m text is e. g.met.M.MapStyle.reads_back s m text is e;
             faults_of_maps = λ m line is. g.met.M.MapStyle.faults_of_maps s m line is;
             keeps_pairs = λ m is. g.met.M.MapStyle.keeps_pairs s m is;
           })
-          c.project_maps.ensures.maps c.args.targets.now c.loop-index.outs.items collated;
+          c.project_maps.ensures.maps collated;
       orderable = c.project_orders.ensures.orderable _ _ _ collated;
       refused = tt;
     }

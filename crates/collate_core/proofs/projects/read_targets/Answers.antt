@@ -14,9 +14,9 @@ loop-target-preserved c =
     let read = c.rules_of_all-read.ensures in
     let rules = c.in-Some.rules in
     let is = subst (λ (q : ProjectTargetValue). AreRulesOf q.setting q.scans rules.items) c.target.view_is (record {
-      accepted = without_fault _ _ _ _ c.in-Some.is c.in_ok-rules.ensures read.accepted;
-      same = without_fault (λ rules. rules.items ≡ all_rules c.target.inside.setting.now _) _ _ _ c.in-Some.is c.in_ok-rules.ensures read.rules;
-      text = without_fault (λ rules. All IsRuleText rules.items) _ _ _ c.in-Some.is c.in_ok-rules.ensures read.text;
+      accepted = without_fault _ _ c.in-Some.is c.in_ok-rules.ensures read.accepted;
+      same = without_fault (λ rules. rules.items ≡ all_rules c.target.inside.setting.now _) _ c.in-Some.is c.in_ok-rules.ensures read.rules;
+      text = without_fault (λ rules. All IsRuleText rules.items) _ c.in-Some.is c.in_ok-rules.ensures read.text;
     }) in
     let count = ap length c.in_ok-push.ensures.items ∙ length-append c.loop-target.all.items (rules ∷ []) ∙
     ap (λ m. m + 1) c.loop-target.invariant.count in
@@ -26,7 +26,7 @@ loop-target-preserved c =
     ap (λ (x : List ℕ). (before ++ x ∷ []) ++ flat_map object_entries c.deref.result.now) name
     ∙ ap (λ (rs : List RuleValue). (before ++ p.name ∷ []) ++ flat_map object_entries rs) c.deref.ensures.value
     ∙ ap (λ (m : ℕ). (project_entries (take m targets) ++ p.name ∷ []) ++ flat_map object_entries rules.items) c.loop-target.invariant.count
-    ∙ one_more_target targets n p rules.items here is.same
+    ∙ one_more_target targets n here is.same
     in
     record {
       count = count;

@@ -1,10 +1,9 @@
-use Rattle.std.proofs.Common.{ℕ, length, subst, sym}
+use Rattle.std.proofs.Common.{ℕ, subst, sym}
 use Rattle.ninja_text.specs.Failure.{ForFault}
 use Rattle.dep_order.specs.Needs.{IsOrderable}
 use Rattle.dep_order.specs.Sortings.{IsSortingOf}
 use Rattle.dep_order.specs.declared.Sorting.{Sorting}
 use Rattle.dep_order.specs.declared.Sorting.TheVariants.{Order, Cycle}
-use Rattle.build_effect.specs.Graphs.{EdgeNeeds}
 use Rattle.build_effect.specs.Effect.{Effect}
 use Rattle.collate_core.specs.Rehearsal.{HasEffect, IsOrder, IsRehearseFault}
 use Rattle.collate_core.specs.ProjectOrders.{dyndep_file}
@@ -12,9 +11,9 @@ use Rattle.collate_core.proofs.Effects.{are_canonical}
 use Rattle.collate_core.proofs.rehearsal.check_edges.Goals as goal
 
 -- of needs that are orderable a sorting is an order
-ordered : (count : ℕ) (Needs : ℕ → ℕ → Type 0) → IsOrderable count Needs → (sorting : Sorting) → IsSortingOf count Needs sorting → IsOrder sorting
-ordered count Needs orderable (Order order) h = tt
-ordered count Needs orderable (Cycle cycle) h = absurd (h.0 orderable)
+ordered : {count : ℕ} {Needs : ℕ → ℕ → Type 0} → IsOrderable count Needs → (sorting : Sorting) → IsSortingOf count Needs sorting → IsOrder sorting
+ordered {count} {Needs} orderable (Order order) h = tt
+ordered {count} {Needs} orderable (Cycle cycle) h = absurd (h.0 orderable)
 
 -- said here, so that the order of another graph is rejected soon
 pub returns-clause-sorted : goal.returns-clause-sorted
@@ -29,11 +28,11 @@ returns-clause-ordered c = λ statements text meets level.
     let same = text.dyndep.only found.0 here in
     let effect = subst (λ xs. Effect old c.args.name.now xs new) same found.2.effect in
     let gives =
-    c.one_effect.ensures.gives old new c.args.name.now statements statements (are_canonical statements text.canonical) effect in
+    c.one_effect.ensures.gives old new c.args.name.now statements statements (are_canonical text.canonical) effect in
     let orderable =
     c.level_orders.ensures (dyndep_file c.args.name.now statements) old level.outputs new level.ranks meets gives level.has_outputs level.level text.orderable
     in
-    ordered (length new) (EdgeNeeds new) orderable c.in_ok-edge_order.field-0 c.in_ok-edge_order.ensures
+    ordered orderable c.in_ok-edge_order.field-0 c.in_ok-edge_order.ensures
 
 pub unreachable-requires : goal.unreachable-requires
 unreachable-requires c =

@@ -1,5 +1,5 @@
 use Rattle.ninja_text.proofs.ForCallers.{take_next}
-use Rattle.std.proofs.Common.{rules, ◌++◌, take, map, ap, refl, append_assoc}
+use Rattle.std.proofs.Common.{rules, ◌++◌, take, ap, refl, append_assoc}
 use Rattle.std.proofs.lemmas.Option.{slice_get_read}
 use Rattle.collate_core.specs.Prelude.{module_of}
 use Rattle.collate_core.proofs.Outcomes.{map_push}
@@ -15,5 +15,4 @@ loop-pair-preserved c =
     take_next pairs i pair (slice_get_read pairs _ i pair refl c.loop-pair-test.true c.pair-item.is) in
     rw (c.in_ok-push.ensures.items, c.loop-pair.invariant, append_assoc, next)
     (ap (λ ms. c.args.modules.now.items ++ ms)
-    (map_push (module_of c.args.private_names.now.keys c.args.required.now) (take i pairs) pair
-    (map (module_of c.args.private_names.now.keys c.args.required.now) (take i pairs)) _ refl (search rules)))
+    (map_push (module_of c.args.private_names.now.keys c.args.required.now) (take i pairs) refl (search rules)))

@@ -23,17 +23,17 @@ loop-index-preserved c =
       restat = not c.is_empty.result;
     } in
     let same =
-    built_statement rule c.required.result.now s (c.bytes.ensures.text ∙ ap (λ (r : RuleValue). r.object) c.rule.view_is)
+    built_statement rule c.required.result.now (c.bytes.ensures.text ∙ ap (λ (r : RuleValue). r.object) c.rule.view_is)
     (ap lent_files c.deref-in-loop-index.ensures.value ∙ c.in_ok-lend_files.ensures.files ∙
     ap module_files (c.deref.ensures.value ∙ ap (λ (r : RuleValue). r.provided) c.rule.view_is))
     (ap lent_files c.deref-in-loop-index-2.ensures.value ∙ c.in_ok-lend_files-2.ensures.files)
     (ap not (c.is_empty.ensures ∙ ap (λ n. n == 0) c.rule.inside.provided.ok.0 ∙ ap (λ (r : RuleValue). length r.provided == 0) c.rule.view_is)) in
     let next =
-    one_more t index rule c.required.result.now s so_far here (c.required.ensures rule here) same refl in
+    one_more t index here (c.required.ensures rule here) same refl in
     record {
       text = subst (λ xs. IsTextOf xs c.add.new.text) next (c.in_ok-add.ensures.added so_far c.loop-index.invariant.text);
       spelled = subst (All HasSpelled) next (All-push HasSpelled so_far s c.loop-index.invariant.spelled
-          (all_spelled s.output s.implicit_outputs s.implicit_inputs
+          (all_spelled s.implicit_outputs s.implicit_inputs
           (record { canonical = c.bytes.ensures.canonical ∙ ap Ok (sym c.bytes.ensures.text); writable = c.bytes.ensures.writable })
           (subst lent (sym c.deref-in-loop-index.ensures.value) c.in_ok-lend_files.ensures.spelled)
           (subst lent (sym c.deref-in-loop-index-2.ensures.value) c.in_ok-lend_files-2.ensures.spelled)));
@@ -54,19 +54,18 @@ returns-in_err-add-clause-refused c =
       restat = not c.is_empty.result;
     } in
     let same =
-    built_statement rule c.required.result.now s (c.bytes.ensures.text ∙ ap (λ (r : RuleValue). r.object) c.rule.view_is)
+    built_statement rule c.required.result.now (c.bytes.ensures.text ∙ ap (λ (r : RuleValue). r.object) c.rule.view_is)
     (ap lent_files c.deref-in-loop-index.ensures.value ∙ c.in_ok-lend_files.ensures.files ∙
     ap module_files (c.deref.ensures.value ∙ ap (λ (r : RuleValue). r.provided) c.rule.view_is))
     (ap lent_files c.deref-in-loop-index-2.ensures.value ∙ c.in_ok-lend_files-2.ensures.files)
     (ap not (c.is_empty.ensures ∙ ap (λ n. n == 0) c.rule.inside.provided.ok.0 ∙ ap (λ (r : RuleValue). length r.provided == 0) c.rule.view_is)) in
-    rw (p.1, p.2, ← with_rest t index rule c.required.result.now s here (c.required.ensures rule here) same)
-    (line_refused c.first_fault.ensures (map statement_of (take index (tasks_of t))) s (map statement_of (drop (index + 1) (tasks_of t)))
-    c.loop-index.text.count _ c.loop-index.invariant.text.unfaulted c.loop-index.invariant.text.count c.in_err-add.ensures.refused)
+    rw (p.1, p.2, ← with_rest t index here (c.required.ensures rule here) same)
+    (line_refused c.first_fault.ensures (map statement_of (take index (tasks_of t))) s (map statement_of (drop (index + 1) (tasks_of t))) _ c.loop-index.invariant.text.unfaulted c.loop-index.invariant.text.count c.in_err-add.ensures.refused)
 
 pub add-requires : goal.add-requires
 add-requires c =
     let lent = λ (fs : List (Bor (List ℕ))). All IsSpelled (lent_files fs) in
-    all_spelled c.bytes.result.now (lent_files c.deref-in-loop-index.result.now) (lent_files c.deref-in-loop-index-2.result.now)
+    all_spelled (lent_files c.deref-in-loop-index.result.now) (lent_files c.deref-in-loop-index-2.result.now)
     (record { canonical = c.bytes.ensures.canonical ∙ ap Ok (sym c.bytes.ensures.text); writable = c.bytes.ensures.writable })
     (subst lent (sym c.deref-in-loop-index.ensures.value) c.in_ok-lend_files.ensures.spelled)
     (subst lent (sym c.deref-in-loop-index-2.ensures.value) c.in_ok-lend_files-2.ensures.spelled)
@@ -74,7 +73,7 @@ add-requires c =
 -- at the loop's end the statements so far are those of all objects
 at_end : (c : goal.After-drop-outputs-2) → map statement_of (take c.loop-index.index (tasks_of c.args.table.now)) ≡ statements_of c.args.table.now
 at_end c =
-    all_statements c.args.table.now c.loop-index.index
+    all_statements c.args.table.now
     (subst (λ (objects : List RuleValue). length objects ≤ c.loop-index.index) c.objects-rule-items.ensures.objects c.loop-index-test.false)
 
 finished : (c : goal.After-drop-outputs-2) → IsFinished (statements_of c.args.table.now) c.finish.result.items

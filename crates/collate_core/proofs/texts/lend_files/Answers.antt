@@ -17,7 +17,7 @@ loop-module-preserved c =
     let file = c.bytes.ensures in
     record {
       files = rw (c.in_ok-push.ensures.items, next, map-append)
-          (map_push (λ (pair : Name × PathText). pair.1) (take i modules) pair _ c.bytes.result.now c.loop-module.invariant.files file.text);
+          (map_push (λ (pair : Name × PathText). pair.1) (take i modules) c.loop-module.invariant.files file.text);
       spelled = rw (c.in_ok-push.ensures.items, map-append)
           (All-push IsSpelled (lent_files c.loop-module.files.items) c.bytes.result.now c.loop-module.invariant.spelled
           (record { canonical = file.canonical ∙ ap Ok (sym file.text); writable = file.writable }));

@@ -16,7 +16,7 @@ loop-index-preserved c =
     c.in_ok-add_modules.ensures
     ∙ ap (λ ms. c.loop-index.modules.items ++ ms)
     (modules_same c.in_ok-private_names.private_names.keys kept c.in_ok-private_names.ensures.names c.required.result.now rule.provided)
-    ∙ more_modules kept t c.loop-index.index rule c.required.result.now c.loop-index.modules.items here (c.required.ensures rule here)
+    ∙ more_modules kept t c.loop-index.index here (c.required.ensures rule here)
     c.loop-index.invariant
 
 pub returns : goal.returns

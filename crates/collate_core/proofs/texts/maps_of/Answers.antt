@@ -10,7 +10,7 @@ returns-in_err-map_text-clause-refused g c =
     let within : c.loop-object.object < length t.objects = rw (← c.objects-object-end.ensures.objects) (omega arith) in
     let p = err_from_is_err_and c.from_residual-in_err-map_text.result c.from_residual-in_err-map_text.ensures.1 in
     rw (c.in-Some.is, p.1, p.2)
-    (object_refused t written c.loop-object.texts.items c.loop-object.object c.loop-object.invariant.count c.loop-object.invariant.each within
+    (object_refused c.loop-object.texts.items c.loop-object.invariant.count c.loop-object.invariant.each within
     c.in_err-map_text.field-0.0 c.in_err-map_text.ensures.refused)
 
 pub loop-object-preserved : goal.loop-object-preserved
@@ -22,6 +22,6 @@ loop-object-preserved g c =
       count = ap length c.in_ok-push.ensures.items ∙
           omega (arith, length-append c.loop-object.texts.items (c.in_ok-map_text.field-0 ∷ []), c.loop-object.invariant.count);
       each = subst (λ xs. EachMap t written (map (λ m. m.items) xs)) (sym c.in_ok-push.ensures.items)
-          (more_maps t written c.loop-object.texts.items c.loop-object.object c.in_ok-map_text.field-0 c.loop-object.invariant.count
+          (more_maps t written c.loop-object.texts.items c.in_ok-map_text.field-0 c.loop-object.invariant.count
           c.loop-object.invariant.each c.in_ok-map_text.ensures.text);
     }

@@ -12,7 +12,7 @@ loop-name-preserved c =
     record {
       names = λ name.
           ap (λ (keys : List (List ℕ)). is_private_name keys name) c.in_ok-insert.ensures.keys
-          ∙ one_more_name names c.loop-name.set.keys c.loop-name.name-index c.in_ok-copy.field-0 (here ∙ ap (λ (n : List ℕ). Some n) (sym c.in_ok-copy.ensures))
+          ∙ one_more_name names c.loop-name.set.keys c.loop-name.name-index (here ∙ ap (λ (n : List ℕ). Some n) (sym c.in_ok-copy.ensures))
           c.loop-name.invariant.names name;
       key = subst (λ (key : TableKey). IsKeyOf key names) (sym c.insert.ensures.hasher) c.loop-name.invariant.key;
     }
