@@ -88,7 +88,8 @@ returns-then-not-is_new-clause-fault c =
             sym w.maker-is,
           )
     ] in
-    let twice : IsMadeTwice objects (map provision_of provided) first (length objects + i) (BmiTwice c.in_ok-copy-2.field-0 c.if-first-objects.maker p.maker) = (
+    let twice : IsMadeTwice objects (map provision_of provided) first (length objects + i)
+    (BmiTwice c.in_ok-copy-2.field-0 c.if-first-objects.maker p.maker) = (
       earlier.0,
       claim,
       earlier.1,

@@ -28,5 +28,6 @@ returns-in-loop-required-clause-fault c =
       | in_default w ↦ λ by. no_module t c.requires i at w.in_default.is by.0 by.1 by.3
     ] in
     for_boxed (λ fault. (kept : List Name) → Reports 6 t kept fault) _ _
-    (λ kept. reports_info_unknown t kept i c.loop-required.invariant (required_there t c.requires i at) none (cc (c.in_ok-copy.ensures, c.in_ok-copy-2.ensures, c.in_ok-copy-3.ensures)))
+    (λ kept. reports_info_unknown t kept i c.loop-required.invariant (required_there t c.requires i at) none
+    (cc (c.in_ok-copy.ensures, c.in_ok-copy-2.ensures, c.in_ok-copy-3.ensures)))
     c.failure_of.ensures

@@ -25,7 +25,8 @@ returns-in_default-clause-fault c =
       name,
       record {
         here = at;
-        holds = λ k at. let p = from_map name_of (provisions t) k name at in none_named (provisions t) name (sym c.find.ensures.module ∙ ap (option_map _) c.in_default.is) k p.0 (p.1, p.2);
+        holds = λ k at. let p = from_map name_of (provisions t) k name at in none_named (provisions t) name
+            (sym c.find.ensures.module ∙ ap (option_map _) c.in_default.is) k p.0 (p.1, p.2);
         before = λ k y lt at_k absent. let r =
             in_row keys c.loop-required.row.items (take i c.deref-required-items.result.now) k c.loop-required.invariant
             (in_take i c.deref-required-items.result.now k y lt (same_reads k list ∙ at_k)) in absent r.0 r.2;
