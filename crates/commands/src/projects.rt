@@ -208,7 +208,8 @@ pub(crate) struct Targets<'f> {
 }
 
 impl<'f> Model for Targets<'f> {
-    ghost use Rattle.std.specs.Prelude.{◌≡◌, List, ℕ};
+    ghost use Rattle.std.specs.Prelude.{◌≡◌, List};
+    ghost use Rattle.ninja_text.specs.Bytes.{PathText};
     ghost use Rattle.commands.specs.ProjectCommand.{ReadTargetValue, last_with};
     ghost use Rattle.commands.specs.inner.ProjectTargets.{writer_of, LinkEarlier};
 
@@ -216,7 +217,7 @@ impl<'f> Model for Targets<'f> {
 
     ghost view = { λ t. t.list.items };
 
-    ghost invariant = { λ t. LinkEarlier t.list.items × ((info : List ℕ) →
+    ghost invariant = { λ t. LinkEarlier t.list.items × ((info : PathText) →
         writer_of t.writers info ≡ last_with t.list.items info) };
 }
 

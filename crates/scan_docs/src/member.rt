@@ -5,7 +5,7 @@ ghost use Rattle.scan_docs.specs.Prelude.{key, Some};
 
 use std::fmt;
 
-/// A member of a document's objects, or a value that is none: the document, a rule, a list's entry.
+/// A member of a document's objects, or what is no member: the document, a rule, a list's entry.
 #[derive(Clone, Copy, Debug, PartialEq, Eq)]
 pub enum Member {
     Document,
