@@ -22,7 +22,8 @@ use std::rc::RcSlice;
 /// Reads an edge listing that comes in pieces: build lines with their bindings `dyndep` and
 /// `restat` (Ninja 1.11 manual, "Build statements"), comments and blank lines.
 ///
-/// A piece may end anywhere, also within a continuation or between CR and LF, to the same result.
+/// A piece may end anywhere, also within a continuation or between CR and LF. The result is that of
+/// the whole text.
 #[derive(Drop)]
 pub struct ListingReader {
     alloc: Global,

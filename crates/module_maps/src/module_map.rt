@@ -116,7 +116,8 @@ pub trait MapStyle {
     ///
     /// # Errors
     ///
-    /// K1 or K2 if and only if the map does not fit, or [`Failure::Memory`] if an allocation fails.
+    /// Returns K1 or K2 if and only if the map does not fit, or [`Failure::Memory`] if an
+    /// allocation fails.
     fn write(&self, alloc: Global, map: &ModuleMap<'_>) -> Result<Vec<u8>, Failure<MapFault>>
         ensures { Gives (λ text. text.items) result (written self.now map.now) };
 

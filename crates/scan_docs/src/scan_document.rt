@@ -43,7 +43,8 @@ pub fn scan(alloc: Global, bytes: &[u8], setting: &Setting) -> Result<Vec<Rule>,
     scan_with(alloc, bytes, &setting)
 }
 
-/// Does what [`scan`] does, with its errors, for a setting reduced once for all scans of a target.
+/// Does what [`scan`] does, with its errors, for a setting that is reduced once for all scan
+/// documents of a target.
 pub fn scan_with(
     alloc: Global,
     bytes: &[u8],
