@@ -125,7 +125,8 @@ held text (Err failure) (Ok value) h = absurd h
 
 -- one of what can be made
 pub or_unmade : {T V F : Type 0} (view : T → V) (prefix : Text) (text : F → Text) (r : Result T (Failure F)) (s : Outcome T) (meaning : Result V F) →
-    Gives view r meaning → Printed prefix text r s → Returns (λ t. meaning ≡ Ok t) (λ fault. meaning ≡ Err fault) (λ fault. prefix ++ text fault) [] (seen view s)
+    Gives view r meaning → Printed prefix text r s →
+    Returns (λ t. meaning ≡ Ok t) (λ fault. meaning ≡ Err fault) (λ fault. prefix ++ text fault) [] (seen view s)
 or_unmade view prefix text (Ok value) s meaning is h = rw h (refl, is)
 or_unmade view prefix text (Err failure) (Ok value) meaning is h = absurd h
 or_unmade view prefix text (Err Memory) (Err stop) meaning is h = fault_reported (λ t. meaning ≡ Ok t) (λ fault. meaning ≡ Err fault)

@@ -39,7 +39,8 @@ returns-in-Ok-Cycle c =
     let stop = c.stopped.result in
     let line = its_line 1 _ _ stop c.cycle_text.ensures c.stopped.ensures in
     passed_on _ _ _ _ c.in-Some.is c.in_ok-graph.ensures
-    (cyclic c.args.name.now c.args.collated.now.dyndep c.in_ok-graph.graph.now c.in-Ok-Cycle.cycle stop (rw c.in-Ok-Cycle.field-0-is at c.in-Ok-Cycle.ensures.sorted)
+    (cyclic c.args.name.now c.args.collated.now.dyndep c.in_ok-graph.graph.now c.in-Ok-Cycle.cycle stop
+    (rw c.in-Ok-Cycle.field-0-is at c.in-Ok-Cycle.ensures.sorted)
     (subst (λ t. ForFault (λ l. l ≡ refusal t) stop) (ap₂ cycle_text c.edges.ensures.edges c.deref.ensures.value) line))
 
 pub returns : goal.returns

@@ -14,13 +14,15 @@ document_of document = or_printed (HasProject document) (IsRefused project_check
 
 pub returns-in_err-project : goal.returns-in_err-project
 returns-in_err-project g c =
-    pure_last _ _ (document_of c.args.document.now c.project_read.result _ c.project_read.ensures.accepted c.project_read.ensures.refused c.in_err-project.ensures)
+    pure_last _ _
+    (document_of c.args.document.now c.project_read.result _ c.project_read.ensures.accepted c.project_read.ensures.refused c.in_err-project.ensures)
     c.from_residual.ensures
 
 pub returns-in_err-read : goal.returns-in_err-read
 returns-in_err-read g c =
     let named = ap (map string_bytes) c.deref.ensures.value ∙ ap (λ (p : ProjectValue). p.targets) c.project.view_is in
-    pure_next _ _ (document_of c.args.document.now c.project_read.result _ c.project_read.ensures.accepted c.project_read.ensures.refused c.in_ok-project.ensures)
+    pure_next _ _
+    (document_of c.args.document.now c.project_read.result _ c.project_read.ensures.accepted c.project_read.ensures.refused c.in_ok-project.ensures)
     (run_last _ _ (rw named at c.in_err-read.ensures) c.from_residual-in_err-read.ensures)
 
 pub all_collated-requires : goal.all_collated-requires
@@ -35,7 +37,8 @@ targets_next : (g : given.Over) (c : In_ok-read g) (own : List ReadTargetValue) 
     Runs (g.F.Folder.calls c.args.folder.now) (g.F.Folder.calls c.read_targets.new.folder) (ProjectRun c.args.document.now) s
 targets_next g c own s same rest =
     let named = ap (map string_bytes) c.deref.ensures.value ∙ ap (λ (p : ProjectValue). p.targets) c.project.view_is in
-    pure_next _ _ (document_of c.args.document.now c.project_read.result _ c.project_read.ensures.accepted c.project_read.ensures.refused c.in_ok-project.ensures)
+    pure_next _ _
+    (document_of c.args.document.now c.project_read.result _ c.project_read.ensures.accepted c.project_read.ensures.refused c.in_ok-project.ensures)
     (run_once _ _ (rw named at c.in_ok-read.ensures) (rw same at rest))
 
 pub returns-in_err-outs : goal.returns-in_err-outs
