@@ -1,7 +1,7 @@
 //! The table of the modules of one target, and its look-ups.
 ghost use Rattle.std.specs.Prelude.{◌++◌, ◌<◌, ◌≡◌, flat_map, IfErr, IfNone, IfOk, slice_get, Some};
 ghost use Rattle.module_table.specs.Prelude.{ArePairs, AreRequired, AreStored, Builds, Covers};
-ghost use Rattle.module_table.specs.Prelude.{ForFault, ForSome, HasAdded, IfSome, info_entries};
+ghost use Rattle.module_table.specs.Prelude.{ForFault, ForSome, HasAdded, IfSome};
 ghost use Rattle.module_table.specs.Prelude.{IsKeyOf, IsNeeded, IsProvidedBy, IsSound, IsUnknown};
 ghost use Rattle.module_table.specs.Prelude.{length, object_entries, required_of, RuleValue};
 ghost use Rattle.module_table.specs.Prelude.{table_entries, table_with, TableEntries, TableValue};
@@ -242,7 +242,11 @@ pub(crate) fn table_key(objects: &[Rule], infos: &[Info]) -> TableKey
     let mut digest = KeyDigest::new();
     add_objects(&mut digest, objects);
     for info in infos {
-        add_info(&mut digest, info);
+        digest.add(info.target.text().as_bytes());
+        for module in &info.modules {
+            digest.add(module.name.bytes());
+            digest.add(module.file.bytes());
+        }
     }
     digest.key()
 }
@@ -254,28 +258,10 @@ pub fn add_objects(digest: &mut KeyDigest, objects: &[Rule])
         → HasAdded digest.new (entries ++ flat_map object_entries objects.now) }
 {
     for rule in objects {
-        add_object(digest, rule);
-    }
-}
-
-fn add_object(digest: &mut KeyDigest, rule: &Rule)
-    ensures { (entries : TableEntries) → HasAdded digest.old entries
-        → HasAdded digest.new (entries ++ object_entries rule.now) }
-{
-    digest.add(rule.object.bytes());
-    for pair in &rule.provided {
-        digest.add(pair.0.bytes());
-        digest.add(pair.1.bytes());
-    }
-}
-
-fn add_info(digest: &mut KeyDigest, info: &Info)
-    ensures { (entries : TableEntries) → HasAdded digest.old entries
-        → HasAdded digest.new (entries ++ info_entries info.now) }
-{
-    digest.add(info.target.text().as_bytes());
-    for module in &info.modules {
-        digest.add(module.name.bytes());
-        digest.add(module.file.bytes());
+        digest.add(rule.object.bytes());
+        for pair in &rule.provided {
+            digest.add(pair.0.bytes());
+            digest.add(pair.1.bytes());
+        }
     }
 }
