@@ -4,7 +4,7 @@
 ghost use Rattle.commands.specs.Prelude.{bytes_of, HasReadDyndep, HasReadListing, IsListingFaultIn};
 ghost use Rattle.commands.specs.Prelude.{IsReadFaultIn, ListingTextOf, EffectOfRead, OrderOfRead};
 ghost use Rattle.commands.specs.Prelude.{HasFailed, ShowOfRead, ListingOf, EffectRun, EdgesPass};
-ghost use Rattle.commands.specs.Prelude.{[], seen, DyndepOf, ShowRun, NameOf, EffectOf, OrderRun};
+ghost use Rattle.commands.specs.Prelude.{[], seen, DyndepOf, ShowRun, EffectOf, OrderRun};
 
 use crate::answer::push_line;
 use crate::folder::PieceReader;
@@ -51,19 +51,12 @@ pub(crate) fn effect_of_read(
 ) -> Result<Output, Stop>
     ensures { EffectOfRead name.now listing dyndep [] result }
 {
-    let name = path_of(alloc, name)?;
+    let name = stop::or_stop(alloc, "name: ", Path::of(alloc, name.as_bytes()))?;
     let old = graph_of(alloc, &listing)?;
     let dyndep = statements_of(alloc, dyndep)?;
     let new = graph_after(alloc, old, &name, &dyndep)?;
     let text = listing_text(alloc, &new)?;
     Ok(Output::text(alloc, text))
-}
-
-/// Returns the path of a name.
-fn path_of(alloc: Global, name: &str) -> Result<Path, Stop>
-    ensures { NameOf name.now [] result }
-{
-    stop::or_stop(alloc, "name: ", Path::of(alloc, name.as_bytes()))
 }
 
 /// Returns the graph after the effect of the dyndep file of this name.

@@ -2,17 +2,17 @@
 //! name are read, and the files that they leave.
 
 ghost use Rattle.std.specs.Prelude.{◌≡◌, ◌<◌, ◌∷◌, ◌++◌, [], All, length, map, zip, IfOk, IsUtf8};
-ghost use Rattle.commands.specs.Prelude.{string_bytes, GivesProject, ReadsTargets, project_target};
+ghost use Rattle.commands.specs.Prelude.{string_bytes, ReadsTargets, project_target};
 ghost use Rattle.commands.specs.Prelude.{TargetAfter, AllEdgesPass, LinkEarlier, IsReportable};
 ghost use Rattle.commands.specs.Prelude.{bytes_of, ProjectOf, all_files, ProjectRun, ReportsAt};
-ghost use Rattle.commands.specs.Prelude.{Runs, Writes, seen, style_of, FormOf, LinksOf, form_of};
+ghost use Rattle.commands.specs.Prelude.{Runs, Writes, seen, FormOf, LinksOf, form_of};
 
 use crate::edges::pass_edges;
 use crate::folder::{Folder, pushed, read};
 use crate::refusal::refusal_line;
 use crate::stop::{self, Output, Stop};
 use crate::target::{TargetFiles, append_files, read_spec, slices};
-use collate_core::{Collated, ProjectOut, ProjectTarget, RefusedTarget, project_or_refused};
+use collate_core::{Collated, ProjectTarget, RefusedTarget, project_or_refused};
 use module_maps::{Clang, Gcc};
 use ninja_text::Failure;
 use scan_docs::{DocFault, MapForm, Member, Place, TargetSpec, project_read};
@@ -64,7 +64,14 @@ fn all_collated(alloc: Global, targets: &[ReadTarget]) -> Result<Vec<Collated>, 
     requires { LinkEarlier targets.now }
     ensures { ProjectOf targets.now [] (seen (λ outs. outs.items) result) }
 {
-    match collate_all(alloc, targets) {
+    let scans = scans_of(alloc, targets)?;
+    let parts = in_project(alloc, targets, &scans)?;
+    let outcome = match form_of(targets) {
+        None => project_or_refused(alloc, &parts, None::<&Gcc>),
+        Some(MapForm::Gcc) => project_or_refused(alloc, &parts, Some(&Gcc)),
+        Some(MapForm::Clang) => project_or_refused(alloc, &parts, Some(&Clang)),
+    };
+    match outcome {
         Ok(out) => Ok(out.targets),
         Err(Failure::Memory) => Err(Failure::Memory),
         Err(Failure::Fault((index, refused))) => {
@@ -73,23 +80,6 @@ fn all_collated(alloc: Global, targets: &[ReadTarget]) -> Result<Vec<Collated>, 
             drop(refused);
             Err(stop::stopped(1, message))
         }
-    }
-}
-
-/// Collates the targets, with maps of the form of the first one.
-fn collate_all(
-    alloc: Global,
-    targets: &[ReadTarget],
-) -> Result<ProjectOut, Failure<(usize, RefusedTarget)>>
-    ensures { GivesProject (map project_target targets.now) (style_of (form_of targets.now))
-        result }
-{
-    let scans = scans_of(alloc, targets)?;
-    let parts = in_project(alloc, targets, &scans)?;
-    match form_of(targets) {
-        None => project_or_refused(alloc, &parts, None::<&Gcc>),
-        Some(MapForm::Gcc) => project_or_refused(alloc, &parts, Some(&Gcc)),
-        Some(MapForm::Clang) => project_or_refused(alloc, &parts, Some(&Clang)),
     }
 }
 

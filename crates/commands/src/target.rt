@@ -2,20 +2,18 @@
 //! text of one scan document; and the files of a target, as they are read.
 
 ghost use Rattle.std.specs.Prelude.{◌≡◌, ◌++◌, [], map, All, IsUtf8, IfOk, OnOk, string_bytes};
-ghost use Rattle.commands.specs.Prelude.{GivesTarget, cow_slice_items, Runs, file_value, FilesOf};
-ghost use Rattle.commands.specs.Prelude.{TargetOf, SpecOf, style_of, target_with, map_files};
-ghost use Rattle.commands.specs.Prelude.{files_of, TargetRun, CollateRun, OneRun};
+ghost use Rattle.commands.specs.Prelude.{cow_slice_items, Runs, file_value, FilesOf, TargetOf};
+ghost use Rattle.commands.specs.Prelude.{SpecOf, style_of, target_with, map_files, files_of};
+ghost use Rattle.commands.specs.Prelude.{TargetRun, CollateRun, OneRun};
 
 use crate::edges::{ListingRead, pass_edges};
 use crate::folder::{Folder, add, pushed, read_all, read_file};
 use crate::stop::{self, Output, OutputFile, Stop};
 use build_effect::ListingReader;
-use collate_core::{
-    Collated, RefusedTarget, Target, collate_dyndep_or_refused, collate_or_refused,
-};
+use collate_core::{Collated, Target, collate_dyndep_or_refused, collate_or_refused};
 use document_values::TargetName;
 use module_maps::{Clang, Gcc};
-use ninja_text::{Failure, Path};
+use ninja_text::Path;
 use scan_docs::{MapForm, Setting, TargetSpec, spec_read};
 use std::alloc::{AllocError, Global};
 use std::borrow::CowSlice;
@@ -123,7 +121,7 @@ pub(crate) fn read_spec(alloc: Global, document: &[u8]) -> Result<TargetSpec, St
     stop::or_stop(alloc, "target: ", spec_read(alloc, document))
 }
 
-/// Collates the target of a document, of these files.
+/// Collates the target of a document, of these files, with maps of the document's form.
 fn collated_of(alloc: Global, spec: &TargetSpec, files: &TargetFiles) -> Result<Collated, Stop>
     ensures { TargetOf (target_with spec.now files.now) (style_of spec.now.map_form) [] result }
 {
@@ -136,24 +134,14 @@ fn collated_of(alloc: Global, spec: &TargetSpec, files: &TargetFiles) -> Result<
         infos: &infos,
         kept: &spec.kept,
     };
-    match collate_as(alloc, &target, spec.map) {
+    let outcome = match spec.map {
+        None => collate_or_refused(alloc, &target, None::<&Gcc>),
+        Some(MapForm::Gcc) => collate_or_refused(alloc, &target, Some(&Gcc)),
+        Some(MapForm::Clang) => collate_or_refused(alloc, &target, Some(&Clang)),
+    };
+    match outcome {
         Ok(collated) => Ok(collated),
         Err(failure) => Err(stop::of_target(alloc, failure)),
-    }
-}
-
-/// Collates a target, with maps of this form if there is one.
-fn collate_as(
-    alloc: Global,
-    target: &Target,
-    form: Option<MapForm>,
-) -> Result<Collated, Failure<RefusedTarget>>
-    ensures { GivesTarget target.now (style_of form) result }
-{
-    match form {
-        None => collate_or_refused(alloc, target, None::<&Gcc>),
-        Some(MapForm::Gcc) => collate_or_refused(alloc, target, Some(&Gcc)),
-        Some(MapForm::Clang) => collate_or_refused(alloc, target, Some(&Clang)),
     }
 }
 

@@ -1,9 +1,10 @@
-use Rattle.std.proofs.Common.{◌≡◌, ◌∙◌, ℕ, List, [], Ok, Err, map, refl, ap, Bor}
-use Rattle.commands.specs.Prelude.{SettingValue, TargetValue, CollatedValue, style_of, target_with, TargetFilesValue, Outcome, TargetOf, cow_slice_items}
+use Rattle.std.proofs.Common.{rules, ◌≡◌, ◌∙◌, ℕ, List, [], Some, Ok, Err, Option, Result, IfOk, IfErr, map, refl, ap, Bor}
+use Rattle.commands.specs.Prelude.{SettingValue, TargetValue, CollatedValue, Collates, IsRefusal, WasRead, RefusedTarget, Failure, ForFault, Written, table_with, style_of, target_with, TargetFilesValue, Outcome, TargetOf, cow_slice_items}
 use Rattle.scan_docs.specs.Target as document
+use Rattle.scan_docs.specs.declared.map_form.MapForm.TheVariants.{Gcc, Clang}
 use Rattle.commands.proofs.Targets.{target_rejected}
 use Rattle.commands.proofs.target.collated_of.Goals as goal
-use Rattle.commands.proofs.target.collated_of.Goals.{After-collate_as}
+use Rattle.commands.proofs.target.collated_of.Goals.{Joined-spec, in-None, in-Some-Gcc, in-Some-Clang}
 
 -- the target of these parts
 abbrev target_of : List ℕ → SettingValue → List (List ℕ) → List (List ℕ) → List (List ℕ) → TargetValue
@@ -17,11 +18,18 @@ of_document : (spec view : document.TargetDocumentValue) (files : TargetFilesVal
     TargetOf (target_with spec files) (style_of spec.map_form) [] s
 of_document spec view files scans infos kept s v d i k h = rw (d, i, k, v) at h
 
+-- what it collates to, or its rejection and what was read of it
+abbrev GivesTarget : TargetValue → Option Written → Result CollatedValue (Failure RefusedTarget) → Type 0
+GivesTarget target style result =
+    IfOk result (Collates target style)
+    × IfErr result (ForFault (λ r. IsRefusal target style r.refusal))
+    × IfErr result (ForFault (λ r. WasRead target r.refusal (table_with r.objects.items r.infos.items)))
+
 abbrev texts : List (Bor (List ℕ)) → List (List ℕ)
 texts lent = map (λ text. text.now) lent
 
 -- the target that was collated is the document's
-its_target : (c : After-collate_as) (s : Outcome CollatedValue) →
+its_target : (c : Joined-spec) (s : Outcome CollatedValue) →
     TargetOf (target_of c.spec.inside.target c.spec.inside.setting (texts c.deref-3.result.now) (texts c.deref-4.result.now) c.deref-5.result.now)
     (style_of c.spec.inside.map) [] s →
     TargetOf (target_with c.args.spec.now c.args.files.now) (style_of c.args.spec.now.map_form) [] s
@@ -33,10 +41,31 @@ its_target c s =
     ∙ ap (λ (f : TargetFilesValue). f.infos) c.files.view_is)
     c.deref-5.ensures.value
 
+-- and its outcome has maps of the document's form
+gives : (c : Joined-spec) → GivesTarget (target_of c.spec.inside.target c.spec.inside.setting (texts c.deref-3.result.now) (texts c.deref-4.result.now)
+    c.deref-5.result.now) (style_of c.spec.inside.map) c.match-spec.outcome
+gives c = elim c.match-spec.branch [
+  | in-None w ↦
+      let gives = w.collate_or_refused-outcome.ensures in
+      rw (w.outcome-is, w.in-None.is) (gives.collated, gives.refused, gives.read)
+  | in-Some-Gcc w ↦
+      let gives = w.collate_or_refused-outcome-in-Some-Gcc.ensures in
+      let form : c.spec.inside.map ≡ Some Gcc = search rules in
+      rw (w.outcome-is, form) (gives.collated, gives.refused, gives.read)
+  | in-Some-Clang w ↦
+      let gives = w.collate_or_refused-outcome-in-Some-Clang.ensures in
+      let form : c.spec.inside.map ≡ Some Clang = search rules in
+      rw (w.outcome-is, form) (gives.collated, gives.refused, gives.read)
+]
+
 pub returns-in-Ok : goal.returns-in-Ok
-returns-in-Ok c = its_target (goal.at.returns-in-Ok c).After-collate_as (Ok c.in-Ok.collated) (refl, c.in-Ok.ensures.0)
+returns-in-Ok c =
+    let here = (goal.at.returns-in-Ok c).Joined-spec in
+    its_target here (Ok c.in-Ok.collated) (refl, (rw c.in-Ok.is at (gives here)).0)
 
 pub returns : goal.returns
 returns c =
-    its_target (goal.at.returns c).After-collate_as (Err c.of_target.result)
-    (target_rejected _ (style_of c.spec.inside.map) c.in-Err.failure c.of_target.result c.in-Err.ensures.1 c.in-Err.ensures.2 c.of_target.ensures)
+    let here = (goal.at.returns c).Joined-spec in
+    let gives = rw c.in-Err.is at (gives here) in
+    its_target here (Err c.of_target.result)
+    (target_rejected _ (style_of c.spec.inside.map) c.in-Err.failure c.of_target.result gives.1 gives.2 c.of_target.ensures)
