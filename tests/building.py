@@ -70,6 +70,12 @@ def write(path, text, mode=0o644):
     path.chmod(mode)
 
 
+def default_signals():
+    """A shell that starts the tests in the background makes them ignore SIGINT, and nohup SIGHUP."""
+    for number in signal.SIGINT, signal.SIGTERM, signal.SIGHUP:
+        signal.signal(number, signal.SIG_DFL)
+
+
 class Made(InRoom):
     """A checkout of the made-up crates, and the toolchain."""
 
@@ -106,7 +112,8 @@ class Made(InRoom):
 
     def begin(self, *words, before=(), top=None, script="build", **environment):
         child = subprocess.Popen([*before, top or self.top / script, *words], env={**self.environment, **environment},
-                                 stdin=subprocess.DEVNULL, stdout=subprocess.PIPE, stderr=subprocess.PIPE, text=True)
+                                 stdin=subprocess.DEVNULL, stdout=subprocess.PIPE, stderr=subprocess.PIPE, text=True,
+                                 preexec_fn=default_signals)
         self.children.append(child)
         return child
 
