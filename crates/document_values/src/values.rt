@@ -6,7 +6,7 @@ use std::marker::Model;
 
 /// A rule of a scan document: an object file, the modules that its source provides, each with its
 /// BMI, and the names of the modules that it requires, both in the order of the document.
-#[derive(Clone, Drop)]
+#[derive(Drop)]
 pub struct Rule {
     pub object: Path,
     pub provided: Vec<(Name, Path)>,
@@ -27,7 +27,7 @@ impl Model for Rule {
 
 /// A module that a target provides: its BMI (compiled module file), the modules that it requires,
 /// each with its BMI, and whether it is private.
-#[derive(Clone, Drop)]
+#[derive(Drop)]
 pub struct InfoModule {
     pub name: Name,
     pub file: Path,
@@ -49,7 +49,7 @@ impl Model for InfoModule {
 }
 
 /// What a target tells the targets that link it.
-#[derive(Clone, Drop)]
+#[derive(Drop)]
 pub struct Info {
     pub target: TargetName,
     pub modules: Vec<InfoModule>,

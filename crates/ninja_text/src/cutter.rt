@@ -13,7 +13,7 @@ use std::marker::Model;
 pub const LINE_LIMIT: usize = 1_048_576;
 
 /// A logical line, borrowed from a cutter.
-#[derive(Clone, Copy, Debug)]
+#[derive(Clone, Copy)]
 pub struct Line<'a> {
     pub(crate) text: &'a [u8],
     pub(crate) number: u64,

@@ -10,7 +10,7 @@ use crate::lexing::{LineUnit, blank_end, check_units, unit_at, words};
 use crate::token::{Assignment, Words};
 
 /// What a line is, by how it begins.
-#[derive(Clone, Copy, Debug)]
+#[derive(Clone, Copy)]
 pub enum LineForm<'a> {
     /// A comment.
     Comment,

@@ -204,14 +204,16 @@ fn are_names(list: &[u8]) -> bool
 {
     let mut begun = Begun::Nothing;
     for byte in list {
-        begun = match (begun, *byte) {
+        begun = match *byte {
             // With most bytes the component is a name, whatever else is in it.
-            (_, b'0'..=b'{') => Begun::Name,
-            (Begun::Name, b'/') => Begun::Nothing,
-            (_, b'/' | b'|' | 0 | b'\r' | b'\n') => return false,
-            (Begun::Nothing, b'.') => Begun::Dot,
-            (Begun::Dot, b'.') => Begun::TwoDots,
-            _ => Begun::Name,
+            b'0'..=b'{' => Begun::Name,
+            byte => match (begun, byte) {
+                (Begun::Name, b'/') => Begun::Nothing,
+                (_, b'/' | b'|' | 0 | b'\r' | b'\n') => return false,
+                (Begun::Nothing, b'.') => Begun::Dot,
+                (Begun::Dot, b'.') => Begun::TwoDots,
+                _ => Begun::Name,
+            },
         };
     }
     matches!(begun, Begun::Name)

@@ -20,7 +20,7 @@ pub enum TokenKind {
 }
 
 /// A token and its position in the line's text.
-#[derive(Clone, Copy, Debug)]
+#[derive(Clone, Copy)]
 pub struct Token<'a> {
     kind: TokenKind,
     start: usize,
@@ -86,7 +86,7 @@ impl<'a> Token<'a> {
 }
 
 /// An iterator over the tokens of a line, in order.
-#[derive(Clone, Copy, Debug)]
+#[derive(Clone, Copy)]
 pub struct Words<'a> {
     pub(crate) text: &'a [u8],
     pub(crate) index: usize,
@@ -154,7 +154,7 @@ impl<'a> Iterator for Words<'a> {
 }
 
 /// The name and the value of an assignment, as slices of the line's text.
-#[derive(Clone, Copy, Debug)]
+#[derive(Clone, Copy)]
 pub struct Assignment<'a> {
     pub(crate) name_start: usize,
     pub(crate) name: &'a [u8],
