@@ -39,20 +39,20 @@ pub fn effect(alloc: Global, name: &str, edges: &[u8], dyndep: &[u8]) -> Result<
 {
     let listing = Graph::of(alloc, edges);
     let dyndep = Dyndep::of(alloc, dyndep);
-    effect_of_read(alloc, name, listing, dyndep)
+    effect_of_read(alloc, name, &listing, dyndep)
 }
 
 /// Runs `effect` once its files were read. The name is checked first, and the dyndep file last.
 pub(crate) fn effect_of_read(
     alloc: Global,
     name: &str,
-    listing: ListingRead,
+    listing: &ListingRead,
     dyndep: DyndepRead,
 ) -> Result<Output, Stop>
-    ensures { EffectOfRead name.now listing dyndep [] result }
+    ensures { EffectOfRead name.now listing.now dyndep [] result }
 {
     let name = stop::or_stop(alloc, "name: ", Path::of(alloc, name.as_bytes()))?;
-    let old = graph_of(alloc, &listing)?;
+    let old = graph_of(alloc, listing)?;
     let dyndep = statements_of(alloc, dyndep)?;
     let new = graph_after(alloc, old, &name, &dyndep)?;
     let text = listing_text(alloc, &new)?;
@@ -88,14 +88,14 @@ fn listing_text(alloc: Global, graph: &Graph) -> Result<Vec<u8>, Stop>
 pub fn order(alloc: Global, edges: &[u8]) -> Result<Output, Stop>
     ensures { OrderRun edges.now [] result }
 {
-    order_of_read(alloc, Graph::of(alloc, edges))
+    order_of_read(alloc, &Graph::of(alloc, edges))
 }
 
 /// Runs `order EDGES` on the edge list, once it was read.
-pub(crate) fn order_of_read(alloc: Global, listing: ListingRead) -> Result<Output, Stop>
-    ensures { OrderOfRead listing [] result }
+pub(crate) fn order_of_read(alloc: Global, listing: &ListingRead) -> Result<Output, Stop>
+    ensures { OrderOfRead listing.now [] result }
 {
-    let graph = graph_of(alloc, &listing)?;
+    let graph = graph_of(alloc, listing)?;
     match edge_order(alloc, graph)? {
         Sorting::Order(order) => {
             let mut text = Vec::new(alloc);

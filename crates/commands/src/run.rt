@@ -87,11 +87,11 @@ pub fn task_run<'f, F: Folder<'f>>(
         } => {
             let listing = read_file(alloc, edges, ListingReader::new(alloc), folder)?.finish();
             let dyndep = read_file(alloc, dyndep, DyndepReader::new(alloc), folder)?.finish();
-            effect_of_read(alloc, name, listing, dyndep)
+            effect_of_read(alloc, name, &listing, dyndep)
         }
         Task::Order(edges) => {
             let listing = read_file(alloc, edges, ListingReader::new(alloc), folder)?.finish();
-            order_of_read(alloc, listing)
+            order_of_read(alloc, &listing)
         }
         Task::Project(document) => {
             let document = read(alloc, document, folder)?;

@@ -119,7 +119,7 @@ pub(crate) fn failure_of(alloc: Global, fault: TableFault) -> Failure<Box<TableF
 {
     match Box::new(alloc, fault) {
         Ok(boxed) => Failure::Fault(boxed),
-        Err(_) => Failure::Memory,
+        Err(failed) => Failure::from(failed),
     }
 }
 

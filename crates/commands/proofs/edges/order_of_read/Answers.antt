@@ -12,8 +12,8 @@ returns-in_err-order c = next _ c.in_ok-graph.ensures (search rules)
 pub returns-in_err-push_line-in-Order : goal.returns-in_err-push_line-in-Order
 returns-in_err-push_line-in-Order c = next _ c.in_ok-graph.ensures (search rules)
 
-pub returns-in-Order : goal.returns-in-Order
-returns-in-Order c =
+pub returns-after-loop-edge_index : goal.returns-after-loop-edge_index
+returns-after-loop-edge_index c =
     let graph = c.in_ok-graph.graph.now in
     let sorting = rw c.in-Order.is at c.in_ok-order.ensures in
     let order = c.deref-edge_index-items.result.now in
@@ -22,8 +22,8 @@ returns-in-Order c =
     ∙ ap (order_text graph) c.deref-edge_index-items.ensures.value in
     next _ c.in_ok-graph.ensures (refl, (c.in-Order.order, sorting, c.text.ensures ∙ ap printed text))
 
-pub returns : goal.returns
-returns c =
+pub returns-in-Cycle : goal.returns-in-Cycle
+returns-in-Cycle c =
     let graph = c.in_ok-graph.graph.now in
     let sorting = rw c.in-Cycle.is at c.in_ok-order.ensures in
     let stop = its_line 1 _ _ c.stopped.result c.cycle_text.ensures c.stopped.ensures in
