@@ -58,10 +58,19 @@ impl Model for Edge {
 
 /// Build edges, by index. Each edge has an explicit output, no file is made twice, and each edge
 /// that names a dyndep file has it among its inputs.
-#[derive(Drop)]
 pub struct Graph {
     pub(crate) makers: Makers,
     pub(crate) edges: Vec<Edge>,
+}
+
+// Not derived: this saves the prover time (docs/DECISIONS.md, "Code").
+impl Drop for Graph {
+    fn drop(self) {
+        let Graph {
+            makers: _,
+            edges: _,
+        } = self;
+    }
 }
 
 impl Model for Graph {

@@ -166,9 +166,15 @@ fn objects_of(alloc: Global, table: &Table) -> Result<Vec<Path>, AllocError>
 
 /// What a target collates to, with a dyndep text that has the headline. Only
 /// [`collate`](crate::collate) and [`project`](crate::project) make one.
-#[derive(Drop)]
 pub struct Collated {
     parts: CollatedParts,
+}
+
+// Not derived: this saves the prover time (docs/DECISIONS.md, "Code").
+impl Drop for Collated {
+    fn drop(self) {
+        let Collated { parts: _ } = self;
+    }
 }
 
 /// The parts of a [`Collated`] by value, so that the texts are written without a copy.

@@ -18,8 +18,15 @@ pub const NAME_LIMIT: usize = 1024;
 /// empty, and no byte is a control byte, a space, 127 or one of `/ \ " ' = | $`. The view of a name
 /// is its string. Copies of a name share the string, and the names of a scan document or an info
 /// document share one.
-#[derive(Drop, PartialEq, Eq, PartialOrd, Ord, Hash)]
+#[derive(PartialEq, Eq, PartialOrd, Ord, Hash)]
 pub struct Name(SharedText);
+
+// Not derived: this saves the prover time (docs/DECISIONS.md, "Code").
+impl Drop for Name {
+    fn drop(self) {
+        let Name(_) = self;
+    }
+}
 
 impl Model for Name {
     ghost use Rattle.std.specs.Prelude.{IsTrue, IsUtf8};
@@ -142,8 +149,15 @@ impl SharedNames {
 
 /// The name of a target: 1 to 1,024 bytes, none of them a control byte or 127. The view of a name
 /// is its string.
-#[derive(Drop, PartialEq, Eq, PartialOrd, Ord, Hash)]
+#[derive(PartialEq, Eq, PartialOrd, Ord, Hash)]
 pub struct TargetName(SharedText);
+
+// Not derived: this saves the prover time (docs/DECISIONS.md, "Code").
+impl Drop for TargetName {
+    fn drop(self) {
+        let TargetName(_) = self;
+    }
+}
 
 impl Model for TargetName {
     ghost use Rattle.std.specs.Prelude.{IsTrue, IsUtf8};

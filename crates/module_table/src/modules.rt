@@ -27,13 +27,24 @@ pub(crate) struct Module<'t> {
 
 /// The modules that objects and info files provide, by object, then by info file, in order of
 /// provision. Their names differ. A contract sees it as the table of the objects and info files.
-#[derive(Drop)]
 pub(crate) struct Modules<'t> {
     objects: &'t [Rule],
     infos: &'t [Info],
     provided: Vec<Module<'t>>,
     /// The names of the modules. A name's index is that of its module.
     names: IndexSet<Name, TableKey>,
+}
+
+// Not derived: this saves the prover time (docs/DECISIONS.md, "Code").
+impl<'t> Drop for Modules<'t> {
+    fn drop(self) {
+        let Modules {
+            objects: _,
+            infos: _,
+            provided: _,
+            names: _,
+        } = self;
+    }
 }
 
 impl<'t> Model for Modules<'t> {
@@ -100,7 +111,12 @@ impl<'t> Modules<'t> {
     pub(crate) fn into_names(self) -> IndexSet<Name, TableKey>
         ensures { result.keys ≡ names_of (provisions self.entry) }
     {
-        let Modules { names, .. } = self;
+        let Modules {
+            objects: _,
+            infos: _,
+            provided: _,
+            names,
+        } = self;
         names
     }
 }

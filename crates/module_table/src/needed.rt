@@ -16,7 +16,6 @@ use std::marker::Model;
 /// Finds the modules that the objects of a table need, for one object after another. It keeps its
 /// workspace between objects, so the work for an object grows with what the object needs, and not
 /// with the table. A contract sees it as the table.
-#[derive(Drop)]
 pub struct Needs<'t> {
     objects: &'t [Rule],
     infos: &'t [Info],
@@ -25,6 +24,19 @@ pub struct Needs<'t> {
     modules: Vec<Numbered<'t>>,
     /// The index of each module among them, by its own index.
     ranks: Vec<usize>,
+}
+
+// Not derived: this saves the prover time (docs/DECISIONS.md, "Code").
+impl Drop for Needs<'_> {
+    fn drop(self) {
+        let Needs {
+            objects: _,
+            infos: _,
+            reaching: _,
+            modules: _,
+            ranks: _,
+        } = self;
+    }
 }
 
 /// A module and its index among all. Modules are ordered by name first.

@@ -29,7 +29,7 @@ pub struct Pool {
     related: Vec<Option<Related>>,
 }
 
-// Not derived: a derived drop is written out, field by field, wherever a value goes.
+// Not derived: this saves the prover time (docs/DECISIONS.md, "Code").
 impl Drop for Pool {
     fn drop(self) {
         let Pool {

@@ -19,7 +19,6 @@ use std::marker::Model;
 use table_keys::{KeyDigest, TableKey};
 
 /// The modules of one target and of the targets that it links. It has none of the faults M1 to M10.
-#[derive(Drop)]
 pub struct Table {
     resolved: Resolved,
     /// The names that the table mentions, in order of first mention: first those of the provided
@@ -32,6 +31,19 @@ pub struct Table {
     origins: Vec<(Maker, usize)>,
     /// The modules and objects that each module and each object needs, by index.
     graph: Digraph,
+}
+
+// Not derived: this saves the prover time (docs/DECISIONS.md, "Code").
+impl Drop for Table {
+    fn drop(self) {
+        let Table {
+            resolved: _,
+            names: _,
+            paths: _,
+            origins: _,
+            graph: _,
+        } = self;
+    }
 }
 
 impl Model for Table {
@@ -109,7 +121,13 @@ impl Table {
     pub fn into_resolved(self) -> Resolved
         ensures { result ≡ self }
     {
-        let Table { resolved, .. } = self;
+        let Table {
+            resolved,
+            names: _,
+            paths: _,
+            origins: _,
+            graph: _,
+        } = self;
         resolved
     }
 

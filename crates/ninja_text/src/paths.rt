@@ -24,8 +24,15 @@ use std::rc::RcSlice;
 ///
 /// The view of a path is its string: 1 to 4,096 bytes, without `|`, NUL, CR or LF. Copies of a path
 /// share the string, and so do paths that were read [`Path::within`] one.
-#[derive(Drop, PartialEq, Eq, PartialOrd, Ord, Hash)]
+#[derive(PartialEq, Eq, PartialOrd, Ord, Hash)]
 pub struct Path(SharedText);
+
+// Not derived: this saves the prover time (docs/DECISIONS.md, "Code").
+impl Drop for Path {
+    fn drop(self) {
+        let Path(_) = self;
+    }
+}
 
 impl Model for Path {
     ghost use Rattle.ninja_text.specs.Bytes.{PathText};

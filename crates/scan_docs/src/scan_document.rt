@@ -217,11 +217,21 @@ fn read_required(alloc: Global, names: &mut SharedNames, place: Place, entry: &V
 /// path of a module's file then costs no more for a long directory or ending than for a short one.
 ///
 /// The view is the setting.
-#[derive(Drop)]
 pub struct ReducedSetting<'s> {
     setting: &'s Setting,
     directory: WorkDirectory<'s>,
     ending: NameEnding<'s>,
+}
+
+// Not derived: this saves the prover time (docs/DECISIONS.md, "Code").
+impl Drop for ReducedSetting<'_> {
+    fn drop(self) {
+        let ReducedSetting {
+            setting: _,
+            directory: _,
+            ending: _,
+        } = self;
+    }
 }
 
 impl<'s> Model for ReducedSetting<'s> {
@@ -275,9 +285,15 @@ fn dashed(alloc: Global, text: &str) -> Result<Vec<u8>, AllocError>
 }
 
 /// The work directory of a rule, if it has one, reduced once for all paths of the rule.
-#[derive(Drop)]
 struct RuleDirectory<'t> {
     directory: Option<WorkDirectory<'t>>,
+}
+
+// Not derived: this saves the prover time (docs/DECISIONS.md, "Code").
+impl Drop for RuleDirectory<'_> {
+    fn drop(self) {
+        let RuleDirectory { directory: _ } = self;
+    }
 }
 
 impl<'t> Model for RuleDirectory<'t> {

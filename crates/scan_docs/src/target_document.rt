@@ -7,6 +7,7 @@ ghost use Rattle.scan_docs.specs.Prelude.{map, name_checks, kept_checks, file_ch
 ghost use Rattle.scan_docs.specs.Prelude.{IsAccepted, is_rooted, IsRefused, build_dir, project_of};
 ghost use Rattle.scan_docs.specs.Prelude.{ProjectValue, HasOneAnswer, target_checks, dyndep_checks};
 ghost use Rattle.scan_docs.specs.Prelude.{directory_checks, project_checks, TargetDocumentValue};
+ghost use Rattle.scan_docs.specs.Prelude.{restat};
 ghost use Rattle.scan_docs.specs.declared.member.Member.TheVariants as m;
 
 use crate::fault::{DocFault, Place, Read, bad_shape, path_at};
@@ -20,7 +21,6 @@ use std::alloc::Global;
 use std::marker::Model;
 
 /// The files that a target's modules are compiled to.
-#[derive(Drop)]
 pub struct Setting {
     /// The directory of the BMIs, or an empty string.
     pub module_dir: String,
@@ -28,6 +28,17 @@ pub struct Setting {
     pub module_ext: String,
     /// The directory that Ninja runs in, which is absolute.
     pub build_dir: Option<Path>,
+}
+
+// Not derived: this saves the prover time (docs/DECISIONS.md, "Code").
+impl Drop for Setting {
+    fn drop(self) {
+        let Setting {
+            module_dir: _,
+            module_ext: _,
+            build_dir: _,
+        } = self;
+    }
 }
 
 impl Model for Setting {
@@ -43,7 +54,6 @@ impl Model for Setting {
 }
 
 /// The members of a target document. Strings are as in the document.
-#[derive(Drop)]
 pub struct TargetSpec {
     pub target: TargetName,
     /// The files that modules are compiled to, and the directory that Ninja runs in: the members
@@ -67,6 +77,25 @@ pub struct TargetSpec {
     pub edges: Option<String>,
     /// Whether maps and info files that already have their bytes are left alone.
     pub restat: bool,
+}
+
+// Not derived: this saves the prover time (docs/DECISIONS.md, "Code").
+impl Drop for TargetSpec {
+    fn drop(self) {
+        let TargetSpec {
+            target: _,
+            setting: _,
+            scans: _,
+            linked: _,
+            kept: _,
+            dyndep: _,
+            dyndep_path: _,
+            info: _,
+            map: _,
+            edges: _,
+            restat: _,
+        } = self;
+    }
 }
 
 impl Model for TargetSpec {
@@ -115,8 +144,12 @@ fn read_spec(alloc: Global, tree: &Value) -> Read<TargetSpec>
     let linked = shape::texts(alloc, tree, Member::Linked, place)?;
     let kept = read_kept(alloc, tree)?;
     let (dyndep, dyndep_path) = read_dyndep(alloc, &setting, tree)?;
-    let Files { info, map, edges } = read_files(alloc, tree)?;
-    let restat = shape::given(tree, Member::Restat).and_then(Value::as_bool);
+    let Files {
+        info,
+        map,
+        edges,
+        restat,
+    } = read_files(alloc, tree)?;
     Ok(TargetSpec {
         target,
         setting,
@@ -128,7 +161,7 @@ fn read_spec(alloc: Global, tree: &Value) -> Read<TargetSpec>
         info,
         map,
         edges,
-        restat: restat.unwrap_or(false),
+        restat,
     })
 }
 
@@ -207,15 +240,18 @@ struct Files {
     info: String,
     map: Option<MapForm>,
     edges: Option<String>,
+    restat: bool,
 }
 
-/// Returns the info file, the form of the maps, and the edge list.
+/// Returns the info file, the form of the maps, the edge list, and whether unchanged files are left
+/// alone.
 #[tactic(auto, unfolding(crate::specs::TargetChecks::file_checks))]
 fn read_files(alloc: Global, tree: &Value) -> Read<Files>
     ensures { Answers (file_checks (view tree.now))
         (λ files. (text m.Info (view tree.now) ≡ Some (string_bytes files.info))
         × (map_form (view tree.now) ≡ files.map)
-        × (text m.Edges (view tree.now) ≡ option_map string_bytes files.edges)) result }
+        × (text m.Edges (view tree.now) ≡ option_map string_bytes files.edges)
+        × (restat (view tree.now) ≡ files.restat)) result }
 {
     let place = Place::Document;
     let info = shape::owned_text(alloc, tree, Member::Info, place)?;
@@ -230,7 +266,13 @@ fn read_files(alloc: Global, tree: &Value) -> Read<Files>
     };
     let edges = shape::text(tree, Member::Edges, place)?;
     let edges = edges.map(|text| String::from_str(alloc, text)).transpose()?;
-    Ok(Files { info, map, edges })
+    let restat = shape::given(tree, Member::Restat).and_then(Value::as_bool);
+    Ok(Files {
+        info,
+        map,
+        edges,
+        restat: restat.unwrap_or(false),
+    })
 }
 
 /// The member of a project document. Strings are as in the document.

@@ -37,7 +37,6 @@ pub(crate) struct Shared {
     pub first: usize,
 }
 
-#[derive(Drop)]
 pub(crate) struct Listed {
     pub names: IndexMap<Name, Row, TableKey>,
     pub files: IndexMap<Path, Row, TableKey>,
@@ -45,6 +44,18 @@ pub(crate) struct Listed {
     pub sharing: IndexMap<(Name, Path), ModuleAt, TableKey>,
     /// How many names and files have several modules.
     pub numbers: usize,
+}
+
+// Not derived: this saves the prover time (docs/DECISIONS.md, "Code").
+impl Drop for Listed {
+    fn drop(self) {
+        let Listed {
+            names: _,
+            files: _,
+            sharing: _,
+            numbers: _,
+        } = self;
+    }
 }
 
 impl Listed {
@@ -129,7 +140,6 @@ fn add<K: Eq + Hash + Drop>(
 }
 
 /// How an info file is related to the others.
-#[derive(Drop)]
 pub(crate) struct Related {
     /// The modules that each of its modules requires.
     pub required: Vec<Vec<ModuleAt>>,
@@ -137,6 +147,17 @@ pub(crate) struct Related {
     pub sources: Vec<usize>,
     /// The names and files that it shares with earlier modules.
     pub shared: Vec<Shared>,
+}
+
+// Not derived: this saves the prover time (docs/DECISIONS.md, "Code").
+impl Drop for Related {
+    fn drop(self) {
+        let Related {
+            required: _,
+            sources: _,
+            shared: _,
+        } = self;
+    }
 }
 
 impl Related {

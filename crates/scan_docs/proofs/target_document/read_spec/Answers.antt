@@ -30,6 +30,6 @@ returns c =
         info = files.1.0;
         form = files.1.1;
         edges = files.1.2;
-        restat = search rules;
+        restat = files.1.3;
       },
     )
