@@ -5,7 +5,7 @@ ghost use Rattle.std.specs.Prelude.{◌≡◌, IfErr, IfOk, List, map, OnOk};
 ghost use Rattle.module_table.specs.Prelude.{AllDiffer, Covers, provisions, table_with, TableValue};
 ghost use Rattle.module_table.specs.Prelude.{AreModuleRows, AreRequiredIndexes, Name, provision_of};
 ghost use Rattle.module_table.specs.Prelude.{ForFault, HasNoFault, IsReported, rows, table_entries};
-ghost use Rattle.module_table.specs.Prelude.{IsEmpty, IsIndex, names_of, paths_of, Reports};
+ghost use Rattle.module_table.specs.Prelude.{IsEmpty, IsIndex, names_of, Passed, paths_of, Reports};
 ghost use Rattle.indexmap.specs.IndexSet.{hasher_of};
 
 use crate::fault::{Maker, TableFault, failure_of};
@@ -86,6 +86,21 @@ pub(crate) fn check_all(
     check_infos(alloc, infos, key)?;
     let modules = check_names(alloc, objects, infos, key)?;
     check_files(alloc, &modules, paths)?;
+    check_requirements(alloc, modules, kept)
+}
+
+/// Checks M5 to M10.
+fn check_requirements(
+    alloc: Global,
+    modules: Modules<'_>,
+    kept: &[Name],
+) -> Result<Index, Failure<Box<TableFault>>>
+    requires { Passed 5 modules kept.now }
+    ensures no_fault { OnOk result (HasNoFault modules.entry kept.now) }
+    ensures index { IfOk result (IsIndex modules.entry) }
+    ensures fault { IfErr result (ForFault (λ fault.
+        IsReported modules.entry kept.now fault.value)) }
+{
     let indexes = check_objects_known(alloc, &modules)?;
     let mut needs = object_rows(alloc, &modules)?;
     let required = all_required(alloc, &modules, &mut needs)?;
