@@ -81,6 +81,5 @@ pub use Rattle.commands.specs.Program.{words_of, ArgumentsRun, IsProgramRun, Are
 pub use Rattle.commands.specs.inner.Parts.{bytes_of, contents}
 pub use Rattle.commands.specs.inner.Refusals.{refusal_line, refused_line}
 pub use Rattle.commands.specs.inner.Stops.{IsStoppedWith, IsFailedCall, OrStops, ReportsPrinted}
-pub use Rattle.commands.specs.inner.TargetRuns.{TargetRun}
 pub use Rattle.commands.specs.inner.ProjectTargets.{LinkEarlier, IsReportable, ReportsAt, writer_of}
 pub use Rattle.commands.specs.RefusalTexts.{map_text, refusal_by_names, refusal_text}

@@ -2,4 +2,3 @@ pub mod Parts
 pub mod ProjectTargets
 pub mod Refusals
 pub mod Stops
-pub mod TargetRuns

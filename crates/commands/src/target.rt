@@ -4,7 +4,7 @@
 ghost use Rattle.std.specs.Prelude.{◌≡◌, ◌++◌, [], map, All, IsUtf8, IfOk, OnOk, string_bytes};
 ghost use Rattle.commands.specs.Prelude.{cow_slice_items, Runs, file_value, FilesOf, TargetOf};
 ghost use Rattle.commands.specs.Prelude.{SpecOf, style_of, target_with, map_files, files_of};
-ghost use Rattle.commands.specs.Prelude.{TargetRun, CollateRun, OneRun};
+ghost use Rattle.commands.specs.Prelude.{CollateRun, OneRun};
 
 use crate::edges::{ListingRead, pass_edges};
 use crate::folder::{Folder, add, pushed, read_all, read_file};
@@ -32,18 +32,11 @@ pub fn collate<'f, F: Folder<'f>>(
     ensures { Runs (F.calls folder.old) (F.calls folder.new) (CollateRun document.now) result }
 {
     let spec = read_spec(alloc, document)?;
-    run(alloc, &spec, folder)
-}
-
-/// Reads the files of a target document, and collates its target.
-fn run<'f, F: Folder<'f>>(alloc: Global, spec: &TargetSpec, folder: &mut F) -> Result<Output, Stop>
-    ensures { Runs (F.calls folder.old) (F.calls folder.new) (TargetRun spec.now) result }
-{
-    let files = TargetFiles::read(alloc, spec, &spec.linked, folder)?;
-    let collated = collated_of(alloc, spec, &files)?;
+    let files = TargetFiles::read(alloc, &spec, &spec.linked, folder)?;
+    let collated = collated_of(alloc, &spec, &files)?;
     pass_edges(alloc, &files.listing, &spec.dyndep_path, &collated)?;
     let mut written = Vec::new(alloc);
-    append_files(alloc, collated, spec, &mut written)?;
+    append_files(alloc, collated, &spec, &mut written)?;
     Ok(Output::files(alloc, written))
 }
 
