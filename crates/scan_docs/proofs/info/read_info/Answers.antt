@@ -8,10 +8,40 @@ checks_are : (with_visibility : Bool) (ds : List Data) → all_module_checks wit
 unfolding all_module_checks
 checks_are with_visibility ds = refl
 
+pub returns-in_err-version : goal.returns-in_err-version
+unfolding info_checks
+returns-in_err-version c =
+    stopped (info_checks (view c.args.tree.now)) _ _ _ c.from_residual.ensures.1
+    (λ ne. rw (failure_of_both, c.in_err-version.ensures ne) refl)
+
+pub returns-in_err-target : goal.returns-in_err-target
+unfolding info_checks
+returns-in_err-target c =
+    stopped (info_checks (view c.args.tree.now)) _ _ _ c.from_residual-in_err-target.ensures.1
+    (λ ne. rw (
+      failure_of_both,
+      c.in_ok-version.ensures.0,
+      failure_of_both,
+      c.in_err-target.ensures ne,
+    ) refl)
+
+pub returns-in_err-values : goal.returns-in_err-values
+unfolding info_checks
+returns-in_err-values c =
+    stopped (info_checks (view c.args.tree.now)) _ _ _ c.from_residual-in_err-values.ensures.1
+    (λ ne. rw (
+      failure_of_both,
+      c.in_ok-version.ensures.0,
+      failure_of_both,
+      c.in_ok-target.ensures.0,
+      (c.in_err-values.ensures ne).0,
+      (c.in_err-values.ensures ne).1,
+    ) refl)
+
 pub returns-in_err-entry : goal.returns-in_err-entry
 unfolding info_checks
 returns-in_err-entry c =
-    stopped (info_checks (view c.args.tree.now)) _ c.from_residual-in_err-entry.result _ c.from_residual-in_err-entry.ensures.1
+    stopped (info_checks (view c.args.tree.now)) _ _ _ c.from_residual-in_err-entry.ensures.1
     (λ ne. rw (
       failure_of_both,
       c.in_ok-version.ensures.0,
@@ -51,4 +81,4 @@ returns c =
 
 pub returns-in_err-push : goal.returns-in_err-push
 returns-in_err-push c =
-    stopped (info_checks (view c.args.tree.now)) _ c.from_residual-in_err-push.result _ c.from_residual-in_err-push.ensures.1 (λ ne. absurd (ne refl))
+    stopped (info_checks (view c.args.tree.now)) _ _ _ c.from_residual-in_err-push.ensures.1 (λ ne. absurd (ne refl))

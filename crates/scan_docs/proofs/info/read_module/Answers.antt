@@ -1,14 +1,58 @@
-use Rattle.std.proofs.Common.{Some, sym, ap, ◌∙◌}
+use Rattle.std.proofs.Common.{Some, refl, sym, ap, ◌∙◌}
 use Rattle.serde_json.specs.View.{view}
 use Rattle.scan_docs.specs.InfoChecks.{all_requirement_checks, module_checks}
 use Rattle.scan_docs.proofs.Each.{failure_of_both, one_more, refused_at, all_read, stopped}
 use Rattle.scan_docs.proofs.info.read_module.Goals as goal
 
+pub returns-in_err-texts : goal.returns-in_err-texts
+unfolding module_checks
+returns-in_err-texts c =
+    stopped (module_checks c.args.with_visibility c.args.number (view c.args.value.now)) _ _ _ c.from_residual.ensures.1
+    (λ ne. rw (failure_of_both, c.in_err-texts.ensures ne) refl)
+
+pub returns-in_err-requirements : goal.returns-in_err-requirements
+unfolding module_checks
+returns-in_err-requirements c =
+    stopped (module_checks c.args.with_visibility c.args.number (view c.args.value.now)) _ _ _ c.from_residual-in_err-requirements.ensures.1
+    (λ ne. rw (
+      failure_of_both,
+      c.in_ok-texts.ensures.0,
+      (c.in_err-requirements.ensures ne).0,
+      (c.in_err-requirements.ensures ne).1,
+    ) refl)
+
+pub returns-in_err-is_private : goal.returns-in_err-is_private
+unfolding module_checks
+returns-in_err-is_private c =
+    stopped (module_checks c.args.with_visibility c.args.number (view c.args.value.now)) _ _ _ c.from_residual-in_err-is_private.ensures.1
+    (λ ne. rw (
+      failure_of_both,
+      c.in_ok-texts.ensures.0,
+      c.in_ok-requirements.ensures.0,
+      failure_of_both,
+      c.in_err-is_private.ensures ne,
+    ) refl)
+
+pub returns-in_err-name : goal.returns-in_err-name
+unfolding module_checks
+returns-in_err-name c =
+    stopped (module_checks c.args.with_visibility c.args.number (view c.args.value.now)) _ _ _ c.from_residual-in_err-name.ensures.1
+    (λ ne. rw (
+      failure_of_both,
+      c.in_ok-texts.ensures.0,
+      c.in_ok-requirements.ensures.0,
+      failure_of_both,
+      c.in_ok-is_private.ensures.0,
+      failure_of_both,
+      c.in_ok-texts.ensures.1.0,
+      c.in_ok-texts.ensures.1.1,
+      c.in_err-name.ensures ne,
+    ) refl)
+
 pub returns-in_err-pair : goal.returns-in_err-pair
 unfolding module_checks all_requirement_checks
 returns-in_err-pair c =
-    stopped (module_checks c.args.with_visibility c.args.number (view c.args.value.now)) _ c.from_residual-in_err-pair.result _
-    c.from_residual-in_err-pair.ensures.1
+    stopped (module_checks c.args.with_visibility c.args.number (view c.args.value.now)) _ _ _ c.from_residual-in_err-pair.ensures.1
     (λ ne. rw (
       failure_of_both,
       c.in_ok-texts.ensures.0,

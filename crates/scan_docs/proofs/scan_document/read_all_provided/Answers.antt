@@ -7,8 +7,7 @@ use Rattle.scan_docs.proofs.scan_document.read_all_provided.Goals as goal
 pub returns-in_err-pair : goal.returns-in_err-pair
 unfolding all_provided_checks
 returns-in_err-pair c =
-    stopped (all_provided_checks c.args.setting.now c.args.work.now c.args.rule (map view c.args.entries.now)) _ c.from_residual-in_err-pair.result _
-    c.from_residual-in_err-pair.ensures.1
+    stopped (all_provided_checks c.args.setting.now c.args.work.now c.args.rule (map view c.args.entries.now)) _ _ _ c.from_residual-in_err-pair.ensures.1
     (λ ne. refused_at c.loop-entry-test.true c.index-entries-entry.is (c.in_err-pair.ensures ne) c.loop-entry.invariant)
 
 pub loop-entry-preserved : goal.loop-entry-preserved

@@ -66,8 +66,7 @@ left c = rw (
 
 pub returns-in_err-object : goal.returns-in_err-object
 returns-in_err-object c =
-    stopped (rule_checks c.args.setting.now c.args.index (view c.args.rule.now)) _ c.from_residual-in_err-object.result _
-    c.from_residual-in_err-object.ensures.1
+    stopped (rule_checks c.args.setting.now c.args.index (view c.args.rule.now)) _ _ _ c.from_residual-in_err-object.ensures.1
     (λ ne. rw (
       parts,
       c.in_ok-check_object.ensures.0,
@@ -93,8 +92,7 @@ returns-then-provides-gt-COUNT_LIMIT c = λ ne.
 
 pub returns-in_err-provided : goal.returns-in_err-provided
 returns-in_err-provided c =
-    stopped (rule_checks c.args.setting.now c.args.index (view c.args.rule.now)) _ c.from_residual-in_err-provided.result _
-    c.from_residual-in_err-provided.ensures.1
+    stopped (rule_checks c.args.setting.now c.args.index (view c.args.rule.now)) _ _ _ c.from_residual-in_err-provided.ensures.1
     (λ ne. rw (
       left (goal.at.returns-in_err-provided c).In_ok-object,
       count_passes (place.Rule c.args.index) (map view c.in_ok-provides.provides.now) (map view c.in_ok-requirements.requirements.now)
@@ -104,8 +102,7 @@ returns-in_err-provided c =
 
 pub returns-in_err-required : goal.returns-in_err-required
 returns-in_err-required c =
-    stopped (rule_checks c.args.setting.now c.args.index (view c.args.rule.now)) _ c.from_residual-in_err-required.result _
-    c.from_residual-in_err-required.ensures.1
+    stopped (rule_checks c.args.setting.now c.args.index (view c.args.rule.now)) _ _ _ c.from_residual-in_err-required.ensures.1
     (λ ne. rw (
       left (goal.at.returns-in_err-required c).In_ok-object,
       count_passes (place.Rule c.args.index) (map view c.in_ok-provides.provides.now) (map view c.in_ok-requirements.requirements.now)

@@ -23,7 +23,7 @@ pub returns-in_err-rule : goal.returns-in_err-rule
 unfolding scan_checks all_rule_checks
 returns-in_err-rule c =
     let test = short (map view c.in_ok-rules.rules.now) (rw length-map c.if-rules-gt-COUNT_LIMIT.false) in
-    stopped (scan_checks c.args.setting.now (view c.args.tree.now)) _ c.from_residual-in_err-rule.result _ c.from_residual-in_err-rule.ensures.1
+    stopped (scan_checks c.args.setting.now (view c.args.tree.now)) _ _ _ c.from_residual-in_err-rule.ensures.1
     (λ ne. rw (failure_of_both, failure_of_both, c.in_ok-read_version.ensures.0, c.in_ok-rules.ensures.0, c.in_ok-rules.ensures.1, test)
     (refused_at c.loop-index-test.true c.index-rules-index.is (c.in_err-rule.ensures ne) c.loop-index.invariant))
 
