@@ -142,9 +142,21 @@ fn is_map_byte(b: u8) -> bool
 pub fn first_unfit<'m>(map: &ModuleMap<'m>) -> Option<&'m Path>
     ensures { option_copied result ≡ first_unfit (pairs_of map.now) }
 {
-    let mut pairs = map.provided().iter().chain(map.needed().iter());
-    let pair = pairs.find(|pair| !is_fit(pair.1.bytes()))?;
-    Some(pair.1)
+    match first_unfit_of(map.provided()) {
+        Some(path) => Some(path),
+        None => first_unfit_of(map.needed()),
+    }
+}
+
+fn first_unfit_of<'m>(pairs: &[(&'m Name, &'m Path)]) -> Option<&'m Path>
+    ensures { option_copied result ≡ first_unfit (lent_pairs pairs.now) }
+{
+    for pair in pairs {
+        if !is_fit(pair.1.bytes()) {
+            return Some(pair.1);
+        }
+    }
+    None
 }
 
 /// Appends a line for each module: the prefix, the name, the mark and the path.
