@@ -62,3 +62,18 @@ returns c =
     let end : c.loop-chosen.chosen ≡ c.in-Some.count = omega arith in
     all_chosen s c.loop-chosen.invariant.fewest
     (subst (λ n. IsChosen graph c.args.first c.in-Some.count steps c.loop-chosen.cycle.items c.loop-chosen.node n) end c.loop-chosen.invariant.chosen)
+
+pub overflow_sub-count : goal.overflow_sub-count
+overflow_sub-count c = omega arith
+
+pub least_at-node-requires-clause-some : goal.least_at-node-requires-clause-some
+least_at-node-requires-clause-some c = rw c.row_of-in-loop-chosen.ensures c.loop-chosen.invariant.chosen.ahead.0
+
+pub row_of-requires-in-loop-chosen : goal.row_of-requires-in-loop-chosen
+row_of-requires-in-loop-chosen c = omega (arith, length_lists c.args.needs.now)
+
+pub fewest-requires : goal.fewest-requires
+fewest-requires c =
+    let s = steps_for c.args.needs.now c.args.users.now c.requires.users c.as_slice-steps.ensures.value c.in_ok-distances.ensures in
+    rw c.row_of.ensures (row_nodes (lists c.args.needs.now) c.args.first (length c.as_slice-steps.result.now) s.as_many
+    (omega (arith, length_lists c.args.needs.now)) c.requires.nodes)

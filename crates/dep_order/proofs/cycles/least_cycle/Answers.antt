@@ -1,7 +1,8 @@
-use Rattle.std.proofs.Common.{subst, None, ◌∷◌, refl}
+use Rattle.std.proofs.Common.{arith, ap, ◌∙◌, length, subst, None, ◌∷◌, refl}
 use Rattle.std.proofs.lemmas.Bool.{false≢true}
 use Rattle.dep_order.specs.Prelude.{lists, NodeNeeds, needs_of, SharesComponent, IsLeastFromIfAny}
-use Rattle.dep_order.proofs.Answered.{least_of_all, none_from}
+use Rattle.dep_order.proofs.Answered.{first_in_range, least_of_all, none_from, row_nodes}
+use Rattle.dep_order.proofs.Releases.{length_lists}
 use Rattle.dep_order.proofs.Connected.{shared_from, cycle_from_shared}
 use Rattle.dep_order.proofs.cycles.least_cycle.Goals as goal
 
@@ -31,3 +32,22 @@ loop-first-preserved c =
     rw c.row_of.ensures (rw c.as_slice.ensures.value (shared_from cycle c.requires.nodes c.in_ok-components.ensures h begins)) in
     false≢true (c.if-shares_component.ensures.1 seen))
     c.loop-first.invariant
+
+pub shares_component-requires-clause-row : goal.shares_component-requires-clause-row
+shares_component-requires-clause-row c =
+    rw c.row_of.ensures (row_nodes (lists c.args.needs.now) c.loop-first.first (length c.as_slice.result.now)
+    (ap length c.as_slice.ensures.value ∙ c.in_ok-components.ensures.each) (omega (arith, length_lists c.args.needs.now)) c.requires.nodes)
+
+pub shares_component-requires-clause-node : goal.shares_component-requires-clause-node
+shares_component-requires-clause-node c =
+    omega (arith, ap length c.as_slice.ensures.value, c.in_ok-components.ensures.each, length_lists c.args.needs.now)
+
+pub unreachable-requires-2 : goal.unreachable-requires-2
+unreachable-requires-2 c =
+    let cycle = c.requires.cycle in
+    absurd (omega (
+      arith,
+      c.loop-first.invariant cycle.0 cycle.1,
+      first_in_range (lists c.args.needs.now) cycle.0 c.requires.nodes cycle.1,
+      length_lists c.args.needs.now,
+    ))

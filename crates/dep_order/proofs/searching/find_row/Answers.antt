@@ -1,8 +1,9 @@
+use Rattle.std.proofs.lemmas.Grind.{common_steps}
 use Rattle.std.proofs.Common.{Bool, true, eqb, ltb, ◌≡◌, ◌<◌, ◌≤◌, ◌∙◌, ap, sym, length, slice_index, arith, ℕ, Vec}
 use Rattle.std.proofs.lemmas.Bool.{false≢true, ltb-true}
 use Rattle.dep_order.proofs.Searches.{row_old, row_new, found_there, there_if_found}
 use Rattle.dep_order.proofs.Orders.{same, same_itself}
-use Rattle.std.proofs.lemmas.List.{get_or_read}
+use Rattle.std.proofs.lemmas.List.{get_or_read, take_all}
 use Rattle.dep_order.specs.Prelude.{Global, Contains, AreFound}
 use Rattle.dep_order.proofs.Words.{Numbers}
 use Rattle.dep_order.proofs.searching.find_row.Goals as goal
@@ -55,3 +56,12 @@ loop-node-preserved c =
           let known = tells.0 w.if-not-is_found.false in
           rw w.indexes-is (rw w.found-is (row_old row indexes found now_indexes now_found i c.loop-node-test.true c.loop-node.invariant known))
     ]
+
+pub loop-node-init : goal.loop-node-init
+loop-node-init c = grind (arith, common_steps)
+
+pub index-index-requires : goal.index-index-requires
+index-index-requires c = omega (arith, c.requires.row c.loop-node.node-index 0 c.loop-node-test.true)
+
+pub returns-clause-found : goal.returns-clause-found
+returns-clause-found c = rw (← (take_all c.loop-node.node-index c.args.row.now c.loop-node-test.false)) c.loop-node.invariant

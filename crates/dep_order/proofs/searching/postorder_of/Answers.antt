@@ -1,4 +1,5 @@
 use Rattle.std.proofs.Common.{◌≡◌, ◌<◌, ◌+◌, ◌++◌, ◌∷◌, [], ℕ, List, Bool, ⊎_elim, length, arith, subst, sym, ◌∙◌, set, slice_index, true, false, Some, None, ap, not, get_or}
+use Rattle.std.proofs.lemmas.Grind.{common_steps}
 use Rattle.std.proofs.lemmas.Bool.{cases_lt, false≢true}
 use Rattle.std.proofs.lemmas.List.{get_or_read, get_or-set_same, length_push}
 use Rattle.std.proofs.lemmas.List.Sums.{sum_by-set}
@@ -149,3 +150,33 @@ loop-root-preserved c =
 
 pub returns : goal.returns
 returns c = all_left (λ node lt. c.loop-root.invariant.seen node (omega (arith, length_lists c.args.needs.now))) c.loop-root.invariant.in_depth
+
+pub index-requires : goal.index-requires
+index-requires c = omega (arith, length_lists c.args.needs.now)
+
+pub index_mut-requires : goal.index_mut-requires
+index_mut-requires c = omega (arith, length_lists c.args.needs.now)
+
+pub overflow_add-index : goal.overflow_add-index
+overflow_add-index c = omega (arith, c.in-Some-first_unseen.ensures.1)
+
+pub bounds-row-index : goal.bounds-row-index
+bounds-row-index c = c.in-Some-first_unseen.ensures.1
+
+pub bounds-row-index-in-Some-first_unseen : goal.bounds-row-index-in-Some-first_unseen
+bounds-row-index-in-Some-first_unseen c = c.in-Some-first_unseen.ensures.1
+
+pub index_mut-requires-in-Some-first_unseen : goal.index_mut-requires-in-Some-first_unseen
+index_mut-requires-in-Some-first_unseen c =
+    omega (arith, last_in c.pop.new.self.items c.in-Some.node c.in-Some.ensures.items c.loop-node.invariant.in_depth)
+
+pub index_mut-requires-in-Some-first_unseen-2 : goal.index_mut-requires-in-Some-first_unseen-2
+index_mut-requires-in-Some-first_unseen-2 c =
+    omega (
+      arith,
+      row_in c.pop.new.self.items c.in-Some.node c.in-Some.ensures.items c.row_of-row.ensures c.requires c.loop-node.invariant.in_depth
+          c.in-Some-first_unseen.index 0 c.in-Some-first_unseen.ensures.1,
+    )
+
+pub loop-root-init : goal.loop-root-init
+loop-root-init c = grind (arith, common_steps)

@@ -1,3 +1,4 @@
+use Rattle.std.proofs.lemmas.Grind.{common_steps}
 use Rattle.std.proofs.Common.{rules, ◌<◌, ◌∙◌, ap, arith, replicate, sym, length, slice_index, None}
 use Rattle.std.proofs.lemmas.List.{take_all}
 use Rattle.dep_order.specs.Prelude.{All, lists}
@@ -41,3 +42,12 @@ returns c =
 
 pub row_of-requires : goal.row_of-requires
 row_of-requires c = in_range (goal.at.row_of-requires c).After-deref-node-items c.loop-node.node-index 0 c.loop-node-test.true
+
+pub overflow_add-count : goal.overflow_add-count
+overflow_add-count c = omega (arith, length_lists c.args.slices.now)
+
+pub levels-smaller : goal.levels-smaller
+levels-smaller c = omega (arith, nonempty c.levels.frontier c.levels-test.ensures)
+
+pub loop-node-init : goal.loop-node-init
+loop-node-init c = grind (arith, common_steps)

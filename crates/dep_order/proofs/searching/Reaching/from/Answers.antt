@@ -43,3 +43,15 @@ returns-clause-reached c =
     rw (← (c.search.invariant.same ∙ c.self.view_is))
     (are_reached c.search.self-inside.graph.now c.args.node c.search.next c.search.self-inside.indexes.items c.search.found.items c.search.invariant.reached
     (omega arith))
+
+pub search-init : goal.search-init
+search-init c = grind (arith, common_steps)
+
+pub index-row-requires : goal.index-row-requires
+index-row-requires c = grind (arith, common_steps)
+
+pub find_row-requires-clause-found : goal.find_row-requires-clause-found
+find_row-requires-clause-found c = c.search.invariant.reached.are_found
+
+pub overflow_add-next : goal.overflow_add-next
+overflow_add-next c = omega arith
