@@ -64,28 +64,36 @@ pub fn task_of<'a>(alloc: Global, arguments: &'a [String]) -> Result<Option<Task
     }
 }
 
+/// The name and the operands of each command.
+const COMMANDS: [(&str, &[&str]); 6] = [
+    ("one", &["scan", "dir", "ext"]),
+    ("collate", &["target"]),
+    ("show", &["dyndep"]),
+    ("effect", &["name", "edges", "dyndep"]),
+    ("order", &["edges"]),
+    ("project", &["document"]),
+];
+
 /// Returns the program's commands with their operands.
 fn program<'a>(alloc: Global) -> Result<Command<'a>, AllocError>
     ensures { IfOk result (λ c. app_of c ≡ program) }
 {
-    let program = Command::new(alloc, "dyncollate")
+    let mut program = Command::new(alloc, "dyncollate")
         .disable_help_flag(true)
         .disable_help_subcommand(true)
         .subcommand_required(true);
-    let program = with_command(alloc, program, "one", &["scan", "dir", "ext"])?;
-    let program = with_command(alloc, program, "collate", &["target"])?;
-    let program = with_command(alloc, program, "show", &["dyndep"])?;
-    let program = with_command(alloc, program, "effect", &["name", "edges", "dyndep"])?;
-    let program = with_command(alloc, program, "order", &["edges"])?;
-    with_command(alloc, program, "project", &["document"])
+    for (name, operands) in &COMMANDS {
+        program = with_command(alloc, program, name, operands)?;
+    }
+    Ok(program)
 }
 
 /// Adds a command with these operands.
 fn with_command<'a>(
     alloc: Global,
     program: Command<'a>,
-    name: &'a str,
-    operands: &[&'a str],
+    name: &'static str,
+    operands: &[&'static str],
 ) -> Result<Command<'a>, AllocError>
     ensures { IfOk result (λ c. app_of c ≡ with_subcommand (app_of program.entry)
         (command_app name.now (map (λ o. o.now) operands.now)).top) }

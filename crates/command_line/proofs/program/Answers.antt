@@ -1,10 +1,20 @@
-use Rattle.std.proofs.Common.{◌≡◌, ◌∙◌, ap, true, [], IfOk, Result, Ok, Err}
-use Rattle.std.specs.declared.alloc.AllocError.{AllocError}
-use Rattle.clap.specs.Words.{App, Shape, app_of, with_subcommand}
-use Rattle.clap.specs.declared.builder.command.Command.{Command}
+use Rattle.std.proofs.Common.{◌≡◌, ◌∙◌, ◌+◌, ◌<◌, ◌≤◌, ℕ, List, true, ap, take, get_or, length, sym}
+use Rattle.std.proofs.lemmas.List.{take_all}
+use Rattle.std.proofs.lemmas.List.Sums.{fold_more}
+use Rattle.clap.specs.Words.{App}
 use Rattle.clap.specs.Simple.{app_of_fields}
-use Rattle.command_line.specs.inner.Parses.{top}
+use Rattle.command_line.proofs.program.Invariants.{Named, with_named, with_commands}
 use Rattle.command_line.proofs.program.Goals as goal
+
+-- one command more
+more : (commands : List Named) (i : ℕ) (d : Named) (a b : App) → i < length commands → b ≡ with_named a (get_or commands i d) →
+    a ≡ with_commands (take i commands) → b ≡ with_commands (take (i + 1) commands)
+more commands i d a b within is h =
+    is ∙ ap (λ x. with_named x (get_or commands i d)) h ∙ sym (fold_more with_named _ commands i d within)
+
+-- no command more
+all : (commands : List Named) (i : ℕ) (a : App) → length commands ≤ i → a ≡ with_commands (take i commands) → a ≡ with_commands commands
+all commands i a past h = h ∙ ap with_commands (take_all i commands past)
 
 -- with the settings of the command above the others
 abbrev bare_of : App → App
@@ -16,24 +26,17 @@ bare_of a = record a {
   };
 }
 
--- one command more
-added : (s : Shape) (old : Command) (r : Result Command AllocError) {a : App} → IfOk r (λ c. app_of c ≡ with_subcommand (app_of old) s) →
-    app_of old ≡ a → IfOk r (λ c. app_of c ≡ with_subcommand a s)
-added s old (Ok new) is e = is ∙ ap (λ a. with_subcommand a s) e
-added s old (Err none) is e = tt
-
-pub returns : goal.returns
-returns c =
-    let bare : App = record { top = top; subs = [] } in
-    let none : app_of c.subcommand_required-program.result ≡ bare =
+pub loop-name-init : goal.loop-name-init
+loop-name-init c =
     ap app_of_fields c.subcommand_required-program.ensures
     ∙ ap (λ f. app_of_fields (record f { subcommand_required = true })) c.disable_help_subcommand.ensures
     ∙ ap (λ f. app_of_fields (record f { disable_help_subcommand = true; subcommand_required = true }))
     c.disable_help_flag.ensures
-    ∙ ap bare_of c.new.ensures.app in
-    added _ _ c.with_command-6.result c.with_command-6.ensures
-    (added _ _ (Ok c.in_ok-program-5.program) c.in_ok-program-5.ensures
-    (added _ _ (Ok c.in_ok-program-4.program) c.in_ok-program-4.ensures
-    (added _ _ (Ok c.in_ok-program-3.program) c.in_ok-program-3.ensures
-    (added _ _ (Ok c.in_ok-program-2.program) c.in_ok-program-2.ensures
-    (added _ _ (Ok c.in_ok-program.program) c.in_ok-program.ensures none)))))
+    ∙ ap bare_of c.new.ensures.app
+
+pub loop-name-preserved : goal.loop-name-preserved
+loop-name-preserved c =
+    more _ c.loop-name.name-index _ _ _ c.loop-name-test.true c.in_ok-program.ensures c.loop-name.invariant
+
+pub returns : goal.returns
+returns c = all _ c.loop-name.name-index _ c.loop-name-test.false c.loop-name.invariant

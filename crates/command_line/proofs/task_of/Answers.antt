@@ -1,4 +1,4 @@
-use Rattle.std.proofs.Common.{◌≡◌, ◌∙◌, List, Option, Some, None, map, string_bytes, rules}
+use Rattle.std.proofs.Common.{◌≡◌, ◌∙◌, List, Option, Some, None, map, refl, string_bytes, rules}
 use Rattle.std.specs.Prelude.{Box, option_map}
 use Rattle.std.specs.Global.{Global}
 use Rattle.std.specs.Box.{box_value}
@@ -22,6 +22,12 @@ found (Some x) name rows a b =
     let have : rows ≡ rows_of (found_of (out-SubCommand (box_value x)).matches) = cc in
     λ i. task_by (same i) (λ id. first_of id (have i))
 
+-- there is no task without a name
+none_found : (o : Option (Box SubCommand Global)) → None ≡ option_map (λ b. (out-SubCommand (box_value b)).name.now) o →
+    None ≡ task_found (subcommand_rows o)
+none_found None none = refl
+none_found (Some x) none = cc
+
 -- a command was given
 pub returns-in-Some : goal.returns-in-Some
 returns-in-Some c =
@@ -29,6 +35,13 @@ returns-in-Some c =
     let given = found_of c.in-Some.given.now in
     c.task_by.ensures ∙ (λ i. task_by name (λ id. first_value-rows given id i))
     ∙ found (out-ArgMatches c.in-Ok.matches).subcommand name (rows_of given) c.in-Some.ensures.name c.in-Some.ensures.rows
+    ∙ task_parsed (app_of c.in_ok-command.command) (map string_bytes c.args.arguments.now) c.in-Ok.matches
+    c.in_ok-command.ensures (all_text c.args.arguments.now) c.in-Ok.ensures.kinds c.in-Ok.ensures.matches
+
+-- no command was given
+pub returns-in-Ok : goal.returns-in-Ok
+returns-in-Ok c =
+    none_found (out-ArgMatches c.in-Ok.matches).subcommand c.in-None.ensures.name
     ∙ task_parsed (app_of c.in_ok-command.command) (map string_bytes c.args.arguments.now) c.in-Ok.matches
     c.in_ok-command.ensures (all_text c.args.arguments.now) c.in-Ok.ensures.kinds c.in-Ok.ensures.matches
 
