@@ -252,15 +252,6 @@ module _ (t : TableValue) (kept : List Name) where
   pub after_known : (rows : List (List ℕ)) → AreRequiredIndexes t rows → Passed 5 t kept → Passed 6 t kept
   after_known rows is passed = next_passed 5 passed (requirements_lack (rows_known rows is))
 
-  after_infos_known : AreInfosKnown t → Passed 6 t kept → Passed 7 t kept
-  after_infos_known by_infos passed = next_passed 6 passed (unknown_lacks by_infos)
-
-  after_agreement : DoInfosAgree t → Passed 7 t kept → Passed 8 t kept
-  after_agreement agree passed = next_passed 7 passed (disagreeing_lacks agree)
-
-  after_rings : IsOrderable (length t.objects) (DependsOn t) → Passed 8 t kept → Passed 9 t kept
-  after_rings orderable passed = next_passed 8 passed (rings_lack orderable)
-
   pub after_allowed : AreObjectsAllowed t → AreInfosAllowed t → Passed 9 t kept →
       Passed 10 t kept
   after_allowed public allowed passed = next_passed 9 passed (private_lacks public allowed)
@@ -268,15 +259,14 @@ module _ (t : TableValue) (kept : List Name) where
   pub after_kept : AreByObjects t kept → Passed 10 t kept → Passed 11 t kept
   after_kept own passed = next_passed 10 passed (kept_lack own)
 
-  -- what has passed by some of the checks M5 to M9
-  module _ (rows : List (List ℕ)) (indexes : AreRequiredIndexes t rows) (by_infos : AreInfosKnown t)
-      (before : Passed 5 t kept) where
+  -- what has passed by some of the checks M6 to M9
+  module _ (by_infos : AreInfosKnown t) (before : Passed 6 t kept) where
     pub seven_passed : Passed 7 t kept
-    seven_passed = after_infos_known by_infos (after_known rows indexes before)
+    seven_passed = next_passed 6 before (unknown_lacks by_infos)
 
     module _ (agree : DoInfosAgree t) where
       pub eight_passed : Passed 8 t kept
-      eight_passed = after_agreement agree seven_passed
+      eight_passed = next_passed 7 seven_passed (disagreeing_lacks agree)
 
       pub nine_passed : IsOrderable (length t.objects) (DependsOn t) → Passed 9 t kept
-      nine_passed ordered = after_rings ordered eight_passed
+      nine_passed ordered = next_passed 8 eight_passed (rings_lack ordered)

@@ -2,14 +2,17 @@
 //! they have passed. M1 to M4 are here: what is twice among the paths of objects, the targets of
 //! info files, the names of modules and the files. M5 to M10 are in `required.rt`.
 ghost use Rattle.std.specs.Prelude.{◌≡◌, IfErr, IfOk, List, map, OnOk};
-ghost use Rattle.module_table.specs.Prelude.{AllDiffer, Covers, provisions, table_with, TableValue};
+ghost use Rattle.module_table.specs.Prelude.{AllDiffer, AreLookedUp, Covers, provisions};
+ghost use Rattle.module_table.specs.Prelude.{table_with, TableValue};
 ghost use Rattle.module_table.specs.Prelude.{AreModuleRows, AreRequiredIndexes, Name, provision_of};
 ghost use Rattle.module_table.specs.Prelude.{ForFault, HasNoFault, IsReported, rows, table_entries};
 ghost use Rattle.module_table.specs.Prelude.{IsEmpty, IsIndex, names_of, Passed, paths_of, Reports};
 ghost use Rattle.indexmap.specs.IndexSet.{hasher_of};
 
 use crate::fault::{Maker, TableFault, failure_of};
-use crate::modules::{Module, Modules, all_required, module_at, object_rows, provided_modules};
+use crate::modules::{
+    InfoRequired, Module, Modules, all_required, module_at, object_rows, provided_modules,
+};
 use crate::needed::all_pairs;
 use dep_order::Digraph;
 use document_values::{Info, Name, Rule};
@@ -104,14 +107,33 @@ fn check_requirements(
     let indexes = check_objects_known(alloc, &modules)?;
     let mut needs = object_rows(alloc, &modules)?;
     let required = all_required(alloc, &modules, &mut needs)?;
-    check_infos_known(alloc, &modules, &required)?;
-    check_infos_agree(alloc, &modules, &required)?;
-    check_rings(alloc, &modules, &indexes)?;
-    check_objects_allowed(alloc, &modules, &indexes)?;
-    check_infos_allowed(alloc, &modules, &required)?;
-    check_kept(alloc, &modules, kept)?;
+    check_looked_up(alloc, &modules, &indexes, &required, kept)?;
     drop(required);
     Ok(Index::new(alloc, modules, needs, indexes)?)
+}
+
+/// Checks M6 to M10. `indexes[i]` are the modules that object i requires, and `all` is what the
+/// modules of info files require. (`check_requirements` would drop these lists at each `?`.)
+fn check_looked_up(
+    alloc: Global,
+    modules: &Modules,
+    indexes: &[Vec<usize>],
+    all: &[InfoRequired],
+    kept: &[Name],
+) -> Result<(), Failure<Box<TableFault>>>
+    requires passed { Passed 6 modules.now kept.now }
+    requires indexes { AreRequiredIndexes modules.now (rows indexes.now) }
+    requires all { AreLookedUp modules.now all.now }
+    ensures no_fault { OnOk result (HasNoFault modules.now kept.now) }
+    ensures fault { IfErr result (ForFault (λ fault.
+        IsReported modules.now kept.now fault.value)) }
+{
+    check_infos_known(alloc, modules, all)?;
+    check_infos_agree(alloc, modules, all)?;
+    check_rings(alloc, modules, indexes)?;
+    check_objects_allowed(alloc, modules, indexes)?;
+    check_infos_allowed(alloc, modules, all)?;
+    check_kept(alloc, modules, kept)
 }
 
 /// M1: no two objects have the same path. Puts the paths into the empty set, by object.

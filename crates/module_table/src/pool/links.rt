@@ -4,6 +4,7 @@ ghost use Rattle.module_table.specs.Prelude.{AreFit, AreIndexes, AreLinked, Has,
 ghost use Rattle.module_table.specs.Prelude.{IsAlike, IsApart, IsPartOf, IsRowUnlinked, IsUnused};
 ghost use Rattle.module_table.specs.Prelude.{KeepsRequired, Kept, RuleValue, Some, true};
 
+use crate::needed::copy_pair;
 use crate::pool::requirements::Requirements;
 use crate::pool::rows::{Listed, ModuleAt, Related, Row};
 use document_values::{Info, InfoModule, Rule};
@@ -269,7 +270,7 @@ fn copy_module(
     let mut required = Vec::new(alloc);
     if requirements == Requirements::Kept {
         for pair in &source.required {
-            required.push((pair.0.copy(alloc)?, pair.1.copy(alloc)?))?;
+            required.push(copy_pair(alloc, &pair.0, &pair.1)?)?;
         }
     }
     Ok(InfoModule {

@@ -4,6 +4,7 @@ ghost use Rattle.module_table.specs.Prelude.{AreListed, By, get, Has, hasher_of,
 ghost use Rattle.module_table.specs.Prelude.{IsRelated, IsSource, key_of, rows_of, Shared};
 ghost use Rattle.module_table.specs.Prelude.{StillKeyed, StillListed};
 
+use crate::needed::copy_pair;
 use document_values::{Info, InfoModule, Name};
 use indexmap::IndexMap;
 use ninja_text::Path;
@@ -71,32 +72,32 @@ impl Listed {
     }
 }
 
-/// Lists the modules of the next info file, which has this index. Returns the names and files that
+/// Lists the modules of the next info file, which has this index. Adds the names and files that
 /// they share with earlier modules.
 pub(crate) fn list_modules(
     alloc: Global,
     info: usize,
     modules: &[InfoModule],
     listed: &mut Listed,
-) -> Result<Vec<Shared>, AllocError>
+    shared: &mut Vec<Shared>,
+) -> Result<(), AllocError>
     ensures still { OnOk result (StillListed listed.old listed.new) }
     ensures key { OnOk result (StillKeyed listed.old listed.new) }
-    ensures listed { IfOk result (λ shared. (by : By) → AreListed (key_of by)
-        info modules.now (rows_of listed.new by) shared.items) }
+    ensures listed { OnOk result ((by : By) → AreListed (key_of by)
+        info modules.now (rows_of listed.new by) shared.new.items) }
 {
-    let mut found = Vec::new(alloc);
     for (module, entry) in modules.iter().enumerate() {
         let at = ModuleAt { info, module };
         let name = entry.name.copy(alloc)?;
-        add(&mut listed.names, &mut listed.numbers, name, at, &mut found)?;
+        add(&mut listed.names, &mut listed.numbers, name, at, shared)?;
         let file = entry.file.copy(alloc)?;
-        let is_shared = add(&mut listed.files, &mut listed.numbers, file, at, &mut found)?;
+        let is_shared = add(&mut listed.files, &mut listed.numbers, file, at, shared)?;
         if is_shared && !entry.is_private {
-            let pair = (entry.name.copy(alloc)?, entry.file.copy(alloc)?);
+            let pair = copy_pair(alloc, &entry.name, &entry.file)?;
             let _ = listed.sharing.insert(pair, at)?;
         }
     }
-    Ok(found)
+    Ok(())
 }
 
 /// Adds a module to the row of a key. Returns whether the row has an earlier module, which is then
@@ -174,7 +175,8 @@ impl Related {
         ensures related { IfOk result (λ found. IfSome found
             (IsRelated infos.now info.now listed.new)) }
     {
-        let shared = list_modules(alloc, infos.len(), &info.modules, listed)?;
+        let mut shared = Vec::new(alloc);
+        list_modules(alloc, infos.len(), &info.modules, listed, &mut shared)?;
         let mut required = Vec::with_capacity(alloc, info.modules.len())?;
         let mut sources = Vec::new(alloc);
         for module in &info.modules {

@@ -5,7 +5,7 @@ use Rattle.module_table.specs.Prelude.{get, hasher_of, ModuleValue, by_name, key
 use Rattle.module_table.proofs.PoolLemmas.{row_kept, row_of_row, module_listed, put_more, each_put}
 use Rattle.ninja_text.proofs.ForCallers.{take_next}
 use Rattle.module_table.proofs.pool.rows.list_modules.Goals as goal
-use Rattle.module_table.proofs.pool.rows.list_modules.Goals.{then-is_shared+then-not-entry+in_ok-copy+in_ok-copy-2+in_ok-insert, else-is_shared}
+use Rattle.module_table.proofs.pool.rows.list_modules.Goals.{then-is_shared+then-not-entry+in_ok-pair+in_ok-insert, else-is_shared}
 
 pub loop-module-preserved : goal.loop-module-preserved
 loop-module-preserved c =
@@ -20,11 +20,11 @@ loop-module-preserved c =
     let new = c.if-is_shared.listed in
     let shared = c.add-in-loop-module.new.shared.items in
     let same : (new.names ≡ c.add.new.rows) × (new.files ≡ c.add-in-loop-module.new.rows) = elim c.if-is_shared.branch [
-      | then-is_shared+then-not-entry+in_ok-copy+in_ok-copy-2+in_ok-insert w ↦ rw w.listed-is (refl, refl)
+      | then-is_shared+then-not-entry+in_ok-pair+in_ok-insert w ↦ rw w.listed-is (refl, refl)
       | else-is_shared w ↦ rw w.listed-is (refl, refl)
     ] in
     let sharing : hasher_of new.sharing ≡ hasher_of old.sharing = elim c.if-is_shared.branch [
-      | then-is_shared+then-not-entry+in_ok-copy+in_ok-copy-2+in_ok-insert w ↦ rw w.listed-is w.in_ok-insert.ensures.hasher
+      | then-is_shared+then-not-entry+in_ok-pair+in_ok-insert w ↦ rw w.listed-is w.in_ok-insert.ensures.hasher
       | else-is_shared w ↦ rw w.listed-is refl
     ] in
     let name = c.in_ok-name.ensures ∙ ap (λ (m : ModuleValue). m.name) c.entry.view_is in
@@ -47,12 +47,12 @@ loop-module-preserved c =
             sharing = sharing ∙ before.sharing;
           };
       all = rw (take_next modules i m found) (λ by. module_listed (rows_of old by) (rows_of new by) (key_of by m) at shared (put by) (key_of by) number
-          (take i modules) m c.loop-module.found.items refl (ap (module_at number) (sym next))
+          (take i modules) m c.loop-module.shared.items refl (ap (module_at number) (sym next))
           (λ s h. c.in_ok-is_shared.ensures.still s (c.in_ok-add.ensures.still s h))
           (c.loop-module.invariant.all by));
     }
 
 pub returns-clause-listed : goal.returns-clause-listed
 returns-clause-listed c = λ by.
-    subst (λ ms. AreListed (key_of by) c.args.info ms (rows_of c.loop-module.listed by) c.loop-module.found.items)
+    subst (λ ms. AreListed (key_of by) c.args.info ms (rows_of c.loop-module.listed by) c.loop-module.shared.items)
     (take_all c.loop-module.module c.args.modules.now c.loop-module-test.false) (c.loop-module.invariant.all by)

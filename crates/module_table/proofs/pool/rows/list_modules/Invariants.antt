@@ -6,5 +6,5 @@ abbrev pub invariant-loop-module : goal.invariant-loop-module
 invariant-loop-module l = record {
   still : StillListed l.initial.listed l.listed;
   keyed : StillKeyed l.initial.listed l.listed;
-  all : (by : By) → AreListed (key_of by) l.info (take l.module l.modules) (rows_of l.listed by) l.found.items;
+  all : (by : By) → AreListed (key_of by) l.info (take l.module l.modules) (rows_of l.listed by) l.shared.items;
 }

@@ -44,8 +44,8 @@ loop-module-preserved c =
 pub returns-clause-related : goal.returns-clause-related
 returns-clause-related c = record {
   are_listed = λ by.
-      subst (λ ms. AreListed (key_of by) (length c.args.infos.now) ms (rows_of c.list_modules.new.listed by) c.in_ok-shared.shared.items)
-      (c.deref.ensures.value ∙ ap modules_of c.info.view_is) (c.in_ok-shared.ensures.listed by);
+      subst (λ ms. AreListed (key_of by) (length c.args.infos.now) ms (rows_of c.list_modules.new.listed by) c.list_modules.new.shared.items)
+      (c.deref.ensures.value ∙ ap modules_of c.info.view_is) (c.in_ok-list_modules.ensures.listed by);
   sources = λ j m pair at h.
       let modules = c.args.info.now.modules in
       let list = c.deref-module-items.ensures.value ∙ ap modules_of c.info.view_is in
