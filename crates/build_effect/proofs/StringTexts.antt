@@ -1,6 +1,7 @@
 -- The strings of a build line, one after another in one text.
 use Rattle.std.proofs.Common.{◌≡◌, ◌≢◌, ◌∙◌, ℕ, ◌+◌, ◌-◌, ◌≤◌, ◌<◌, suc, get_or, List, [], ◌∷◌, ◌++◌, length, map, take, drop, refl, sym, ap, subst, arith, append_assoc, length-append, length-drop}
 use Rattle.std.proofs.lemmas.List.{append-nil, map-append, take-append-le, drop-append-le, take_all, take_at, drop_at, take-map, drop-map}
+use Rattle.std.proofs.lemmas.List.Elements.{All-push}
 use Rattle.std.proofs.Math.Seq.{drop-cons}
 use Rattle.build_effect.specs.Prelude.{slice_range, text_of, texts_of, IsWithin, AreWithin, AreEnds, edge_texts_of, Span}
 
@@ -16,6 +17,11 @@ module _ (text more : List ℕ) where
   all_kept [] within = refl
   all_kept (span ∷ spans) within =
       rw (kept (within 0 span (omega arith)), all_kept spans (λ k d lt. within (suc k) d (omega arith))) refl
+
+  -- and it is still within the text
+  pub still_within : {all : List ℕ} (spans : List Span) → all ≡ text ++ more → AreWithin text spans → AreWithin all spans
+  still_within spans longer within k d lt =
+      let is = within k d lt in (is.0, omega (arith, is, ap length longer, length-append text more))
 
 module _ (text value all : List ℕ) (spans : List Span) (span : Span) (within : AreWithin text spans) (longer : all ≡ text ++ value)
     (start : span.start ≡ length text) (end : span.end ≡ length all) where
@@ -33,6 +39,10 @@ module _ (text value all : List ℕ) (spans : List Span) (span : Span) (within :
       last =
           ap (λ t. take (span.end - span.start) (drop span.start t)) longer ∙ ap (take (span.end - span.start)) (drop_at text value span.start (sym start))
           ∙ take_all (span.end - span.start) value (omega (arith, start, end, long))
+
+  -- and lies within the text
+  pub within_push : AreWithin all (spans ++ span ∷ [])
+  within_push = All-push (IsWithin all) spans span (still_within text value spans longer within) (omega (arith, start, end, long), omega (arith, end))
 
 -- a whole list
 pub whole_range : {X : Type 0} (xs : List X) {to : ℕ} → to ≡ length xs → slice_range xs 0 to ≡ xs

@@ -1,4 +1,5 @@
 use Rattle.std.proofs.Common.{Option, rules, ◌≡◌, ◌∙◌, ◌+◌, ◌++◌, ◌||◌, Bool, ℕ, List, take, ap, refl, sym, subst}
+use Rattle.std.proofs.lemmas.List.{take_all}
 use Rattle.std.proofs.lemmas.Option.{slice_get_read, slice_get_within}
 use Rattle.build_effect.specs.Prelude.{each_same, StatementValue, EdgeValue, extended, IsEdgeAfter, AreExtended, statement_on}
 use Rattle.build_effect.proofs.Extensions.{unchanged, more_extended}
@@ -74,3 +75,8 @@ loop-edge_index-preserved c =
     subst (AreExtended (take (i + 1) g) additions c.args.statement_of.now) (sym c.in_ok-push.ensures.items)
     (more_extended g i e after
     (slice_get_read g _ i e refl c.loop-edge_index-test.true c.index-edges-edge_index.is) c.loop-edge_index.invariant is)
+
+pub returns : goal.returns
+returns c =
+    subst (λ g. AreExtended g c.args.additions.now c.args.statement_of.now c.loop-edge_index.new.items)
+    (take_all c.loop-edge_index.edge_index c.args.edges.now c.loop-edge_index-test.false) c.loop-edge_index.invariant
