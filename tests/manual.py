@@ -39,8 +39,9 @@ class Manual(unittest.TestCase):
 
     def test_commands(self):
         arguments = (TOP / "crates/command_line/src/lib.rt").read_text()
-        commands = re.findall(r'\bwith_command\(\s*alloc,\s*\S+,\s*"([a-z]+)"', arguments)
-        self.assertEqual(len(commands), len(re.findall(r"\bwith_command\(", arguments)), "each command that is added has a name")
+        table = re.search(r"^const COMMANDS: .* = \[\n(.*?)^\];", arguments, re.M | re.S)[1]
+        commands = re.findall(r'^    \("([a-z]+)", ', table, re.M)
+        self.assertEqual(len(commands), table.count("\n"), "each line of the table begins with the name of a command")
         self.equal_lists(commands, re.findall(r"^\.Cm (.*)", section(self.page, "SYNOPSIS", "DESCRIPTION"), re.M))
 
     def test_help(self):
