@@ -1,8 +1,7 @@
 -- What reading an edge list or a dyndep file leads to.
 use Rattle.std.proofs.Common.{◌≡◌, refl, Some, Result, Ok, Err, inl, inr, IfOk, IfErr, Bool}
-use Rattle.commands.specs.Prelude.{is_ok, Bytes, ForFault, Failure, DyndepReaderState, HasReadDyndep, FeedsDyndep, EndsDyndepFile, IsReadFaultIn, IsReadFaultOf, StandsForOnly, ReadFault, IsGraph, ListingReaderState, HasReadListing, FeedsListing, EndsListing, IsListingFault, IsListingFaultIn, line_failure, Lists, ListFault, LineFault, DyndepRead, IsDyndepRead, HasFailed, ReadsOn, ReadsAs, Runs, Text, WasGiven, whole, ListingRead, IsListingRead}
+use Rattle.commands.specs.Prelude.{is_ok, Bytes, ForFault, Failure, DyndepReaderState, HasReadDyndep, FeedsDyndep, EndsDyndepFile, IsReadFaultIn, IsReadFaultOf, StandsForOnly, ReadFault, IsGraph, ListingReaderState, HasReadListing, FeedsListing, EndsListing, IsListingFault, IsListingFaultIn, line_failure, Lists, ListFault, LineFault, DyndepRead, IsDyndepRead, FileRead, HasFailed, ReadsOn, WasGiven, whole, ListingRead, IsListingRead}
 use Rattle.ninja_text.specs.declared.failure.Failure.TheVariants.{Memory, Fault}
-use Rattle.commands.proofs.Outcomes.{Known}
 use Rattle.dyndep_file.specs.declared.fault.ReadFault.TheVariants.{AtLine, Io}
 use Rattle.build_effect.specs.declared.fault.ListFault.TheVariants as list
 
@@ -19,36 +18,34 @@ whole_listing text (Ok edges) graph is none = (refl, (is, graph))
 whole_listing text (Err Memory) graph none is = tt
 whole_listing text (Err (Fault fault)) graph none is = inr (refl, is)
 
--- ---- what a reader makes of a file that was read, by what it was given
+-- ---- what a reader makes of a file, by what it was given
 
-pub dyndep_file : (old : Known) {new : Known} {name : Text} (reader : DyndepReaderState) (r : DyndepRead) →
-    ((failure : Failure ReadFault) → reader.failed ≡ Some failure → r ≡ Err failure) → ((bytes : Bytes) → HasReadDyndep bytes reader → EndsDyndepFile bytes r) →
-    Runs old new (ReadsAs (WasGiven HasReadDyndep (HasFailed IsReadFaultIn)) name) (Ok reader) → Runs old new (ReadsAs IsDyndepRead name) (Ok r)
-dyndep_file old reader r failed all (calls, made, (file, call, inl (read, ended))) = (calls, made, (file, call, at_end r (all file.bytes read)))
+pub dyndep_read : (reader : DyndepReaderState) (r : DyndepRead) → ((failure : Failure ReadFault) → reader.failed ≡ Some failure → r ≡ Err failure) →
+    ((bytes : Bytes) → HasReadDyndep bytes reader → EndsDyndepFile bytes r) →
+    (file : FileRead) → WasGiven HasReadDyndep (HasFailed IsReadFaultIn) file reader → IsDyndepRead file r
+dyndep_read reader r failed all file (inl (read, ended)) = at_end r (all file.bytes read)
   where
     at_end : (r : DyndepRead) → EndsDyndepFile file.bytes r → IsDyndepRead file r
     at_end (Ok statements) h = (ended, h)
     at_end (Err Memory) h = tt
     at_end (Err (Fault (AtLine line fault))) h = inr (ended, inr h)
     at_end (Err (Fault Io)) h = absurd h
-dyndep_file old reader r failed all (calls, made, (file, call, inr (Memory, is, in_bytes))) = rw (failed Memory is) (calls, made, (file, call, tt))
-dyndep_file old reader r failed all (calls, made, (file, call, inr (Fault fault, is, in_bytes))) =
-    rw (failed (Fault fault) is) (calls, made, (file, call, inl in_bytes))
+dyndep_read reader r failed all file (inr (Memory, is, in_bytes)) = rw (failed Memory is) tt
+dyndep_read reader r failed all file (inr (Fault fault, is, in_bytes)) = rw (failed (Fault fault) is) (inl in_bytes)
 
-pub listing_file : (old : Known) {new : Known} {name : Text} (reader : ListingReaderState) (r : ListingRead) → IfOk r IsGraph →
+pub listing_read : (reader : ListingReaderState) (r : ListingRead) → IfOk r IsGraph →
     ((failure : Failure LineFault) → reader.failed ≡ Some failure → r ≡ Err (line_failure failure)) →
     ((bytes : Bytes) → HasReadListing bytes reader → EndsListing bytes r) →
-    Runs old new (ReadsAs (WasGiven HasReadListing (HasFailed IsListingFaultIn)) name) (Ok reader) → Runs old new (ReadsAs IsListingRead name) (Ok r)
-listing_file old reader r graph failed all (calls, made, (file, call, inl (read, ended))) = (calls, made, (file, call, at_end r graph (all file.bytes read)))
+    (file : FileRead) → WasGiven HasReadListing (HasFailed IsListingFaultIn) file reader → IsListingRead file r
+listing_read reader r graph failed all file (inl (read, ended)) = at_end r graph (all file.bytes read)
   where
     at_end : (r : ListingRead) → IfOk r IsGraph → EndsListing file.bytes r → IsListingRead file r
     at_end (Ok edges) graph h = (ended, (h, graph))
     at_end (Err Memory) graph h = tt
     at_end (Err (Fault (list.AtLine fault))) graph h = inr (ended, inr h)
     at_end (Err (Fault (list.NoGraph fault))) graph h = inr (ended, h)
-listing_file old reader r graph failed all (calls, made, (file, call, inr (Memory, is, in_bytes))) = rw (failed Memory is) (calls, made, (file, call, tt))
-listing_file old reader r graph failed all (calls, made, (file, call, inr (Fault fault, is, in_bytes))) =
-    rw (failed (Fault fault) is) (calls, made, (file, call, inl in_bytes))
+listing_read reader r graph failed all file (inr (Memory, is, in_bytes)) = rw (failed Memory is) tt
+listing_read reader r graph failed all file (inr (Fault fault, is, in_bytes)) = rw (failed (Fault fault) is) (inl in_bytes)
 
 -- ---- pieces
 

@@ -5,6 +5,7 @@ ghost use Rattle.commands.specs.Prelude.{bytes_of, HasReadDyndep, HasReadListing
 ghost use Rattle.commands.specs.Prelude.{IsReadFaultIn, ListingTextOf, EffectOfRead, OrderOfRead};
 ghost use Rattle.commands.specs.Prelude.{HasFailed, ShowOfRead, ListingOf, EffectRun, EdgesPass};
 ghost use Rattle.commands.specs.Prelude.{[], seen, DyndepOf, ShowRun, EffectOf, OrderRun};
+ghost use Rattle.commands.specs.Prelude.{IsDyndepRead, IsListingRead};
 
 use crate::answer::push_line;
 use crate::folder::PieceReader;
@@ -134,12 +135,20 @@ pub(crate) fn pass_edges(
 pub(crate) type DyndepRead = Result<Dyndep, Failure<ReadFault>>;
 
 impl PieceReader for DyndepReader {
+    type Read = DyndepRead;
+
     ghost has_read = { HasReadDyndep };
 
     ghost has_failed = { HasFailed IsReadFaultIn };
 
-    fn read_piece(&mut self, piece: &[u8]) -> bool {
+    ghost follows = { IsDyndepRead };
+
+    fn feed(&mut self, piece: &[u8]) -> bool {
         self.feed(piece).is_ok()
+    }
+
+    fn finish(self) -> DyndepRead {
+        self.finish()
     }
 }
 
@@ -154,12 +163,20 @@ pub(crate) fn statements_of(alloc: Global, dyndep: DyndepRead) -> Result<Dyndep,
 pub(crate) type ListingRead = Result<Graph, Failure<ListFault>>;
 
 impl PieceReader for ListingReader {
+    type Read = ListingRead;
+
     ghost has_read = { HasReadListing };
 
     ghost has_failed = { HasFailed IsListingFaultIn };
 
-    fn read_piece(&mut self, lines: &[u8]) -> bool {
+    ghost follows = { IsListingRead };
+
+    fn feed(&mut self, lines: &[u8]) -> bool {
         self.feed(lines).is_ok()
+    }
+
+    fn finish(self) -> ListingRead {
+        self.finish()
     }
 }
 

@@ -2,9 +2,10 @@
 //! none after one that can't be read.
 
 ghost use Rattle.std.specs.Prelude.{◌≡◌, ◌∷◌, ◌++◌, List, Option, map, IfOk, OnOk, string_bytes};
-ghost use Rattle.commands.specs.Prelude.{[], cow_slice_items, Bytes, FileCall, reading, comparing};
-ghost use Rattle.commands.specs.Prelude.{writing, answer_of, Adds, ReadsOn, WasGiven, GivesPieces};
-ghost use Rattle.commands.specs.Prelude.{Runs, ReadsDocument, ReadsAs, ReadsAll, seen, contents};
+ghost use Rattle.commands.specs.Prelude.{[], cow_slice_items, Bytes, FileCall, FileRead, reading};
+ghost use Rattle.commands.specs.Prelude.{comparing, writing, answer_of, Adds, ReadsOn, WasGiven};
+ghost use Rattle.commands.specs.Prelude.{GivesPieces, Runs, ReadsDocument, ReadsAs, ReadsAll};
+ghost use Rattle.commands.specs.Prelude.{seen, contents};
 
 use crate::stop::{self, Stop};
 use scan_docs::DOCUMENT_LIMIT;
@@ -47,33 +48,43 @@ pub trait Folder<'f> {
 
 /// What reads a file that comes in pieces, up to the first piece at which it fails.
 pub trait PieceReader {
+    /// What a file is read as.
+    type Read;
+
     // it was given these bytes in all, and has not failed
     ghost has_read: { Bytes → Self → Type 0 };
 
     // it was given these bytes in all, and has failed at the last piece
     ghost has_failed: { Bytes → Self → Type 0 };
 
+    // what a file is read as follows from what was read of it
+    ghost follows: { FileRead → Self.Read → Type 0 };
+
     /// Reads the next piece, and returns whether it reads on.
-    fn read_piece(&mut self, piece: &[u8]) -> bool
+    fn feed(&mut self, piece: &[u8]) -> bool
         // Whatever bytes it was given before this piece.
         ensures { (bytes : Bytes) → has_read bytes self.old →
             ReadsOn has_read has_failed (bytes ++ piece.now) result self.new };
+
+    /// Returns what the file is read as.
+    fn finish(self) -> Self::Read
+        ensures { (file : FileRead) → WasGiven has_read has_failed file self →
+            follows file result };
 }
 
-/// Feeds the file of this name to a new reader, up to its end or to its first rejected line.
+/// Reads the file of this name by a new reader, up to its end or to its first rejected line.
 pub(crate) fn read_file<'f, R: PieceReader + Drop, F: Folder<'f>>(
     alloc: Global,
     name: &str,
     reader: R,
     folder: &mut F,
-) -> Result<R, Stop>
+) -> Result<R::Read, Stop>
     requires { R.has_read [] reader }
-    ensures { Runs (F.calls folder.old) (F.calls folder.new)
-        (ReadsAs (WasGiven R.has_read R.has_failed) name.now) result }
+    ensures { Runs (F.calls folder.old) (F.calls folder.new) (ReadsAs R.follows name.now) result }
 {
     let mut reader = reader;
     match folder.feed(name, &mut reader) {
-        Ok(()) => Ok(reader),
+        Ok(()) => Ok(reader.finish()),
         Err(error) => Err(stop::of_unread(alloc, name, error)),
     }
 }

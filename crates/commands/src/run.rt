@@ -77,7 +77,7 @@ pub fn task_run<'f, F: Folder<'f>>(
             collate(alloc, &document, folder)
         }
         Task::Show(dyndep) => {
-            let dyndep = read_file(alloc, dyndep, DyndepReader::new(alloc), folder)?.finish();
+            let dyndep = read_file(alloc, dyndep, DyndepReader::new(alloc), folder)?;
             show_of_read(alloc, dyndep)
         }
         Task::Effect {
@@ -85,12 +85,12 @@ pub fn task_run<'f, F: Folder<'f>>(
             edges,
             dyndep,
         } => {
-            let listing = read_file(alloc, edges, ListingReader::new(alloc), folder)?.finish();
-            let dyndep = read_file(alloc, dyndep, DyndepReader::new(alloc), folder)?.finish();
+            let listing = read_file(alloc, edges, ListingReader::new(alloc), folder)?;
+            let dyndep = read_file(alloc, dyndep, DyndepReader::new(alloc), folder)?;
             effect_of_read(alloc, name, &listing, dyndep)
         }
         Task::Order(edges) => {
-            let listing = read_file(alloc, edges, ListingReader::new(alloc), folder)?.finish();
+            let listing = read_file(alloc, edges, ListingReader::new(alloc), folder)?;
             order_of_read(alloc, &listing)
         }
         Task::Project(document) => {

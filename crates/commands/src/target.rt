@@ -90,7 +90,7 @@ impl<'f> TargetFiles<'f> {
         let scans = read_all(alloc, &spec.scans, folder)?;
         let infos = read_all(alloc, infos, folder)?;
         let listing = match &spec.edges {
-            Some(name) => Some(read_file(alloc, name, ListingReader::new(alloc), folder)?.finish()),
+            Some(name) => Some(read_file(alloc, name, ListingReader::new(alloc), folder)?),
             None => None,
         };
         Ok(TargetFiles {

@@ -64,7 +64,7 @@ impl<'f, R: Files + RandomSource + AllocGlobal> Folder<'f> for SystemFiles<'_, R
             match file.read(&mut piece) {
                 Ok(0) => return Ok(()),
                 Ok(count) => {
-                    if !reader.read_piece(&piece[..count]) {
+                    if !reader.feed(&piece[..count]) {
                         return Ok(());
                     }
                 }

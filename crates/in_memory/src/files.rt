@@ -88,7 +88,7 @@ impl<'f> Folder<'f> for Files<'_, 'f> {
     /// All bytes are one piece.
     fn feed<R: PieceReader>(&mut self, name: &str, reader: &mut R) -> io::Result<()> {
         let file = self.read(name, usize::MAX)?;
-        let _ = reader.read_piece(&file);
+        let _ = reader.feed(&file);
         Ok(())
     }
 

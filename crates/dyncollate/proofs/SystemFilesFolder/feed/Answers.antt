@@ -8,7 +8,7 @@ returns-in-Ok-eq0 g c = λ new.
     (record { bytes = bytes; ended = true }, refl {a = None}, inl (read, refl {a = true}))
 
 -- the reader has failed
-pub returns-then-not-read_piece : goal.returns-then-not-read_piece
-returns-then-not-read_piece g c = λ new.
+pub returns-then-not-feed : goal.returns-then-not-feed
+returns-then-not-feed g c = λ new.
     let (bytes, read) = c.loop.invariant new in
-    (record { bytes = _; ended = false }, refl {a = None}, inr (c.if-not-read_piece.ensures bytes read))
+    (record { bytes = _; ended = false }, refl {a = None}, inr (c.if-not-feed.ensures bytes read))

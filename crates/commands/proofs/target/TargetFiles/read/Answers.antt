@@ -1,7 +1,6 @@
-use Rattle.std.proofs.Common.{rules, ◌≡◌, ◌∙◌, Option, Some, None, map, string_bytes, refl, ap, Ok, Err, String, option_map, Global}
+use Rattle.std.proofs.Common.{◌≡◌, ◌∙◌, Option, Some, None, map, string_bytes, refl, ap, Ok, Err, String, option_map, Global}
 use Rattle.commands.specs.Prelude.{Text, TargetDocumentValue, ListingRead, ReadsListing, Outcome, Runs, ReadsIfNamed, stops}
 use Rattle.commands.proofs.Outcomes.{at_once, run_next, run_once, run_last, Known}
-use Rattle.commands.proofs.Listings.{listing_file}
 use Rattle.commands.proofs.target.TargetFiles.read.Goals as goal
 use Rattle.commands.proofs.target.TargetFiles.read.Goals.{in-Some+in_ok-read_file-in-Some, in-None}
 
@@ -40,10 +39,9 @@ returns g c =
     let Reads = ReadsIfNamed ReadsListing c.args.spec.now.edges in
     let read : Runs start end Reads (Ok listing) = elim c.match-spec.branch [
       | in-Some+in_ok-read_file-in-Some w ↦
-          let its : ListingRead = w.finish.result in
+          let its : ListingRead = w.in_ok-read_file-in-Some.field-0 in
           rw (w.listing-is, w.folder-is) (of_name _ _ (Ok (Some its)) edges w.in-Some.is
-          (run_once _ _ (listing_file _ _ its (search rules) w.finish.ensures.failed w.finish.ensures.all
-          (rw w.deref-in-Some.ensures at w.in_ok-read_file-in-Some.ensures)) (refl, refl)))
+          (run_once _ _ (rw w.deref-in-Some.ensures at w.in_ok-read_file-in-Some.ensures) (refl, refl)))
       | in-None w ↦
           rw (w.listing-is, w.folder-is)
           (of_name _ _ (Ok None) edges w.in-None.is (at_once _ (ReadsIfNamed ReadsListing None) (Ok None) (refl, refl)))
