@@ -185,26 +185,40 @@ fn are_refused<M: MapStyle>(
     Ok(true)
 }
 
+/// Texts that are no maps for GCC, and the numbers of their first bad lines.
+const NOT_FOR_GCC: &[(&str, u64)] = &[
+    ("A mod/A.bmi", 1),
+    ("A ./a\n", 1),
+    ("A a\n a\n", 2),
+    ("A a\n\n", 2),
+    ("A a b\n", 1),
+];
+
+/// The same for Clang.
+const NOT_FOR_CLANG: &[(&str, u64)] = &[
+    ("-x c++-module\n", 2),
+    ("-x c++-module\n-fmodule-output=a", 2),
+    ("-x c++-module\n-fmodule-output=a\n-x c++-module\n", 3),
+    ("-fmodule-output=a\n", 1),
+    ("-fmodule-file=C=c\n-fmodule-file=B=b\n", 2),
+];
+
 #[test]
 fn a_text_that_is_no_map_is_refused_at_its_first_bad_line(rt: HostRuntime) -> Result<(), Fail> {
-    let rows = [
-        ("A mod/A.bmi", 1),
-        ("A ./a\n", 1),
-        ("A a\n a\n", 2),
-        ("A a\n\n", 2),
-        ("A a b\n", 1),
-    ];
-    assert!(rt; are_refused(rt.alloc(), &Gcc, &rows)?);
+    assert!(rt; are_refused(rt.alloc(), &Gcc, NOT_FOR_GCC)?);
+    assert!(rt; are_refused(rt.alloc(), &Clang, NOT_FOR_CLANG)?);
+    Ok(())
+}
+
+#[test]
+fn a_map_can_be_empty(rt: HostRuntime) -> Result<(), Fail> {
     assert!(rt; entries_in(rt.alloc(), &Gcc, "")?.is_empty());
-    let rows = [
-        ("-x c++-module\n", 2),
-        ("-x c++-module\n-fmodule-output=a", 2),
-        ("-x c++-module\n-fmodule-output=a\n-x c++-module\n", 3),
-        ("-fmodule-output=a\n", 1),
-        ("-fmodule-file=C=c\n-fmodule-file=B=b\n", 2),
-    ];
-    assert!(rt; are_refused(rt.alloc(), &Clang, &rows)?);
     assert!(rt; entries_in(rt.alloc(), &Clang, "")?.is_empty());
+    Ok(())
+}
+
+#[test]
+fn the_first_equals_sign_ends_a_name(rt: HostRuntime) -> Result<(), Fail> {
     let found = entries_in(rt.alloc(), &Clang, "-fmodule-file=B=a=b\n")?;
     assert!(rt; found.as_slice() == b"B a=b\n".as_slice());
     Ok(())

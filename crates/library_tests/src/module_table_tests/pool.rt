@@ -27,6 +27,9 @@ const INFOS: [&[u8]; 6] = [
         {"name":"F","bmi":"f.pcm","requires":[{"name":"R","bmi":"s.pcm"}]}]}"#,
 ];
 
+/// Linked info files, and a line for each file of their part, or nothing if there is no part.
+type Row = (&'static [usize], &'static [u8]);
+
 fn pool(alloc: Global) -> Result<Pool, Fail> {
     let mut infos = Vec::new(alloc);
     for info in INFOS {
@@ -89,7 +92,7 @@ fn files(
 
 /// Whether the parts for an object that requires this module have these files, one part after
 /// another with one scratch.
-fn are(alloc: Global, module: &str, wanted: &[(&[usize], &[u8])]) -> Result<bool, Fail> {
+fn are(alloc: Global, module: &str, wanted: &[Row]) -> Result<bool, Fail> {
     let pool = pool(alloc)?;
     let objects = [object(alloc, module)?];
     let mut scratch = Scratch::new(alloc);
@@ -101,40 +104,46 @@ fn are(alloc: Global, module: &str, wanted: &[(&[usize], &[u8])]) -> Result<bool
     Ok(are)
 }
 
+/// Linked info files of which one has a module `P`, and the files of their part.
+const ONE_OF_A_NAME: &[Row] = &[
+    (&[2], b"c.pcm\ns.pcm\n"),
+    (&[1], b"b.pcm\n"),
+    (&[0], b"a.pcm\n"),
+    (&[5, 1, 3], b"b.pcm\n"),
+    (&[3], b""),
+];
+
 #[test]
 fn one_of_the_modules_that_share_a_name_is_linked(rt: HostRuntime) -> Result<(), Fail> {
-    let wanted: [(&[usize], &[u8]); 5] = [
-        (&[2], b"c.pcm\ns.pcm\n"),
-        (&[1], b"b.pcm\n"),
-        (&[0], b"a.pcm\n"),
-        (&[5, 1, 3], b"b.pcm\n"),
-        (&[3], b""),
-    ];
-    assert!(rt; are(rt.alloc(), "P", &wanted)?);
+    assert!(rt; are(rt.alloc(), "P", ONE_OF_A_NAME)?);
     Ok(())
 }
+
+/// Linked info files with two modules `P` or two of one file, and at last one with neither.
+const TWO_OF_A_NAME: &[Row] = &[
+    (&[0, 1], b""),
+    (&[2, 0], b""),
+    (&[1, 2], b""),
+    (&[2, 3], b""),
+    (&[2], b"c.pcm\ns.pcm\n"),
+];
 
 #[test]
 fn two_linked_modules_share_a_name_or_a_file(rt: HostRuntime) -> Result<(), Fail> {
-    let wanted: [(&[usize], &[u8]); 5] = [
-        (&[0, 1], b""),
-        (&[2, 0], b""),
-        (&[1, 2], b""),
-        (&[2, 3], b""),
-        (&[2], b"c.pcm\ns.pcm\n"),
-    ];
-    assert!(rt; are(rt.alloc(), "P", &wanted)?);
+    assert!(rt; are(rt.alloc(), "P", TWO_OF_A_NAME)?);
     Ok(())
 }
 
+/// Linked info files of which one has the module that `F` requires, or another with its file.
+const ONE_OF_A_FILE: &[Row] = &[
+    (&[3, 5], b"s.pcm\nf.pcm\n"),
+    (&[4, 5], b""),
+    (&[2, 5], b""),
+    (&[5, 3, 0], b"f.pcm\ns.pcm\n"),
+];
+
 #[test]
 fn a_module_is_required_whose_file_others_share(rt: HostRuntime) -> Result<(), Fail> {
-    let wanted: [(&[usize], &[u8]); 4] = [
-        (&[3, 5], b"s.pcm\nf.pcm\n"),
-        (&[4, 5], b""),
-        (&[2, 5], b""),
-        (&[5, 3, 0], b"f.pcm\ns.pcm\n"),
-    ];
-    assert!(rt; are(rt.alloc(), "F", &wanted)?);
+    assert!(rt; are(rt.alloc(), "F", ONE_OF_A_FILE)?);
     Ok(())
 }

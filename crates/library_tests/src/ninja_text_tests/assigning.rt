@@ -30,26 +30,28 @@ fn is_assignment(alloc: Global, text: &[u8], wanted: Parts) -> bool {
     }
 }
 
+/// Lines, and their parts.
+const ASSIGNMENTS: &[(&[u8], Parts)] = &[
+    (b"  restat = 1\n", Some((2, b"restat", b"1"))),
+    (b"  restat =\r\n", Some((2, b"restat", b""))),
+    (
+        b"ninja_dyndep_version=1.0-extra\n",
+        Some((0, b"ninja_dyndep_version", b"1.0-extra")),
+    ),
+    (b"a = x | $: $$ \n", Some((0, b"a", b"x | $: $$ "))),
+    (
+        b" $\n a.b-c_1$\n =$\r\n x $\n y \n",
+        Some((4, b"a.b-c_1", b"x $\n y ")),
+    ),
+    (b"= 1\n", None),
+    (b"build a: dyndep = 1\n", None),
+    (b"restat\n", None),
+    (b"\n", None),
+];
+
 #[test]
 fn a_binding_has_a_name_and_a_value_to_the_end_of_the_line(rt: HostRuntime) {
-    let rows: &[(&[u8], Parts)] = &[
-        (b"  restat = 1\n", Some((2, b"restat", b"1"))),
-        (b"  restat =\r\n", Some((2, b"restat", b""))),
-        (
-            b"ninja_dyndep_version=1.0-extra\n",
-            Some((0, b"ninja_dyndep_version", b"1.0-extra")),
-        ),
-        (b"a = x | $: $$ \n", Some((0, b"a", b"x | $: $$ "))),
-        (
-            b" $\n a.b-c_1$\n =$\r\n x $\n y \n",
-            Some((4, b"a.b-c_1", b"x $\n y ")),
-        ),
-        (b"= 1\n", None),
-        (b"build a: dyndep = 1\n", None),
-        (b"restat\n", None),
-        (b"\n", None),
-    ];
-    for (text, wanted) in rows {
+    for (text, wanted) in ASSIGNMENTS {
         assert!(rt; is_assignment(rt.alloc(), text, *wanted));
     }
 }

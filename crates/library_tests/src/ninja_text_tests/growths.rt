@@ -29,18 +29,20 @@ fn lends_bytewise(cutter: &mut LineCutter, bytes: &[u8], text: &[u8]) -> bool {
     }
 }
 
+/// Lines with their ends, and without.
+const LINES: &[(&[u8], &[u8])] = &[
+    (
+        b"build a$\r\n  b.o: dyndep |@ a-longer-word\r\n",
+        b"build a$\r\n  b.o: dyndep |@ a-longer-word",
+    ),
+    (b"# $\n", b"# $"),
+    (b"build b\n", b"build b"),
+];
+
 #[test]
 fn lines_byte_by_byte(rt: HostRuntime) {
     let mut cutter = LineCutter::new(rt.alloc());
-    let lines: &[(&[u8], &[u8])] = &[
-        (
-            b"build a$\r\n  b.o: dyndep |@ a-longer-word\r\n",
-            b"build a$\r\n  b.o: dyndep |@ a-longer-word",
-        ),
-        (b"# $\n", b"# $"),
-        (b"build b\n", b"build b"),
-    ];
-    for (bytes, text) in lines {
+    for (bytes, text) in LINES {
         assert!(rt; lends_bytewise(&mut cutter, bytes, text));
     }
 }

@@ -1,5 +1,6 @@
 //! Where the tokens of a line are. What words stand for, and the lexical faults, are rows of
 //! `tests/rows`.
+use ninja_text::TokenKind::{Bar, BarAt, Colon, DoubleBar, Word};
 use ninja_text::{Line, LineCutter, TokenKind, Words, words};
 use std::alloc::Global;
 
@@ -42,44 +43,45 @@ fn is_divided(alloc: Global, text: &[u8], wanted: &[Span]) -> bool {
     }
 }
 
+/// Lines, and their tokens.
+const LINES: &[(&[u8], &[Span])] = &[
+    (
+        b"build a$\n  b.o: dyndep\n",
+        &[(Word, 0, 5), (Word, 6, 14), (Colon, 14, 15), (Word, 16, 22)],
+    ),
+    (
+        b"build a$\r\n  b.o: dyndep\r\n",
+        &[(Word, 0, 5), (Word, 6, 15), (Colon, 15, 16), (Word, 17, 23)],
+    ),
+    (b"a $\n b\n", &[(Word, 0, 1), (Word, 5, 6)]),
+    (
+        b"build a.o $\n: dyndep\n",
+        &[(Word, 0, 5), (Word, 6, 9), (Colon, 12, 13), (Word, 14, 20)],
+    ),
+    (
+        b"a|||@b| |\n",
+        &[
+            (Word, 0, 1),
+            (DoubleBar, 1, 3),
+            (BarAt, 3, 5),
+            (Word, 5, 6),
+            (Bar, 6, 7),
+            (Bar, 8, 9),
+        ],
+    ),
+    (
+        b"my$ mods/$$x$:y/A.bmi: dyndep\n",
+        &[(Word, 0, 21), (Colon, 21, 22), (Word, 23, 29)],
+    ),
+    (b"\ta b\n", &[(Word, 0, 2), (Word, 3, 4)]),
+    (b" $\n  \n", &[]),
+];
+
 /// A word continues over a continuation, and a space before one ends it. The longest of the bars is
 /// the token, an escape is part of a word, and so is a tab; spaces alone have no token.
 #[test]
 fn tokens_have_their_spans(rt: HostRuntime) {
-    use TokenKind::{Bar, BarAt, Colon, DoubleBar, Word};
-    let rows: &[(&[u8], &[Span])] = &[
-        (
-            b"build a$\n  b.o: dyndep\n",
-            &[(Word, 0, 5), (Word, 6, 14), (Colon, 14, 15), (Word, 16, 22)],
-        ),
-        (
-            b"build a$\r\n  b.o: dyndep\r\n",
-            &[(Word, 0, 5), (Word, 6, 15), (Colon, 15, 16), (Word, 17, 23)],
-        ),
-        (b"a $\n b\n", &[(Word, 0, 1), (Word, 5, 6)]),
-        (
-            b"build a.o $\n: dyndep\n",
-            &[(Word, 0, 5), (Word, 6, 9), (Colon, 12, 13), (Word, 14, 20)],
-        ),
-        (
-            b"a|||@b| |\n",
-            &[
-                (Word, 0, 1),
-                (DoubleBar, 1, 3),
-                (BarAt, 3, 5),
-                (Word, 5, 6),
-                (Bar, 6, 7),
-                (Bar, 8, 9),
-            ],
-        ),
-        (
-            b"my$ mods/$$x$:y/A.bmi: dyndep\n",
-            &[(Word, 0, 21), (Colon, 21, 22), (Word, 23, 29)],
-        ),
-        (b"\ta b\n", &[(Word, 0, 2), (Word, 3, 4)]),
-        (b" $\n  \n", &[]),
-    ];
-    for (text, spans) in rows {
+    for (text, spans) in LINES {
         assert!(rt; is_divided(rt.alloc(), text, spans));
     }
 }
