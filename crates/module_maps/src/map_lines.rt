@@ -148,6 +148,7 @@ pub fn first_unfit<'m>(map: &ModuleMap<'m>) -> Option<&'m Path>
     }
 }
 
+/// Returns the first path of these pairs with such a byte.
 fn first_unfit_of<'m>(pairs: &[(&'m Name, &'m Path)]) -> Option<&'m Path>
     ensures { option_copied result ≡ first_unfit (lent_pairs pairs.now) }
 {
