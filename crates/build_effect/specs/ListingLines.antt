@@ -6,7 +6,7 @@ use Rattle.ninja_text.specs.Lexical.{lexical_fault}
 use Rattle.ninja_text.specs.Tokens.{tokens, value_of}
 use Rattle.ninja_text.specs.Assignments.{is_identifier_byte, Assigns}
 use Rattle.ninja_text.specs.Paths.{path_of, is_empty}
-use Rattle.ninja_text.specs.declared.token.TokenKind.TheVariants.{Bar, DoubleBar, Colon}
+use Rattle.ninja_text.specs.declared.lexing.TokenKind.TheVariants.{Bar, DoubleBar, Colon}
 use Rattle.ninja_text.specs.Symbols.{Symbol, WordSymbol, SignSymbol, symbols, begins_at_start, begins_with_space, IsPart}
 use Rattle.build_effect.specs.Effect.{ArePaths}
 

@@ -36,8 +36,8 @@ pub use Rattle.ninja_text.specs.declared.failure.Failure.TheVariants.{Fault, Mem
 pub use Rattle.ninja_text.specs.declared.fault.LexFault.{LexFault}
 pub use Rattle.ninja_text.specs.declared.fault.PathFault.{PathFault}
 pub use Rattle.ninja_text.specs.declared.token.Token.{Token}
-pub use Rattle.ninja_text.specs.declared.token.TokenKind.{TokenKind}
-pub use Rattle.ninja_text.specs.declared.token.TokenKind.TheVariants.{Bar, Colon, DoubleBar}
+pub use Rattle.ninja_text.specs.declared.lexing.TokenKind.{TokenKind}
+pub use Rattle.ninja_text.specs.declared.lexing.TokenKind.TheVariants.{Bar, Colon, DoubleBar}
 pub use Rattle.ninja_text.specs.declared.token.Words.{Words}
 pub use Rattle.dyndep_file.specs.StatementValue.{StatementValue}
 pub use Rattle.dyndep_file.specs.Writing.{spaced}

@@ -5,7 +5,7 @@ use Rattle.ninja_text.specs.Units.{is_digit}
 use Rattle.ninja_text.specs.Bytes.{Text, PathText, dot, digit_zero, digit_one}
 use Rattle.ninja_text.specs.Lexical.{lexical_fault}
 use Rattle.ninja_text.specs.Tokens.{tokens, value_of}
-use Rattle.ninja_text.specs.declared.token.TokenKind.TheVariants.{Bar, Colon}
+use Rattle.ninja_text.specs.declared.lexing.TokenKind.TheVariants.{Bar, Colon}
 use Rattle.ninja_text.specs.Symbols.{Symbol, WordSymbol, SignSymbol, symbols, begins_at_start, begins_with_space, IsPart}
 use Rattle.ninja_text.specs.Assignments.{Assigns}
 

@@ -24,8 +24,8 @@ pub use Rattle.ninja_text.specs.declared.counting.Counted.{Counted}
 pub use Rattle.ninja_text.specs.declared.failure.Failure.{Failure}
 pub use Rattle.ninja_text.specs.declared.failure.Failure.TheVariants.{Fault, Memory}
 pub use Rattle.ninja_text.specs.declared.fault.LexFault.{LexFault}
-pub use Rattle.ninja_text.specs.declared.token.TokenKind.{TokenKind}
-pub use Rattle.ninja_text.specs.declared.token.TokenKind.TheVariants.{Bar, BarAt, Colon, DoubleBar, Word}
+pub use Rattle.ninja_text.specs.declared.lexing.TokenKind.{TokenKind}
+pub use Rattle.ninja_text.specs.declared.lexing.TokenKind.TheVariants.{Bar, BarAt, Colon, DoubleBar, Word}
 pub use Rattle.dyndep_file.specs.Classes.{DyndepClass, Comment, Blank, Version, Build, Binding, IsBuild, is_version_one, IsDyndepLine}
 pub use Rattle.dyndep_file.specs.FaultTexts.{line_fault_text, read_fault_text, write_fault_text}
 pub use Rattle.dyndep_file.specs.Faults.{is_version, is_comment_class, is_open, stage_after, implicit_inputs_fault, after_rule_fault, rule_fault, implicit_outputs_fault, after_output_fault, output_fault, indented_fault, version_fault, build_fault, value_assigned, build_or_other_fault, unindented_fault, text_fault, lexical_fault_or, text_line_fault, line_fault}

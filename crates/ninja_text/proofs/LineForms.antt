@@ -10,8 +10,8 @@ use Rattle.std.proofs.lemmas.Slice.Eq.{bytes_eq-Decides}
 use Rattle.ninja_text.specs.Paths.{is_empty}
 use Rattle.ninja_text.specs.Tokens.{is_word_kind, is_keyword, TokenAt, SeenToken, tokens, with_raw, seen_tokens}
 use Rattle.ninja_text.specs.Symbols.{Symbol, WordSymbol, SignSymbol, symbol, symbol_of, symbols, begins_at_start, begins_with_space, after_build}
-use Rattle.ninja_text.specs.declared.token.TokenKind.{TokenKind}
-use Rattle.ninja_text.specs.declared.token.TokenKind.TheVariants.{Word}
+use Rattle.ninja_text.specs.declared.lexing.TokenKind.{TokenKind}
+use Rattle.ninja_text.specs.declared.lexing.TokenKind.TheVariants.{Word}
 use Rattle.ninja_text.proofs.Spans.{token_indented}
 
 -- a token that is a keyword is a word of its bytes

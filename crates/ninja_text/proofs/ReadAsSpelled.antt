@@ -10,8 +10,8 @@ use Rattle.std.proofs.lemmas.Bool.{cases_Bool, and_parts, or_parts, not-true}
 use Rattle.ninja_text.specs.Units.{LineUnits, units, unit_len}
 use Rattle.ninja_text.specs.declared.lexing.LineUnit.{LineUnit}
 use Rattle.ninja_text.specs.declared.lexing.LineUnit.TheVariants.{Continuation, Escape, Byte}
-use Rattle.ninja_text.specs.declared.token.TokenKind.{TokenKind}
-use Rattle.ninja_text.specs.declared.token.TokenKind.TheVariants.{Word}
+use Rattle.ninja_text.specs.declared.lexing.TokenKind.{TokenKind}
+use Rattle.ninja_text.specs.declared.lexing.TokenKind.TheVariants.{Word}
 use Rattle.ninja_text.specs.Lines.{text_of_line}
 use Rattle.ninja_text.specs.Tokens.{TokenAt, is_blank, is_piece, unit_value, value_of, with_raw, tokens, seen_tokens}
 use Rattle.ninja_text.specs.TokenLists.{total_len, begins_with, may_follow, is_word, IsToken, LexesAs}

@@ -10,8 +10,8 @@ use Rattle.ninja_text.proofs.Lists.{same_cons}
 use Rattle.ninja_text.specs.Units.{LineUnits, unit_len, is_byte}
 use Rattle.ninja_text.specs.declared.lexing.LineUnit.{LineUnit}
 use Rattle.ninja_text.specs.declared.lexing.LineUnit.TheVariants.{Continuation, Escape, Byte}
-use Rattle.ninja_text.specs.declared.token.TokenKind.{TokenKind}
-use Rattle.ninja_text.specs.declared.token.TokenKind.TheVariants.{Word, Bar, Colon}
+use Rattle.ninja_text.specs.declared.lexing.TokenKind.{TokenKind}
+use Rattle.ninja_text.specs.declared.lexing.TokenKind.TheVariants.{Word, Bar, Colon}
 use Rattle.ninja_text.specs.Tokens.{token_of, TokenAt, is_piece, goes_on, with_first_start, tokens_from, raw}
 use Rattle.ninja_text.proofs.Units.{tokens_with, tokens_blank}
 use Rattle.ninja_text.specs.Escapes.{IsWritable, escaped}

@@ -13,7 +13,7 @@ use Rattle.ninja_text.specs.Tokens.{token_of, unit_value, value_of, TokenAt, is_
 use Rattle.ninja_text.specs.Lexical.{first_fault, lexical_fault}
 use Rattle.ninja_text.specs.inner.PlainTexts.{is_dollar, is_suspect, is_plain_piece}
 use Rattle.std.specs.Prelude.{if◌then◌else◌}
-use Rattle.ninja_text.specs.declared.token.TokenKind.TheVariants.{Word, Bar, DoubleBar, BarAt, Colon}
+use Rattle.ninja_text.specs.declared.lexing.TokenKind.TheVariants.{Word, Bar, DoubleBar, BarAt, Colon}
 use Rattle.ninja_text.specs.inner.TokenStarts.{BeginsPiece, BeginsBar}
 
 -- ---- the first unit of a text, by its first bytes

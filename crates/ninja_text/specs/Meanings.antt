@@ -2,7 +2,7 @@
 -- syntax").
 use Rattle.std.specs.Prelude.{◌≡◌, ℕ, Bool, false, not, ◌||◌, ◌==◌, IsTrue, [], ◌∷◌, ◌++◌, None}
 use Rattle.ninja_text.specs.Bytes.{Byte, Text, nul, line_feed, carriage_return, space, dollar}
-use Rattle.ninja_text.specs.declared.token.TokenKind.TheVariants.{Word}
+use Rattle.ninja_text.specs.declared.lexing.TokenKind.TheVariants.{Word}
 use Rattle.ninja_text.specs.Lines.{is_comment, IsLine, text_of_line}
 use Rattle.ninja_text.specs.Lexical.{lexical_fault}
 use Rattle.ninja_text.specs.Tokens.{SeenToken, value_of}

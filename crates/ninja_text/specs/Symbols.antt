@@ -2,8 +2,8 @@
 use Rattle.std.specs.Prelude.{◌≡◌, Bool, true, false, ◌==◌, ◌&&◌, bytes_eq, if◌then◌else◌, List, [], ◌∷◌, map, codes, ◌⊎◌, Option, Some, None}
 use Rattle.ninja_text.specs.Bytes.{Text, space}
 use Rattle.ninja_text.specs.Tokens.{TokenAt, SeenToken, tokens, raw, value_of}
-use Rattle.ninja_text.specs.declared.token.TokenKind.{TokenKind}
-use Rattle.ninja_text.specs.declared.token.TokenKind.TheVariants.{Word, Bar, DoubleBar, BarAt, Colon}
+use Rattle.ninja_text.specs.declared.lexing.TokenKind.{TokenKind}
+use Rattle.ninja_text.specs.declared.lexing.TokenKind.TheVariants.{Word, Bar, DoubleBar, BarAt, Colon}
 
 -- a token of a line: a word with its raw bytes, or one of the signs `|`, `||`, `|@` and `:`
 pub data Symbol : Type 0 where

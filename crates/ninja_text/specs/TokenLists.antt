@@ -7,8 +7,8 @@ use Rattle.ninja_text.specs.Units.{unit_len, is_byte, is_continuation, units}
 use Rattle.ninja_text.specs.Tokens.{TokenAt, is_blank, is_piece, goes_on}
 use Rattle.ninja_text.specs.declared.lexing.LineUnit.{LineUnit}
 use Rattle.ninja_text.specs.declared.lexing.LineUnit.TheVariants.{Byte}
-use Rattle.ninja_text.specs.declared.token.TokenKind.{TokenKind}
-use Rattle.ninja_text.specs.declared.token.TokenKind.TheVariants.{Word, Bar, DoubleBar, BarAt, Colon}
+use Rattle.ninja_text.specs.declared.lexing.TokenKind.{TokenKind}
+use Rattle.ninja_text.specs.declared.lexing.TokenKind.TheVariants.{Word, Bar, DoubleBar, BarAt, Colon}
 
 -- the number of bytes of units
 abbrev pub total_len : List LineUnit → ℕ

@@ -5,8 +5,8 @@ use Rattle.ninja_text.specs.Bytes.{Text, space, dollar, colon, vertical_bar, at_
 use Rattle.ninja_text.specs.Units.{unit_len, is_byte, units}
 use Rattle.ninja_text.specs.declared.lexing.LineUnit.{LineUnit}
 use Rattle.ninja_text.specs.declared.lexing.LineUnit.TheVariants.{Continuation, Escape, Byte}
-use Rattle.ninja_text.specs.declared.token.TokenKind.{TokenKind}
-use Rattle.ninja_text.specs.declared.token.TokenKind.TheVariants.{Word, Bar, DoubleBar, BarAt, Colon}
+use Rattle.ninja_text.specs.declared.lexing.TokenKind.{TokenKind}
+use Rattle.ninja_text.specs.declared.lexing.TokenKind.TheVariants.{Word, Bar, DoubleBar, BarAt, Colon}
 
 -- a token's kind, and its span in the text
 pub record TokenAt : Type 0 where

@@ -1,12 +1,14 @@
-//! What a line is by how it begins, and how an assignment is parsed: a name, `=` and a value.
+//! What a line is by how it begins, its tokens, and how an assignment is parsed: a name, `=` and a
+//! value.
 ghost use Rattle.std.specs.Prelude.{◌≡◌, ◌≤◌, IfOk, IfSome, false, length};
-ghost use Rattle.ninja_text.specs.Prelude.{IsAssignment, IsLineForm, LiesIn, is_name_unit};
-ghost use Rattle.ninja_text.specs.Prelude.{seen_assignment, seen_line};
+ghost use Rattle.ninja_text.specs.Prelude.{AllByRecursion, IsAssignment, IsLineForm, IsSlice};
+ghost use Rattle.ninja_text.specs.Prelude.{IsWords, LiesIn, RiseFrom, is_name_unit, seen_line};
+ghost use Rattle.ninja_text.specs.Prelude.{seen_assignment, tokens_left};
 ghost use Rattle.ninja_text.specs.inner.Runs.{Run};
 
 use crate::cutter::Line;
 use crate::fault::LexFault;
-use crate::lexing::{LineUnit, blank_end, check_units, unit_at, words};
+use crate::lexing::{LineUnit, blank_end, check_units, unit_at};
 use crate::token::{Assignment, Words};
 
 /// What a line is, by how it begins.
@@ -46,6 +48,21 @@ pub fn line_form(line: Line<'_>) -> Result<LineForm<'_>, LexFault>
     } else {
         Ok(LineForm::Unindented(found))
     }
+}
+
+/// Returns an iterator over the tokens of a line (Ninja 1.11 manual, "Lexical syntax"), or the
+/// first lexical error of the line. The line must not be a comment.
+pub fn words(line: Line<'_>) -> Result<Words<'_>, LexFault>
+    requires { (seen_line line).comment ≡ false }
+    ensures tokens { IsWords (seen_line line.entry) result }
+    // The tokens' bytes are slices of the text, and their spans rise.
+    ensures slices { IfOk result
+        (λ words. AllByRecursion (IsSlice (seen_line line.entry).text) (tokens_left words)) }
+    ensures rise { IfOk result (λ words. RiseFrom 0 (tokens_left words)) }
+{
+    let text = line.text();
+    check_units(text)?;
+    Ok(Words { text, index: 0 })
 }
 
 /// Returns the assignment in a line, or `None` if the line is not an assignment, or the first

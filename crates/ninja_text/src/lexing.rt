@@ -1,31 +1,28 @@
 //! The units of a line (single bytes, escapes and continuations), what they stand for, and the
-//! tokens and lexical errors that they make.
-ghost use Rattle.std.specs.Prelude.{◌++◌, ◌+◌, ◌<◌, ◌∷◌, ◌≡◌, ◌≤◌, IfOk, OnErr, OnOk, drop, false};
-ghost use Rattle.ninja_text.specs.Prelude.{AllByRecursion, IsSlice, IsWords, RiseFrom, is_blank};
-ghost use Rattle.ninja_text.specs.Prelude.{length, lexical_fault, result_err, seen_line, tokens_at};
-ghost use Rattle.ninja_text.specs.Prelude.{tokens_left, unit_fault, unit_len, units, value_of};
+//! kinds of tokens and lexical errors that they make.
+ghost use Rattle.std.specs.Prelude.{◌++◌, ◌+◌, ◌<◌, ◌∷◌, ◌≡◌, ◌≤◌, IfOk, OnErr, OnOk, drop};
+ghost use Rattle.ninja_text.specs.Prelude.{is_blank, length, lexical_fault, result_err, tokens_at};
+ghost use Rattle.ninja_text.specs.Prelude.{unit_fault, unit_len, units, value_of};
 ghost use Rattle.ninja_text.specs.inner.Runs.{Run, spaces_at};
 ghost use Rattle.ninja_text.specs.inner.TokenStarts.{BeginsToken, BeginsPiece, IsFirstToken};
 ghost use Rattle.ninja_text.specs.inner.PlainTexts.{is_suspect};
 
-use crate::cutter::Line;
 use crate::fault::LexFault;
-use crate::token::{TokenKind, Words};
 use std::alloc::{AllocError, Global};
 
-/// Returns an iterator over the tokens of a line (Ninja 1.11 manual, "Lexical syntax"), or the
-/// first lexical error of the line. The line must not be a comment.
-pub fn words(line: Line<'_>) -> Result<Words<'_>, LexFault>
-    requires { (seen_line line).comment ≡ false }
-    ensures tokens { IsWords (seen_line line.entry) result }
-    // The tokens' bytes are slices of the text, and their spans rise.
-    ensures slices { IfOk result
-        (λ words. AllByRecursion (IsSlice (seen_line line.entry).text) (tokens_left words)) }
-    ensures rise { IfOk result (λ words. RiseFrom 0 (tokens_left words)) }
-{
-    let text = line.text();
-    check_units(text)?;
-    Ok(Words { text, index: 0 })
+/// The kind of a token.
+#[derive(Clone, Copy, Debug, PartialEq, Eq)]
+pub enum TokenKind {
+    /// A run of pieces: ordinary bytes, and escapes such as `$ ` and `$:`.
+    Word,
+    /// `|`
+    Bar,
+    /// `||`
+    DoubleBar,
+    /// `|@`
+    BarAt,
+    /// `:`
+    Colon,
 }
 
 pub(crate) fn check_units(text: &[u8]) -> Result<(), LexFault>

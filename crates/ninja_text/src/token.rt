@@ -1,23 +1,8 @@
 //! Tokens, an iterator over the tokens of a line, and the name and the value of an assignment.
 ghost use Rattle.std.specs.Prelude.{◌++◌, ◌≡◌, ◌≤◌, IfOk, OnErr, OnOk, length};
 
-use crate::lexing::{append_meaning, blank_end, meaning, token_at};
+use crate::lexing::{TokenKind, append_meaning, blank_end, meaning, token_at};
 use std::alloc::{AllocError, Global};
-
-/// The kind of a token.
-#[derive(Clone, Copy, Debug, PartialEq, Eq)]
-pub enum TokenKind {
-    /// A run of pieces: ordinary bytes, and escapes such as `$ ` and `$:`.
-    Word,
-    /// `|`
-    Bar,
-    /// `||`
-    DoubleBar,
-    /// `|@`
-    BarAt,
-    /// `:`
-    Colon,
-}
 
 /// A token and its position in the line's text.
 #[derive(Clone, Copy)]

@@ -9,7 +9,7 @@ use Rattle.ninja_text.specs.Assignments.{SeenAssignment, assignment_of}
 use Rattle.ninja_text.specs.Paths.{path_of, is_empty}
 use Rattle.ninja_text.specs.declared.fault.PathFault.{PathFault}
 use Rattle.ninja_text.specs.declared.fault.LexFault.{LexFault}
-use Rattle.ninja_text.specs.declared.token.TokenKind.TheVariants.{Bar, DoubleBar, Colon}
+use Rattle.ninja_text.specs.declared.lexing.TokenKind.TheVariants.{Bar, DoubleBar, Colon}
 use Rattle.ninja_text.specs.Symbols.{Symbol, WordSymbol, symbols, begins_at_start, begins_with_space, after_build, front_words, past_words, past_sign, part_words, past_part}
 use Rattle.build_effect.specs.ListingLines.{EdgeTexts, is_rule_name, Row, CommentRow, BlankRow, BuildRow, DyndepRow, RestatRow, ListingClass, Comment, Blank, Build, Dyndep, Restat}
 use Rattle.build_effect.specs.EdgeValue.{EdgeValue}

@@ -3,7 +3,7 @@ use Rattle.std.specs.Prelude.{◌≡◌, ℕ, false, List, [], ◌∷◌, ◌++�
 use Rattle.ninja_text.specs.Tokens.{value_of}
 use Rattle.ninja_text.specs.declared.failure.Failure.{Failure}
 use Rattle.ninja_text.specs.declared.failure.Failure.TheVariants.{Memory, Fault}
-use Rattle.ninja_text.specs.declared.token.TokenKind.TheVariants.{Bar, DoubleBar, BarAt, Colon}
+use Rattle.ninja_text.specs.declared.lexing.TokenKind.TheVariants.{Bar, DoubleBar, BarAt, Colon}
 use Rattle.ninja_text.specs.Symbols.{Symbol, WordSymbol, SignSymbol, IsPart}
 use Rattle.dyndep_file.specs.StatementValue.{StatementValue, statement_with}
 use Rattle.dyndep_file.specs.declared.fault.LineFault.{LineFault}

@@ -5,7 +5,7 @@ use Rattle.ninja_text.specs.Units.{units}
 use Rattle.ninja_text.specs.Tokens.{is_blank, is_piece, tokens_at}
 use Rattle.ninja_text.specs.declared.lexing.LineUnit.{LineUnit}
 use Rattle.ninja_text.specs.declared.lexing.LineUnit.TheVariants.{Byte}
-use Rattle.ninja_text.specs.declared.token.TokenKind.{TokenKind}
+use Rattle.ninja_text.specs.declared.lexing.TokenKind.{TokenKind}
 
 -- A unit with this property begins at this offset.
 abbrev pub BeginsUnit : (LineUnit → Type 0) → List ℕ → ℕ → Type 0

@@ -2,7 +2,7 @@ use Rattle.std.proofs.Common.{◌≡◌, ◌≤◌, ◌<◌, ◌-◌, ◌∷◌,
 use Rattle.std.specs.Prelude.{if◌then◌else◌}
 use Rattle.ninja_text.specs.Units.{units}
 use Rattle.ninja_text.specs.Tokens.{tokens_at, goes_on, with_first_start}
-use Rattle.ninja_text.specs.declared.token.TokenKind.TheVariants.{Word}
+use Rattle.ninja_text.specs.declared.lexing.TokenKind.TheVariants.{Word}
 use Rattle.ninja_text.proofs.lexing.word_end.Given as goal
 
 -- the word ends here so far, and continues if a piece follows

@@ -2,7 +2,7 @@ use Rattle.std.proofs.Common.{subst, sym}
 use Rattle.std.specs.List.{AllByRecursion}
 use Rattle.ninja_text.specs.Tokens.{IsSlice, seen_tokens}
 use Rattle.ninja_text.proofs.Spans.{tokens_are_slices, tokens_rise}
-use Rattle.ninja_text.proofs.lexing.words.Goals as goal
+use Rattle.ninja_text.proofs.forms.words.Goals as goal
 
 pub returns-clause-slices : goal.returns-clause-slices
 returns-clause-slices c =
