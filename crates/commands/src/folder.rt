@@ -1,15 +1,16 @@
 //! What files are read from and written to, and how a run reads them: each when its turn comes, and
 //! none after one that can't be read.
 
-ghost use Rattle.std.specs.Prelude.{◌≡◌, ◌∷◌, ◌++◌, List, Option, map, IfOk, OnOk, string_bytes};
+ghost use Rattle.std.specs.Prelude.{◌∷◌, ◌++◌, List, Option, map, string_bytes};
 ghost use Rattle.commands.specs.Prelude.{[], cow_slice_items, Bytes, FileCall, FileRead, reading};
 ghost use Rattle.commands.specs.Prelude.{comparing, writing, answer_of, Adds, ReadsOn, WasGiven};
 ghost use Rattle.commands.specs.Prelude.{GivesPieces, Runs, ReadsDocument, ReadsAs, ReadsAll};
 ghost use Rattle.commands.specs.Prelude.{seen, contents};
 
+use crate::lists::pushed;
 use crate::stop::{self, Stop};
 use scan_docs::DOCUMENT_LIMIT;
-use std::alloc::{AllocError, Global};
+use std::alloc::Global;
 use std::borrow::CowSlice;
 use std::io;
 
@@ -122,21 +123,4 @@ pub(crate) fn read_all<'f, F: Folder<'f>>(
         files = pushed(files, file)?;
     }
     Ok(files)
-}
-
-/// Returns the list with one more item. A loop that calls it has no list to drop after an error.
-pub(crate) fn pushed<T: Drop>(list: Vec<T>, item: T) -> Result<Vec<T>, AllocError>
-    ensures { IfOk result (λ longer. longer.items ≡ list.items ++ item ∷ []) }
-{
-    let mut list = list;
-    list.push(item)?;
-    Ok(list)
-}
-
-/// Appends an item to the list. If an allocation fails, it is dropped here, for all types at once.
-pub(crate) fn add<T: Drop>(list: &mut Vec<T>, item: T) -> Result<(), AllocError>
-    ensures { OnOk result (list.new.items ≡ list.old.items ++ item ∷ []) }
-{
-    list.push(item)?;
-    Ok(())
 }

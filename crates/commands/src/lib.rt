@@ -28,6 +28,7 @@
 mod answer;
 mod edges;
 mod folder;
+mod lists;
 mod projects;
 mod refusal;
 mod run;

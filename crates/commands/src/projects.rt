@@ -8,7 +8,8 @@ ghost use Rattle.commands.specs.Prelude.{bytes_of, ProjectOf, all_files, Project
 ghost use Rattle.commands.specs.Prelude.{Runs, Writes, seen, FormOf, LinksOf, form_of};
 
 use crate::edges::pass_edges;
-use crate::folder::{Folder, pushed, read};
+use crate::folder::{Folder, read};
+use crate::lists::pushed;
 use crate::refusal::refusal_line;
 use crate::stop::{self, Output, Stop};
 use crate::target::{TargetFiles, append_files, read_spec, slices};

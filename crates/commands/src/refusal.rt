@@ -5,7 +5,7 @@ ghost use Rattle.commands.specs.Prelude.{first_output, edges_fault_text, effect_
 ghost use Rattle.commands.specs.Prelude.{fault_subject, object_path, target_name, maker_text};
 ghost use Rattle.commands.specs.Prelude.{made_twice_text, ring_text, refusal_line, refused_line};
 
-use crate::folder::pushed;
+use crate::lists::pushed;
 use build_effect::{Edge, EffectFault, ListFault};
 use collate_core::{Refusal, RefusedTarget};
 use document_values::{Name, Rule, TargetName};

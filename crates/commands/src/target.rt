@@ -7,7 +7,8 @@ ghost use Rattle.commands.specs.Prelude.{SpecOf, style_of, target_with, map_file
 ghost use Rattle.commands.specs.Prelude.{CollateRun, OneRun};
 
 use crate::edges::{ListingRead, pass_edges};
-use crate::folder::{Folder, add, pushed, read_all, read_file};
+use crate::folder::{Folder, read_all, read_file};
+use crate::lists::{add, pushed};
 use crate::stop::{self, Output, OutputFile, Stop};
 use build_effect::ListingReader;
 use collate_core::{Collated, Target, collate_dyndep_or_refused, collate_or_refused};

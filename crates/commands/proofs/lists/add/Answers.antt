@@ -1,4 +1,4 @@
-use Rattle.commands.proofs.folder.add.Goals as goal
+use Rattle.commands.proofs.lists.add.Goals as goal
 
 pub returns : goal.returns
 returns g c = c.in_ok-push.ensures.items
