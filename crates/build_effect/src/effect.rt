@@ -46,7 +46,7 @@ pub fn apply(
     ensures no_effect { IfErr result (ForFault {F = EffectFault}
         (λ _. HasNoEffect graph.now name.now dyndep.now)) }
 {
-    laws::checks();
+    laws::statements_have_an_effect_or_a_fault();
     let old = graph.edges();
     let makers = graph.makers();
     let canonical = canonical_statements(alloc, &dyndep.statements)?;

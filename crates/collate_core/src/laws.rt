@@ -12,27 +12,27 @@ ghost use Rattle.collate_core.specs.Laws.{OneRefusal, ProjectMaps, ProjectNeeds,
 pub fn headline()
     ensures { HeadlineHolds }
 {
-    build_effect::laws::one_effect();
+    build_effect::laws::statements_have_one_effect();
     module_table::laws::added_files_can_be_ordered();
 }
 
 /// The dyndep files of a project may be applied in any order. All objects can be numbered so that
 /// the producer of each required file has a smaller number than its user. The graph after all files
 /// can be ordered.
-pub fn project_orders()
+pub fn files_of_a_project_apply_in_any_order()
     ensures orders { ProjectOrders }
     ensures numbered { ProjectNumbered }
     ensures orderable { ProjectEndOrderable }
 {
-    build_effect::laws::any_order();
-    build_effect::laws::files_order();
+    build_effect::laws::dyndep_files_apply_in_any_order();
+    build_effect::laws::the_graph_after_files_can_be_ordered();
     module_table::laws::added_files_can_be_ordered();
     scan_docs::laws::bytes_determine_the_value();
 }
 
 /// In a project in which no two targets add the same file, an object needs in the table of its
 /// target what it needs in the project, and every style reads this back from the object's map.
-pub fn project_maps()
+pub fn maps_have_what_a_project_needs()
     ensures needs { ProjectNeeds }
     ensures maps { ProjectMaps }
 {
@@ -43,7 +43,7 @@ pub fn project_maps()
 /// A target that collates has no rejection, and every target has at most one. The same holds of a
 /// project. So unless an allocation fails, `collate` and `project` succeed if and only if there is
 /// no rejection, and otherwise they report the only one.
-pub fn one_outcome()
+pub fn a_target_has_one_outcome()
     ensures collate { CollatedIsNotRefused }
     ensures one { OneRefusal }
     ensures project { ProjectIsNotRefused }
@@ -58,8 +58,9 @@ pub fn one_outcome()
 /// the modules that the object requires, and the edge of an object makes the files of the modules
 /// that the object provides. This holds after the dyndep file of a target that has the headline,
 /// and after the files of any targets of a project, under the premises of the headline and of
-/// [`project_orders`]. After the files of targets and of those that they link, an edge makes each
-/// file that an object of these targets requires. `build_effect::edge_order` returns such an order.
+/// [`files_of_a_project_apply_in_any_order`]. After the files of targets and of those that they
+/// link, an edge makes each file that an object of these targets requires.
+/// `build_effect::edge_order` returns such an order.
 pub fn no_race()
     ensures target { TargetHasNoRace }
     ensures project { ProjectHasNoRace }
@@ -67,7 +68,7 @@ pub fn no_race()
     ensures order { LeastOrderRuns }
 {
     module_table::laws::added_files_can_be_ordered();
-    crate::laws::project_orders();
+    crate::laws::files_of_a_project_apply_in_any_order();
 }
 
 /// No false wait, under the same premises: after the effect an edge needs what it needed before.
@@ -79,7 +80,7 @@ pub fn no_false_wait()
     ensures project { ProjectHasNoFalseWait }
 {
     module_table::laws::added_files_can_be_ordered();
-    crate::laws::project_orders();
+    crate::laws::files_of_a_project_apply_in_any_order();
 }
 
 /// No false rebuild, under the same premises. After the effect a chain of needs leads from one edge
@@ -93,7 +94,7 @@ pub fn no_false_rebuild()
     ensures project { ProjectHasNoFalseRebuild }
 {
     module_table::laws::added_files_can_be_ordered();
-    crate::laws::project_orders();
+    crate::laws::files_of_a_project_apply_in_any_order();
 }
 
 /// No false cycle, under the same premises. If the edges cannot be ordered after the effect, every
@@ -104,5 +105,5 @@ pub fn no_false_cycle()
     ensures project { ProjectHasNoFalseCycle }
 {
     module_table::laws::added_files_can_be_ordered();
-    crate::laws::project_orders();
+    crate::laws::files_of_a_project_apply_in_any_order();
 }

@@ -4,7 +4,7 @@
 //! - [`collate`] takes the scan documents of a target and the info files of the targets that it
 //!   links. It succeeds if and only if no error of [`Refusal`] is present (`specs/Collation.antt`,
 //!   `Collates`), and otherwise returns the first in that order (`specs/Refusals.antt`,
-//!   `IsRefusal`). By the law [`laws::one_outcome`] there are never both, nor two errors.
+//!   `IsRefusal`). By the law [`laws::a_target_has_one_outcome`] there are never both, nor two errors.
 //!   [`collate_dyndep`] returns only the dyndep text (`specs/Headline.antt`, `IsDyndepOf`). An
 //!   error has objects and info files by their indexes. [`collate_or_refused`] and its like also
 //!   return what was read of the target (`specs/Refusals.antt`, `HasReadOf`).

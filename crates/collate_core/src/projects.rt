@@ -83,8 +83,8 @@ pub fn project_or_refused<M: MapStyle>(
         targets.now refused.0 refused.1.refusal
         (table_with refused.1.objects.items refused.1.infos.items))) }
 {
-    crate::laws::project_orders();
-    crate::laws::project_maps();
+    crate::laws::files_of_a_project_apply_in_any_order();
+    crate::laws::maps_have_what_a_project_needs();
     scan_docs::laws::bytes_determine_the_value();
     let linked = linked_targets(alloc, targets)?;
     let mut outs = Vec::new(alloc);

@@ -26,8 +26,8 @@ pub fn rehearse(
     ensures effect { IfOk result (HasEffect text.now name.now graph.now) }
     ensures fault { IfErr result (ForFault (IsRehearseFault text.now name.now graph.now)) }
 {
-    dyndep_file::laws::one_list();
-    dyndep_file::laws::list_or_fault();
+    dyndep_file::laws::a_text_stands_for_one_list();
+    dyndep_file::laws::a_text_stands_for_a_list_or_has_a_fault();
     match read_pieces(alloc, text, cuts) {
         Ok(dyndep) => apply(alloc, graph, name, &dyndep).map_err(|failure| failure.map(
             |fault| RehearseFault::Effect(fault),
@@ -55,8 +55,8 @@ pub fn check_edges(
     ensures ordered { IfOk result (IsOrderedAt collated.now name.now graph.now) }
     ensures fault { IfErr result (ForFault (LacksEffect collated.now.dyndep name.now graph.now)) }
 {
-    build_effect::laws::one_effect();
-    build_effect::laws::level_orders();
+    build_effect::laws::statements_have_one_effect();
+    build_effect::laws::the_graph_after_a_file_can_be_ordered();
     // the reader accepts the text, because it stands for statements
     let new = match rehearse(alloc, collated.dyndep(), name, graph, &[]) {
         Ok(new) => new,

@@ -30,7 +30,7 @@ pub(crate) fn dyndep_text(alloc: Global, table: &Resolved) -> Result<Vec<u8>, Fa
     ensures spelled { OnOk result (All HasSpelled (statements_of table.now)) }
     ensures refused { IfErr result (ForFault (IsWriteRefusal (statements_of table.now))) }
 {
-    laws::first_fault();
+    laws::the_first_fault_counts();
     let mut text = DyndepText::new(alloc)?;
     let mut outputs = Vec::new(alloc);
     let mut inputs = Vec::new(alloc);
@@ -67,7 +67,7 @@ fn add(text: &mut DyndepText, statement: &LentStatement<'_>) -> Result<(), Failu
         IsTextOf statements text.old → IsTextOf (statements ++ statement.now ∷ []) text.new) }
     ensures refused { IfErr result (ForFault (IsLineRefusal text.old.count statement.now)) }
 {
-    laws::long_lines();
+    laws::writable_statements_can_only_be_too_long();
     match text.add_writable(statement) {
         Ok(()) => Ok(()),
         Err(Failure::Memory) => Err(Failure::Memory),

@@ -7,18 +7,18 @@ ghost use Rattle.dyndep_file.specs.Prelude.{TooLongIfWritable, FirstFault, Stand
 ghost use Rattle.dyndep_file.specs.Prelude.{StatementValue, write_fault, CanBeWritten, dyndep_text};
 
 /// The grammar relates a text to at most one list of statements.
-pub fn one_list()
+pub fn a_text_stands_for_one_list()
     ensures { OneList }
 {}
 
 /// A text has either a list of statements or an error.
-pub fn list_or_fault()
+pub fn a_text_stands_for_a_list_or_has_a_fault()
     ensures not_both { NotBoth }
     ensures one_of_both { OneOfBoth }
 {}
 
 /// A text has at most one error, at one line.
-pub fn one_fault()
+pub fn a_text_has_one_fault()
     ensures { OneReadFault }
 {}
 
@@ -34,13 +34,13 @@ pub fn fault_stays()
 
 /// If all paths of the statements can be escaped, the only possible error is a build line that is
 /// too long. The same holds for one statement.
-pub fn long_lines()
+pub fn writable_statements_can_only_be_too_long()
     ensures lists { OnlyTooLong }
     ensures statements { TooLongIfWritable }
 {}
 
 /// If the first statements have no error and the next one has, its error is that of the list.
-pub fn first_fault()
+pub fn the_first_fault_counts()
     ensures { FirstFault }
 {}
 

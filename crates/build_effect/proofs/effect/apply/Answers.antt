@@ -10,7 +10,7 @@ pub returns-in_err-canonical : goal.returns-in_err-canonical
 returns-in_err-canonical c =
     let ss = c.args.dyndep.now in
     let p = err_from_is_err_and c.from_residual.result c.from_residual.ensures.1 in
-    let r = reported c.args.graph.now c.args.name.now ss c.edges-old.ensures.graph.made_once c.checks.ensures.exclude
+    let r = reported c.args.graph.now c.args.name.now ss c.edges-old.ensures.graph.made_once c.statements_have_an_effect_or_a_fault.ensures.exclude
     (λ fault h. reports_bad_path c.args.graph.now c.args.name.now (subst (λ xs. IsBadStatement xs fault) (c.deref.ensures.value ∙ c.dyndep.view_is) h))
     _ c.in_err-canonical.ensures.fault in
     rw (p.1, p.2) (record { effect = tt; fault = r.0; no_effect = r.1 })
@@ -27,7 +27,7 @@ module _ (c : After-edges_of_statements) where
   reports =
       reported_of c.args.graph.now c.edges-old.result.now c.edges-old.ensures.edges c.args.name.now c.args.dyndep.now c.as_slice-additions.result.now
       (canonical_are (c.deref.ensures.value ∙ c.dyndep.view_is) c.as_slice-additions.ensures.value c.in_ok-canonical.ensures.canonical)
-      c.edges-old.ensures.graph.made_once c.checks.ensures.exclude
+      c.edges-old.ensures.graph.made_once c.statements_have_an_effect_or_a_fault.ensures.exclude
 
 pub edges_of_statements-requires-clause-made_once : goal.edges_of_statements-requires-clause-made_once
 edges_of_statements-requires-clause-made_once c = subst MadeOnce (sym c.edges-old.ensures.edges) c.edges-old.ensures.graph.made_once
@@ -109,7 +109,8 @@ all_passed c {new} extended =
     let statement_of = c.in_ok-statement_of.statement_of.items in
     passed old
     (subst IsGraph (sym c.edges-old.ensures.edges) c.edges-old.ensures.graph)
-    (subst (λ g. AreMade g c.makers-makers.result.now) (sym c.edges-old.ensures.edges) c.makers-makers.ensures) c.checks.ensures.suffice
+    (subst (λ g. AreMade g c.makers-makers.result.now) (sym c.edges-old.ensures.edges) c.makers-makers.ensures)
+    c.statements_have_an_effect_or_a_fault.ensures.suffice
     (canonical_are (c.deref.ensures.value ∙ c.dyndep.view_is) c.as_slice-additions.ensures.value c.in_ok-canonical.ensures.canonical)
     c.in_ok-edge_of.ensures.edges
     (subst (λ ps. AreInverse (length old) ps statement_of) c.deref-2.ensures.value c.in_ok-statement_of.ensures.statements)

@@ -10,6 +10,6 @@ returns-clause-target c = λ target g new after.
 pub returns-clause-project : goal.returns-clause-project
 returns-clause-project c = λ targets outs applied g new after.
     let laws = c.added_files_can_be_ordered.ensures in
-    let orders = c.project_orders.ensures.orders after.style targets outs after.project in
+    let orders = c.files_of_a_project_apply_in_any_order.ensures.orders after.style targets outs after.project in
     no_false_rebuild laws.required laws.all_required laws.one_file
     (gained_after_project targets outs orders applied g new after)

@@ -13,15 +13,15 @@ pub returns-clause-project : goal.returns-clause-project
 returns-clause-project c = λ targets outs applied g new after.
     let laws = c.added_files_can_be_ordered.ensures in
     build.no_race laws.required laws.all_required laws.one_file (tables_of targets outs applied) g new
-    (gained_after_project targets outs (c.project_orders.ensures.orders after.style targets outs after.project) applied g new after)
+    (gained_after_project targets outs (c.files_of_a_project_apply_in_any_order.ensures.orders after.style targets outs after.project) applied g new after)
 
 pub returns-clause-all_made : goal.returns-clause-all_made
 returns-clause-all_made c = λ targets outs applied g new after.
     let laws = c.added_files_can_be_ordered.ensures in
-    let orders = c.project_orders.ensures.orders after.style targets outs after.project in
+    let orders = c.files_of_a_project_apply_in_any_order.ensures.orders after.style targets outs after.project in
     let race = build.no_race laws.required laws.all_required laws.one_file (tables_of targets outs applied) g new
     (gained_after_project targets outs orders applied g new after) in
-    all_made targets outs orders applied g new after (c.project_orders.ensures.numbered after.style targets outs after.project) race
+    all_made targets outs orders applied g new after (c.files_of_a_project_apply_in_any_order.ensures.numbered after.style targets outs after.project) race
 
 pub returns-clause-order : goal.returns-clause-order
 returns-clause-order c = build.least_order_runs

@@ -139,15 +139,15 @@ returns-clause-outcome g c =
     c.loop-index.outs.items) (take_all c.loop-index.index-counter c.args.targets.now c.loop-index-test.false) c.loop-index.invariant.collated in
     record {
       collated = collated;
-      orders = c.project_orders.ensures.orders _ _ _ collated;
-      numbered = c.project_orders.ensures.numbered _ _ _ collated;
+      orders = c.files_of_a_project_apply_in_any_order.ensures.orders _ _ _ collated;
+      numbered = c.files_of_a_project_apply_in_any_order.ensures.numbered _ _ _ collated;
       maps = maps_of_style (option_copied c.args.style) g.M.MapStyle.kept g.M.MapStyle.entries
           (λ s. record {
             reads_back = λ m text is e. g.met.M.MapStyle.reads_back s m text is e;
             faults_of_maps = λ m line is. g.met.M.MapStyle.faults_of_maps s m line is;
             keeps_pairs = λ m is. g.met.M.MapStyle.keeps_pairs s m is;
           })
-          c.project_maps.ensures.maps collated;
-      orderable = c.project_orders.ensures.orderable _ _ _ collated;
+          c.maps_have_what_a_project_needs.ensures.maps collated;
+      orderable = c.files_of_a_project_apply_in_any_order.ensures.orderable _ _ _ collated;
       refused = tt;
     }

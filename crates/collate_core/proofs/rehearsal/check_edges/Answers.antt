@@ -28,10 +28,10 @@ returns-clause-ordered c = λ statements text meets level.
     let same = text.dyndep.only found.0 here in
     let effect = subst (λ xs. Effect old c.args.name.now xs new) same found.2.effect in
     let gives =
-    c.one_effect.ensures.gives old new c.args.name.now statements statements (are_canonical text.canonical) effect in
+    c.statements_have_one_effect.ensures.gives old new c.args.name.now statements statements (are_canonical text.canonical) effect in
     let orderable =
-    c.level_orders.ensures (dyndep_file c.args.name.now statements) old level.outputs new level.ranks meets gives level.has_outputs level.level text.orderable
-    in
+    c.the_graph_after_a_file_can_be_ordered.ensures (dyndep_file c.args.name.now statements) old level.outputs new level.ranks meets gives
+    level.has_outputs level.level text.orderable in
     ordered orderable c.in_ok-edge_order.field-0 c.in_ok-edge_order.ensures
 
 pub unreachable-requires : goal.unreachable-requires

@@ -22,7 +22,7 @@ returns-in-Ok-clause-effect c =
     let statements = c.in-Ok.dyndep in
     let effect : IfOk c.map_err.result (OnlyEffect c.args.graph.now c.args.name.now statements) = search rules in
     IfOk-weaker c.map_err.result (OnlyEffect c.args.graph.now c.args.name.now statements) (HasEffect c.args.text.now c.args.name.now c.args.graph.now)
-    (λ new h. (statements, only c.one_list.ensures c.args.text.now statements c.in-Ok.ensures.read, h))
+    (λ new h. (statements, only c.a_text_stands_for_one_list.ensures c.args.text.now statements c.in-Ok.ensures.read, h))
     effect
 
 pub returns-in-Ok-clause-fault : goal.returns-in-Ok-clause-fault
@@ -31,12 +31,12 @@ returns-in-Ok-clause-fault c =
     let fault : IfErr c.map_err.result (ForFault (ForEffect (IsWithoutEffect c.args.graph.now c.args.name.now statements))) = search rules in
     IfErr-weaker c.map_err.result (ForFault (ForEffect (IsWithoutEffect c.args.graph.now c.args.name.now statements)))
     (ForFault (IsRehearseFault c.args.text.now c.args.name.now c.args.graph.now))
-    (lacks c.args.text.now c.args.name.now c.args.graph.now (only c.one_list.ensures c.args.text.now statements c.in-Ok.ensures.read))
+    (lacks c.args.text.now c.args.name.now c.args.graph.now (only c.a_text_stands_for_one_list.ensures c.args.text.now statements c.in-Ok.ensures.read))
     fault
 
 pub returns-in-Err-Fault-clause-fault : goal.returns-in-Err-Fault-clause-fault
 returns-in-Err-Fault-clause-fault c =
     let reported = subst (ForFault (IsReadFaultOf c.args.text.now)) c.in-Err-Fault.field-0-is c.in-Err-Fault.ensures.refused in (
       subst (IsReadFaultOf c.args.text.now) (sym c.in-Err-Fault.fault-is) reported,
-      none c.list_or_fault.ensures.not_both c.in-Err-Fault.fault reported,
+      none c.a_text_stands_for_a_list_or_has_a_fault.ensures.not_both c.in-Err-Fault.fault reported,
     )

@@ -60,7 +60,7 @@ returns-in_err-add-clause-refused c =
     (ap lent_files c.deref-in-loop-index-2.ensures.value ∙ c.in_ok-lend_files-2.ensures.files)
     (ap not (c.is_empty.ensures ∙ ap (λ n. n == 0) c.rule.inside.provided.ok.0 ∙ ap (λ (r : RuleValue). length r.provided == 0) c.rule.view_is)) in
     rw (p.1, p.2, ← with_rest t index here (c.required.ensures rule here) same)
-    (line_refused c.first_fault.ensures (map statement_of (take index (tasks_of t))) s (map statement_of (drop (index + 1) (tasks_of t)))
+    (line_refused c.the_first_fault_counts.ensures (map statement_of (take index (tasks_of t))) s (map statement_of (drop (index + 1) (tasks_of t)))
     _ c.loop-index.invariant.text.unfaulted c.loop-index.invariant.text.count c.in_err-add.ensures.refused)
 
 pub add-requires : goal.add-requires

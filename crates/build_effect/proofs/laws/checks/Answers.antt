@@ -1,8 +1,0 @@
-use Rattle.build_effect.proofs.Effects as lemmas
-use Rattle.build_effect.proofs.laws.checks.Goals as goal
-
-pub returns-clause-suffice : goal.returns-clause-suffice
-returns-clause-suffice c = lemmas.checks_suffice
-
-pub returns-clause-exclude : goal.returns-clause-exclude
-returns-clause-exclude c = lemmas.faults_exclude

@@ -1,5 +1,0 @@
-use Rattle.dyndep_file.proofs.LawLemmas.{one_list}
-use Rattle.dyndep_file.proofs.laws.one_list.Goals as goal
-
-pub returns : goal.returns
-returns c = one_list
