@@ -16,6 +16,7 @@ PAGE = TOP / "docs/ARCHITECTURE.md"
 # What a crate offers of a crate below it: items that its users need for its calls.
 OFFERED = {"scan_docs": ["document_values::{Info, InfoModule, Name, Rule, TargetName}"],
            "collate_core": ["module_maps::{Clang, Gcc, MapEntry, MapFault, MapStyle, ModuleMap, UnwritableMap}"], "in_memory": ["commands::Answer"]}
+CRATES = sorted(path.parent.name for path in TOP.glob("crates/*/src") if path.parent.name != "library_tests")
 PICTURE = re.compile(r"(?<=^```mermaid\n).*?(?=^```$)", re.M | re.S)
 
 
@@ -35,6 +36,12 @@ def picture(used):
         through = set().union(*(below[one] for one in ones))
         lines += [f"  {crate} --> {one}" for one in ones if one not in through] or [f"  {crate}"]
     return "\n".join(lines) + "\n"
+
+
+def modules(folder):
+    """The modules of a crate that each module names by paths from the crate's root, outside of comments."""
+    texts = {"::".join(path.relative_to(folder).with_suffix("").parts): re.sub(r"//.*", "", path.read_text()) for path in folder.rglob("*.rt")}
+    return {name: {one for one in texts if one != name and re.search(rf"\bcrate::{one}\b", text)} for name, text in texts.items()}
 
 
 class Crates(unittest.TestCase):
@@ -62,6 +69,22 @@ class Crates(unittest.TestCase):
             taken = re.findall(r"^pub use (?:crate::|self::)?((\w+)::[^;]+);", text, re.M)
             with self.subTest(crate):
                 self.assertEqual([path for path, module in taken if module not in own], OFFERED.get(crate, []))
+
+    def test_modules(self):
+        """No two modules of a crate use each other, directly or through others."""
+        for crate in CRATES:
+            with self.subTest(crate):
+                used = modules(TOP / "crates" / crate / "src")
+                for _ in used:  # each round adds what is used through one module more
+                    used = {name: ones.union(*(used[one] for one in ones)) for name, ones in used.items()}
+                self.assertEqual([name for name, ones in used.items() if name in ones], [])
+
+    def test_widths(self):
+        """No line of source has more than 100 columns. The tests of the libraries have texts that are longer."""
+        for crate in CRATES:
+            for path in sorted((TOP / "crates" / crate / "src").rglob("*.rt")):
+                with self.subTest(f"{crate}/{path.name}"):
+                    self.assertEqual([line for line in path.read_text().splitlines() if len(line) > 100], [])
 
 
 if __name__ == "__main__":

@@ -4,13 +4,12 @@
 //! - A [`Graph`] is a list of [`Edge`]s that Ninja accepts (`specs/Graphs.antt`, `IsGraph`).
 //! - [`Graph::of`] reads the text of a graph, [`ListingReader`] reads it in pieces, and
 //!   [`Graph::to_text`] and [`listing_write`] write it (`specs/ListingLines.antt`,
-//!   `ListingGrammar.antt`, `ListingFaults.antt`, `ListingWriting.antt`). By the
-//!   [`laws`] a text either lists one list of edges or has one fault, and the text of a graph reads
-//!   back.
+//!   `ListingGrammar.antt`, `ListingFaults.antt`, `ListingWriting.antt`). By the [`laws`] a
+//!   text either lists one list of edges or has one fault, and the text of a graph reads back.
 //! - [`apply`] returns the graph after the effect of a dyndep file, a relation between two graphs
-//!   (`specs/Effect.antt`), or an error if no graph has the effect. The [`laws`] say when there
-//!   is an effect, that files may be applied in any order, and when the graph can be ordered after
-//!   them.
+//!   (`specs/Effect.antt`), or an error if no graph has the effect. The [`laws`] say when
+//!   there is an effect, that files may be applied in any order, and when the graph can be ordered
+//!   after them.
 //! - [`edge_order`] returns an order of the edges or the least cycle (`specs/Graphs.antt`,
 //!   `EdgeNeeds`).
 //!

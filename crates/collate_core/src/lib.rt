@@ -4,10 +4,10 @@
 //! - [`collate`] takes the scan documents of a target and the info files of the targets that it
 //!   links. It succeeds if and only if no error of [`Refusal`] is present (`specs/Collation.antt`,
 //!   `Collates`), and otherwise returns the first in that order (`specs/Refusals.antt`,
-//!   `IsRefusal`). By the law [`laws::a_target_has_one_outcome`] there are never both, nor two errors.
-//!   [`collate_dyndep`] returns only the dyndep text (`specs/Headline.antt`, `IsDyndepOf`). An
-//!   error has objects and info files by their indexes. [`collate_or_refused`] and its like also
-//!   return what was read of the target (`specs/Refusals.antt`, `HasReadOf`).
+//!   `IsRefusal`). By the law [`laws::a_target_has_one_outcome`] there are never both, nor two
+//!   errors. [`collate_dyndep`] returns only the dyndep text (`specs/Headline.antt`,
+//!   `IsDyndepOf`). An error has objects and info files by their indexes. [`collate_or_refused`]
+//!   and its like also return what was read of the target (`specs/Refusals.antt`, `HasReadOf`).
 //! - The result has the headline (`specs/Headline.antt`, `IsHeadline`): the dyndep text stands for
 //!   one statement per object and for nothing else. On every build that names the file on exactly
 //!   the objects it has exactly one effect, which adds to each object's edge exactly what the

@@ -161,12 +161,12 @@ fn has_value(alloc: Global, line: Line<'_>, wanted: &[u8]) -> bool {
     }
 }
 
-/// The same of a line with its end.
+/// The same of a line with its end, all of which a cutter takes.
 fn is_line_of_value(alloc: Global, text: &[u8], wanted: &[u8]) -> bool {
     let mut cutter = LineCutter::new(alloc);
-    let _ = cutter.feed(text);
+    let is_taken = cutter.feed(text) == Ok(text.len());
     match cutter.next_line() {
-        Ok(Some(line)) => has_value(alloc, line, wanted),
+        Ok(Some(line)) => is_taken && has_value(alloc, line, wanted),
         _ => false,
     }
 }

@@ -104,7 +104,7 @@ fn are(alloc: Global, module: &str, wanted: &[Row]) -> Result<bool, Fail> {
     Ok(are)
 }
 
-/// Linked info files of which one has a module `P`, and the files of their part.
+/// Linked info files of which at most one has a module `P`.
 const ONE_OF_A_NAME: &[Row] = &[
     (&[2], b"c.pcm\ns.pcm\n"),
     (&[1], b"b.pcm\n"),
@@ -119,7 +119,7 @@ fn one_of_the_modules_that_share_a_name_is_linked(rt: HostRuntime) -> Result<(),
     Ok(())
 }
 
-/// Linked info files with two modules `P` or two of one file, and at last one with neither.
+/// Linked info files with two modules `P` or two of one file, and then without.
 const TWO_OF_A_NAME: &[Row] = &[
     (&[0, 1], b""),
     (&[2, 0], b""),
