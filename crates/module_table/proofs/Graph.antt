@@ -1,12 +1,12 @@
 -- Where each module is provided, what modules need, and the graph of it.
 use Rattle.std.proofs.Common.{◌≡◌, ℕ, ◌+◌, ◌<◌, List, length, Some, refl, ap, subst, sym, ◌∙◌, arith, slice_get, [], ◌∷◌, ◌++◌, map, get_or, Option, ap₂, ⊎_elim, length-append, append-nil}
-use Rattle.module_table.specs.Prelude.{option_map, flat_map, enumerate_from, AllZip, filter_map, cons_option, RuleValue, InfoValue, ModuleValue, TableValue, IsProvidedBy, Provision, provisions, object_provisions, info_provisions, origins_of, object_origins, info_origins, Origin, names_of, IsNamedAt, pair_at, Object, Info, NeedsAreNodes, AreRequiredIndexes, IsModuleGraph, IsModuleRow, AreModuleRows, indexes_in, object_row, info_rows, Name}
+use Rattle.module_table.specs.Prelude.{option_map, flat_map, enumerate_from, AllZip, filter_map, cons_option, RuleValue, InfoValue, ModuleValue, TableValue, IsProvidedBy, Provision, provisions, object_provisions, info_provisions, origins_of, object_origins, info_origins, Origin, names_of, IsNamedAt, pair_at, Object, Info, NeedsAreNodes, AreRequiredIndexes, HasEachOnce, IsModuleGraph, IsModuleRow, AreModuleRows, indexes_in, object_row, info_rows, Name}
 use Rattle.std.proofs.lemmas.Option.{slice_get_within, slice_get-get_or}
 use Rattle.std.specs.List.{All}
 use Rattle.module_table.specs.inner.Indexed.{IsInfosModule}
 use Rattle.module_table.proofs.Places.{from_numbered, Has}
 use Rattle.module_table.proofs.Lists.{zip_append, zip_flat_map, zip_numbered, zip_back, zip_length, zip_flip, one_there, same_reads}
-use Rattle.ninja_text.proofs.ForCallers.{from_map, in_append}
+use Rattle.ninja_text.proofs.ForCallers.{contained, from_map, in_append, placed}
 use Rattle.std.proofs.lemmas.List.Elements.{filter_map-append}
 use Rattle.module_table.proofs.IndexRows.{length_mapped, only_one, from_numbers, many_rows, rule_of, name_of_index}
 use Rattle.module_table.proofs.Words.{Pair, name_of, own_module, infos_module, names_wanted, own_modules, infos_modules, At, name_in_pair}
@@ -192,8 +192,8 @@ module _ (t : TableValue) (modules rows : List (List ℕ)) (made : AreModuleRows
   abbrev known : List (List ℕ)
   known = names_of (provisions t)
 
-  pub is_graph : (graph : List (List ℕ)) → graph ≡ modules ++ rows → IsModuleGraph t graph
-  is_graph graph same = record { modules = modules; objects = rows; all = same; of_modules = made; of_objects = indexes }
+  pub is_graph : (graph : List (List ℕ)) → AllZip HasEachOnce (modules ++ rows) graph → IsModuleGraph t graph
+  is_graph graph all = record { modules = modules; objects = rows; all = all; of_modules = made; of_objects = indexes }
 
   total : length (modules ++ rows) ≡ length known + length rows
   total =
@@ -225,10 +225,13 @@ module _ (t : TableValue) (modules rows : List (List ℕ)) (made : AreModuleRows
       (λ o. in_object_row row n (o.0, o.2) in_row)
       (in_append modules rows has.0 row has.1)
 
-  pub are_nodes : NeedsAreNodes (modules ++ rows)
-  are_nodes =
-      all_from (λ row. All (λ needed. needed < length (modules ++ rows)) row) (modules ++ rows)
-      (λ row has. all_from (λ needed. needed < length (modules ++ rows)) row (λ n in_row. subst (λ m. n < m) (sym total) (below row n has in_row)))
+  pub are_nodes : (graph : List (List ℕ)) → AllZip HasEachOnce (modules ++ rows) graph → NeedsAreNodes graph
+  are_nodes graph all =
+      let many = zip_length HasEachOnce (modules ++ rows) graph all in
+      all_from (λ row. All (λ needed. needed < length graph) row) graph
+      (λ once has. let row = zip_back HasEachOnce (modules ++ rows) graph has.0 once all has.1 in
+      all_from (λ needed. needed < length graph) once
+      (λ n in_once. let lt = below row.0 n (has.0, row.1) (placed row.0 n (row.2.only n (contained once n in_once))) in omega (arith, total, many, lt)))
 
 -- after all modules there is a node for each object
 pub node_within : (t : TableValue) (graph : List (List ℕ)) → IsModuleGraph t graph → (object : ℕ) → object < length t.objects →
@@ -237,4 +240,4 @@ node_within t graph g object lt =
     let modules = zip_length (IsModuleRow (names_of (provisions t)) t.infos) (origins_of t) g.modules g.of_modules in
     let objects = sym (length_mapped names_wanted t.objects) ∙ ap length (sym g.of_objects) ∙
     length_mapped (λ row. map (slice_get (names_of (provisions t))) row) g.objects in
-    omega (arith, modules, objects, (ap length g.all ∙ length-append g.modules g.objects), lt)
+    omega (arith, modules, objects, (sym (zip_length HasEachOnce (g.modules ++ g.objects) graph g.all) ∙ length-append g.modules g.objects), lt)

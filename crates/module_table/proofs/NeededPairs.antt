@@ -1,7 +1,7 @@
 -- Chains of needs in the graph lead to a node if names lead from one to the next.
-use Rattle.std.proofs.Common.{◌≡◌, ℕ, ◌+◌, ◌<◌, ◌⊎◌, List, [], ◌∷◌, length, map, Some, refl, ap, subst, sym, ◌∙◌, inl, inr, ⊎_elim, arith, slice_get, Contains, get_or, Option, ap₂}
+use Rattle.std.proofs.Common.{◌≡◌, ℕ, ◌+◌, ◌<◌, ◌⊎◌, List, [], ◌∷◌, ◌++◌, length, map, Some, refl, ap, subst, sym, ◌∙◌, inl, inr, ⊎_elim, arith, slice_get, Contains, get_or, Option, ap₂}
 use Rattle.std.proofs.lemmas.Option.{slice_get_within, get_or_from_slice_get, slice_get-get_or}
-use Rattle.module_table.specs.Prelude.{RuleValue, ModuleValue, NodeNeeds, AreReached, TableValue, Provides, Requires, InfoProvides, IsProvided, Provision, provisions, LeadsTo, Leads, IsNeeded, ArePairs, lent, IsSound, names_of, origins_of, Origin, IsModuleGraph, IsModuleRow, indexes_in, Object, Info, Bor, AllPairs, filter_map, IsSorted, IsPermutation, nat_cmp, Precedes, Name, AreRanked}
+use Rattle.module_table.specs.Prelude.{RuleValue, ModuleValue, NodeNeeds, AreReached, TableValue, Provides, Requires, InfoProvides, IsProvided, Provision, provisions, LeadsTo, Leads, IsNeeded, ArePairs, lent, IsSound, names_of, origins_of, Origin, HasEachOnce, IsModuleGraph, IsModuleRow, indexes_in, Object, Info, Bor, AllPairs, filter_map, IsSorted, IsPermutation, nat_cmp, Precedes, Name, AreRanked}
 use Rattle.dep_order.specs.Needs.{IsChain, Reaches}
 use Rattle.module_table.proofs.Places.{object_provision, info_provision, Has, from_provisions, provision_by, sound_names}
 use Rattle.ninja_text.proofs.ForCallers.{contained, placed, to_map, in_first, in_second, from_map, element_at, from_filter_map, in_filter_map}
@@ -48,7 +48,10 @@ module _ (t : TableValue) (sound : IsSound t) where
     abbrev Needs : ℕ → ℕ → Type 0
     Needs = NodeNeeds graph
 
-    -- ---- the rows
+    -- ---- the rows, with all their repetitions
+
+    abbrev full : List (List ℕ)
+    full = g.modules ++ g.objects
 
     many_modules : length g.modules ≡ count
     many_modules =
@@ -57,14 +60,14 @@ module _ (t : TableValue) (sound : IsSound t) where
 
     -- a module of an object, by its number
     abbrev IsOwnNode : ℕ → List ℕ → Type 0
-    IsOwnNode k name = (o : ℕ) × (j : ℕ) × (file : Name) × Provides t o j name file × (At graph k ((count + o) ∷ []))
+    IsOwnNode k name = (o : ℕ) × (j : ℕ) × (file : Name) × Provides t o j name file × (At full k ((count + o) ∷ []))
 
     -- a module of an info
     abbrev IsInfoNode : ℕ → List ℕ → Type 0
     IsInfoNode k name = (i : ℕ) × (j : ℕ) × (entry : ModuleValue) × InfoProvides t i j entry × (entry.name ≡ name) ×
-        (At graph k (indexes_in names entry.required))
+        (At full k (indexes_in names entry.required))
 
-    node_by : (k : ℕ) (p : Provision) (index : Origin) (row : List ℕ) → IsPlaceOf t p index → At graph k row → IsModuleRow names t.infos index row →
+    node_by : (k : ℕ) (p : Provision) (index : Origin) (row : List ℕ) → IsPlaceOf t p index → At full k row → IsModuleRow names t.infos index row →
         IsOwnNode k p.name ⊎ IsInfoNode k p.name
     node_by k p (Object o, j) row is at row_is = inl (o, j, p.file, is.1, at ∙ ap Some row_is)
     node_by k p (Info i, j) row is at row_is =
@@ -75,24 +78,28 @@ module _ (t : TableValue) (sound : IsSound t) where
         let p = named k name at in
         let index = zip_there (IsPlaceOf t) (provisions t) (origins_of t) k p.0 (module_places t) p.1 in
         let row = zip_there (IsModuleRow names t.infos) (origins_of t) g.modules k index.0 g.of_modules index.1 in
-        let here : At graph k row.0 = same_reads k g.all ∙ in_first g.modules g.objects k row.0 row.1 in
+        let here : At full k row.0 = in_first g.modules g.objects k row.0 row.1 in
         subst (λ n. IsOwnNode k n ⊎ IsInfoNode k n) p.2 (node_by k p.0 index.0 row.0 index.2 here row.2)
 
     object_row : (o : ℕ) (rule : RuleValue) → At t.objects o rule →
-        (row : List ℕ) × (At graph (count + o) row) × (map (slice_get names) row ≡ map Some rule.required)
+        (row : List ℕ) × (At full (count + o) row) × (map (slice_get names) row ≡ map Some rule.required)
     object_row o rule at =
         let row = from_map (λ row. map (slice_get names) row) g.objects o (map Some rule.required)
         (same_reads o g.of_objects ∙ to_map names_wanted t.objects o rule at) in
-        let here = same_reads (length g.modules + o) g.all ∙ in_second g.modules g.objects o row.0 row.1 in
-        (row.0, ap (λ n. slice_get graph (n + o)) (sym many_modules) ∙ here, row.2)
+        let here = in_second g.modules g.objects o row.0 row.1 in
+        (row.0, ap (λ n. slice_get full (n + o)) (sym many_modules) ∙ here, row.2)
 
     -- ---- the steps
 
-    from_need : (node n : ℕ) (row : List ℕ) → At graph node row → Needs node n → Has row n
-    from_need node n row at need = placed row n (subst (λ r. Contains r n) (get_or_from_slice_get graph node row [] at) need)
+    from_need : (node n : ℕ) (row : List ℕ) → At full node row → Needs node n → Has row n
+    from_need node n row at need =
+        let once = zip_there HasEachOnce full graph node row g.all at in
+        placed row n (once.2.only n (subst (λ r. Contains r n) (get_or_from_slice_get graph node once.0 [] once.1) need))
 
-    to_need : (node n : ℕ) (row : List ℕ) → At graph node row → Has row n → Needs node n
-    to_need node n row at has = subst (λ r. Contains r n) (sym (get_or_from_slice_get graph node row [] at)) (contained row n has)
+    to_need : (node n : ℕ) (row : List ℕ) → At full node row → Has row n → Needs node n
+    to_need node n row at has =
+        let once = zip_there HasEachOnce full graph node row g.all at in
+        subst (λ r. Contains r n) (sym (get_or_from_slice_get graph node once.0 [] once.1)) (once.2.kept n (contained row n has))
 
     from_object : (o : ℕ) (rule : RuleValue) (k : ℕ) → At t.objects o rule → Needs (count + o) k → (name : Name) × IsNumberOf k name × Requires t o name
     from_object o rule k at need =
@@ -182,7 +189,7 @@ module _ (t : TableValue) (sound : IsSound t) where
 
     -- ---- from names to chains of needs
 
-    own_is : (k o j : ℕ) (name file : Name) → IsNumberOf k name → Provides t o j name file → At graph k ((count + o) ∷ [])
+    own_is : (k o j : ℕ) (name file : Name) → IsNumberOf k name → Provides t o j name file → At full k ((count + o) ∷ [])
     own_is k o j name file at provides =
         ⊎_elim
         (λ own.
@@ -196,7 +203,7 @@ module _ (t : TableValue) (sound : IsSound t) where
         absurd (cc))
         (node_of k name at)
 
-    info_is : (k i j : ℕ) (entry : ModuleValue) → IsNumberOf k entry.name → InfoProvides t i j entry → At graph k (indexes_in names entry.required)
+    info_is : (k i j : ℕ) (entry : ModuleValue) → IsNumberOf k entry.name → InfoProvides t i j entry → At full k (indexes_in names entry.required)
     info_is k i j entry at provides =
         ⊎_elim
         (λ own.

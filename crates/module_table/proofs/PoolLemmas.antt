@@ -1,6 +1,6 @@
 -- What lists have, and rows of entries by keys: an entry that is added is listed.
 use Rattle.std.proofs.Common.{◌≡◌, ℕ, zero, suc, ◌+◌, ◌<◌, ◌≤◌, ◌⊎◌, Bool, true, false, cond, List, [], ◌∷◌, ◌++◌, length, Option, Some, None, option_copied, refl, ap, subst, sym, ◌∙◌, inl, inr, ⊎_elim, arith, slice_get, bytes_eq, true≢false, is_some, IfNone, IfSome, MatchBool, Bor, get_or, map, length-append}
-use Rattle.module_table.specs.Prelude.{AllZip, bytes_decides, ModuleValue, InfoValue, ModuleAt, Row, Shared, Has, By, by_name, by_file, key_of, rows_of, module_at, IsSameRow, IsPut, StillListed, AreListed, Below, IsRowUnlinked, IsUnlinked, IsKnownModule, IsSource, IsRelated, IsPool, AreIndexes, AreFit, IsFitAt, IsAlone, IsApart, IsCopied, IsPickedOf, RuleValue, HasModule, IsAlike, IsPartOf, KeepsRequired, IsEnough, AreLinked, Related}
+use Rattle.module_table.specs.Prelude.{AllZip, bytes_decides, ModuleValue, InfoValue, ModuleAt, Row, Shared, Has, By, by_name, by_file, key_of, rows_of, module_at, IsSameRow, IsPut, StillListed, AreListed, Below, IsRowUnlinked, IsUnlinked, IsKnownModule, IsSource, IsRelated, IsPool, AreIndexes, AreFit, IsFitAt, IsAlone, IsClosedAt, IsProvidedFor, IsApart, IsCopied, IsPickedOf, RuleValue, HasModule, IsAlike, IsPartOf, KeepsRequired, IsEnough, AreLinked, Related}
 use Rattle.std.specs.List.{AllWithin, HoldsAt}
 use Rattle.std.specs.Option.{MatchOption, option_eq}
 use Rattle.std.proofs.lemmas.Option.{slice_get_read, slice_get_within, get_or_from_slice_get}
@@ -163,14 +163,15 @@ unlinked linked stamps rows key (Some r) same all row e = subst (IsRowUnlinked l
 
 -- ---- what is looked at
 
-module _ (linked : List ℕ) (related : List (Option Related)) (stamps : List ModuleAt) (fit : (n : ℕ) → Has linked n → IsFitAt linked related stamps n) where
+module _ (linked : List ℕ) (known : List (Option InfoValue)) (related : List (Option Related)) (stamps : List ModuleAt)
+    (fit : (n : ℕ) → Has linked n → IsFitAt linked known related stamps n) where
   alone : (n : ℕ) (s : Shared) → Has linked n → HasShared related n s → IsAlone linked stamps n s
   alone n s h (r, at, shared) = let f = fit n h in let same : r ≡ f.0 = cc in f.3 s (subst (λ (r : Related). Has r.shared.items s) same shared)
 
-  pub all_fit : AreFit linked related stamps
+  pub all_fit : AreFit linked known related stamps
   all_fit = record {
-    closed = λ n k h source. let f = fit n h in let same : source.0 ≡ f.0 = same_some _ _ (same_some _ _ (sym source.1 ∙ f.1)) in
-        f.2 k (subst (λ (r : Related). Has r.sources.items k) same source.2);
+    closed = λ n r h at. let f = fit n h in
+        subst (λ (s : Related). IsClosedAt linked known s n) (same_some _ _ (same_some _ _ (sym f.1 ∙ at))) f.2;
     first = λ n s h shared. (alone n s h shared).0;
     stamped = λ n s h shared. (alone n s h shared).1;
   }
@@ -197,7 +198,7 @@ module _ (known : List (Option InfoValue)) (linked : List ℕ) (infos : List Inf
       (info.0, info.1, ap (λ (v : InfoValue). slice_get v.modules j) (same_some _ _ info.2) ∙ has.2)
 
   module _ (listed : Listed) (related : List (Option Related)) (pool : IsPool known listed related) (indexes : List ℕ) (at : AreIndexes linked indexes)
-      (stamps : List ModuleAt) (fit : AreFit linked related stamps) where
+      (stamps : List ModuleAt) (fit : AreFit linked known related stamps) where
     -- no info is linked twice
     once : (i k n : ℕ) → At linked i n → At linked k n → i ≡ k
     once i k n a b = same_some _ _ (sym (at i n a) ∙ at k n b)
@@ -239,16 +240,23 @@ module _ (known : List (Option InfoValue)) (linked : List ℕ) (infos : List Inf
     are_closed : AreClosed infos
     are_closed i j m name file has needs =
         let x = known_at i j m has in
-        let s = pool.sources x.0 j m (name, file) x.2 (index_of m.required (name, file) needs) in
-        let there = fit.closed x.0 s.0 (i, x.1) s.1 in (
+        let pair : Pair = (name, file) in
+        let required = index_of m.required pair needs in
+        let s = pool.sources x.0 j m pair x.2 required in
+        let r = s.1 in
+        let found : IsProvidedFor linked known x.0 pair = elim (fit.closed x.0 r.0 (i, x.1) r.1) [
+          | inl sources ↦ (s.0, sources s.0 r.2, s.2)
+          | inr each ↦ each j m pair x.2 required
+        ] in
+        let there = found.1 in
+        let w = found.2 in (
           there.0,
-          s.2.0,
-          s.2.1,
-          linked_at there.0 s.0 s.2.0 s.2.1 there.1 s.2.2,
-          s.2.3,
-          s.2.4,
-          λ private.
-              once there.0 i x.0 (there.1 ∙ ap Some (s.2.5 private)) x.1,
+          w.0,
+          w.1,
+          linked_at there.0 found.0 w.0 w.1 there.1 w.2,
+          w.3,
+          w.4,
+          λ private. once there.0 i x.0 (there.1 ∙ ap Some (w.5 private)) x.1,
         )
 
     -- a linked module is not in a row of which nothing is linked

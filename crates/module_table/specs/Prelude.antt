@@ -24,7 +24,7 @@ pub use Rattle.table_keys.specs.Entries.{TableEntries}
 pub use Rattle.table_keys.specs.Keys.{Covers, HasAdded, IsKeyOf}
 pub use Rattle.module_table.specs.Added.{file_of, first_mentions, pair_of, required_of}
 pub use Rattle.module_table.specs.Building.{Builds}
-pub use Rattle.module_table.specs.Entries.{info_entries, object_entries, table_entries}
+pub use Rattle.module_table.specs.Entries.{CoversTable, info_entries, object_entries, table_entries}
 pub use Rattle.module_table.specs.FaultNames.{fault_name}
 pub use Rattle.module_table.specs.Faults.{Claim, claims, claims_of, code_number, Collides, Disagrees, HasPrivate, IsFirstRequired, IsInfoUnknown, IsPrivateElsewhere, IsPrivateName, IsReported, IsUnknown, IsUnprovided, own_claims, Requiring}
 pub use Rattle.module_table.specs.Modules.{DependsOn, info_provisions, info_requirements, InfoProvides, InfoRequirement, InfoRequires, IsInfoProvided, IsProvided, IsProvidedBy, module_requirements, object_provisions, Provides, Provision, provisions, requirements_of_info, Requires}
@@ -49,14 +49,14 @@ pub use Rattle.module_table.specs.declared.pool.rows.Row.{Row}
 pub use Rattle.module_table.specs.declared.pool.rows.Shared.{Shared}
 pub use Rattle.module_table.specs.inner.Finds.{AcceptsAll, Agrees, AreByObjects, AreInfosAllowed, AreInfosKnown, AreObjectsAllowed, DoInfosAgree, found, is_info_at, IsAllowed, IsByInfo, IsByObject, IsNamed, IsNotByInfo, IsNotByObject, IsPublic, LookedUp, RequiresPublic}
 pub use Rattle.module_table.specs.inner.Found.{AreLookedUp, looked_up, lookups_of}
-pub use Rattle.module_table.specs.inner.Graph.{AreModuleRows, index_in, indexes_in, info_rows, IsModuleGraph, IsModuleRow, object_row}
+pub use Rattle.module_table.specs.inner.Graph.{AreModuleRows, HasEachOnce, index_in, indexes_in, info_rows, IsModuleGraph, IsModuleRow, object_row}
 pub use Rattle.module_table.specs.inner.Indexed.{IsNamedAt, pair_at}
 pub use Rattle.module_table.specs.inner.LookUps.{AreRequired, AreStored, IsIndex}
 pub use Rattle.module_table.specs.inner.Mentioned.{ArePairsSoFar, mentioned_names, name_in}
 pub use Rattle.module_table.specs.inner.Numbered.{AreRequiredIndexes, IsNumbered, maker_at}
 pub use Rattle.module_table.specs.inner.Origins.{AreNamed, AreProvided, info_origins, object_origins, Origin, origin_of, origins_of}
 pub use Rattle.module_table.specs.inner.Passed.{Passed}
-pub use Rattle.module_table.specs.inner.Pools.{AreFit, AreIndexes, AreListed, Below, By, by_file, by_name, Has, IsAlone, IsApart, IsCopied, IsFitAt, IsKeyed, IsKnownModule, IsPickedOf, IsPool, IsPut, IsRelated, IsRowUnlinked, IsSameRow, IsSource, IsUnlinked, key_of, module_at, rows_of, StillKeyed, StillListed}
+pub use Rattle.module_table.specs.inner.Pools.{AreFit, AreIndexes, AreListed, Below, By, by_file, by_name, Has, IsAlone, IsApart, IsClosedAt, IsCopied, IsFitAt, IsKeyed, IsKnownModule, IsPickedOf, IsPool, IsProvidedFor, IsPut, IsRelated, IsRowUnlinked, IsSameRow, IsSource, IsUnlinked, key_of, module_at, rows_of, StillKeyed, StillListed}
 pub use Rattle.module_table.specs.inner.Ranks.{AreByName, AreByNumber, AreNeeds, AreNumbers, AreRanked, AreRanks, pair_in, pairs_of}
 pub use Rattle.module_table.specs.inner.Reported.{FailsWith, Reports}
 pub use Rattle.module_table.specs.inner.Views.{DoNamesDiffer, files_of, IsAbsent, IsMadeTwice, IsOfInfo, IsPrivateFault, names_of, paths_of, provision_of, requirement_of}

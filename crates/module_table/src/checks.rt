@@ -2,10 +2,11 @@
 //! they have passed. M1 to M4 are here: what is twice among the paths of objects, the targets of
 //! info files, the names of modules and the files. M5 to M10 are in `required.rt`.
 ghost use Rattle.std.specs.Prelude.{◌≡◌, IfErr, IfOk, List, map, OnOk};
-ghost use Rattle.module_table.specs.Prelude.{AllDiffer, AreLookedUp, Covers, provisions};
-ghost use Rattle.module_table.specs.Prelude.{table_with, TableValue};
+ghost use Rattle.module_table.specs.Prelude.{AllDiffer, AllZip, AreLookedUp, Covers, CoversTable};
+ghost use Rattle.module_table.specs.Prelude.{flat_map, info_entries, provisions, table_with};
+ghost use Rattle.module_table.specs.Prelude.{TableValue};
 ghost use Rattle.module_table.specs.Prelude.{AreModuleRows, AreRequiredIndexes, Name, provision_of};
-ghost use Rattle.module_table.specs.Prelude.{ForFault, HasNoFault, IsReported, rows, table_entries};
+ghost use Rattle.module_table.specs.Prelude.{ForFault, HasEachOnce, HasNoFault, IsReported, rows};
 ghost use Rattle.module_table.specs.Prelude.{IsEmpty, IsIndex, names_of, Passed, paths_of, Reports};
 ghost use Rattle.indexmap.specs.IndexSet.{hasher_of};
 
@@ -15,7 +16,7 @@ use crate::modules::{
 };
 use crate::needed::all_pairs;
 use dep_order::Digraph;
-use document_values::{Info, Name, Rule};
+use document_values::{Info, Name, Rule, TargetName};
 use indexmap::IndexSet;
 use ninja_text::{Failure, Path};
 use required::{
@@ -60,10 +61,28 @@ impl Index {
         Ok(Index {
             names: modules.into_names(),
             origins,
-            graph: Digraph::new(needs),
+            graph: Digraph::new(without_repetitions(needs)),
             required,
         })
     }
+}
+
+/// Drops the repetitions in each row and sorts it, so that a search of the graph takes no more time
+/// if a name is required more than once.
+fn without_repetitions(mut needs: Vec<Vec<usize>>) -> Vec<Vec<usize>>
+    ensures { AllZip HasEachOnce (rows needs.items) (rows result.items) }
+{
+    for row in needs.iter_mut() {
+        sort_once(row);
+    }
+    needs
+}
+
+fn sort_once(row: &mut Vec<usize>)
+    ensures { HasEachOnce row.old.items row.new.items }
+{
+    row.sort_unstable();
+    row.dedup();
 }
 
 /// Makes all checks, from the lowest code to the highest. Names, targets and files are hashed under
@@ -78,9 +97,10 @@ pub(crate) fn check_all(
 ) -> Result<Index, Failure<Box<TableFault>>>
     requires paths { IsEmpty paths.old }
     requires hasher { hasher_of paths.old ≡ key }
-    requires key { Covers key (table_entries (table_with objects.now infos.now)) }
+    requires key { CoversTable key (table_with objects.now infos.now) }
     ensures no_fault { OnOk result (HasNoFault (table_with objects.now infos.now) kept.now) }
     ensures paths { OnOk result (paths.new.keys ≡ paths_of (table_with objects.now infos.now)) }
+    ensures hasher { OnOk result (hasher_of paths.new ≡ key) }
     ensures index { IfOk result (IsIndex (table_with objects.now infos.now)) }
     ensures fault { IfErr result (ForFault (λ fault.
         IsReported (table_with objects.now infos.now) kept.now fault.value)) }
@@ -143,6 +163,7 @@ pub(crate) fn check_objects(
     paths: &mut IndexSet<Path, TableKey>,
 ) -> Result<(), Failure<Box<TableFault>>>
     requires { IsEmpty paths.old }
+    ensures hasher { OnOk result (hasher_of paths.new ≡ hasher_of paths.old) }
     ensures paths { OnOk result (paths.new.keys ≡ map (λ rule. rule.object) objects.now) }
     ensures differ { OnOk result (AllDiffer (map (λ rule. rule.object) objects.now)) }
     ensures fault { IfErr result (ForFault (λ fault. (t : TableValue) (kept : List Name) →
@@ -163,17 +184,33 @@ pub(crate) fn check_objects(
     Ok(())
 }
 
-/// M2: no two info files have the same target name.
+/// M2: no two info files have the same target name. The names are hashed under `key`.
 pub(crate) fn check_infos(
     alloc: Global,
     infos: &[Info],
     key: TableKey,
 ) -> Result<(), Failure<Box<TableFault>>>
+    requires { Covers key (flat_map info_entries infos.now) }
     ensures ok { OnOk result (AllDiffer (map (λ info. info.target) infos.now)) }
     ensures fault { IfErr result (ForFault (λ fault. (t : TableValue) (kept : List Name) →
         infos.now ≡ t.infos → Reports 2 t kept fault.value)) }
 {
-    let mut targets = IndexSet::with_capacity_and_hasher(alloc, infos.len(), key)?;
+    let targets = IndexSet::with_capacity_and_hasher(alloc, infos.len(), key)?;
+    put_targets(alloc, infos, targets)
+}
+
+/// Puts the target names of the info files into the empty set.
+fn put_targets<'t>(
+    alloc: Global,
+    infos: &'t [Info],
+    mut targets: IndexSet<&'t TargetName, TableKey>,
+) -> Result<(), Failure<Box<TableFault>>>
+    requires empty { IsEmpty targets }
+    requires key { Covers (hasher_of targets) (flat_map info_entries infos.now) }
+    ensures ok { OnOk result (AllDiffer (map (λ info. info.target) infos.now)) }
+    ensures fault { IfErr result (ForFault (λ fault. (t : TableValue) (kept : List Name) →
+        infos.now ≡ t.infos → Reports 2 t kept fault.value)) }
+{
     for info in infos {
         let (_, is_new) = targets.insert_full(&info.target)?;
         if !is_new {
@@ -191,6 +228,7 @@ pub(crate) fn check_names<'t>(
     infos: &'t [Info],
     key: TableKey,
 ) -> Result<Modules<'t>, Failure<Box<TableFault>>>
+    requires { CoversTable key (table_with objects.now infos.now) }
     ensures modules { IfOk result
         (λ modules. modules ≡ table_with objects.now infos.now) }
     ensures differ { IfOk result (λ modules. AllDiffer (names_of (provisions modules))) }
@@ -211,6 +249,7 @@ fn put_names(
     names: &mut IndexSet<Name, TableKey>,
 ) -> Result<(), Failure<Box<TableFault>>>
     requires { IsEmpty names.old }
+    ensures hasher { OnOk result (hasher_of names.new ≡ hasher_of names.old) }
     ensures names { OnOk result (names.new.keys ≡ names_of (map provision_of provided.now)) }
     ensures differ { OnOk result (AllDiffer (names_of (map provision_of provided.now))) }
     ensures fault { IfErr result (ForFault (λ fault. (t : TableValue) (kept : List Name) →
@@ -240,6 +279,7 @@ pub(crate) fn check_files(
 ) -> Result<(), Failure<Box<TableFault>>>
     requires paths { files.old.keys ≡ map (λ rule. rule.object) modules.now.objects }
     requires differ { AllDiffer (map (λ rule. rule.object) modules.now.objects) }
+    ensures hasher { OnOk result (hasher_of files.new ≡ hasher_of files.old) }
     ensures files { OnOk result (files.new.keys ≡ paths_of modules.now) }
     ensures ok { OnOk result (AllDiffer (paths_of modules.now)) }
     ensures fault { IfErr result (ForFault

@@ -2,10 +2,12 @@
 //! objects, and those of info files what they require, which is looked up once.
 ghost use Rattle.std.specs.Prelude.{◌++◌, ◌<◌, ◌≡◌, filter_map, flat_map, map, option_map, Some, ℕ};
 ghost use Rattle.module_table.specs.Prelude.{AreLookedUp, AreNamed, AreProvided, DoNamesDiffer};
-ghost use Rattle.module_table.specs.Prelude.{enumerate_from, found, IfNone, IfOk, IfSome, index_in};
+ghost use Rattle.module_table.specs.Prelude.{CoversTable, enumerate_from, found, IfNone, IfOk};
+ghost use Rattle.module_table.specs.Prelude.{IfSome, index_in};
 ghost use Rattle.module_table.specs.Prelude.{indexes_in, info_rows, length, looked_up, lookups_of};
 ghost use Rattle.module_table.specs.Prelude.{names_of, object_row, OnOk, origins_of, provision_of};
 ghost use Rattle.module_table.specs.Prelude.{provisions, rows, slice_get, table_with, TableValue};
+ghost use Rattle.indexmap.specs.IndexSet.{hasher_of};
 
 use crate::fault::Maker;
 use document_values::{Info, InfoModule, Name, Rule, TargetName};
@@ -53,7 +55,7 @@ impl<'t> Model for Modules<'t> {
     ghost view = { λ m. table_with m.objects.now m.infos.now };
 
     ghost invariant = { λ m. AreNamed (table_with m.objects.now m.infos.now) m.provided.items
-        m.names.keys };
+        m.names.keys (hasher_of m.names) };
 }
 
 impl<'t> Modules<'t> {
@@ -64,7 +66,8 @@ impl<'t> Modules<'t> {
         provided: Vec<Module<'t>>,
         names: IndexSet<Name, TableKey>,
     ) -> Modules<'t>
-        requires { AreNamed (table_with objects.now infos.now) provided.items names.keys }
+        requires { AreNamed (table_with objects.now infos.now) provided.items names.keys
+            (hasher_of names) }
         ensures { result ≡ table_with objects.now infos.now }
     {
         Modules {
@@ -109,7 +112,8 @@ impl<'t> Modules<'t> {
 
     /// Consumes the value and returns the names of all modules, by index.
     pub(crate) fn into_names(self) -> IndexSet<Name, TableKey>
-        ensures { result.keys ≡ names_of (provisions self.entry) }
+        ensures names { result.keys ≡ names_of (provisions self.entry) }
+        ensures key { CoversTable (hasher_of result) self.entry }
     {
         let Modules {
             objects: _,

@@ -140,7 +140,7 @@ impl Pool {
             indexes: &scratch.indexes,
             stamps: &scratch.stamps,
         };
-        if !links.are_fit(related) || !links.are_apart(listed, objects) {
+        if !links.are_fit(infos, listed, related) || !links.are_apart(listed, objects) {
             return Ok(None);
         }
         scratch.picked.pick(alloc, objects, &links, listed, infos, related, requirements)?;

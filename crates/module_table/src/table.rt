@@ -5,6 +5,7 @@ ghost use Rattle.module_table.specs.Prelude.{ForFault, ForSome, HasAdded, IfSome
 ghost use Rattle.module_table.specs.Prelude.{IsKeyOf, IsNeeded, IsProvidedBy, IsSound, IsUnknown};
 ghost use Rattle.module_table.specs.Prelude.{length, object_entries, required_of, RuleValue};
 ghost use Rattle.module_table.specs.Prelude.{table_entries, table_with, TableEntries, TableValue};
+ghost use Rattle.indexmap.specs.IndexSet.{hasher_of};
 
 use crate::checks::check_all;
 use crate::fault::{Maker, RefusedTable, TableFault};
@@ -52,7 +53,7 @@ impl Model for Table {
     ghost view = { λ t. t.resolved };
 
     ghost invariant = { λ t. AreStored t.resolved t.names.keys t.origins.items t.graph
-        t.paths.keys };
+        t.paths.keys (hasher_of t.names) (hasher_of t.paths) };
 }
 
 impl Table {

@@ -15,8 +15,9 @@ use std::test::Fail;
 use table_keys::{KeyDigest, TableKey};
 
 /// Info files 0, 1 and 2 have a module `P` with a file each. Info files 2, 3 and 4 have a module
-/// with the file `s.pcm`: `Q`, `R` and `S`. Info file 5 requires `R`.
-const INFOS: [&[u8]; 6] = [
+/// with the file `s.pcm`: `Q`, `R` and `S`. Info file 6 has the same `R` as 3. Info files 5 and 7
+/// require `R`.
+const INFOS: [&[u8]; 8] = [
     br#"{"version":1,"target":"a","modules":[{"name":"P","bmi":"a.pcm","requires":[]}]}"#,
     br#"{"version":1,"target":"b","modules":[{"name":"P","bmi":"b.pcm","requires":[]}]}"#,
     br#"{"version":1,"target":"c","modules":[{"name":"Q","bmi":"s.pcm","requires":[]},
@@ -25,6 +26,9 @@ const INFOS: [&[u8]; 6] = [
     br#"{"version":1,"target":"e","modules":[{"name":"S","bmi":"s.pcm","requires":[]}]}"#,
     br#"{"version":1,"target":"f","modules":[
         {"name":"F","bmi":"f.pcm","requires":[{"name":"R","bmi":"s.pcm"}]}]}"#,
+    br#"{"version":1,"target":"g","modules":[{"name":"R","bmi":"s.pcm","requires":[]}]}"#,
+    br#"{"version":1,"target":"h","modules":[
+        {"name":"H","bmi":"h.pcm","requires":[{"name":"R","bmi":"s.pcm"}]}]}"#,
 ];
 
 /// Linked info files, and a line for each file of their part, or nothing if there is no part.
@@ -140,10 +144,25 @@ const ONE_OF_A_FILE: &[Row] = &[
     (&[4, 5], b""),
     (&[2, 5], b""),
     (&[5, 3, 0], b"f.pcm\ns.pcm\n"),
+    (&[6, 5], b"s.pcm\nf.pcm\n"),
 ];
 
 #[test]
 fn a_module_is_required_whose_file_others_share(rt: HostRuntime) -> Result<(), Fail> {
     assert!(rt; are(rt.alloc(), "F", ONE_OF_A_FILE)?);
+    Ok(())
+}
+
+/// Linked info files of which one has the module that `H` requires, as another that is not linked.
+const ONE_OF_A_MODULE: &[Row] = &[
+    (&[6, 7], b"s.pcm\nh.pcm\n"),
+    (&[3, 7], b"s.pcm\nh.pcm\n"),
+    (&[4, 7], b""),
+    (&[3, 6, 7], b""),
+];
+
+#[test]
+fn a_module_is_required_that_two_targets_have(rt: HostRuntime) -> Result<(), Fail> {
+    assert!(rt; are(rt.alloc(), "H", ONE_OF_A_MODULE)?);
     Ok(())
 }

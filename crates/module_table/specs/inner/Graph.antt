@@ -1,6 +1,7 @@
 -- The graph of what modules and objects need, by index.
-use Rattle.std.specs.Prelude.{◌≡◌, ℕ, ◌+◌, List, [], ◌∷◌, ◌++◌, length, map, slice_get, Option, Some, None, position, bytes_eq}
+use Rattle.std.specs.Prelude.{◌≡◌, ℕ, ◌+◌, List, [], ◌∷◌, ◌++◌, length, map, slice_get, Contains, Option, Some, None, position, bytes_eq}
 use Rattle.std.specs.List.{filter_map, AllZip}
+use Rattle.std.specs.List.Sorted.{IsStrictlyIncreasing}
 use Rattle.document_values.specs.Info.{InfoValue, ModuleValue}
 use Rattle.module_table.specs.TableValue.{TableValue}
 use Rattle.module_table.specs.Modules.{provisions}
@@ -30,11 +31,18 @@ abbrev pub AreModuleRows : TableValue → List (List ℕ) → Type 0
 AreModuleRows t modules = AllZip (IsModuleRow (names_of (provisions t)) t.infos) (origins_of t)
     modules
 
--- First what each module needs, then what each object needs: the modules that it requires.
+-- the second list has the numbers of the first, each once
+pub record HasEachOnce (row once : List ℕ) : Type 0 where
+  pub kept : (n : ℕ) → Contains row n → Contains once n
+  pub only : (n : ℕ) → Contains once n → Contains row n
+  pub rising : IsStrictlyIncreasing once
+
+-- First what each module needs, then what each object needs: the modules that it requires. The
+-- graph has each needed number once, however often it is required.
 pub record IsModuleGraph (t : TableValue) (graph : List (List ℕ)) : Type 0 where
   pub modules : List (List ℕ)
   pub objects : List (List ℕ)
-  pub all : graph ≡ modules ++ objects
+  pub all : AllZip HasEachOnce (modules ++ objects) graph
   pub of_modules : AreModuleRows t modules
   pub of_objects : map (λ row. map (slice_get (names_of (provisions t))) row) objects
       ≡ map (λ rule. map (λ name. Some name) rule.required) t.objects

@@ -3,7 +3,9 @@ use Rattle.std.specs.Prelude.{◌≡◌, ℕ, List, ◌++◌, map}
 use Rattle.std.specs.List.{flat_map, enumerate_from}
 use Rattle.document_values.specs.Rule.{RuleValue}
 use Rattle.document_values.specs.Info.{InfoValue}
+use Rattle.table_keys.specs.declared.TableKey.{TableKey}
 use Rattle.module_table.specs.TableValue.{TableValue}
+use Rattle.module_table.specs.Entries.{CoversTable}
 use Rattle.module_table.specs.Modules.{provisions}
 use Rattle.module_table.specs.inner.Views.{provision_of, names_of, DoNamesDiffer}
 use Rattle.module_table.specs.declared.fault.Maker.{Maker}
@@ -34,9 +36,11 @@ pub record AreProvided (t : TableValue) (provided : List Module) : Type 0 where
   pub modules : map provision_of provided ≡ provisions t
   pub origins : map origin_of provided ≡ origins_of t
 
--- these are the provided modules and their names, which differ
+-- These are the provided modules and their names, which differ. The key of the names covers the
+-- table.
 pub record AreNamed (t : TableValue) (provided : List Module) (names : List (List ℕ))
-    : Type 0 where
+    (key : TableKey) : Type 0 where
   pub are_provided : AreProvided t provided
   pub are_names : names ≡ names_of (provisions t)
   pub differ : DoNamesDiffer t
+  pub covered : CoversTable key t

@@ -92,6 +92,10 @@ abbrev pub IsSource : List (Option InfoValue) → ℕ → Name × PathText → �
 IsSource known i pair k = (l : ℕ) × (w : ModuleValue) × IsKnownModule known k l w
     × (w.name ≡ pair.0) × (w.file ≡ pair.1) × (w.is_private ≡ true → k ≡ i)
 
+-- a linked info file is a source of what a module of info file n requires
+abbrev pub IsProvidedFor : Indexes → List (Option InfoValue) → ℕ → Name × PathText → Type 0
+IsProvidedFor linked known n pair = (k : ℕ) × Has linked k × IsSource known n pair k
+
 -- How an added info file is related to the known ones: its modules are listed, and the modules that
 -- they require are in its sources.
 pub record IsRelated (known : List (Option InfoValue)) (info : InfoValue) (listed : Listed)
@@ -128,12 +132,20 @@ abbrev pub AreIndexes : Indexes → Indexes → Type 0
 AreIndexes linked indexes =
     (i n : ℕ) → slice_get linked i ≡ Some n → slice_get indexes n ≡ Some i
 
--- The sources of linked info files are linked. If a linked info file shares a name or file with an
--- earlier module, the info file that had it first is not linked, and the stamp of the shared number
--- is the linked module.
-pub record AreFit (linked : Indexes) (related : List (Option Related)) (stamps : List ModuleAt)
-    : Type 0 where
-  pub closed : (n k : ℕ) → Has linked n → HasSource related n k → Has linked k
+-- Linked info files have what the modules of info file n require: they are all of its sources, or
+-- have each required module.
+abbrev pub IsClosedAt : Indexes → List (Option InfoValue) → Related → ℕ → Type 0
+IsClosedAt linked known r n = ((k : ℕ) → Has r.sources.items k → Has linked k)
+    ⊎ ((j : ℕ) (m : ModuleValue) (pair : Name × PathText) → IsKnownModule known n j m
+    → Has m.required pair → IsProvidedFor linked known n pair)
+
+-- Linked info files have what linked modules require. If a linked info file shares a name or file
+-- with an earlier module, the info file that had it first is not linked, and the stamp of the shared
+-- number is the linked module.
+pub record AreFit (linked : Indexes) (known : List (Option InfoValue))
+    (related : List (Option Related)) (stamps : List ModuleAt) : Type 0 where
+  pub closed : (n : ℕ) (r : Related) → Has linked n → slice_get related n ≡ Some (Some r)
+      → IsClosedAt linked known r n
   pub first : (n : ℕ) (s : Shared) → Has linked n → HasShared related n s → Has linked s.first → ⊥
   pub stamped : (n : ℕ) (s : Shared) → Has linked n → HasShared related n s
       → slice_get stamps s.number ≡ Some (module_at n s.module)
@@ -178,9 +190,10 @@ IsAlone linked stamps n s = (Has linked s.first → ⊥)
     × (slice_get stamps s.number ≡ Some (module_at n s.module))
 
 -- what is checked of one linked info file
-abbrev pub IsFitAt : Indexes → List (Option Related) → List ModuleAt → ℕ → Type 0
-IsFitAt linked related stamps n = (r : Related) × (slice_get related n ≡ Some (Some r))
-    × ((k : ℕ) → Has r.sources.items k → Has linked k)
+abbrev pub IsFitAt : Indexes → List (Option InfoValue) → List (Option Related) → List ModuleAt
+    → ℕ → Type 0
+IsFitAt linked known related stamps n = (r : Related) × (slice_get related n ≡ Some (Some r))
+    × IsClosedAt linked known r n
     × ((s : Shared) → Has r.shared.items s → IsAlone linked stamps n s)
 
 -- the part has picked modules of the known info file at this index

@@ -1,13 +1,15 @@
 //! The links of a target, and whether a part of the linked info files is enough for its table.
 ghost use Rattle.std.specs.Prelude.{◌≡◌, false, IfNone, IfOk, IfSome, IsTrue, List, slice_get, ℕ};
 ghost use Rattle.module_table.specs.Prelude.{AreFit, AreIndexes, AreLinked, Has, InfoValue};
-ghost use Rattle.module_table.specs.Prelude.{IsAlike, IsApart, IsPartOf, IsRowUnlinked, IsUnused};
-ghost use Rattle.module_table.specs.Prelude.{KeepsRequired, Kept, RuleValue, Some, true};
+ghost use Rattle.module_table.specs.Prelude.{IsAlike, IsApart, IsClosedAt, IsPartOf, IsProvidedFor};
+ghost use Rattle.module_table.specs.Prelude.{IsRowUnlinked, IsUnused, KeepsRequired, Kept};
+ghost use Rattle.module_table.specs.Prelude.{RuleValue, Some, true};
 
 use crate::needed::copy_pair;
 use crate::pool::requirements::Requirements;
 use crate::pool::rows::{Listed, ModuleAt, Related, Row};
-use document_values::{Info, InfoModule, Rule};
+use document_values::{Info, InfoModule, Name, Rule};
+use ninja_text::Path;
 use std::alloc::{AllocError, Global};
 
 /// The info files that a target links.
@@ -84,15 +86,77 @@ impl Links<'_> {
         self.has(stamp.info).then_some(stamp)
     }
 
+    /// Returns whether a linked module has this name and file, and this info file may require it.
+    fn provides(
+        &self,
+        infos: &[Option<Info>],
+        listed: &Listed,
+        info: usize,
+        pair: &(Name, Path),
+    ) -> bool
+        ensures { IsTrue result → IsProvidedFor self.now.linked.now infos.now info pair.now }
+    {
+        let Some(at) = self.module_of(listed.files.get(&pair.1)) else {
+            return false;
+        };
+        let Some(Some(provider)) = infos.get(at.info) else {
+            return false;
+        };
+        let Some(module) = provider.modules.get(at.module) else {
+            return false;
+        };
+        if !self.has(at.info) {
+            return false;
+        }
+        let is_own = at.info == info;
+        if module.name == pair.0 && module.file == pair.1 && (is_own || !module.is_private) {
+            return true;
+        }
+        false
+    }
+
+    /// Returns whether linked modules are what the modules of this info file require. If one is not
+    /// in a source, another target may have a module with the same name and file.
+    fn is_closed(
+        &self,
+        infos: &[Option<Info>],
+        listed: &Listed,
+        relations: &Related,
+        info: usize,
+    ) -> bool
+        ensures { IsTrue result → IsClosedAt self.now.linked.now infos.now relations.now info }
+    {
+        if relations.sources.iter().all(|source| self.has(*source)) {
+            return true;
+        }
+        let Some(Some(requiring)) = infos.get(info) else {
+            return false;
+        };
+        for module in &requiring.modules {
+            for pair in &module.required {
+                if !self.provides(infos, listed, info, pair) {
+                    return false;
+                }
+            }
+        }
+        true
+    }
+
     /// Returns whether the linked modules require only linked modules and share no name or file.
-    pub(crate) fn are_fit(&self, related: &[Option<Related>]) -> bool
-        ensures { IsTrue result → AreFit self.now.linked.now related.now self.now.stamps.now }
+    pub(crate) fn are_fit(
+        &self,
+        infos: &[Option<Info>],
+        listed: &Listed,
+        related: &[Option<Related>],
+    ) -> bool
+        ensures { IsTrue result →
+            AreFit self.now.linked.now infos.now related.now self.now.stamps.now }
     {
         for info in self.linked {
             let Some(Some(relations)) = related.get(*info) else {
                 return false;
             };
-            if !relations.sources.iter().all(|source| self.has(*source)) {
+            if !self.is_closed(infos, listed, relations, *info) {
                 return false;
             }
             for shared in &relations.shared {
@@ -197,9 +261,19 @@ impl Picked {
             };
             if let Some(Some(relations)) = related.get(at.info)
                 && let Some(required) = relations.required.get(at.module)
+                && let Some(Some(info)) = infos.get(at.info)
+                && let Some(module) = info.modules.get(at.module)
             {
-                for other in required {
-                    self.add(*other, infos)?;
+                for (source, pair) in required.iter().zip(&module.required) {
+                    // a source that is not linked has the file of a linked module
+                    let linked = if links.has(source.info) {
+                        Some(*source)
+                    } else {
+                        links.module_of(listed.files.get(&pair.1))
+                    };
+                    if let Some(other) = linked {
+                        self.add(other, infos)?;
+                    }
                 }
             }
         }

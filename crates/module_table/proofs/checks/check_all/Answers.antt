@@ -1,6 +1,8 @@
-use Rattle.std.proofs.Common.{◌≡◌, ◌∙◌, List, Result, Ok, Err, ap, map, refl, subst, sym}
+use Rattle.std.proofs.Common.{◌≡◌, ◌∙◌, ◌++◌, Contains, List, Result, Ok, Err, ap, map, refl, subst, sym}
 use Rattle.std.proofs.lemmas.Result.{err_from_is_err_and}
-use Rattle.module_table.specs.Prelude.{TableValue, IsIndex, paths_of, HasNoFault, OnOk, IfOk, IfErr, ForFault, table_with, provisions, IsReported, Passed, AllDiffer, names_of, Name}
+use Rattle.std.proofs.lemmas.List.Elements.{All-weaker, All-contains, All-contains_itself, Contains-append_right}
+use Rattle.table_keys.specs.declared.TableKey.{TableKey}
+use Rattle.module_table.specs.Prelude.{Covers, CoversTable, flat_map, info_entries, object_entries, TableValue, IsIndex, paths_of, HasNoFault, OnOk, IfOk, IfErr, ForFault, table_with, provisions, IsReported, Passed, AllDiffer, names_of, Name}
 use Rattle.module_table.proofs.Found.{for_fault}
 use Rattle.module_table.proofs.Passing.{reported, fails, none_passed, after_objects, after_infos, after_names, after_files}
 use Rattle.module_table.proofs.checks.check_all.Goals as goal
@@ -78,3 +80,21 @@ returns-clause-no_fault c =
 
 pub returns-clause-index : goal.returns-clause-index
 returns-clause-index c = subst (λ t. IfOk c.check_requirements.result (IsIndex t)) c.in_ok-modules.ensures.modules c.check_requirements.ensures.index
+
+-- a key that covers the table covers what it holds of its info files
+infos_covered : (key : TableKey) (t : TableValue) → CoversTable key t → Covers key (flat_map info_entries t.infos)
+infos_covered key t (all, is, has) =
+    let own = flat_map object_entries t.objects in
+    let entries = flat_map info_entries t.infos in (
+      all,
+      is,
+      All-weaker (Contains entries) (Contains all)
+          (λ x h. All-contains (Contains all) (own ++ entries) x has (Contains-append_right own entries x h)) entries (All-contains_itself entries),
+    )
+
+pub check_infos-requires : goal.check_infos-requires
+check_infos-requires c = infos_covered c.args.key (table_with c.args.objects.now c.args.infos.now) c.requires.key
+
+pub returns-clause-hasher : goal.returns-clause-hasher
+returns-clause-hasher c = always _ c.check_requirements.result
+    (c.in_ok-check_files.ensures.hasher ∙ c.in_ok-check_objects.ensures.hasher ∙ c.requires.hasher)

@@ -119,4 +119,5 @@ loop-module-preserved c =
     record {
       same = sym (map-id c.insert_full.new.self.keys) ∙ now.0 ∙ ap (λ n. take n texts) next;
       differ = subst (λ n. AllDiffer (take n texts)) next now.1;
+      hasher = c.insert_full.ensures.hasher ∙ c.loop-module.invariant.hasher;
     }

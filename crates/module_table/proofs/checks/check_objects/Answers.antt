@@ -45,4 +45,8 @@ loop-index-preserved c =
     let h = c.in_ok-first.ensures in
     let now = added_if_new (λ n. n) (map object_of objects) i _ c.loop-index.paths.keys at (map-id c.loop-index.paths.keys ∙ c.loop-index.invariant.same)
     c.loop-index.invariant.differ h.keys (sym c.if-not-is_new.false ∙ h.added) in
-    record { same = sym (map-id c.insert_full.new.self.keys) ∙ now.0; differ = now.1 }
+    record {
+      same = sym (map-id c.insert_full.new.self.keys) ∙ now.0;
+      differ = now.1;
+      hasher = c.insert_full.ensures.hasher ∙ c.loop-index.invariant.hasher;
+    }

@@ -47,7 +47,11 @@ loop-module-preserved c =
     let h = c.in_ok-first.ensures in
     let now = added_if_new (λ n. n) (names_of (map provision_of provided)) i c.in_ok-copy.field-0 c.loop-module.names.keys at
     (map-id c.loop-module.names.keys ∙ c.loop-module.invariant.same) c.loop-module.invariant.differ h.keys (sym c.if-not-is_new.false ∙ h.added) in
-    record { same = sym (map-id c.insert_full.new.self.keys) ∙ now.0; differ = now.1 }
+    record {
+      same = sym (map-id c.insert_full.new.self.keys) ∙ now.0;
+      differ = now.1;
+      hasher = c.insert_full.ensures.hasher ∙ c.loop-module.invariant.hasher;
+    }
 
 -- the index of a name that is not new is one of those before
 pub bounds-provided-first : goal.bounds-provided-first

@@ -1,24 +1,27 @@
 use Rattle.std.proofs.Common.{◌≡◌, ◌∙◌, List, refl, sym, subst, arith}
 use Rattle.std.proofs.lemmas.List.Elements.{All-contains_itself}
-use Rattle.module_table.specs.Prelude.{Name, Covers, IsKeyOf, TableValue, table_with, table_entries, AreRequired, HasNoFault, IsIndex, IsSound, PrivateAreProvided, paths_of}
+use Rattle.module_table.specs.Prelude.{Name, CoversTable, IsKeyOf, TableValue, table_with, table_entries, AreRequired, HasNoFault, IsIndex, IsSound, PrivateAreProvided, paths_of}
 use Rattle.module_table.proofs.Mentions.{all_names}
 use Rattle.module_table.proofs.IndexRows.{same_table}
 use Rattle.module_table.proofs.Faultless.{faultless_is_sound}
 use Rattle.module_table.proofs.table.Table.build_or_refused.Goals as goal
-use Rattle.module_table.proofs.table.Table.build_or_refused.Goals.{In-Ok, in-Some, in-None}
+use Rattle.module_table.proofs.table.Table.build_or_refused.Goals.{After-with_hasher-paths, In-Ok, in-Some, in-None}
 
 -- the key that was passed covers the table, and its own key is made of all that it holds
-pub check_all-checked-requires-clause-key : goal.check_all-checked-requires-clause-key
-check_all-checked-requires-clause-key c =
-    subst (λ (t : TableValue). Covers c.match-key.key (table_entries t)) (sym (same_table _ _ _ _ c.deref-2.ensures.value c.deref-3.ensures.value))
+covered : (c : After-with_hasher-paths) → CoversTable c.match-key.key (table_with c.args.objects.items c.args.infos.items)
+covered c = let t = table_with c.args.objects.items c.args.infos.items in
     elim c.match-key.branch [
-      | in-Some w ↦ subst (λ key. Covers key (table_entries (table_with c.args.objects.items c.args.infos.items))) (sym w.key-is)
-          (c.requires w.in-Some.key w.in-Some.is)
+      | in-Some w ↦ subst (λ key. CoversTable key t) (sym w.key-is) (c.requires w.in-Some.key w.in-Some.is)
       | in-None w ↦
           let own = subst (λ (t : TableValue). IsKeyOf w.table_key-key.result (table_entries t))
           (same_table _ _ _ _ w.deref.ensures.value w.deref-in-None.ensures.value) w.table_key-key.ensures in
-          subst (λ key. Covers key (table_entries (table_with c.args.objects.items c.args.infos.items))) (sym w.key-is) (_, own, All-contains_itself _)
+          subst (λ key. CoversTable key t) (sym w.key-is) (_, own, All-contains_itself _)
     ]
+
+pub check_all-checked-requires-clause-key : goal.check_all-checked-requires-clause-key
+check_all-checked-requires-clause-key c =
+    subst (CoversTable c.match-key.key) (sym (same_table _ _ _ _ c.deref-2.ensures.value c.deref-3.ensures.value))
+    (covered (goal.at.check_all-checked-requires-clause-key c).After-with_hasher-paths)
 
 -- the table has no fault, and so it is sound
 abbrev IsChecked : TableValue → List Name → Type 0
@@ -43,12 +46,16 @@ pub invariant_of-result-in-Ok : goal.invariant_of-result-in-Ok
 invariant_of-result-in-Ok c =
     let same = same_table _ _ _ _ c.deref-2.ensures.value c.deref-3.ensures.value in
     let h = subst (λ u. IsIndex u c.in-Ok.index) same c.in-Ok.ensures.index in
+    let t = table_with c.args.objects.items c.args.infos.items in
     record {
       all_names = h.all_names;
       all_origins = h.all_origins;
       is_graph = h.is_graph;
       all_paths = subst (λ (u : TableValue). c.check_all-checked.new.paths.keys ≡ paths_of u) same c.in-Ok.ensures.paths;
       mentioned = h.all_names ∙ all_names _ (checked (goal.at.invariant_of-result-in-Ok c).In-Ok).0;
+      names_covered = h.covered;
+      paths_covered = subst (λ key. CoversTable key t) (sym c.in-Ok.ensures.hasher)
+          (covered (goal.at.invariant_of-result-in-Ok c).After-with_hasher-paths);
     }
 
 pub returns-in-Ok-clause-builds : goal.returns-in-Ok-clause-builds

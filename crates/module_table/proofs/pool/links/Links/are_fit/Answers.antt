@@ -1,8 +1,7 @@
 use Rattle.std.proofs.Common.{rules, tests, ◌∙◌, ◌≡◌, ap, Some, get_or, refl, subst, sym, List, Bool, true, nat_eq, ◌&&◌}
-use Rattle.std.proofs.lemmas.Iterator.{YieldsList-from_slice, cases_from_all}
 use Rattle.std.proofs.lemmas.Option.{slice_get-get_or, slice_get_read}
 use Rattle.module_table.specs.Prelude.{ModuleAt, Shared, Has, IsAlone, IsFitAt}
-use Rattle.module_table.proofs.PoolLemmas.{below_next, below_all, all_true, all_fit, same_at}
+use Rattle.module_table.proofs.PoolLemmas.{below_next, below_all, all_fit, same_at}
 use Rattle.module_table.proofs.pool.links.Links.are_fit.Goals as goal
 
 abbrev same_module_test : ModuleAt → ModuleAt → Bool
@@ -31,21 +30,17 @@ loop-info-preserved c =
     let n = get_or linked i 0 in
     let relations = c.in-Some-Some.relations in
     let found = c.in-Some-Some.ensures.lookup in
-    let Linked = Has c.args.self.now.linked.now in
     let Alone = IsAlone c.args.self.now.linked.now stamps n in
-    below_next (IsFitAt linked related stamps) linked i _ (slice_get-get_or linked i 0 c.loop-info-test.true) c.loop-info.invariant (
+    below_next (IsFitAt linked c.args.infos.now related stamps) linked i _ (slice_get-get_or linked i 0 c.loop-info-test.true) c.loop-info.invariant (
       relations,
       slice_get_read related _ n c.in-Some-Some.field-0.now refl found.3.0 found.1 ∙ ap Some c.in-Some-Some.field-0-is,
-      all_true Linked _ relations.sources.items c.all.result
-          (cases_from_all _ _ _ Linked (λ k. Linked k → ⊥) c.all.ensures.ran
-          (YieldsList-from_slice relations.sources.items (c.iter.ensures.rest ∙ c.deref.ensures.value))
-          (λ x q k. search (rules, tests)) (λ x q k. search (rules, tests))) c.if-not-all.false,
+      c.is_closed.ensures c.if-not-is_closed.false,
       subst (λ (items : List Shared). (s : Shared) → Has items s → Alone s) c.deref-shared-items.ensures.value
           (below_all Alone c.deref-shared-items.result.now c.loop-shared.shared-index c.loop-shared-test.false c.loop-shared.invariant),
     )
 
 pub returns : goal.returns
 returns c = λ is. let links = c.args.self.now in
-    all_fit links.linked.now c.args.related.now links.stamps.now
-    (below_all (IsFitAt links.linked.now c.args.related.now links.stamps.now) links.linked.now c.loop-info.info-index c.loop-info-test.false
+    all_fit links.linked.now c.args.infos.now c.args.related.now links.stamps.now
+    (below_all (IsFitAt links.linked.now c.args.infos.now c.args.related.now links.stamps.now) links.linked.now c.loop-info.info-index c.loop-info-test.false
     c.loop-info.invariant)

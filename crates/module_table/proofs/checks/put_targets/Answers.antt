@@ -3,7 +3,7 @@ use Rattle.module_table.specs.Prelude.{InfoValue, AllDiffer, IsFirstRepetition, 
 use Rattle.module_table.proofs.Lists.{repeats_if_found, added_if_new, text_repetition, read_at}
 use Rattle.module_table.proofs.IndexRows.{map_take_all}
 use Rattle.module_table.proofs.Found.{reports_same, for_boxed}
-use Rattle.module_table.proofs.checks.check_infos.Goals as goal
+use Rattle.module_table.proofs.checks.put_targets.Goals as goal
 use Rattle.ninja_text.proofs.ForCallers.{to_map}
 use Rattle.module_table.proofs.Words.{target_of}
 

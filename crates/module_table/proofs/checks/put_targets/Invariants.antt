@@ -1,6 +1,6 @@
 use Rattle.std.proofs.Common.{◌≡◌, map, take}
 use Rattle.module_table.specs.Prelude.{AllDiffer}
-use Rattle.module_table.proofs.checks.check_infos.Given as goal
+use Rattle.module_table.proofs.checks.put_targets.Given as goal
 
 abbrev pub invariant-loop-info : goal.invariant-loop-info
 invariant-loop-info l =
