@@ -164,7 +164,7 @@ fn objects_of(alloc: Global, table: &Table) -> Result<Vec<Path>, AllocError>
     Ok(objects)
 }
 
-/// What a target collates to, with a dyndep text that has the headline. Only
+/// The files of a target. The headline theorem holds for its dyndep text. Only
 /// [`collate`](crate::collate) and [`project`](crate::project) make one.
 pub struct Collated {
     parts: CollatedParts,

@@ -1,5 +1,5 @@
 //! Why a target does not collate, and why a dyndep text has no effect on a graph.
-ghost use Rattle.std.specs.Prelude.{◌≡◌, IfOk, IfSome, Ok};
+ghost use Rattle.std.specs.Prelude.{◌≡◌, IfSome, MatchResult, Err, Ok};
 ghost use Rattle.collate_core.specs.Prelude.{Turns};
 
 use build_effect::EffectFault;
@@ -71,12 +71,12 @@ pub(crate) fn refusal_alone(failure: Failure<RefusedTarget>) -> Failure<Refusal>
     failure.map(|refused| refused.refusal)
 }
 
-/// Returns the value, or `None` if there is a fault.
+/// Returns the value, or `None` if there is a fault. Fails only if memory ran out before.
 pub(crate) fn unless_faulty<T: Drop, F: Drop>(
     outcome: Result<T, Failure<F>>,
 ) -> Result<Option<T>, AllocError>
-    ensures { IfOk result
-        (λ found. IfSome found (λ value. outcome ≡ Ok value)) }
+    ensures { MatchResult result (λ found. IfSome found (λ value. outcome ≡ Ok value))
+        (λ _. outcome ≡ Err Failure.Memory) }
 {
     match outcome {
         Ok(value) => Ok(Some(value)),

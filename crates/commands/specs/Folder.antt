@@ -53,6 +53,12 @@ abbrev pub HasFailed : {S F : Type 0} → (Bytes → F → Type 0) → Bytes →
 HasFailed {F = F} IsFaultIn bytes reader =
     (failure : Failure F) × (reader.failed ≡ Some failure) × ForFault (IsFaultIn bytes) failure
 
+-- a reader of lines that has failed leads to this result: the failure, as it is reported
+abbrev pub StaysFailed : {S F G R : Type 0} → (Failure F → Failure G) → LinesRead S F
+    → Result R (Failure G) → Type 0
+StaysFailed {F = F} reported reader read =
+    (failure : Failure F) → reader.failed ≡ Some failure → read ≡ Err (reported failure)
+
 -- The reader was given what was read of a file: all bytes, or those up to a piece at which it has
 -- failed.
 abbrev pub WasGiven : {R : Type 0} → (Bytes → R → Type 0) → (Bytes → R → Type 0) → FileRead → R

@@ -59,7 +59,7 @@ pub use Rattle.ninja_text.specs.declared.counting.Counted.{Counted}
 pub use Rattle.ninja_text.specs.declared.counting.Stopped.{Stopped}
 pub use Rattle.std.specs.Vec.Iter.{into_iter_items, into_iter_len}
 pub use Rattle.scan_docs.specs.TargetChecks.{target_checks}
-pub use Rattle.commands.specs.Folder.{FileCall, FileRead, reading, comparing, writing, answer_of, Adds, ReadsOn, HasFailed, WasGiven, GivesPieces, up_to, whole, MakesCalls}
+pub use Rattle.commands.specs.Folder.{FileCall, FileRead, reading, comparing, writing, answer_of, Adds, ReadsOn, HasFailed, StaysFailed, WasGiven, GivesPieces, up_to, whole, MakesCalls}
 pub use Rattle.commands.specs.Outcomes.{Runs, Writes, ReadsDocument, ReadsAs, ReadsAll, IsUnread, Reports, printed, written, seen, goes_on, stops, failed, document_most, LineValue, Outcome, Part, InTurn, Done, Each, Returns, ReadsNext, ValueOf, refusal, FileValue, OutputValue, ◌>>=◌, ReadsIfNamed}
 pub use Rattle.commands.specs.Answers.{visible, file_value, IsAnswered, line}
 pub use Rattle.commands.specs.Printing.{IsPrinted, IsUnprinted, status_of, out_of, err_of, IsPut}

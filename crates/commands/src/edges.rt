@@ -5,7 +5,8 @@ ghost use Rattle.commands.specs.Prelude.{bytes_of, HasReadDyndep, HasReadListing
 ghost use Rattle.commands.specs.Prelude.{IsReadFaultIn, ListingTextOf, EffectOfRead, OrderOfRead};
 ghost use Rattle.commands.specs.Prelude.{HasFailed, ShowOfRead, ListingOf, EffectRun, EdgesPass};
 ghost use Rattle.commands.specs.Prelude.{[], seen, DyndepOf, ShowRun, EffectOf, OrderRun};
-ghost use Rattle.commands.specs.Prelude.{IsDyndepRead, IsListingRead};
+ghost use Rattle.commands.specs.Prelude.{IsDyndepRead, IsListingRead, StaysFailed};
+ghost use Rattle.build_effect.specs.ListingReaders.{line_failure};
 
 use crate::answer::push_line;
 use crate::folder::PieceReader;
@@ -143,12 +144,14 @@ impl PieceReader for DyndepReader {
 
     ghost follows = { IsDyndepRead };
 
+    ghost stays = { StaysFailed (λ failure. failure) };
+
     fn feed(&mut self, piece: &[u8]) -> bool {
         self.feed(piece).is_ok()
     }
 
     fn finish(self) -> DyndepRead {
-        self.finish()
+        DyndepReader::finish(self)
     }
 }
 
@@ -171,12 +174,14 @@ impl PieceReader for ListingReader {
 
     ghost follows = { IsListingRead };
 
+    ghost stays = { StaysFailed line_failure };
+
     fn feed(&mut self, lines: &[u8]) -> bool {
         self.feed(lines).is_ok()
     }
 
     fn finish(self) -> ListingRead {
-        self.finish()
+        ListingReader::finish(self)
     }
 }
 

@@ -16,9 +16,9 @@ use std::io;
 
 /// What has files that can be read and written by name. Bytes that it has in memory are borrowed.
 ///
-/// What a function does to a `Folder` is said of every `Folder`, by the calls that it makes: which,
-/// in what order, and with which results. The system's files are a `Folder` of which nothing is
-/// known. A `Folder` of which more is known can say so.
+/// Contracts hold for every `Folder`: they say which calls a function makes, in what order, and
+/// what these returned. Nothing is assumed about the system's files. A `Folder` of which more is
+/// known can say so.
 pub trait Folder<'f> {
     // the calls that were made so far, in order, if they are known
     ghost calls: { Self → Option (List FileCall) };
@@ -61,6 +61,9 @@ pub trait PieceReader {
     // what a file is read as follows from what was read of it
     ghost follows: { FileRead → Self.Read → Type 0 };
 
+    // a reader that has failed stays so: the file is read as that failure, and as no other
+    ghost stays: { Self → Self.Read → Type 0 };
+
     /// Reads the next piece, and returns whether it reads on.
     fn feed(&mut self, piece: &[u8]) -> bool
         // Whatever bytes it was given before this piece.
@@ -69,8 +72,9 @@ pub trait PieceReader {
 
     /// Returns what the file is read as.
     fn finish(self) -> Self::Read
-        ensures { (file : FileRead) → WasGiven has_read has_failed file self →
-            follows file result };
+        ensures read { (file : FileRead) → WasGiven has_read has_failed file self →
+            follows file result }
+        ensures failed { stays self result };
 }
 
 /// Reads the file of this name by a new reader, up to its end or to its first rejected line.

@@ -77,7 +77,8 @@ fn all_collated(alloc: Global, targets: &[ReadTarget]) -> Result<Vec<Collated>, 
         Err(Failure::Memory) => Err(Failure::Memory),
         Err(Failure::Fault((index, refused))) => {
             let message = rejected_text(alloc, targets, index, &refused);
-            // Here, by one call: what it holds would be dropped field by field at the end.
+            // Dropped here: at the end of the function, the compiler would drop each field by
+            // itself, and the proof would be longer.
             drop(refused);
             Err(stop::stopped(1, message))
         }

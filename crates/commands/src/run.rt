@@ -20,7 +20,8 @@ use std::io::ErrorKind;
 
 /// Runs the program on its arguments, the program's own name the first of them: runs their task,
 /// writes its files to the `Folder` and its texts to the two writers, and returns the exit status.
-/// Arguments that could not be got are not a valid command line, unless memory ran out.
+/// If the arguments cannot be read, the command line is not valid. (Running out of memory is
+/// reported as such.)
 pub fn program_run<'f, F: Folder<'f>, O: WriteCall, E: WriteCall>(
     alloc: Global,
     arguments: &io::Result<Vec<String>>,
@@ -126,9 +127,6 @@ fn write<'f, F: Folder<'f>>(alloc: Global, file: &OutputFile, folder: &mut F) ->
     }
     match folder.write(file.name.as_str(), file.bytes.as_slice()) {
         Ok(()) => Ok(()),
-        Err(_) => {
-            let message = format!(in alloc; "cannot write {}", file.name);
-            Err(stop::stopped(3, message.map(String::into_bytes)))
-        }
+        Err(error) => Err(stop::of_unwritten(alloc, file.name.as_str(), error)),
     }
 }

@@ -1,6 +1,7 @@
 //! What a run leaves that succeeds, and why a run stops.
 
-ghost use Rattle.std.specs.Prelude.{◌≡◌, ◌∷◌, [], Err, map, IfOk};
+ghost use Rattle.std.specs.Prelude.{◌≡◌, ◌∷◌, ◌++◌, [], Err, codes, map, IfOk};
+ghost use Rattle.commands.specs.Prelude.{failed, ForFault};
 ghost use Rattle.commands.specs.Prelude.{file_value, reading, printed, written, IsUnread, Reports};
 ghost use Rattle.commands.specs.Prelude.{IsTargetOutcome, target_text, effect_text, refused_line};
 ghost use Rattle.commands.specs.Prelude.{IsStoppedWith, IsFailedCall, OrStops, ReportsPrinted};
@@ -94,6 +95,14 @@ pub(crate) fn of_unread(alloc: Global, name: &str, error: io::Error) -> Stop
     of_failed_call(&error, message.map(String::into_bytes))
 }
 
+/// Stops the run at a file that can't be written, or because memory ran out in the call.
+pub(crate) fn of_unwritten(alloc: Global, name: &str, error: io::Error) -> Stop
+    ensures { ForFault (λ l. l ≡ failed 3 (codes "cannot write " ++ name.now)) result }
+{
+    let message = format!(in alloc; "cannot write {name}");
+    of_failed_call(&error, message.map(String::into_bytes))
+}
+
 /// Stops the run because memory ran out, if that is the error, and with this message otherwise.
 fn of_failed_call(error: &io::Error, message: Result<Vec<u8>, AllocError>) -> Stop
     ensures { IsFailedCall error.now message result }
@@ -140,7 +149,8 @@ pub(crate) fn of_target(alloc: Global, failure: Failure<RefusedTarget>) -> Stop
         return Failure::Memory;
     };
     let message = refused_text(alloc, &refused);
-    // Here, by one call: what it holds would be dropped field by field at the end.
+    // Dropped here: at the end of the function, the compiler would drop each field by
+    // itself, and the proof would be longer.
     drop(refused);
     stopped(1, message)
 }

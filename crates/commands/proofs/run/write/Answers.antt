@@ -43,6 +43,6 @@ pub returns-in-Err : goal.returns-in-Err
 returns-in-Err g c =
     let file = file_value c.args.file.now in
     let before = compared g (goal.at.returns-in-Err g c).After-write in
-    let error = c.in-Err.field-0 in
-    let message : ForFault (λ l. l ≡ failed 3 (codes "cannot write " ++ file.name)) c.stopped.result = search rules in
+    let error = c.in-Err.error in
+    let message : ForFault (λ l. l ≡ failed 3 (codes "cannot write " ++ file.name)) c.of_unwritten.result = search rules in
     (writes file (Err error), put _ _ _ file (Err error) c.as_str-2.ensures.value c.as_slice-2.ensures.value before c.in-Err.ensures, ((error, refl), message))
