@@ -1,9 +1,10 @@
 // Loaded before the C library, it ends the process at the call whose number, from 1, the environment names as KILLED_AT, before
-// the call is made; of a write, half is done. Where the environment names an error number as FAILS_WITH, the call fails with
-// that instead. It counts the calls on files by which the program can change any, and those that look at them, or only those that
-// COUNTED names: "create" (of a file that must not exist) or "rename". It needs no header, so that the toolchain's own clang compiles
-// it. The numbers of system calls are those of Linux on x86-64.
-enum { WRITE = 1, CLOSE = 3, GETPID = 39, KILL = 62, RENAME = 82, UNLINK = 87, FCHMOD = 91, OPENAT = 257, STATX = 332 };
+// the call is made; of a write, half is done. If the environment names an error number as FAILS_WITH, the call fails with that
+// instead. If it has HALVED, a read or a write of more than a byte does half, and the process continues. It counts the calls on files by
+// which the program can change any, and those that read or look at them, or only those that COUNTED names: "create" (of a file that
+// must not exist), "rename", "read" or "write". It needs no header, so that the toolchain's own clang compiles it. The numbers of
+// system calls are those of Linux on x86-64.
+enum { READ = 0, WRITE = 1, CLOSE = 3, GETPID = 39, KILL = 62, RENAME = 82, UNLINK = 87, FCHMOD = 91, OPENAT = 257, STATX = 332 };
 enum { AT_FDCWD = -100, SIGKILL = 9, O_CREAT = 0100, O_EXCL = 0200 };
 extern long syscall(long, ...);
 extern char *getenv(const char *);
@@ -31,9 +32,17 @@ static long fault(void) {
   return -1;
 }
 
+long read(int file, void *bytes, unsigned long count) {
+  if (!is_due("read"))
+    return syscall(READ, file, bytes, count);
+  return getenv("HALVED") ? syscall(READ, file, bytes, (count + 1) / 2) : fault();
+}
+
 long write(int file, const void *bytes, unsigned long count) {
   if (!is_due("write"))
     return syscall(WRITE, file, bytes, count);
+  if (getenv("HALVED"))
+    return syscall(WRITE, file, bytes, (count + 1) / 2);
   if (!number_of("FAILS_WITH"))
     syscall(WRITE, file, bytes, count / 2);
   return fault();

@@ -1,7 +1,7 @@
 """Each allocation fails in turn: the first one of a run, then the second one, and so on until a run ends without a failure.
 
-- The worked rows, by the program. A run has to report that memory ran out, and to write no file, or it has to behave as if
-  nothing had failed, because it can do without some allocations.
+- The worked rows, by the program. A run has to report that memory ran out, and leave each file old or new, or it has to behave as
+  if nothing had failed, because it can do without some allocations.
 - The tests of the modules `growths` of library_tests (`crates/library_tests/src/*/growths.rt`). A test has to succeed, or to end
   with the error that memory ran out (`AllocError`, `AllocFailed`, `Failure::Memory`). A failed assertion, or any other end, is a
   failure.
@@ -40,6 +40,12 @@ def runs(called, words):
         os.close(mark)
 
 
+def are_old_or_new(there, before, made):
+    """Whether each file is as it was, or as the run makes it: the name of a new file needs memory, so files before it may be new."""
+    return there.keys() <= before.keys() | made.keys() and all(
+        there.get(it) in (before.get(it), made.get(it)) for it in before.keys() | made.keys())
+
+
 @each(worked(), lambda row: row.name)
 class Program(Case):
     seconds = 2
@@ -50,7 +56,7 @@ class Program(Case):
         before = tree()
         for number, (ran, has_failed) in enumerate(runs(self.caller, row.words), 1):
             there = tree()
-            if not (has_failed and (ran, there) == (NO_MEMORY, before)):
+            if not (has_failed and ran == NO_MEMORY and are_old_or_new(there, before, made)):
                 what = f"allocation {number} failed" if has_failed else "no allocation failed"
                 self.same((ran, there), (row.printed(), before | made), what)
                 lay(row.texts())

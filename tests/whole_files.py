@@ -14,9 +14,13 @@ from tests import program
 from tests.case import MEMORY, Case, cannot, lay, read, tree, write
 from tests.run import output_of, run_apart, run_as_bytes
 
-SCAN = (b'{"version":1,"rules":[{"primary-output":"a.o","provides":[{"logical-name":"A"}]},'
-        b'{"primary-output":"b.o","requires":[{"logical-name":"A"}]}]}')
 DONE = 0, b"", b""
+
+
+def scan(users=(b"b.o",)):
+    """A scan of an object that provides a module, and of those that require it."""
+    return (b'{"version":1,"rules":[{"primary-output":"a.o","provides":[{"logical-name":"A"}]}%s]}'
+            % b"".join(b',{"primary-output":"%s","requires":[{"logical-name":"A"}]}' % it for it in users))
 
 
 def target(folder, dyndep=b"t.dd"):
@@ -25,24 +29,26 @@ def target(folder, dyndep=b"t.dd"):
             b'"map":"clang"}' % (folder, dyndep))
 
 
-def written(folder, dyndep=b"t.dd"):
+def written(folder, dyndep=b"t.dd", users=(b"b.o",)):
     """The files of that target, in the order in which they are written."""
     file = folder + b"/A.bmi"
     return {b"a.o.modmap": b"-x c++-module\n-fmodule-output=%s\n" % file,
-            b"b.o.modmap": b"-fmodule-file=A=%s\n" % file,
+            **{it + b".modmap": b"-fmodule-file=A=%s\n" % file for it in users},
             b"t.json": b'{"modules":[{"bmi":"%s","name":"A","requires":[],"visibility":"public"}],"target":"t","version":2}' % file,
-            dyndep: b"ninja_dyndep_version = 1\nbuild a.o | %s: dyndep\n  restat = 1\nbuild b.o: dyndep | %s\n" % (file, file)}
+            dyndep: b"ninja_dyndep_version = 1\nbuild a.o | %s: dyndep\n  restat = 1\n" % file
+            + b"".join(b"build %s: dyndep | %s\n" % (it, file) for it in users)}
 
 
+SCAN = scan()
 READ = {"t.target.json": target(b"new"), "t.ddi": SCAN}
 NEW = written(b"new")
 OLD = {name: b"before\n" for name in NEW}
-TEMPORARY = re.compile(rb"(.+)\.[0-9a-f]{16}\.tmp")
+TEMPORARY = re.compile(rb"(.+)\.[0-9]{1,20}\.tmp")
 
 
-class Faults(Case):
-    """Runs with a fault at each call on files in turn."""
-    seconds = 10
+class Faulty(Case):
+    """Runs of a target with a fault at a call on files."""
+    given, new = READ, NEW
 
     @classmethod
     def setUpClass(cls):
@@ -54,28 +60,58 @@ class Faults(Case):
 
     def run_with_fault(self, old, number, **more):
         """The result of a run with a fault at the call of this number, and the contents of the files that it writes."""
-        lay(READ | {os.fsdecode(name): text for name, text in old.items()})
+        lay(self.given | {os.fsdecode(name): text for name, text in old.items()})
+        answer = self.call_with_fault(["collate", "t.target.json"], number, **more)
+        left = tree()
+        for name, text in self.given.items():
+            self.same(left.pop(os.fsencode(name)), text, name)
+        return answer, left
+
+    def call_with_fault(self, words, number, **more):
         before = dict(self.caller.environment)
         self.caller.environment.update(LD_PRELOAD=self.library, KILLED_AT=str(number), **more)
-        answer = self.caller.run("collate", "t.target.json")
+        answer = self.caller.run(*words)
         self.caller.environment = before
-        left = tree()
-        for name in READ:
-            self.same(left.pop(os.fsencode(name)), READ[name], name)
-        return answer, left
+        return answer
+
+    def calls(self, old, **more):
+        """How many calls of this kind a run makes: it is killed at each of them."""
+        return next(number for number in itertools.count() if self.run_with_fault(old, number + 1, **more)[0] == DONE)
 
     def whole(self, old, left, temporaries):
         """Each file has all bytes from before, or all of the new ones, and these come first in the order of the files. Nothing
         else is there, except at most this number of temporary files, with a beginning of the new bytes."""
         left = dict(left)
-        found = [left.pop(name, None) for name in NEW]
-        news = sum(text == NEW[name] for name, text in zip(NEW, found))
-        self.same(found, [*NEW.values()][:news] + [old.get(name) for name in NEW][news:], "the files")
+        found = [left.pop(name, None) for name in self.new]
+        news = sum(text == self.new[name] for name, text in zip(self.new, found))
+        self.same(found, [*self.new.values()][:news] + [old.get(name) for name in self.new][news:], "the files")
         self.assertLessEqual(len(left), temporaries, left)
         for name, text in left.items():
             of = TEMPORARY.fullmatch(name)
-            self.assertTrue(of and NEW[of[1]].startswith(text), (name, text))
+            self.assertTrue(of and self.new[of[1]].startswith(text), (name, text))
         return news
+
+
+class ManyFiles(Faulty):
+    """A target with 200 objects, and so with 202 files."""
+    seconds = 10
+    users = [b"%d.o" % at for at in range(199)]
+    given, new = READ | {"t.ddi": scan(users)}, written(b"new", users=users)
+
+    def test_killed(self):
+        """At 200 moments of a run: whatever it has replaced or not, the files that are new come first."""
+        for old in {}, {name: b"before\n" for name in self.new}:
+            seen = set()
+            for number in range(1, 6 * len(self.new), 12):
+                answer, left = self.run_with_fault(old, number)
+                self.assertIn(answer, [DONE, (-signal.SIGKILL, b"", b"")])
+                seen.add(self.whole(old, left, 1))
+            self.assertGreater(len(seen), 80, "how many files were new")
+
+
+class Faults(Faulty):
+    """Runs with a fault at each call on files in turn."""
+    seconds = 10
 
     def killed(self, old):
         """What a kill at each call in turn leaves: how many files are new, and the temporaries."""
@@ -101,8 +137,9 @@ class Faults(Case):
     def test_failed_calls(self):
         """A call that fails, because space or rights are missing or for another reason, leaves whole files and no temporary one."""
         for old in {}, OLD:
-            calls = len(list(self.killed(old)))
-            for error, number in itertools.product((errno.ENOSPC, errno.EACCES, errno.EIO), range(1, calls + 1)):
+            calls = self.calls(old)
+            errors = errno.ENOSPC, errno.EDQUOT, errno.EACCES, errno.EIO, errno.EMFILE
+            for error, number in itertools.product(errors, range(1, calls + 1)):
                 with self.subTest(old=old, error=errno.errorcode[error], call=number):
                     answer, left = self.run_with_fault(old, number, FAILS_WITH=str(error))
                     news = self.whole(old, left, 0)
@@ -112,10 +149,35 @@ class Faults(Case):
                         names = [os.fsdecode(name) for name in NEW]
                         self.assertIn(answer, [cannot("read", it) for it in READ] + [cannot("write", names[news])])
 
+    def test_interrupted_and_short_calls(self):
+        """A read or a write that a signal interrupts is made again, and one that does half is followed by one for the rest."""
+        for call, old in itertools.product(("read", "write"), ({}, OLD)):
+            calls = self.calls(old, COUNTED=call)
+            self.assertGreaterEqual(calls, len(NEW) if call == "write" else 2 * len(READ))
+            for number, fault in itertools.product(range(1, calls + 1), ({"FAILS_WITH": str(errno.EINTR)}, {"HALVED": "1"})):
+                with self.subTest(old=old, call=call, number=number, fault=fault):
+                    self.same(self.run_with_fault(old, number, COUNTED=call, **fault), (DONE, NEW))
 
-    def test_a_full_disk(self):
-        """If the disk or the quota is full when a new file is created or renamed, the run ends with status 3, and the old file stays."""
-        for error, call, old in itertools.product((errno.ENOSPC, errno.EDQUOT), ("create", "rename"), ({}, OLD)):
+    def test_interrupted_and_short_reads_of_lines(self):
+        text = written(b"new", users=ManyFiles.users)[b"t.dd"] * 10
+        lay({"t.dd": text})
+        shown = self.caller.run("show", "t.dd")
+        for number, fault in itertools.product((1, 2, 3), ({"FAILS_WITH": str(errno.EINTR)}, {"HALVED": "1"})):
+            self.same(self.call_with_fault(["show", "t.dd"], number, COUNTED="read", **fault), shown, (number, fault))
+
+    def test_no_file_can_be_made(self):
+        """After an error that says that no new file can be made here, or take the place of the old one, the file is written in place."""
+        errors = (errno.EACCES, errno.EPERM, errno.EROFS, errno.ENAMETOOLONG, errno.EINVAL, errno.EXDEV, errno.EBUSY, errno.ENOSYS,
+                  errno.EOPNOTSUPP)
+        for error, call, old in itertools.product(errors, ("create", "rename"), ({}, OLD)):
+            with self.subTest(error=errno.errorcode[error], call=call, old=old):
+                self.same(self.run_with_fault(old, 1, FAILS_WITH=str(error), COUNTED=call), (DONE, NEW))
+
+    def test_other_errors(self):
+        """If a new file can't be created or renamed for another reason, as a full disk, the run ends with status 3, and the old file
+        stays."""
+        errors = errno.ENOSPC, errno.EDQUOT, errno.EIO, errno.EMFILE, errno.ENFILE, errno.ESTALE
+        for error, call, old in itertools.product(errors, ("create", "rename"), ({}, OLD)):
             for number, name in enumerate(map(os.fsdecode, NEW), 1):
                 with self.subTest(error=errno.errorcode[error], call=call, old=old, name=name):
                     answer, left = self.run_with_fault(old, number, FAILS_WITH=str(error), COUNTED=call)
@@ -129,7 +191,7 @@ class Faults(Case):
             _, left = self.run_with_fault({}, 1, COUNTED="rename")
             (temporary,) = left
             self.assertTrue(TEMPORARY.fullmatch(temporary), temporary)
-            numbers.append(int(temporary.split(b".")[-2], 16))
+            numbers.append(int(temporary.split(b".")[-2]))
         for bit in range(64):
             self.assertEqual({number >> bit & 1 for number in numbers}, {0, 1}, f"bit {bit}")
 

@@ -1,0 +1,3 @@
+pub mod Feeding
+pub mod Killed
+pub mod Prelude

@@ -1,0 +1,4 @@
+pub mod ForCallers
+pub mod Calls
+pub mod InPlace
+pub mod Moments
