@@ -137,7 +137,7 @@ pub extern "C" fn dyncollate_locate(line: &[u8]) -> Location
 /// the patch, as `DYNCOLLATE_VERSION` in the header.
 #[unsafe(no_mangle)]
 pub extern "C" fn dyncollate_version() -> u32
-    ensures { result ≡ 10100 }
+    ensures { result ≡ 10200 }
 {
-    10100
+    10200
 }

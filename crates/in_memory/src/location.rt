@@ -59,7 +59,7 @@ pub struct Location {
 }
 
 /// Returns where the error of this line is, and which error it is. A command prints the line on
-/// standard error. For any other text nothing is known of the result.
+/// standard error. For any other text, the result is unspecified.
 pub fn locate(line: &[u8]) -> Location
     ensures { (target : Option ℕ) (error : CommandError) → IsLineOf target error line.now
         → result ≡ location target error }

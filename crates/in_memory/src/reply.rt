@@ -16,7 +16,7 @@ use std::marker::Model;
 #[derive(Clone, Copy, Debug, Drop)]
 pub struct Outcome {
     /// The exit status of the command, 0, 1 or 3; or 4 if an allocation failed, or 5 if the lengths
-    /// that were passed do not cut the text of files, or a string is not UTF-8.
+    /// do not add up to the length of the text of files, or a string is not UTF-8.
     pub status: u32,
     /// 1 if the numbers and the text were written, or 0 if there are none, or too little room.
     pub written: u32,

@@ -1,5 +1,6 @@
 //! Directories in which paths are read, and the end of file names, each reduced once for all paths.
-ghost use Rattle.std.specs.Prelude.{◌++◌, ◌+◌, ◌-◌, ◌<◌, ◌∷◌, ◌≡◌, ◌≤◌, IfOk, IsUtf8, List};
+ghost use Rattle.std.specs.Prelude.{◌++◌, ◌+◌, ◌-◌, ◌<◌, ◌^◌, ◌∷◌, ◌≡◌, ◌≤◌, ℕ, IfOk, IsUtf8};
+ghost use Rattle.std.specs.Prelude.{List};
 ghost use Rattle.ninja_text.specs.Prelude.{Component, ForSome, Gives, IsPath, MatchOption};
 ghost use Rattle.ninja_text.specs.Prelude.{MatchResult, None, Some, Text, begins_component};
 ghost use Rattle.ninja_text.specs.Prelude.{PathText, canonical_of, components, is_rooted, length};
@@ -226,7 +227,7 @@ impl<'t> WorkDirectory<'t> {
 
     /// Returns the offset of the first byte that cannot be escaped, in the directory or in what is
     /// read in it: there it is `later` bytes after as many bytes as `before` says. Runs out of
-    /// memory if no string is so long.
+    /// memory only if no string is so long.
     fn unwritable_in(
         &self,
         before: usize,
@@ -234,7 +235,8 @@ impl<'t> WorkDirectory<'t> {
     ) -> Result<Option<usize>, Failure<PathFault>>
         ensures { MatchResult result
             (λ first. first ≡ first_in self.now (moved None before later))
-            (λ e. e ≡ Failure.Memory) }
+            (λ e. (e ≡ Failure.Memory) × ((index : ℕ) × (later ≡ Some index)
+            × (2 ^ 64 ≤ before + index + length self.now + 1))) }
     {
         let (None, Some(later)) = (self.unwritable, later) else {
             return Ok(self.unwritable);

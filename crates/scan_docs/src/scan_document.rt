@@ -213,8 +213,8 @@ fn read_required(alloc: Global, names: &mut SharedNames, place: Place, entry: &V
     read_name(alloc, names, name, place)
 }
 
-/// A setting whose directory and ending are reduced once, for all scan documents of a target. The
-/// path of a module's file then costs no more for a long directory or ending than for a short one.
+/// A setting whose directory and file ending are made canonical once, for all scan documents of a
+/// target. The path of a module's file then costs no more for a long one than for a short one.
 ///
 /// The view is the setting.
 pub struct ReducedSetting<'s> {
