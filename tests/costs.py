@@ -1,0 +1,176 @@
+"""What a run costs follows the size of its input, without a clock: instructions, allocations, the
+bytes that these ask for, and the most bytes that are held at once.
+
+Twice the input costs at most 2.4 times as much, and an input that is made to be expensive costs at
+most a small multiple of the ordinary input next to it. The inputs are those of `bench/run hostile`
+(`bench/hostile/shapes.py`), in small sizes. valgrind counts the instructions, which are the same on
+each machine with the same libraries, whatever else runs.
+"""
+import functools
+import os
+import re
+import shutil
+import sys
+from pathlib import Path
+
+from tests import embedded
+from tests.case import Case, each
+from tests.program import PROGRAM, TOP, caller, emptied, library
+from tests.run import output_of
+from tests.side_by_side import side_by_side
+
+load_tests = side_by_side
+NEEDS_LIBRARY = True
+
+COSTS = "instructions", "allocations", "bytes asked for", "bytes held"
+LIMIT = 1.2  # how many times as much a byte of the input may cost if there are twice as many
+
+# Small, but so large that the cost of a shape would be seen: if a table searches all its entries,
+# say, this is most of what a run does. The shapes `names` and `links` are not here: they still cost
+# more than an ordinary input of their size.
+SIZES = {"edges": 1 << 18, "dyndep": 1 << 18, "modules": 600, "targets": 400, "keyless": 400,
+         "work-dir": 400, "ext": 400, "paths": 300, "requires": 1600, "info": 3200, "plugins": 40,
+         "services": 40, "providers": 100, "diamonds": 12}
+
+
+@functools.lru_cache(None)
+def shapes():
+    """The module with the inputs, and the program that finds names for it, which is compiled."""
+    file = os.memfd_create("collide")
+    os.environ["COLLIDE"] = path = f"/proc/{os.getpid()}/fd/{file}"
+    output_of("g++", "-O2", "-std=c++20", "-o", path, f"{TOP}/bench/collide.cpp")
+    sys.path.insert(0, f"{TOP}/bench/hostile")
+    try:
+        import shapes as found
+    finally:
+        sys.path.pop(0)
+    return found
+
+
+def size_of(directory):
+    return sum(it.stat().st_size for it in Path(directory).rglob("*") if it.is_file())
+
+
+def costs_of(*words, program=PROGRAM):
+    """What a run in this directory costs, in the order of COSTS. The run has to succeed."""
+    counts = os.memfd_create("counts")
+    options = "--tool=callgrind", "--callgrind-out-file=/dev/null"
+    valgrind = caller(shutil.which("valgrind"))
+    begun = valgrind.begin(*options, program, *words, others=[(3, counts)],
+                           LD_PRELOAD=library("count_allocations.c"))
+    status, _, err = valgrind.end(begun, seconds=300)
+    found = re.search(rb"Collected : (\d+)\n", err)
+    counted = emptied(counts).split()
+    os.close(counts)
+    if status or not found or len(counted) != len(COSTS) - 1:
+        raise AssertionError(f"{words} ended with status {status}: {err[-1000:]!r}")
+    return [int(it) for it in (found[1], *counted)]
+
+
+class Costs(Case):
+    seconds = 20
+
+    def setUp(self):
+        missing = [it for it in ("valgrind", "g++") if not shutil.which(it)]
+        if missing:
+            self.skipTest(f"{', '.join(missing)}: not there")
+        super().setUp()
+        self.room = Path.cwd()
+
+    def at(self, directory, words, **given):
+        """The bytes of the files in a directory, and what a run there costs."""
+        os.chdir(self.room / directory)
+        return size_of("."), costs_of(*words, **given)
+
+    def grows(self, small, large, costs=COSTS, what=""):
+        """A byte of the larger input costs no more than one of the smaller."""
+        limit = LIMIT * large[0] / small[0]
+        for name, before, after in zip(costs, small[1], large[1]):
+            self.assertLessEqual(after, limit * before, f"{what} {name}: {before}, then {after}, "
+                                 f"with {small[0]} and {large[0]} bytes of input")
+
+
+@each(SIZES)
+class Shapes(Costs):
+
+    def check(self, label):
+        _, shape, _, limit = next(it for it in shapes().SHAPES if it[0] == label)
+        sizes = SIZES[label], 2 * SIZES[label]
+        for size in sizes:
+            words = shape(self.room / f"made{size}", self.room / f"ordinary{size}", size)
+        small, large = (self.at(f"made{size}", words) for size in sizes)
+        ordinary = self.at(f"ordinary{sizes[1]}", words)
+        self.grows(small, large)
+        for name, made, usual in zip(COSTS, large[1], ordinary[1]):
+            self.assertLessEqual(made, limit * usual, f"{name}: {made}, and {usual} if ordinary")
+
+
+@each(["one", "collate", "project", "order", "effect", "show"])
+class Ordinary(Costs):
+    """An ordinary input of each command."""
+
+    def check(self, command):
+        made = []
+        for size in 300, 600:
+            directory = self.room / str(size)
+            words = getattr(self, command)(directory, size)
+            made.append(self.at(directory, words))
+        self.grows(*made, what=command)
+
+    def rules(self, first, count):
+        return [shapes().rule(f"o/{it}.o", [f"m{it}"], [f"m{it - 1}"] * (it % 9 > 0))
+                for it in range(first, first + count)]
+
+    def one(self, directory, size):
+        shapes().write_scan(directory, self.rules(0, size))
+        return "one", "scan", "mod", ".bmi"
+
+    def collate(self, directory, size):
+        self.one(directory, size)
+        (directory / "o").mkdir()
+        shapes().write_target(directory, map="clang")
+        return "collate", "target"
+
+    def project(self, directory, size):
+        project = shapes().Project(directory)
+        for number in range(size // 10):
+            low = [f"t{it}" for it in range(number - number % 5, number)]
+            names = [f"t{number}.m{it}" for it in range(10)]
+            required = [[f"{it}.m9" for it in low]] + [[it] for it in names]
+            project.add(f"t{number}", [([it], below) for it, below in zip(names, required)], low,
+                        map="gcc")
+        return project.written()
+
+    def order(self, directory, size):
+        lines = [f"build o{it}: r i{it} o{it // 2}.h || d\n  dyndep = d\n" for it in range(size)]
+        shapes().write(directory / "edges", "".join(lines))
+        return "order", "edges"
+
+    def show(self, directory, size):
+        lines = [f"build o{it} | b{it}: dyndep | b{it // 2}\n  restat = 1\n" for it in range(size)]
+        shapes().write(directory / "d", "ninja_dyndep_version = 1\n" + "".join(lines))
+        return "show", "d"
+
+    def effect(self, directory, size):
+        self.order(directory, size)
+        self.show(directory, size)
+        return "effect", "d", "edges", "d"
+
+
+@embedded.needs_library
+class Files(Costs):
+    """A call of the library with many files. (The program that calls it asks for more and more.)"""
+
+    def test_files(self):
+        program = f"{self.room}/collate"
+        output_of("gcc", "-O1", "-o", program, f"{embedded.EXAMPLES}/collate.c",
+                  f"-I{TOP}/include", embedded.STATIC)
+        made = []
+        for size in 1500, 3000:
+            directory = self.room / str(size)
+            names = [f"{number}.ddi" for number in range(size)]
+            for number, name in enumerate(names):
+                shapes().write_scan(directory, [{"primary-output": f"o/{number}"}], name)
+            shapes().write(directory / "target", shapes().target("t", scans=names))
+            made.append(self.at(directory, ["target", *names], program=program))
+        self.grows(*made, costs=COSTS[:1])
