@@ -1,0 +1,2 @@
+export module sums:twice;
+export int twice(int a) { return a * 2; }

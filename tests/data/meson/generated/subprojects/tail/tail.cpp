@@ -1,0 +1,2 @@
+export module tail;
+export int tail() { return 1; }

@@ -1,0 +1,2 @@
+import objects;
+int main() { return objects(); }

@@ -1,0 +1,2 @@
+export module native;
+export int native() { return 0; }

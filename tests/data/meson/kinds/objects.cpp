@@ -1,0 +1,2 @@
+export module objects;
+export int objects() { return 0; }

@@ -1,0 +1,2 @@
+import whole;
+int plugin() { return whole(); }

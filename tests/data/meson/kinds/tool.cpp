@@ -1,0 +1,2 @@
+import native;
+int main() { return native(); }

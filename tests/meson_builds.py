@@ -1,0 +1,162 @@
+"""Builds projects with Meson and dyncollate-ninja: whole ones, what is compiled after edits, and
+what errors look like."""
+import json
+import os
+import shutil
+
+from tests.cmake import NINJA, put
+from tests.meson import DATA, SMALL, TWO, Builds, environment, meson
+from tests.run import run
+from tests.tools import tool
+
+CYCLE = "dyncollate-meson: libraries import each other's modules in a cycle: "
+RECONFIGURE = ("dyncollate-meson: for a first `import std`, and for the first module of a library "
+               "in a source that was there before, run `ninja reconfigure`")
+
+
+class Projects:
+    def lay_data(self, name, *options, **more):
+        shutil.copytree(DATA / name, self.room / name)
+        self.lay({}, *options, folder=name, **more)
+        self.assertTrue(self.tree.adopted(), self.tree.log)
+
+    def prints(self, text, status=0):
+        self.assertEqual(run(self.tree.build / "app"), (status, text))
+
+    def test_generated_sources(self):
+        """A source and a header are made by a program that imports modules."""
+        self.lay_data("generated")
+        self.builds()
+        self.prints("35 21 1 13\n")
+        self.tree.ninja("test")
+        self.assertEqual(self.tree.status, 0, self.tree.log)
+        put(self.tree.top / "VALUE", "6\n")
+        self.builds("src_core.cpp", "src_core_test.cpp", "src_main.cpp")
+        self.prints("36 21 1 14\n")
+        self.installed("36 21 1 14\n")
+
+    def installed(self, text):
+        """What Meson installs are the program and its library, and the program runs."""
+        home = self.room / "installed"
+        status, said = run(*meson(), "install", "-C", self.tree.build,
+                           env=environment(DESTDIR=str(home), NINJA=NINJA))
+        self.assertEqual(status, 0, said)
+        found = {it.name: it for it in home.rglob("*") if it.is_file()}
+        self.assertEqual(set(found), {"app", "libshared.so"})
+        libraries = str(found["libshared.so"].parent)
+        self.assertEqual(run(found["app"], env={"LD_LIBRARY_PATH": libraries}), (0, text))
+
+    def test_kinds_of_targets(self):
+        self.lay_data("kinds")
+        self.builds()
+        self.prints("1 5 6 4 5\n")
+
+    def test_shared_libraries_and_response_files(self):
+        self.lay_data("kinds", "--default-library=shared", MESON_RSP_THRESHOLD="0")
+        self.assertIn(": cpp_COMPILER_RSP", self.tree.text())
+        self.builds()
+        self.prints("1 5 6 4 5\n")
+
+    def test_edits(self):
+        """What is compiled after an import, a module and a source are added or removed."""
+        self.lay({**SMALL, "other.cpp": "export module other;\nexport int other() { return 0; }\n"})
+        self.builds("lib.cpp", "main.cpp")
+        self.edit("meson.build", "'lib.cpp'", "'lib.cpp', 'other.cpp'")
+        self.builds("other.cpp")
+        self.edit("lib.cpp", "module lib;\n", "module lib;\nimport other;\n")
+        self.builds("lib.cpp", "main.cpp")
+        os.utime(self.tree.top / "other.cpp")
+        self.builds("lib.cpp", "main.cpp", "other.cpp")
+        self.edit("lib.cpp", "import other;\n", "")
+        self.edit("meson.build", ", 'other.cpp'", "")
+        self.builds("lib.cpp", "main.cpp")
+        # Meson calls `-t cleandead`
+        objects = [it.name for it in self.tree.build.glob("liblib.a.p/*.o")]
+        self.assertEqual(objects, ["lib.cpp.o"])
+
+    def test_an_import_that_is_new(self):
+        """A library takes part if it may import from another one, so no new adoption is needed."""
+        self.lay({**TWO, "b.cpp": "int b() { return 0; }\n",
+                  "main.cpp": "import a;\nint b();\nint main() { return a() + b(); }\n"})
+        self.builds("a.cpp", "b.cpp", "main.cpp")
+        put(self.tree.top / "b.cpp", "import a;\nint b() { return a(); }\n")
+        self.builds("b.cpp")
+
+    def test_compile_commands(self):
+        """They have the maps, by which clangd finds modules, and no scans."""
+        self.lay(SMALL)
+        entries = json.loads((self.tree.build / "compile_commands.json").read_text())
+        outputs = [it["output"] for it in entries]
+        self.assertEqual(outputs, ["liblib.a.p/lib.cpp.o", "app.p/main.cpp.o"])
+        for it in entries:
+            self.assertIn(f"{it['output']}.modmap", it["command"])
+
+    def test_an_unknown_module(self):
+        self.lay(SMALL)
+        put(self.tree.top / "main.cpp", "import none;\nint main() {}\n")
+        self.fails("dyncollate: M5 ModuleUnknown none in app.p/main.cpp.o", RECONFIGURE)
+        put(self.tree.top / "main.cpp", SMALL["main.cpp"])
+        self.builds()
+
+    def test_libraries_that_import_each_other(self):
+        self.lay(TWO)
+        self.builds("a.cpp", "b.cpp", "main.cpp")
+        self.edit("a.cpp", "module a;\n", "module a;\nimport b;\n")
+        self.fails(f"{CYCLE}liba.a.p -> libb.a.p -> liba.a.p")
+        self.edit("b.cpp", "import a;\n", "")
+        self.edit("b.cpp", "a()", "0")
+        self.builds("a.cpp", "b.cpp", "main.cpp")
+
+    def test_a_module_that_two_libraries_have(self):
+        self.lay({**TWO, "a.cpp": "export module b;\nexport int a() { return 0; }\n",
+                  "b.cpp": "export module b;\nexport int b() { return 0; }\n"})
+        self.fails("dyncollate: M3 ProvidedTwice b by info liba.a.p and info libb.a.p")
+
+    def test_a_damaged_info_file(self):
+        """The build that reads it removes it, and the next one makes it again."""
+        self.lay(SMALL)
+        self.builds()
+        put(self.tree.build / "meson-dyncollate/liblib.a.p/info.json", "{")
+        self.tree.ninja()
+        self.assertNotEqual(self.tree.status, 0)
+        self.assertIn("which is removed: the next build makes it again", self.tree.log)
+        self.builds()
+
+    def test_a_cache_of_objects(self):
+        """It is not called for a target with modules, because it does not know their files."""
+        cache = self.room / "ccache"
+        calls = self.room / "calls"
+        put(cache, f"#!/bin/sh\ncase $* in *' -c '*) echo $* >> {calls} ;; esac\nexec \"$@\"\n")
+        cache.chmod(0o755)
+        self.lay(SMALL, CXX=f"{cache} {self.compiler()}")
+        put(calls, "")
+        self.builds("lib.cpp", "main.cpp")
+        self.edit("lib.cpp", "0", "1")
+        self.builds("lib.cpp", "main.cpp")
+        self.prints("", 1)
+        self.assertEqual(calls.read_text(), "")
+
+
+class ProjectsWithClang(Projects, Builds):
+    def test_import_std(self):
+        self.lay_data("std")
+        self.builds()
+        self.prints("3 2\n")
+
+    def test_no_std(self):
+        """Clang has the module only with its own library."""
+        self.lay({**SMALL, "main.cpp": "import std;\n" + SMALL["main.cpp"]})
+        self.fails(f"dyncollate-meson: app.p imports std, and {self.compiler()} has no "
+                   "libstdc++.modules.json: Clang has it with -stdlib=libc++, and GCC from version "
+                   "15 on")
+
+
+class ProjectsWithGcc(Projects, Builds):
+    compiler, package = staticmethod(lambda: tool("gcc")), "g++-12"
+
+    def test_a_precompiled_header(self):
+        put(self.room / "a project/pch/all.h", "#include <cstdio>\n")
+        lists = SMALL["meson.build"].replace("'main.cpp',", "'main.cpp', cpp_pch: 'pch/all.h',")
+        self.lay({**SMALL, "meson.build": lists})
+        self.fails("dyncollate-meson: app.p uses modules and a precompiled header, which GCC "
+                   "rejects together with modules: configure with -Db_pch=false")
