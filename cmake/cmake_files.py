@@ -98,6 +98,8 @@ def misfit(value, shape, place=""):
     if not isinstance(value, type(shape)):
         return place
     if isinstance(shape, list):
+        if isinstance(shape[0], type) and {*map(type, value)} <= {shape[0]}:
+            return None  # (the names of all linked targets)
         parts = [(index, it, shape[0]) for index, it in enumerate(value)]
     elif str in shape:
         parts = [(name, it, shape[str]) for name, it in value.items()]

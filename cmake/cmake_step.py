@@ -1,21 +1,26 @@
 """The step of a target that the program can't collate alone, and what is printed if a step fails.
 
-The step does what `cmake -E cmake_ninja_dyndep` does. It runs in the build directory, as Ninja calls it, and imports only modules
-that are quick to import.
+The step does what `cmake -E cmake_ninja_dyndep` does. It runs in the build directory, as Ninja
+calls it, and imports only modules that are quick to import.
 """
 import json
 import os
+import re
 import sys
 
 from cmake_exports import write_exports
 from cmake_files import Wrong, depend_info, document, escaped, read, write, write_if_changed
 
-# A shell adds this to the number of the signal that killed a program.
-SIGNAL = 128
+# A shell adds this to the number of the signal that killed a program, and has these statuses if it
+# could not run one.
+SIGNAL, NOT_RUN = 128, (126, 127)
+# Two modules have one name, or one file.
+CLASH = re.compile("dyncollate: M[34] ")
 
 
 class Object:
-    """An object of a target. `entry` is what CMake says of its source if that is in a file set of C++ modules, and otherwise empty."""
+    """An object of a target. `entry` is what CMake says of its source if that is in a file set of
+    C++ modules, and otherwise empty."""
 
     def __init__(self, scan, entries):
         self.scan, self.entry = scan, entries.get(scan[:-len(".ddi")], {})
@@ -27,12 +32,14 @@ class Object:
         except (AttributeError, KeyError, TypeError, ValueError) as error:
             raise Wrong(f"{scan}: not the scan of one source: {error!r}") from None
         self.is_private = self.entry.get("visibility") == "PRIVATE"
-        # CMake compiles a module of a package to its module file alone, and calls that file the object.
+        # CMake compiles a module of a package to its module file alone, and calls that file the
+        # object.
         self.is_module_file = self.entry.get("bmi-only", False)
 
     def scan_for_program(self):
-        """Returns the name of the scan document that the program reads. The program rejects an object that is a module file
-        (M4), so this document has the object `PATH.o`, which nobody compiles."""
+        """Returns the name of the scan document that the program reads. The program rejects an
+        object that is a module file (M4), so this document has the object `PATH.o`, which nobody
+        compiles."""
         if not self.is_module_file:
             return self.scan
         provides = [{**it, "compiled-module-path": self.path} for it in self.rule.get("provides") or []]
@@ -60,6 +67,40 @@ def check_file_sets(objects):
             raise Wrong(f"{it.scan}: requires {hidden[0]}, which its target keeps private, and its source {it.entry['source']} is public")
 
 
+def hidden_modules(target, target_document, objects):
+    """Returns, by its name, the target of each module that only targets have which this one
+    reaches, but does not link."""
+    linked = {f"{it}/CXXModules.json" for it in target["linked-target-dirs"]}
+    shown = {name for it in objects for name, _ in it.provides}
+    hidden = {}
+    for path in target_document["linked"]:
+        info = document(path)
+        names = {it["name"]: info["target"] for it in info["modules"]}
+        if os.path.abspath(path) in linked:
+            shown.update(names)
+        else:
+            hidden.update(names)
+    return {name: it for name, it in hidden.items() if name not in shown}
+
+
+def check_imports(target, target_document, objects):
+    """Reports an import of a module that CMake does not find, because a link of another target
+    hides it."""
+    hidden = hidden_modules(target, target_document, objects)
+    for it in objects:
+        for name in it.requires:
+            if name in hidden:
+                user, other = map(target_name, (target_document["target"], hidden[name]))
+                raise Wrong(f"{it.scan}: imports {name} of {hidden[name]}, which {user} reaches "
+                            "only through links that hide it: "
+                            f"target_link_libraries({user} PRIVATE {other}) is missing")
+
+
+def target_name(folder):
+    """Returns the name that CMake's language has for the target of this directory."""
+    return re.search(r"([^/]*?)(?:@synth_\w+)?(?:\.dir(?:/.*)?)?$", folder)[1]
+
+
 # ---- the step
 
 def step(program, name):
@@ -70,27 +111,48 @@ def step(program, name):
     own = f"{given['target']}/CXX.step.json"
     scans = [it.scan_for_program() for it in objects]
     private = [name for it in objects if it.is_private for name, _ in it.provides]
-    write_if_changed(own, json.dumps({**given, "scans": scans, "private": private}, indent=1))
-    status = call([program, "collate", own])
+    given.update(scans=scans, private=private)
+    write_if_changed(own, json.dumps(given, indent=1))
+    status, said = call(program, own)
+    if CLASH.match(said):
+        status, said, own = without_unreached(program, given, target, objects)
     if status:
-        return explained(program, status, own) or status
+        pass_on(said)
+        return explained(program, status, said, own)
+    check_imports(target, given, objects)
     finish_module_files([it.path for it in objects if it.is_module_file], given["dyndep"])
     write_exports(target, objects, given)
     return 0
 
 
-def call(words):
-    """Calls a program and returns its status, as a shell does."""
+def without_unreached(program, given, target, objects):
+    """Collates the target without the linked modules that no import leads to, and returns also the
+    name of that document."""
+    import cmake_reached  # only such a target needs it
+    name = cmake_reached.write_documents(given, target, objects)
+    return *call(program, name), name
+
+
+def call(program, name):
+    """Collates the target of this document. Returns the status, as a shell does, and what the
+    program prints."""
+    output, its_output = os.pipe()
     try:
-        child = os.posix_spawn(words[0], words, os.environ)
+        files = [(os.POSIX_SPAWN_DUP2, its_output, 1), (os.POSIX_SPAWN_DUP2, its_output, 2)]
+        child = os.posix_spawn(program, [program, "collate", name], os.environ, file_actions=files)
     except OSError as error:
-        raise Wrong(f"{words[0]}: {error.strerror}", 3) from None
+        raise Wrong(f"{program}: {error.strerror}", 3) from None
+    finally:
+        os.close(its_output)
+    with os.fdopen(output, encoding="utf-8", errors="surrogateescape") as file:
+        said = file.read()
     status = os.waitstatus_to_exitcode(os.waitpid(child, 0)[1])
-    return status if status >= 0 else SIGNAL - status
+    return status if status >= 0 else SIGNAL - status, said
 
 
 def finish_module_files(paths, dyndep):
-    """Gives objects that are module files their own maps, and their own statements in the dyndep file."""
+    """Gives objects that are module files their own maps, and their own statements in the dyndep
+    file."""
     text = read(dyndep)
     for path in paths:
         write_if_changed(f"{path}.modmap", read(f"{path}.o.modmap"))
@@ -100,40 +162,59 @@ def finish_module_files(paths, dyndep):
         write(dyndep, text)
 
 
-# ---- a step that failed
+# ---- a step that is not well
 
 def why(program, status, name):
-    """Says why the step of the target of this document failed, and returns the status. The program may have failed, or been killed;
-    or its dyndep file has a module that CMake does not allow, or lacks one that CMake needs. Otherwise the step is well, and done."""
-    if status <= SIGNAL:
-        check_file_sets(objects_of(document(name))[1])
-    return explained(program, status, name)
+    """Ends the step of the target of this document that the program alone did not do, and returns
+    the status. Standard input has what the program printed. If that is nothing, its dyndep file has
+    a module that CMake does not allow, or lacks one that CMake needs, or imports one that is
+    hidden. Otherwise the step is well, and done."""
+    said = sys.stdin.buffer.read().decode(errors="surrogateescape").lstrip("\n")
+    if status in NOT_RUN:
+        status, said = call(program, name)
+    clash = CLASH.match(said)
+    if not clash:
+        pass_on(said)
+    if status > SIGNAL:
+        return explained(program, status, said, name)
+    given = document(name)
+    target, objects = objects_of(given)
+    check_file_sets(objects)
+    if clash:
+        status, said, name = without_unreached(program, given, target, objects)
+        pass_on(said)
+    if said:
+        return explained(program, status, said, name)
+    check_imports(target, given, objects)
+    return 0
 
 
-def explained(program, status, name):
-    """Says more about a run of the program that failed and has printed its line. Returns the status of another run."""
+def explained(program, status, said, name):
+    """Says more about a run of the program that failed and printed this line. Returns the
+    status."""
     import subprocess  # only failures need it
     if status > SIGNAL:
         raise Wrong(f"{program} was killed by signal {status - SIGNAL}", 3)
-    again = subprocess.run([program, "collate", name], stderr=subprocess.PIPE, check=False)
-    if again.returncode:
-        if again.returncode != status:
-            # The step of another target has removed the damaged info file: this line has its name
-            sys.stderr.write(os.fsdecode(again.stderr))
-        explainer = program_beside(program, "dyncollate-explain")
-        if explainer:
-            subprocess.run([explainer, name, "-"], input=again.stderr, check=False)
-        kind, number, named = numbered_document(os.fsdecode(again.stderr), document(name))
-        if kind == "info":
-            # Ninja makes a file again that is not there, but does not know that this one is damaged
-            try:
-                os.remove(named)
-            except FileNotFoundError:
-                pass  # the step of another target did so
-            say(f"{kind} {number} was {named}, which is removed: the next build makes it again")
-        elif kind and not explainer:
-            say(f"{kind} {number} is {named}")
-    return again.returncode
+    explainer = program_beside(program, "dyncollate-explain")
+    if explainer:
+        line = said.encode(errors="surrogateescape")
+        subprocess.run([explainer, name, "-"], input=line, check=False)
+    kind, number, named = numbered_document(said, document(name))
+    if kind == "info":
+        # Ninja makes a file again that is not there, but does not know that this one is damaged
+        try:
+            os.remove(named)
+        except FileNotFoundError:
+            pass  # the step of another target did so
+        say(f"{kind} {number} was {named}, which is removed: the next build makes it again")
+    elif kind and not explainer:
+        say(f"{kind} {number} is {named}")
+    return status
+
+
+def pass_on(said):
+    sys.stderr.buffer.write(said.encode(errors="surrogateescape"))
+    sys.stderr.buffer.flush()
 
 
 def say(line):
@@ -141,13 +222,15 @@ def say(line):
 
 
 def program_beside(program, name):
-    """Returns the path of another program that is installed next to this one or in the PATH, or None."""
+    """Returns the path of another program that is installed next to this one or in the PATH, or
+    None."""
     folders = [os.path.dirname(program), *os.get_exec_path()]
     return next((path for it in folders if os.access(path := os.path.join(it, name), os.X_OK)), None)
 
 
 def numbered_document(line, target_document):
-    """Returns the kind, the number and the name of the document that a line of the program is about, such as `dyncollate: scan 3: ..`."""
+    """Returns the kind, the number and the name of the document that a line of the program is
+    about, such as `dyncollate: scan 3: ..`."""
     member = {"scan": "scans", "info": "linked"}
     words = line.split(" ", 3)
     if len(words) < 4 or words[1] not in member or not words[2].endswith(":"):

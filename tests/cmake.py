@@ -68,7 +68,8 @@ def statement_of(folder, scans, linked):
     outputs = [f"{top}/{folder}/CXXModules.json", *map_names]
     inputs = [f"{top}/{folder}/CXXDependInfo.json", *(f"{it}/CXXModules.json" for it in linked)]
     paths = [" ".join(map(in_ninja, it)) for it in ([f"{folder}/CXX.dd"], outputs, scans, inputs)]
-    return "build {} | {}: CXX_DYNDEP__{} {} | {}\n".format(paths[0], paths[1], name, *paths[2:])
+    compiled = [f"build {in_ninja(it[:-len('.ddi')])}: CXX_COMPILER {in_ninja(it)} || {paths[0]}\n  dyndep = {folder}/CXX.dd\n" for it in scans]
+    return "".join(compiled) + "build {} | {}: CXX_DYNDEP__{} {} | {}\n".format(paths[0], paths[1], name, *paths[2:])
 
 
 def write_ninja_files(styles, scans, linked, build="."):
@@ -221,6 +222,10 @@ class NinjaFiles(Case):
         put(name, change(Path(name).read_text()))
         self.texts = self.found()
 
+    def drop_modules(self):
+        self.change("b/build.ninja", lambda text: re.sub(r"^build .*\n(  dyndep = .*\n)?", "", text, flags=re.M))
+        self.change("b/CMakeFiles/rules.ninja", lambda _: f"{HEADER}{RERUN}")
+
     def fails(self, text, *words, status=1, **given):
         found = self.found()
         self.assertEqual(adapter(*words, **given), (status, f"dyncollate-cmake: {text}\n"))
@@ -240,14 +245,14 @@ class NinjaFiles(Case):
         self.adopt()
         self.assertEqual(self.found(), once)
         lines = [set(once[it].splitlines()) - set(self.texts[it].splitlines()) for it in self.names]
-        self.assertEqual([len(it) for it in lines], [5, 5], "statements of two lines and a call of CMake; commands, comments, and a call")
+        self.assertEqual([len(it) for it in lines], [5, 7], "statements of two lines and a call of CMake; commands, comments, and a call")
         for _ in range(2):
             self.restores()
 
     def test_the_statement_names_what_is_read(self):
         self.adopt()
         statement = re.search(r"^build a\$ \$\$dir/CXX.dd (.*\n) {8}(.*)$", self.found()["b/build.ninja"], re.M)
-        self.assertEqual(statement[2], "a$ $$dir/CXX.target.json")
+        self.assertEqual(statement[2], "a$ $$dir/CXX.statements a$ $$dir/CXX.target.json")
         self.assertTrue(statement[1].endswith("/b/a$ $$dir/CXXDependInfo.json $\n"))
 
     def test_the_document(self):
@@ -276,14 +281,35 @@ class NinjaFiles(Case):
     def test_order_only_inputs_stay_the_last(self):
         self.change("b/build.ninja", lambda text: text.replace("a$ $$dir/CXXDependInfo.json\n", "a$ $$dir/CXXDependInfo.json || x y\n"))
         self.adopt()
-        self.assertIn("\n        a$ $$dir/CXX.target.json || x y\n", self.found()["b/build.ninja"])
+        self.assertIn("\n        a$ $$dir/CXX.statements a$ $$dir/CXX.target.json || x y\n", self.found()["b/build.ninja"])
         self.restores()
 
     def test_a_statement_without_implicit_inputs(self):
         self.change("b/build.ninja", lambda text: re.sub(r" \| \S+app.dir/CXXDependInfo.json$", "", text, flags=re.M))
         self.adopt()
-        self.assertIn("b$ c.cpp.o.ddi $\n        | CMakeFiles/app.dir/CXX.target.json\n", self.found()["b/build.ninja"])
+        self.assertIn("b$ c.cpp.o.ddi $\n        | CMakeFiles/app.dir/CXX.statements CMakeFiles/app.dir/CXX.target.json\n",
+                      self.found()["b/build.ninja"])
         self.restores()
+
+    def calls_of_adoption(self, count):
+        """How many functions an adoption calls of libraries that each link all before them."""
+        Path(f"{count}").mkdir()
+        os.chdir(f"{count}")
+        names = [f"t{it}" for it in range(count)]
+        linked = {it: names[:index] for index, it in enumerate(names)}
+        for it in names:
+            put_target(it, os.getcwd(), linked=linked[it])
+        write_ninja_files({it: "gcc" for it in names}, {it: [f"{it}/a.cpp.o.ddi"] for it in names},
+                          {it: [f"{os.getcwd()}/{other}" for other in linked[it]] for it in names})
+        os.chdir("..")
+        printed = run(sys.executable, "-m", "cProfile", ADAPTER, "adopt", f"{count}",
+                      env=environment())[1]
+        return int(re.search(r"(\d+) function calls", printed)[1])
+
+    def test_what_is_linked_costs_no_calls(self):
+        """Four times as many links of twice as many targets: the calls grow with the targets."""
+        few, some, many = map(self.calls_of_adoption, (30, 60, 120))
+        self.assertLess(many - some, 2.5 * (some - few))
 
     def test_a_file_that_need_not_change_keeps_its_time(self):
         self.adopt()
@@ -338,7 +364,7 @@ class NinjaFiles(Case):
         found = self.found()
         self.adopt()
         self.assertEqual(self.found(), found)
-        self.change("b/CMakeFiles/rules.ninja", lambda _: f"{HEADER}{RERUN}")
+        self.drop_modules()
         self.assertEqual(adapter(*again), (0, ""))
         self.assertEqual(Path("b/CMakeFiles/rules.ninja").read_text().count("--after-cmake"), 1)
 
@@ -353,7 +379,7 @@ class NinjaFiles(Case):
         for name in Path("b").rglob("CXXDependInfo.json"):
             os.remove(name)
         self.fails("b has no target whose sources are scanned for C++ modules", "adopt", "b")
-        self.change("b/CMakeFiles/rules.ninja", lambda _: f"{HEADER}{RERUN}")
+        self.drop_modules()
         self.fails("b has no target whose sources are scanned for C++ modules", "adopt", "b")
 
     def test_no_ninja_files(self):
@@ -380,10 +406,44 @@ class NinjaFiles(Case):
         put_target("CMakeFiles/app.dir", f"{os.getcwd()}/b", linked=["x.dir"], **{"database-info": None})
         self.fails(f"{start}it links {os.getcwd()}/b/x.dir, whose modules are not collated in this build", "adopt", "b")
 
+    def test_modules_that_are_passed_on(self):
+        """CMake 4.3 has these only for Fortran."""
+        put_target("CMakeFiles/app.dir", f"{os.getcwd()}/b", **{"forward-modules-from-target-dirs": ["/x"]})
+        self.fails("b is not adopted because of CMakeFiles/app.dir: it passes on modules that it does not link", "adopt", "b")
+
+    def test_a_step_that_is_not_known(self):
+        """The sources are scanned, and a later CMake calls something else: none of the steps is found, or not all."""
+        for count in 1, -1:
+            self.change("b/CMakeFiles/rules.ninja", lambda text, count=count: text.replace("cmake_ninja_dyndep", "cmake_step", count))
+            self.fails("b is not adopted because of CMakeFiles/app.dir/CXX.dd: its step is not one that CMake 3.28 to 4.3 writes", "adopt", "b")
+
+    def test_no_response_file(self):
+        """The program does not read the one that CMake's step reads. The step in Python does not, either."""
+        self.adopt()
+        lines = self.found()["b/CMakeFiles/rules.ninja"].splitlines()
+        self.assertEqual([it for it in lines if it.startswith("  rspfile")], ["  rspfile = $out.rsp", "  rspfile_content = $in"])
+        self.assertEqual(lines.count("  # CMake's rspfile = $out.rsp"), 2)
+
+    def test_status(self):
+        """Which program collates the targets, and which of them need Python; or why CMake's step does."""
+        self.fails("CMake's step collates 2 targets of b: adopt it, or configure with dyncollate-ninja", "status", "b")
+        self.fails("none: there is no such program", "status", "b", env=environment(DYNCOLLATE="none"))
+        put_target("a $dir", f"{os.getcwd()}/b", {"a.cpp": {"visibility": "PRIVATE"}, "b c.cpp": {}})
+        line = f"dyncollate-cmake: 2 targets of b are collated by {program.PROGRAM}, 1 of them from Python (1 with private modules)\n"
+        self.assertEqual(adapter("adopt", "b"), (0, line))
+        found = self.found()
+        self.assertEqual(adapter("status", "b", env=environment(DYNCOLLATE="none")), (0, f"{line}a $dir: private modules\n"))
+        self.assertEqual(self.found(), found)
+        self.restores()
+        put_target("a $dir", f"{os.getcwd()}/b", **{"database-info": {"output": "x"}})
+        self.fails("b is not adopted because of a $dir: it is part of a build database", "status", "b")
+        self.drop_modules()
+        self.fails("b has no target whose sources are scanned for C++ modules", "status", "b")
+
     def test_a_prefix_of_the_output_paths(self):
         """A super-build includes the Ninja file of such a build, and all its paths begin with the prefix."""
         self.change(self.names[0], lambda text: text.replace("include CMakeFiles/", "include b/CMakeFiles/"))
-        for command in "adopt", "restore", "--generated":
+        for command in "adopt", "restore", "status", "--generated":
             self.fails("b has the CMAKE_NINJA_OUTPUT_PATH_PREFIX b/, which is not supported", command, "b")
             self.assertFalse(os.path.exists("b/CMakeFiles/dyncollate"))
 
@@ -479,8 +539,7 @@ class NinjaFiles(Case):
         self.assertEqual((status, text.splitlines()[0]),
                          (0, "Makes a build that CMake configured for Ninja collate its C++ modules with dyncollate."))
         for words in [], ["adopt"], ["adopt", "b", "b"], ["remove", "b"], ["--adopt", "b"]:
-            self.fails("usage: dyncollate-cmake adopt BUILD_DIR, dyncollate-cmake restore BUILD_DIR, or dyncollate-cmake --help",
-                       *words, status=2)
+            self.fails("usage: dyncollate-cmake adopt|restore|status BUILD_DIR, or dyncollate-cmake --help", *words, status=2)
 
 
 # ---- steps of targets made here
@@ -710,7 +769,7 @@ class Steps(Case):
             self.assertFalse(os.path.exists("l/CXXModules.json"))
 
     def test_a_damaged_info_file_that_another_step_removes(self):
-        """The program then reports that the file is missing, and that line names it."""
+        """The first line names it all the same."""
         self.target("l", {})
         self.scan("l", "a.cpp")
         put("program", f'#!/bin/sh\n{shlex.quote(program.PROGRAM)} "$@"\nstatus=$?\nrm -f l/CXXModules.json\nexit $status\n')
@@ -721,18 +780,122 @@ class Steps(Case):
             rules = Path("CMakeFiles/rules.ninja")
             rules.write_text(rules.read_text().replace(program.PROGRAM, f"{os.getcwd()}/program"))
             put("l/CXXModules.json", "{")
-            self.assertEqual(step("t"), (3, "dyncollate: info 0: S1 NotJson document\n"
-                                            f"dyncollate: cannot read {os.getcwd()}/l/CXXModules.json\n"))
+            self.assertEqual(step("t"), (1, "dyncollate: info 0: S1 NotJson document\n"
+                                            f"dyncollate-cmake: info 0 was {os.getcwd()}/l/CXXModules.json, which is removed: "
+                                            "the next build makes it again\n"))
 
-    def test_two_linked_targets_with_modules_of_one_name(self):
+    def test_an_import_that_a_link_hides(self):
+        """CMake finds no module of `far` for `t`, because `near` links it and does not pass that on."""
+        self.target("far", {"f.cppm": {}})
+        self.scan("far", "f.cppm", ["f"])
+        self.target("near", {"n.cppm": {}}, ["far"])
+        self.scan("near", "n.cppm", ["n"], ["f"])
+        for folder in "far", "near":
+            self.collates(folder)
+        for _ in self.both_kinds(linked=["near"]):
+            self.scan("t", "a.cpp", [], ["n"])
+            self.collates("t")
+            self.assertIn("-fmodule-file=f=far/f.pcm", Path("t/a.cpp.o.modmap").read_text())
+            rules = Path("CMakeFiles/rules.ninja")
+            rules.write_text(rules.read_text().replace(sys.executable, "/no/python"))
+            self.assertEqual(step("t")[0] == 0, " --step t/" not in rules.read_text())
+            for imported in ["f"], ["n", "f"]:
+                self.scan("t", "a.cpp", [], imported)
+                self.fails("dyncollate-cmake: t/a.cpp.o.ddi: imports f of far, which t reaches only through links that hide it: "
+                           "target_link_libraries(t PRIVATE far) is missing")
+
+    def test_a_module_of_a_package_that_a_link_hides(self):
+        """Its file is the object, which need not be in the directory of the target's modules."""
+        self.target("far@synth_0a", {"f.cppm": {"bmi-only": True}}, **{"module-dir": f"{os.getcwd()}/elsewhere"})
+        self.scan("far@synth_0a", "f.cppm", ["f"])
+        self.target("near", {"n.cppm": {}}, ["far@synth_0a"])
+        self.scan("near", "n.cppm", ["n"], ["f"])
+        self.target("t", {}, ["near"])
+        self.scan("t", "a.cpp", [], ["f"])
+        for folder in "far@synth_0a", "near":
+            self.collates(folder)
+        self.fails("dyncollate-cmake: t/a.cpp.o.ddi: imports f of far@synth_0a, which t reaches only through links that hide it: "
+                   "target_link_libraries(t PRIVATE far) is missing")
+
+    def test_checks_without_grep_and_without_its_patterns(self):
+        """Only a search that found nothing passes: otherwise Python checks the same."""
+        self.target("t", {"a.cppm": {}})
+        self.scan("t", "a.cppm", ["a"])
+        self.scan("t", "b.cpp", ["b"])
+        said = "dyncollate-cmake: t/b.cpp.o.ddi: provides b, and its source is in no file set of C++ modules\n"
+        self.fails(said[:-1])
+        self.assertIn(" t/CXX.statements t/CXX.target.json\n", Path("build.ninja").read_text())
+        rules, statements_file = Path("CMakeFiles/rules.ninja"), Path("t/CXX.statements")
+        for damage in (lambda: os.remove(statements_file), lambda: statements_file.write_text(""),
+                       lambda: rules.write_text(rules.read_text().replace("grep", "/no/grep"))):
+            damage()
+            status, printed = step("t")
+            self.assertEqual((status, printed[-len(said):]), (1, said))
+        self.scan("t", "b.cpp", [], ["a"])
+        self.assertEqual(step("t")[0], 0)
+
+    # Modules of one name
+
+    def test_modules_of_one_name(self):
+        """Those that no import leads to are left out, and otherwise the line says why not."""
         for name in "x", "y":
-            self.target(name, {"d.cppm": {}})
+            self.target(name, {f"{name}.cppm": {}, "d.cppm": PRIVATE})
+            self.scan(name, f"{name}.cppm", [name])
             self.scan(name, "d.cppm", ["detail"])
-        self.target("t", {}, ["x", "y"])
-        self.scan("t", "a.cpp")
-        for name in "x", "y":
             self.collates(name)
-        self.fails("dyncollate: M3 ProvidedTwice detail by info x and info y")
+        self.target("t", {"d.cppm": {}}, ["x", "y"])
+        self.scan("t", "d.cppm", ["detail"])
+        self.scan("t", "a.cpp", [], ["x", "detail"])
+        self.assertIn('"name":"detail"', self.collates("t"))
+        self.assertEqual(Path("t/a.cpp.o.modmap").read_text(), "-fmodule-file=detail=t/detail.pcm\n-fmodule-file=x=x/x.pcm\n")
+        os.remove("t/d.cppm.o.ddi")
+        for _ in self.both_kinds(linked=["x", "y"]):
+            self.scan("t", "a.cpp", [], ["x", "y"])
+            self.collates("t")
+            self.assertEqual(Path("t/a.cpp.o.modmap").read_text(), "-fmodule-file=x=x/x.pcm\n-fmodule-file=y=y/y.pcm\n")
+            self.assertEqual(statements(Path("t/CXX.dd").read_text())["t/a.cpp.o"][1], {"x/x.pcm", "y/y.pcm"})
+            self.scan("t", "a.cpp", [], ["none"])
+            self.fails("dyncollate: M5 ModuleUnknown none in t/a.cpp.o")
+
+    def test_imports_that_lead_to_two_modules_of_one_name(self):
+        for name in "x", "y":
+            self.target(f"{name}d", {"d.cppm": {}})
+            self.scan(f"{name}d", "d.cppm", ["detail"])
+            self.target(name, {f"{name}.cppm": {}}, [f"{name}d"])
+            self.scan(name, f"{name}.cppm", [name], ["detail"])
+            for folder in f"{name}d", name:
+                self.collates(folder)
+        ends = "and imports lead to both: a program can have only one module of a name"
+        self.target("t", {"d.cppm": {}}, ["x"])
+        self.scan("t", "d.cppm", ["detail"])
+        self.scan("t", "a.cpp", [], ["x"])
+        self.fails(f"dyncollate-cmake: t: t and xd both provide detail, {ends}")
+        os.remove("t/d.cppm.o.ddi")
+        for _ in self.both_kinds(linked=["x", "y"]):
+            self.scan("t", "a.cpp", [], ["x"])
+            self.collates("t")
+            self.assertIn("detail=xd/detail.pcm\n", Path("t/a.cpp.o.modmap").read_text())
+            self.scan("t", "b.cpp", [], ["y"])
+            self.fails(f"dyncollate-cmake: t: xd and yd both provide detail, {ends}")
+            self.scan("t", "b.cpp")
+
+    def test_a_public_and_a_private_module_of_one_name(self):
+        """An import leads to the public one. If there is only a private one, that is an error."""
+        self.target("x", {"x.cppm": {}, "d.cppm": PRIVATE})
+        self.scan("x", "x.cppm", ["x"])
+        self.scan("x", "d.cppm", ["detail"])
+        self.target("y", {"d.cppm": {}})
+        self.scan("y", "d.cppm", ["detail"])
+        for folder in "x", "y":
+            self.collates(folder)
+        self.target("t", {}, ["x", "y"])
+        self.scan("t", "a.cpp", [], ["detail", "x"])
+        self.collates("t")
+        self.assertIn("detail=y/detail.pcm\n", Path("t/a.cpp.o.modmap").read_text())
+        self.target("y", {"d.cppm": PRIVATE, "y.cppm": {}})
+        self.scan("y", "y.cppm", ["y"])
+        self.collates("y")
+        self.fails(f"dyncollate-cmake: t: x and y both provide detail, and imports lead to both: a program can have only one module of a name")
 
     def test_a_missing_document(self):
         self.target("t", {"a.cppm": PRIVATE, "b.cppm": {}})
@@ -770,7 +933,7 @@ class Steps(Case):
         self.scan("user", "u.cpp", [], ["n"])
         before = [self.collates(it) for it in ("far", "near", "user")]
         top = os.getcwd()
-        inputs = f"{top}/near/CXXModules.json $\n        {top}/far/CXXModules.json user/CXX.target.json\n"
+        inputs = f"{top}/near/CXXModules.json $\n        {top}/far/CXXModules.json user/CXX.statements user/CXX.hidden user/CXX.target.json\n"
         self.assertIn(f" | {top}/user/CXXDependInfo.json {inputs}", Path("build.ninja").read_text())
         self.assertEqual(Path("user/u.cpp.o.modmap").read_text(), "-fmodule-file=f=far/f.pcm\n-fmodule-file=n=near/n.pcm\n")
         self.assertEqual([self.collates(it) for it in ("far", "near", "user")], before)
@@ -829,9 +992,27 @@ class Hook(Case):
         self.assertEqual({name: Path("b", name).read_text() for name in self.texts}, self.texts)
 
     def test_other_calls_run_ninja_alone(self):
-        for words in ["--version"], ["-C", "b"], ["-C", "b", "-t", "recompact"], ["-C", "b", "-v", "restat"], []:
+        for words in ["--version"], ["-C", "c"], ["-C", "b", "-t", "recompact"], ["-Cb", "-tclean"], []:
             self.assertEqual(self.run_it(*words), (0, f"first/ninja {' '.join(words)}\n"))
             self.assertFalse(self.is_adopted())
+
+    def test_a_build_that_is_not_adopted(self):
+        """A run of Ninja that builds warns, so that a CMake is noticed that no longer calls `-t restat`. It has to be a CMake build whose
+        sources are scanned, and no try of a compiler."""
+        for words in ["-C", "b"], ["-Cb"], ["-v", "-C", "b", "restat"]:
+            self.assertEqual(self.run_it(*words), (0, "dyncollate-ninja: warning: CMake's step collates the modules of b: dyncollate-cmake "
+                                                      f"status says why\nfirst/ninja {' '.join(words)}\n"))
+        os.chdir("b")
+        self.assertIn("the modules of .: ", run(NINJA, env=environment(DYNCOLLATE_NINJA=f"{os.getcwd()}/../first/ninja"))[1])
+        os.chdir("..")
+        self.run_it("-C", "b", "-t", "restat", "build.ninja")
+        self.assertEqual(self.run_it("-C", "b"), (0, "first/ninja -C b\n"))
+        shutil.copytree("b", "c/CMakeFiles/CMakeScratch/x")
+        self.assertEqual(adapter("restore", "c/CMakeFiles/CMakeScratch/x"), (0, ""))
+        self.assertEqual(self.run_it("-C", "c/CMakeFiles/CMakeScratch/x")[1].count("\n"), 1)
+        put("b/build.ninja", HEADER)
+        put("b/CMakeFiles/rules.ninja", HEADER)
+        self.assertEqual(self.run_it("-C", "b"), (0, "first/ninja -C b\n"))
 
     def test_which_ninja(self):
         """One that is named, or the first in the PATH that is not dyncollate-ninja itself, which may have that name."""
@@ -847,6 +1028,7 @@ class Hook(Case):
 
     def test_a_project_without_modules(self):
         """It is left alone, even if there is no program."""
+        put("b/build.ninja", f"{HEADER}include CMakeFiles/rules.ninja\n")
         put("b/CMakeFiles/rules.ninja", f"{HEADER}{RERUN}")
         self.assertEqual(self.run_it("-C", "b", "-t", "restat", "build.ninja", DYNCOLLATE="none"),
                          (0, "first/ninja -C b -t restat build.ninja\n"))
@@ -855,6 +1037,43 @@ class Hook(Case):
         os.renames("b", "c/CMakeFiles/CMakeScratch/TryCompile-x")
         words = "-C", "c/CMakeFiles/CMakeScratch/TryCompile-x", "-t", "restat", "build.ninja"
         self.assertEqual(self.run_it(*words, DYNCOLLATE="none")[0], 0)
+
+    def test_the_log_of_the_configuration(self):
+        """CMake does not print what dyncollate-ninja prints, so its log gets a line, and again only after another one of CMake's."""
+        log = Path("b/CMakeFiles/CMakeConfigureLog.yaml")
+        words = "-C", "b", "-t", "restat", "build.ninja"
+        self.run_it(*words)
+        self.assertFalse(log.exists())
+        put(log, "\n---\nevents:\n...\n")
+        for more, count in ("", 1), ("", 1), ("\n---\nevents:\n...\n", 2):
+            put(log, log.read_text() + more)
+            self.run_it(*words)
+            lines = log.read_text().splitlines()
+            self.assertEqual(lines.count(f"      dyncollate-cmake: 1 targets of b are collated by {program.PROGRAM}"), count)
+            self.assertEqual(lines[-6:-2] + lines[-1:], ["  -", '    kind: "message-v1"', "    backtrace: []", "    message: |", "..."])
+
+    def test_optional(self):
+        """What is not handled keeps CMake's step, whether the environment or CMake's cache says so. The log says it, and each build warns."""
+        words = "-C", "b", "-t", "restat", "build.ninja"
+        log, cache = Path("b/CMakeFiles/CMakeConfigureLog.yaml"), Path("b/CMakeCache.txt")
+        for value, text, status in (("1", "", 0), ("", "DYNCOLLATE_OPTIONAL:BOOL=ON\n", 0), ("", "A:BOOL=1\nDYNCOLLATE_OPTIONAL:STRING=1\n", 0),
+                                    ("0", "DYNCOLLATE_OPTIONAL:BOOL=ON\n", 1), ("", "DYNCOLLATE_OPTIONAL:BOOL=OFF\n", 1), ("", "", 1)):
+            put(cache, text)
+            put(log, "")
+            printed = "dyncollate-cmake: none: there is no such program\n" if status else f"first/ninja {' '.join(words)}\n"
+            self.assertEqual(self.run_it(*words, DYNCOLLATE="none", DYNCOLLATE_OPTIONAL=value), (status, printed))
+            self.assertEqual("dyncollate-cmake: CMake's step stays: none: there is no such program\n" in log.read_text(), not status)
+            self.assertEqual({name: Path("b", name).read_text() for name in self.texts}, self.texts)
+        put_target("t", f"{os.getcwd()}/b", **{"database-info": {"output": "x"}})
+        self.assertEqual(self.run_it(*words, DYNCOLLATE_OPTIONAL="1")[0], 0)
+        self.assertIn("warning: CMake's step collates", self.run_it("-C", "b", DYNCOLLATE_OPTIONAL="1")[1])
+        self.assertEqual(adapter("adopt", "b", env=environment(DYNCOLLATE_OPTIONAL="1"))[0], 1)
+
+    def test_a_later_cmake(self):
+        """Its step has another name: this is found from the compilations."""
+        put("b/CMakeFiles/rules.ninja", self.texts["./CMakeFiles/rules.ninja"].replace("cmake_ninja_dyndep", "cmake_step"))
+        self.assertEqual(self.run_it("-C", "b", "-t", "restat", "build.ninja"),
+                         (1, "dyncollate-cmake: b is not adopted because of t/CXX.dd: its step is not one that CMake 3.28 to 4.3 writes\n"))
 
     def test_what_is_not_handled_ends_the_generation(self):
         self.assertEqual(self.run_it("-C", "b", "-t", "restat", "build.ninja", DYNCOLLATE="none"),

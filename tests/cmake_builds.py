@@ -137,6 +137,40 @@ target_link_libraries(app PRIVATE words)
 }
 
 
+def library(name, kind="STATIC", more="", private="", linked=""):
+    """A library of CMake's language with the public module of its name, and an implementation of it if it has or links a helper."""
+    return (f"add_library({name} {kind} {f'{name}.cpp' * bool(more or private or linked)})\n"
+            f"target_sources({name} PUBLIC FILE_SET CXX_MODULES FILES {name}.cppm {more})\n"
+            + f"target_sources({name} PRIVATE FILE_SET own TYPE CXX_MODULES FILES {private})\n" * bool(private)
+            + f"target_link_libraries({name} PRIVATE {linked})\n" * bool(linked))
+
+
+def shape(libraries, *linked, own=()):
+    """A project whose libraries `a` and `b` have helper modules, all named `detail`, and a program that links these."""
+    files = {f"{it}.cppm": f"export module {it};\nexport int {it}();\n" for it in linked}
+    files.update({f"{it}.cpp": f"module {it};\nimport detail;\nint {it}() {{ return {it}_detail(); }}\n" for it in linked})
+    for it in (*linked, *own):
+        files[f"{it}d.cppm"] = f"export module detail;\nexport inline int {it}_detail() {{ return 1; }}\n"
+    calls = [f"{it}()" for it in linked] + [f"{it}_detail()" for it in own]
+    files["main.cpp"] = ("".join(f"import {it};\n" for it in (*linked, *["detail"] * len(own)))
+                         + f"int main() {{ return {' + '.join(calls)} - {len(calls)}; }}\n")
+    lists = f"{HEAD}set(CMAKE_POSITION_INDEPENDENT_CODE ON)\n{libraries}add_executable(app main.cpp)\ntarget_link_libraries(app PRIVATE "
+    return {**files, "CMakeLists.txt": f"{lists}{' '.join(linked)})\n" + "".join(
+        f"target_sources(app PRIVATE FILE_SET own TYPE CXX_MODULES FILES {it}d.cppm)\n" for it in own)}
+
+
+HELPERS = library("ad") + library("bd")
+# Modules of one name that CMake builds: private modules of two libraries; modules of libraries that only these link, as static and as
+# shared ones; and a module of the program, with one that a shared library links, or with one of a library that the program links.
+SHAPES = {
+    "private": shape(library("a", private="ad.cppm") + library("b", private="bd.cppm"), "a", "b"),
+    "linked": shape(HELPERS + library("a", linked="ad") + library("b", linked="bd"), "a", "b"),
+    "shared": shape(HELPERS + library("a", "SHARED", linked="ad") + library("b", "SHARED", linked="bd"), "a", "b"),
+    "own and hidden": shape(library("ad") + library("a", "SHARED", linked="ad"), "a", own=["own"]),
+    "own and linked": shape(library("a", more="ad.cppm"), "a", own=["own"]),
+}
+
+
 @functools.lru_cache(None)
 def cmake():
     """Returns the path of a CMake that supports modules, or None."""
@@ -322,6 +356,30 @@ class Edits:
         self.edit("b1.cppm", "^(export module b1;)", r"\1\nimport b2;")
         self.builds("b1.cppm", *self.users)
 
+    def test_an_import_that_a_link_hides(self):
+        """`far` links `hidden`, which does not pass on that it links `base`. CMake with Clang builds `far` if another import of the source
+        needs the module."""
+        line = ("dyncollate-cmake: CMakeFiles/far.dir/far.cpp.o.ddi: imports b2 of CMakeFiles/base.dir, which far reaches only through links "
+                "that hide it: target_link_libraries(far PRIVATE base) is missing")
+        self.edit("far.cpp", "^import h0;", r"import h0;\nimport b2;")
+        self.run_both()
+        self.assertTrue(all(tree.status for tree in self.trees))
+        self.assertIn("'b2' not found" if self.is_clang() else "b2", self.trees[0].log)
+        self.assertIn(line, self.trees[1].log.splitlines())
+        self.assertEqual(self.trees[1].compiled(), [])
+        self.trees[1].ninja()
+        self.assertIn(line, self.trees[1].log.splitlines())
+        self.edit("far.cpp", "^import b2;", "import b1;")
+        self.run_both()
+        self.assertIn(line.replace("b2", "b1"), self.trees[1].log.splitlines())
+        if self.is_clang():
+            self.assertEqual(self.trees[0].status, 0, self.trees[0].log)
+        self.edit("CMakeLists.txt", "^target_link_libraries.far PRIVATE hidden.", "target_link_libraries(far PRIVATE hidden base)")
+        self.run_both()
+        self.assertEqual([tree.status for tree in self.trees], [0, 0], self.trees[1].log)
+        self.assertEqual(*[tree.edges() for tree in self.trees])
+        self.idle()
+
     def test_an_import_of_a_private_module(self):
         self.edit("u1.cpp", r"^(import m0;)", r"\1\nimport own;")
         self.both_fail("M9 ModulePrivate own of CMakeFiles/base.dir in object CMakeFiles/app.dir/u1.cpp.o")
@@ -434,7 +492,7 @@ class Others:
         installed = self.trees[1].top / "installed"
         self.lay(KINDS, f"-DCMAKE_PREFIX_PATH={installed}", folder="user")
         rules = (self.trees[1].build / "CMakeFiles/rules.ninja").read_text()
-        steps = " collate .*/CXX.target.json'? && ", " --step .*/CXX.target.json\n"
+        steps = r" collate .*/CXX.target.json'? 2>&1\) && ", " --step .*/CXX.target.json\n"
         self.assertEqual([len(re.findall(it, rules)) for it in steps], [3, 4])
         self.run_both()
         for tree in self.trees:
@@ -446,6 +504,28 @@ class Others:
             self.assertEqual([len(tree.compiled()) for tree in self.trees], [count, count], source)
             self.assertEqual(*(tree.compiled() for tree in self.trees))
             self.idle()
+
+    def test_modules_of_one_name(self):
+        """Projects that CMake builds, because no import leads to two modules of one name, and what touched sources compile again."""
+        for name, files in SHAPES.items():
+            with self.subTest(name):
+                self.lay(files, folder=name)
+                self.builds(*[it for it in files if it.endswith((".cpp", ".cppm"))])
+                self.assertEqual([run(tree.build / "app") for tree in self.trees], [(0, "")] * 2)
+                for source in "ad.cppm", "a.cppm":
+                    self.touch(source)
+                    self.run_both()
+                    self.same_edges()
+                    self.idle()
+
+    def test_two_modules_of_one_name(self):
+        """Imports lead to both: no compiler builds that from the maps of CMake's step."""
+        self.lay(SHAPES["linked"])
+        for name in "a", "b":
+            self.edit(f"{name}.cppm", f"^(export module {name};)", r"\1\nimport detail;")
+        self.trees[1].ninja()
+        self.assertIn("dyncollate-cmake: CMakeFiles/app.dir: CMakeFiles/ad.dir and CMakeFiles/bd.dir both provide detail, and imports lead to "
+                      "both: a program can have only one module of a name", self.trees[1].log.splitlines())
 
     def test_a_directory_with_a_space(self):
         """A target in it has another directory for its modules, which only the program's module maps name."""
@@ -605,6 +685,52 @@ class Hook:
         self.assertFalse(tree.adopted())
         tree.ninja()
         self.assertEqual((tree.status, run(tree.build / "app")), (0, (0, "")), tree.log)
+
+    def test_what_the_configuration_says(self):
+        """CMake's log has how many targets are collated, by what, and `status` prints it."""
+        tree = self.tree()
+        line = f"dyncollate-cmake: 5 targets of {tree.build} are collated by {program.PROGRAM}, 1 of them from Python (1 with private modules)\n"
+        self.assertIn(line, (tree.build / "CMakeFiles/CMakeConfigureLog.yaml").read_text())
+        self.assertEqual(adapter("status", str(tree.build)), (0, f"{line}CMakeFiles/base.dir: private modules\n"))
+
+    def test_a_project_of_a_project(self):
+        """ExternalProject configures with the variable that it is given, and then the log of that project has the line."""
+        for name, text in PROJECT.items():
+            put(self.room / "it/inner" / name, text)
+        tree = self.tree(files={"CMakeLists.txt": f"""cmake_minimum_required(VERSION 3.28)
+project(p CXX)
+include(ExternalProject)
+ExternalProject_Add(inner SOURCE_DIR ${{CMAKE_SOURCE_DIR}}/inner INSTALL_COMMAND ""
+  CMAKE_ARGS -DCMAKE_MAKE_PROGRAM={NINJA} -DCMAKE_CXX_COMPILER={self.compiler()})
+"""})
+        tree.ninja()
+        self.assertEqual(tree.status, 0, tree.log)
+        inner, = tree.build.glob("inner-prefix/src/*-build")
+        self.assertIn("dyncollate-cmake: 5 targets of ", (inner / "CMakeFiles/CMakeConfigureLog.yaml").read_text())
+        self.assertEqual(run(inner / "app"), (0, ""))
+
+    def test_a_prefix_of_the_output_paths(self):
+        """CMake does not call `-t restat` then: the build keeps its step, and `status` and a build say so."""
+        tree = self.tree("-DCMAKE_NINJA_OUTPUT_PATH_PREFIX=sub/")
+        self.assertFalse(tree.adopted())
+        self.assertEqual(adapter("status", str(tree.build)), (1, f"dyncollate-cmake: {tree.build} has the CMAKE_NINJA_OUTPUT_PATH_PREFIX sub/, "
+                                                                 "which is not supported\n"))
+        self.assertIn("dyncollate-ninja: warning: CMake's step collates the modules of", run(NINJA, "-C", tree.build, "-n", env=environment())[1])
+
+    def test_optional(self):
+        """A preset or a cache that says so: without dyncollate, the build keeps CMake's step, also if Ninja runs CMake."""
+        tree = self.tree("-DDYNCOLLATE_OPTIONAL=ON", option="-UCMAKE_MAKE_PROGRAM")
+        tree.configuring.append(self.option)
+        for _ in range(2):
+            tree.configure(DYNCOLLATE="none")
+            self.assertFalse(tree.adopted())
+            self.assertIn("CMake's step stays: none: there is no such program\n", (tree.build / "CMakeFiles/CMakeConfigureLog.yaml").read_text())
+        os.utime(tree.top / "CMakeLists.txt")
+        status, log = run(NINJA, "-C", tree.build, env=environment(DYNCOLLATE="none"))
+        self.assertEqual((status, log.count("dyncollate-ninja: warning: CMake's step collates")), (0, 1), log)
+        self.assertEqual(run(tree.build / "app"), (0, ""))
+        tree.configure()
+        self.is_built(tree)
 
     def test_what_is_not_handled_is_an_error_of_cmake(self):
         tree = self.tree()

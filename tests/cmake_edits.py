@@ -17,7 +17,9 @@ from tests.run import run
 
 # A target may import modules of itself and of those before it.
 TARGETS = ["base", "mid", "app"]
-LINKS = {"base": "", "mid": "target_link_libraries(mid PUBLIC base)\n", "app": "target_link_libraries(app PRIVATE mid)\n"}
+# What `mid` is, how it links `base`, and what `app` links in addition. A shared library hides what it links with PRIVATE.
+LINKS = [(kind, link, more) for kind in ("STATIC", "SHARED") for link in ("PUBLIC", "PRIVATE") for more in ("", "base", "passes")]
+HIDING = "SHARED", "PRIVATE", ""
 EDITS = 30
 
 
@@ -56,7 +58,7 @@ class Project:
     """The units of a project, the sources that they stand for, and what its program has to print."""
 
     def __init__(self, choice):
-        self.choice, self.version = choice, 5
+        self.choice, self.version, self.links = choice, 5, LINKS[0]
         self.units = [Unit("interface", f"b{it}", "base") for it in range(4)] + [Unit("interface", f"m{it}", "mid") for it in range(3)]
         self.units += [Unit("impl", "b0", "base"), Unit("impl", "m0", "mid"), Unit("part", "b1:p", "base"), Unit("inner", "b0:q", "base"),
                        Unit("inner", "m0:q", "mid"), *(Unit("user", f"u{it}", "app") for it in range(2))]
@@ -110,20 +112,21 @@ class Project:
                 "version.sh": 'echo "#define VERSION $(cat "$1")"\n', **{it.file: self.text(it) for it in self.units}}
 
     def lists(self):
-        text = HEAD + ("add_custom_command(OUTPUT version.h DEPENDS ${CMAKE_SOURCE_DIR}/VERSION\n"
+        text = HEAD + ("set(CMAKE_POSITION_INDEPENDENT_CODE ON)\nadd_custom_command(OUTPUT version.h DEPENDS ${CMAKE_SOURCE_DIR}/VERSION\n"
                        "  COMMAND sh ${CMAKE_SOURCE_DIR}/version.sh ${CMAKE_SOURCE_DIR}/VERSION > version.h)\n")
         for target in TARGETS:
             own = {kinds: sorted(it.file for it in self.of(*kinds.split()) if it.target == target)
                    for kinds in ("interface part", "impl user", "inner")}
             header = ["${CMAKE_BINARY_DIR}/version.h"] * any(it.header for it in self.units if it.target == target)
             plain = " ".join(own["impl user"] + ["main.cpp"] * (target == "app") + header)
-            text += f"{'add_executable' if target == 'app' else 'add_library'}({target} {'STATIC ' * (target != 'app')}{plain})\n"
+            kind = {"base": "STATIC ", "mid": f"{self.links[0]} ", "app": ""}[target]
+            text += f"{'add_executable' if target == 'app' else 'add_library'}({target} {kind}{plain})\n"
             text += f"target_include_directories({target} PRIVATE ${{CMAKE_BINARY_DIR}})\n"
             for visibility, kinds in ("PUBLIC FILE_SET CXX_MODULES", "interface part"), ("PRIVATE FILE_SET own TYPE CXX_MODULES", "inner"):
                 if own[kinds]:
                     text += f"target_sources({target} {visibility} FILES {' '.join(own[kinds])})\n"
-            text += LINKS[target]
-        return text
+        return (f"{text}target_link_libraries(mid {self.links[1]} base)\ntarget_link_libraries(app PRIVATE mid {self.links[2]})\n"
+                "add_library(passes INTERFACE)\ntarget_link_libraries(passes INTERFACE base)\n")
 
     # ---- what is true of it
 
@@ -145,16 +148,23 @@ class Project:
         return f"{sum(map(self.value, self.users()))}\n"
 
     def is_sound(self):
-        """No module needs itself, whichever of its units does so, and no target needs a later one."""
+        """No module needs itself, whichever of its units does so, and no target needs a later one, or one that is hidden."""
         needed = {it.module: set() for it in self.units}
         for unit in self.units:
             needed[unit.module].update(self.provider(it).module for it in unit.imports if self.provider(it).module != unit.module)
             if any(TARGETS.index(self.provider(it).target) > TARGETS.index(unit.target) for it in unit.imports):
                 return False
+        if self.hidden_imports():
+            return False
         while free := [it for it in needed if not needed[it] & needed.keys()]:
             for it in free:
                 del needed[it]
         return not needed
+
+    def hidden_imports(self):
+        """The units of the program that import from `base`, and their imports, if that is hidden."""
+        found = [(unit, name) for unit in self.users() for name in unit.imports if self.provider(name).target == "base"]
+        return found if self.links == HIDING else []
 
     def dependents(self, changed):
         """The units that have to be compiled if these have changed."""
@@ -204,7 +214,8 @@ class Project:
         return "another version in the generated header"
 
     def new_module(self):
-        unit = Unit("interface", f"n{len(self.units)}_{self.choice.randrange(1000)}", self.choice.choice(TARGETS[:2]))
+        target = self.choice.choice(TARGETS[self.links == HIDING:2])
+        unit = Unit("interface", f"n{len(self.units)}_{self.choice.randrange(1000)}", target)
         self.units.append(unit)
         self.choice.choice(self.users()).imports.append(unit.name)
         return f"new module {unit.name}"
@@ -227,6 +238,10 @@ class Project:
         for it in self.units:
             it.imports = [unit.name if name == old else name for name in it.imports]
         return f"{old} is now {unit.name}"
+
+    def change_links(self):
+        self.links = self.choice.choice([HIDING] * 6 + LINKS)
+        return f"the links are {' '.join(self.links)}"
 
     def move(self):
         alone = [it for it in self.of("interface") if not (it.header or self.of("impl", "part", "inner", module=it.name))]
@@ -276,7 +291,7 @@ class RandomEdits:
 
     def edit(self):
         """Makes an edit and checks the build, or returns None."""
-        kind = self.choice.choices([self.change, self.restructure, self.lose, self.fail_and_repair], [60, 15, 15, 10])[0]
+        kind = self.choice.choices([self.change, self.restructure, self.lose, self.fail_and_repair], [50, 25, 15, 10])[0]
         return kind()
 
     def change(self):
@@ -293,12 +308,25 @@ class RandomEdits:
     def restructure(self):
         """Edits of CMake's lists: CMake runs again, and the build stays adopted."""
         project = self.project
-        what = self.choice.choice([project.new_module, project.change_inner, project.change_inner, project.rename, project.move])()
+        what = self.choice.choice([project.new_module, project.change_inner, project.change_inner, project.rename, project.move,
+                                   *[project.change_links] * 3])()
         if what:
             self.write()
+            if project.hidden_imports():
+                self.is_rejected(what)
             self.is_right(what)
             self.assertTrue(self.tree.adopted(), what)
         return what
+
+    def is_rejected(self, what):
+        """The program imports what is hidden now, until the imports are dropped."""
+        self.tree.ninja()
+        self.assertNotEqual(self.tree.status, 0, what)
+        self.assertRegex(self.tree.log, r"\ndyncollate-cmake: .*: imports \w+ of CMakeFiles/base.dir, which app reaches only through ")
+        for unit, name in self.project.hidden_imports():
+            unit.imports.remove(name)
+            unit.imports = unit.imports or ["m0"]
+        self.write()
 
     def lose(self):
         """A file that the build has made is deleted."""
@@ -347,13 +375,13 @@ class EditsWithGcc(RandomEdits, Builds):
     compiler, package = staticmethod(gcc), "g++-14"
 
 
-def main():
-    arguments = argparse.ArgumentParser(description="Random edits of a project that CMake builds with dyncollate.")
+def main(clang=EditsWithClang, gcc=EditsWithGcc, tool="CMake"):
+    arguments = argparse.ArgumentParser(description=f"Random edits of a project that {tool} builds with dyncollate.")
     arguments.add_argument("compiler", choices=["clang", "gcc"])
     arguments.add_argument("--seed", type=int, default=random.randrange(1 << 30))
     arguments.add_argument("--edits", type=int, default=EDITS)
     given = arguments.parse_args()
-    test = (EditsWithClang if given.compiler == "clang" else EditsWithGcc)("test_edits")
+    test = (clang if given.compiler == "clang" else gcc)("test_edits")
     test.setUp()
     try:
         test.edits(given.seed, given.edits, lambda number, what: print(number, what, flush=True))

@@ -11,6 +11,9 @@ builds are the same directory, and their dyndep files must say the same.
 
 A run of CMake's step that takes longer than LIMIT is stopped, and the table has `-`. The environment may name CMAKE (3.28 or newer),
 NINJA and CXX, a Clang.
+
+A second table has the time of CMake itself, for 200 and 1,000 targets as far as that is no more than 5 TARGETS: with Ninja, and with
+`dyncollate-ninja`, which adopts the build at the end of each run. The runs alternate, so both meet the same load.
 """
 import os
 import resource
@@ -30,6 +33,7 @@ from tests.cmake import statements  # noqa: E402, the path comes first
 CMAKE, NINJA = os.environ.get("CMAKE", "cmake"), os.environ.get("NINJA", "ninja")
 CXX = os.environ.get("CXX") or next(filter(shutil.which, ["clang++-19", "clang++-21", "clang++"]))
 SIZES = 50, 100, 200
+CONFIGURED = 200, 1000
 ROUNDS, LIMIT, PATIENCE = 5, 300, 20
 MODULES, WIDTH = 3, 20
 STEPS = "CMake's step", "dyncollate"
@@ -71,6 +75,12 @@ def write_project(top, form, targets):
 
 # ---- builds
 
+def processor_ms():
+    """The processor time of all processes that have ended, in milliseconds."""
+    used = resource.getrusage(resource.RUSAGE_CHILDREN)
+    return (used.ru_utime + used.ru_stime) * 1e3
+
+
 class Build:
     def __init__(self, room, form, targets):
         self.top = room / "build"
@@ -98,7 +108,7 @@ class Build:
         """Collates all targets, and returns the processor time in milliseconds, or None if it took too long."""
         for it in self.made():
             it.unlink()
-        before = resource.getrusage(resource.RUSAGE_CHILDREN)
+        before = processor_ms()
         run = subprocess.Popen([NINJA, "-C", self.top, "-j1", *self.dyndeps], stdout=subprocess.DEVNULL, start_new_session=True)
         try:
             status = run.wait(LIMIT)
@@ -107,8 +117,7 @@ class Build:
             run.wait()
             return None
         assert not status, "the collation failed"
-        after = resource.getrusage(resource.RUSAGE_CHILDREN)
-        return sum(getattr(after, it) - getattr(before, it) for it in ("ru_utime", "ru_stime")) * 1e3
+        return processor_ms() - before
 
     def collations(self):
         """The times of some collations, fewer if they take long."""
@@ -140,6 +149,22 @@ def measure(form, targets):
         assert all(it == edges[0] for it in edges), "the dyndep files differ"
 
 
+def measure_configuring(form, targets):
+    """Prints the best and the median time of CMake with both programs, and how much longer the second takes at best."""
+    with tempfile.TemporaryDirectory(prefix="dyncollate-") as room:
+        write_project(Path(room, "project"), form, targets)
+        times = {shutil.which(NINJA): [], f"{TOP}/cmake/dyncollate-ninja": []}
+        for _ in range(ROUNDS):
+            for program, its_times in times.items():
+                before = processor_ms()
+                Build.call(CMAKE, "-G", "Ninja", "-S", f"{room}/project", "-B", f"{room}/{Path(program).name}",
+                           f"-DCMAKE_CXX_COMPILER={CXX}", f"-DCMAKE_MAKE_PROGRAM={program}")
+                its_times.append(processor_ms() - before)
+        ninja, ours = times.values()
+        said = [f"{it:,.0f}" for its in (ninja, ours) for it in (min(its), statistics.median(its))]
+        print(f"{form:8} {targets:8} {' '.join(f'{it:>10}' for it in said)} {min(ours) / min(ninja) - 1:7.0%}", flush=True)
+
+
 def main(words):
     largest = int(words[0]) if words else SIZES[-1]
     print(Build.call(CMAKE, "--version").splitlines()[0], "with", CXX)
@@ -148,6 +173,11 @@ def main(words):
         for targets in SIZES:
             if targets <= largest:
                 measure(form, targets)
+    print(f"{'configure':17} {'ninja ms':>10} {'median':>10} {'hook ms':>10} {'median':>10} {'more':>7}")
+    for form in "layers", "chain":
+        for targets in CONFIGURED:
+            if targets <= 5 * largest:
+                measure_configuring(form, targets)
 
 
 if __name__ == "__main__":
