@@ -1,4 +1,5 @@
-"""Chromium without a window, which is called by the DevTools protocol over two pipes."""
+"""Browsers without a window: Chromium, by the DevTools protocol over two pipes, and Firefox, by Marionette, which is
+how geckodriver speaks WebDriver to it."""
 import base64
 import fcntl
 import itertools
@@ -6,17 +7,38 @@ import json
 import os
 import select
 import shutil
+import socket
 import subprocess
 import tempfile
 import time
+from pathlib import Path
 
 CHROMIUM = next(filter(None, map(shutil.which, ("chromium", "chromium-browser", "google-chrome"))), None)
-SECONDS = 120
-KEYS = {"Tab": 9, "Enter": 13, "End": 35, "Home": 36, "ArrowLeft": 37, "ArrowUp": 38, "ArrowRight": 39, "ArrowDown": 40}
+FIREFOX = next(filter(None, map(shutil.which, ("firefox-esr", "firefox"))), None)
+SECONDS = 300
+QUIET = {"stdin": subprocess.DEVNULL, "stdout": subprocess.DEVNULL, "stderr": subprocess.DEVNULL}
+KEYS = {"Tab": 9, "Enter": 13, "End": 35, "Home": 36, "ArrowLeft": 37, "ArrowUp": 38, "ArrowRight": 39, "ArrowDown": 40,
+        "Delete": 46, "/": 191}
 
 
-class Browser:
-    """A browser with one page, which is 1280 by 860 in light colours at first."""
+class Page:
+    """A page of dyncollate in a browser, whichever that is."""
+
+    def wait(self, condition):
+        end = time.monotonic() + SECONDS
+        while not self.evaluate(condition):
+            if time.monotonic() > end or self.errors()[0]:
+                shown = self.evaluate("document.body?.innerText.slice(0, 400)")
+                raise AssertionError(f"it is not so that {condition}: {self.errors()} {shown}")
+            time.sleep(0.05)
+
+    def settle(self):
+        """Waits until the page has done what it began."""
+        self.wait("document.documentElement.dataset.busy === 'no'")
+
+
+class Browser(Page):
+    """Chromium with one page, which is 1280 by 860 in light colours at first."""
 
     def __init__(self):
         self.folder = tempfile.mkdtemp(prefix="dyncollate-")
@@ -28,8 +50,7 @@ class Browser:
             os.dup2(theirs_in, 3)
             os.dup2(theirs_out, 4)
         command = [CHROMIUM, *options, f"--user-data-dir={self.folder}", "about:blank"]
-        quiet = {"stdin": subprocess.DEVNULL, "stdout": subprocess.DEVNULL, "stderr": subprocess.DEVNULL}
-        self.process = subprocess.Popen(command, pass_fds=(3, 4), preexec_fn=open_pipes, **quiet)
+        self.process = subprocess.Popen(command, pass_fds=(3, 4), preexec_fn=open_pipes, **QUIET)
         os.close(theirs_in)
         os.close(theirs_out)
         self.numbers, self.text, self.session, self.events = itertools.count(1), b"", None, []
@@ -85,14 +106,6 @@ class Browser:
         self.call("Page.navigate", url=address)
         self.wait("document.documentElement?.dataset.ready === 'yes'")
 
-    def wait(self, condition):
-        end = time.monotonic() + SECONDS
-        while not self.evaluate(condition):
-            if time.monotonic() > end or any(it.get("method") == "Runtime.exceptionThrown" for it in self.events):
-                shown = self.evaluate("document.body?.innerText.slice(0, 400)")
-                raise AssertionError(f"it is not so that {condition}: {self.errors()} {shown}")
-            time.sleep(0.05)
-
     def resize(self, width, height, scale=1, dark=False):
         self.call("Emulation.setDeviceMetricsOverride", width=width, height=height, deviceScaleFactor=scale, mobile=width < 600)
         self.call("Emulation.setEmulatedMedia", features=[{"name": "prefers-color-scheme", "value": "dark" if dark else "light"}])
@@ -104,6 +117,12 @@ class Browser:
             if key == "Enter":
                 self.call("Input.dispatchKeyEvent", type="char", key=key, code=key, text="\r")
 
+    def click(self, x, y, to=None):
+        """Clicks at a point, or drags from there to another one."""
+        for kind, at in ("mousePressed", (x, y)), ("mouseMoved", to or (x, y)), ("mouseReleased", to or (x, y)):
+            self.call("Input.dispatchMouseEvent", type=kind, x=at[0], y=at[1], button="left",
+                      buttons=int(kind != "mouseReleased"), clickCount=1)
+
     def type(self, text):
         self.call("Input.insertText", text=text)
 
@@ -112,6 +131,19 @@ class Browser:
         data = {"items": [], "files": list(names), "dragOperationsMask": 1}
         for kind in "dragEnter", "dragOver", "drop":
             self.call("Input.dispatchDragEvent", type=kind, x=300, y=300, data=data)
+        self.settle()
+
+    def longest_block(self, does):
+        """The milliseconds of the processor that the longest task of the page takes while `does` is called."""
+        kinds = {"includedCategories": ["disabled-by-default-devtools.timeline"], "excludedCategories": ["*"]}
+        self.call("Tracing.start", transferMode="ReportEvents", traceConfig=kinds)
+        does()
+        self.call("Tracing.end")
+        while self.events[-1].get("method") != "Tracing.tracingComplete":
+            self.events.append(self.message())
+        found = [it for event in self.events if event.get("method") == "Tracing.dataCollected" for it in event["params"]["value"]]
+        names = {it["tid"]: it["args"]["name"] for it in found if it["name"] == "thread_name"}
+        return max(it.get("tdur", 0) for it in found if names.get(it["tid"]) == "CrRendererMain" and it["name"] == "RunTask") / 1000
 
     def errors(self):
         """What the page wrote to the console as an error, and the addresses that it asked for."""
@@ -123,6 +155,118 @@ class Browser:
     def screenshot(self, name):
         with open(name, "wb") as file:
             file.write(base64.b64decode(self.call("Page.captureScreenshot", format="png")["data"]))
+
+
+class Firefox(Page):
+    """Firefox with one page."""
+
+    KEYS = {"Tab": "\ue004", "Enter": "\ue007", "End": "\ue010", "Home": "\ue011", "ArrowLeft": "\ue012", "ArrowUp": "\ue013",
+            "ArrowRight": "\ue014", "ArrowDown": "\ue015", "Delete": "\ue017", "/": "/"}
+
+    def __init__(self):
+        self.folder, self.numbers = tempfile.mkdtemp(prefix="dyncollate-"), itertools.count(1)
+        Path(self.folder, "user.js").write_text('user_pref("marionette.port", 0);\nuser_pref("app.normandy.enabled", false);\n')
+        command = [FIREFOX, "--headless", "--marionette", "-remote-allow-system-access", "--no-remote", "--profile", self.folder, "about:blank"]
+        self.process = subprocess.Popen(command, **QUIET)
+        port, end = Path(self.folder, "MarionetteActivePort"), time.monotonic() + SECONDS
+        while not (port.exists() and port.read_text()):
+            if time.monotonic() > end or self.process.poll() is not None:
+                raise AssertionError("Firefox does not start")
+            time.sleep(0.05)
+        self.socket = socket.create_connection(("127.0.0.1", int(port.read_text())), SECONDS)
+        self.file = self.socket.makefile("rb")
+        self.message()
+        self.call("WebDriver:NewSession")
+        self.call("WebDriver:SetTimeouts", script=SECONDS * 1000, pageLoad=SECONDS * 1000)
+        self.resize(1280, 860)
+
+    def close(self):
+        self.file.close()
+        self.socket.close()
+        self.process.kill()
+        self.process.wait()
+        shutil.rmtree(self.folder, ignore_errors=True)
+
+    def message(self):
+        size = b""
+        while not size.endswith(b":"):
+            part = self.file.read(1)
+            if not part:
+                raise AssertionError("Firefox ended")
+            size += part
+        return json.loads(self.file.read(int(size[:-1])))
+
+    def call(self, command, **given):
+        text = json.dumps([0, next(self.numbers), command, given]).encode()
+        self.socket.sendall(b"%d:%s" % (len(text), text))
+        _, _, error, result = self.message()
+        if error:
+            raise AssertionError(f"{command}: {error}")
+        return result
+
+    def evaluate(self, expression, **given):
+        return self.call("WebDriver:ExecuteScript", script=f"return ({expression});", args=[], **given)["value"]
+
+    def open(self, address):
+        self.of_browser("Services.console.reset()")
+        self.call("WebDriver:Navigate", url="about:blank")
+        self.call("WebDriver:Navigate", url=address)
+        self.wait("document.documentElement.dataset.ready === 'yes'")
+
+    def resize(self, width, height):
+        """The window is larger than the page by its frame."""
+        for _ in range(2):
+            frame = self.evaluate("[outerWidth - innerWidth, outerHeight - innerHeight]")
+            self.call("WebDriver:SetWindowRect", width=width + frame[0], height=height + frame[1])
+
+    def press(self, *keys):
+        actions = [{"type": kind, "value": self.KEYS[key]} for key in keys for kind in ("keyDown", "keyUp")]
+        self.act({"type": "key", "id": "keys", "actions": actions})
+
+    def click(self, x, y, to=None):
+        """Clicks at a point, or drags from there to another one."""
+        moves = [{"type": "pointerMove", "x": round(it[0]), "y": round(it[1]), "duration": 0} for it in ((x, y), to or (x, y))]
+        actions = [moves[0], {"type": "pointerDown", "button": 0}, moves[1], {"type": "pointerUp", "button": 0}]
+        self.act({"type": "pointer", "id": "mouse", "actions": actions})
+
+    def act(self, source):
+        self.call("WebDriver:PerformActions", actions=[source])
+        self.call("WebDriver:ReleaseActions")
+
+    def drop(self, *names):
+        """Chooses files or a directory as the dialog does, because only the system can drop them."""
+        is_directory, text = os.path.isdir(names[0]), json.dumps(names)
+        found = f"new Directory({text}[0]).getFiles(true)" if is_directory else f"Promise.all({text}.map((it) => File.createFromFileName(it)))"
+        name, message = "directorychooser" if is_directory else "chooser", f"{self.folder} {next(self.numbers)}"
+        script = (f"data:,addMessageListener('{message}', ({{ data }}) => {{ const input = content.document.getElementById('{name}');"
+                  "input.mozSetFileArray(data); input.dispatchEvent(new content.Event('change', { bubbles: true })); })")
+        self.evaluate("document.documentElement.dataset.busy = 'chosen'")
+        self.of_browser(f"""(async () => {{ const files = await {found}, {{ messageManager }} = gBrowser.selectedBrowser;
+            messageManager.loadFrameScript({json.dumps(script)}, false);
+            messageManager.sendAsyncMessage("{message}", files); }})()""")
+        self.settle()
+
+    def longest_block(self, does):
+        """Not measured: Firefox does not say how long a task has had the processor."""
+        does()
+
+    def of_browser(self, expression):
+        """The value of an expression of the browser itself."""
+        self.call("Marionette:SetContext", value="chrome")
+        try:
+            return self.evaluate(expression)
+        finally:
+            self.call("Marionette:SetContext", value="content")
+
+    def errors(self):
+        """What the page wrote to the console as an error, and the addresses that it asked for."""
+        thrown = self.of_browser("Services.console.getMessageArray().filter((it) => it instanceof Ci.nsIScriptError && !(it.flags & 1) &&"
+                                 " /^(file|blob):/.test(it.sourceName)).map((it) => it.message)")
+        asked = self.evaluate("performance.getEntriesByType('resource').map((it) => it.name)")
+        return thrown, [it for it in asked if not it.startswith(("file:", "about:", "data:", "blob:"))]
+
+    def screenshot(self, name):
+        Path(name).write_bytes(base64.b64decode(self.call("WebDriver:TakeScreenshot", full=False)["value"]))
 
 
 def above(number):

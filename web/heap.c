@@ -5,7 +5,8 @@
    its size, and the next allocation of that size takes it from there. If the list is empty, the block is taken from the end of the
    memory, which grows. A call of the library frees all that it allocated, so the next call finds its blocks in the lists.
 
-   This file is not proved. tests/web.py runs each row of tests/rows with it, and calls that run out of memory. */
+   This file is not proved. tests/web.py runs each row of tests/rows with it, and calls that run out of memory. tests/web_functions.c
+   calls its functions. */
 typedef __SIZE_TYPE__ size;
 
 typedef struct block {
