@@ -75,7 +75,7 @@ extern "C" {
 
 /* The version of this header: 10000 times the major version, 100 times the minor one, and the patch,
    so that 1.2.3 is 10203. */
-#define DYNCOLLATE_VERSION 10100
+#define DYNCOLLATE_VERSION 10200
 
 /* Returns the version of the library that the program runs with. It is at least that of the header
    if the library is newer. All libraries with the major version 1 have the name libdyncollate.so.1,

@@ -4,17 +4,20 @@
 //     for (const dyncollate::file &made : dyncollate::collate(document, files))
 //         write(made.name, made.data);
 //
-// `files` is any range of pairs of strings or string views: names, and the bytes of the files. A command that fails throws
-// dyncollate::error. If an allocation fails, std::bad_alloc is thrown, and if a name is not UTF-8, std::invalid_argument.
+// `files` is any range of pairs of strings or string views: names, and the bytes of the files. A
+// command that fails throws dyncollate::error. If an allocation fails, std::bad_alloc is thrown,
+// and if a name is not UTF-8, std::invalid_argument.
 #ifndef DYNCOLLATE_HPP
 #define DYNCOLLATE_HPP
 
 #include "dyncollate.h"
 
+#include <initializer_list>
 #include <new>
 #include <stdexcept>
 #include <string>
 #include <string_view>
+#include <tuple>
 #include <utility>
 #include <vector>
 
@@ -26,7 +29,8 @@ inline const std::uint8_t *bytes(std::string_view text) { return reinterpret_cas
 
 }  // namespace detail
 
-// The location of the error of a line. The line may be without the name of the program and without its end.
+// The location of the error of a line. The line may be without the name of the program and without
+// its end.
 inline dyncollate_location locate(std::string_view line)
 {
     const std::string_view name = "dyncollate: ";
@@ -35,12 +39,87 @@ inline dyncollate_location locate(std::string_view line)
     return dyncollate_locate(detail::bytes(whole), whole.size());
 }
 
-// A command that fails: its status, DYNCOLLATE_REJECTED or DYNCOLLATE_UNREAD, as what() its line on standard error, and the location of the error.
+// A command that fails: what() is its line on standard error.
 struct error : std::runtime_error {
-    error(std::uint32_t with, const std::string &line) : std::runtime_error(line), status(with), location(locate(line)) {}
-    std::uint32_t status;
+    error(std::uint32_t with, const std::string &line);
+
+    std::uint32_t status;  // DYNCOLLATE_REJECTED or DYNCOLLATE_UNREAD
     dyncollate_location location;
+    // The code, such as "M5", and the name after it, "ModuleUnknown". A cycle of edges and a file
+    // that cannot be read have neither.
+    std::string code, name;
+    // The modules, files and targets in the line, in its order; for a cycle all that are on it; for
+    // S3 the member.
+    std::vector<std::string> names;
 };
+
+namespace detail {
+
+// Takes what is before the first or the last of these separators off a text, and the separator.
+inline std::string cut(std::string_view &text, std::initializer_list<std::string_view> separators,
+                       bool is_last = false)
+{
+    std::size_t end = text.npos, size = 0;
+    for (const std::string_view it : separators) {
+        const std::size_t at = is_last ? text.rfind(it) : text.find(it);
+        if (at != text.npos && (end == text.npos || (at > end) == is_last)) {
+            end = at;
+            size = it.size();
+        }
+    }
+    std::string part(text.substr(0, end));
+    text.remove_prefix(end == text.npos ? text.size() : end + size);
+    return part;
+}
+
+// What an error with this code, or without one, names.
+inline std::vector<std::string> names_of(const std::string &code, std::string_view text)
+{
+    std::vector<std::string> names;
+    if (code == "M3" || code == "M4") {
+        names = {cut(text, {" by object ", " by info "}),
+                 cut(text, {" and object ", " and info "}, true)};
+    } else if (code == "M5") {
+        names = {cut(text, {" in "})};
+    } else if (code == "M6" || code == "M7") {
+        const std::size_t last = text.rfind(' '), before = text.rfind(' ', last - 1);
+        names.emplace_back(text.substr(0, before));
+        names.emplace_back(text.substr(before + 1, last - before - 1));
+        text.remove_prefix(last + 1);
+    } else if (code == "M9") {
+        names = {cut(text, {" of "}), cut(text, {" in object ", " in info "})};
+    } else if (code == "M8" || code.empty()) {
+        while (text.find(" -> ") != text.npos)
+            names.push_back(cut(text, {" -> "}));
+    } else if (code == "E3" || code == "E8" || code.find_first_of("MKE") != 0) {
+        cut(text, {" member "});
+    }
+    if (!text.empty())
+        names.emplace_back(text);
+    return names;
+}
+
+}  // namespace detail
+
+inline error::error(std::uint32_t with, const std::string &line)
+    : std::runtime_error(line), status(with), location(locate(line))
+{
+    std::string_view rest = line;
+    const auto begins = [&](std::string_view word) { return rest.substr(0, word.size()) == word; };
+    // Labels, such as "dyncollate: target 2: scan 0: ", are before the error.
+    const auto is_code = [&] { return rest[0] >= 'A' && rest[0] <= 'Z'; };
+    while (!rest.empty() && !is_code() && !begins("cycle ") && !begins("cannot read "))
+        detail::cut(rest, {": "});
+    if (location.letter) {
+        code = detail::cut(rest, {" "});
+        name = detail::cut(rest, {" "});
+        names = detail::names_of(code, rest);
+    } else if (begins("cycle ")) {
+        names = detail::names_of("", rest.substr(6));
+    } else if (begins("cannot read ")) {
+        names.emplace_back(rest.substr(12));
+    }
+}
 
 // A file to write. If `restat`, it is left alone if it already has these bytes.
 struct file {
@@ -97,6 +176,16 @@ struct reply {
     }
 };
 
+// What a command prints that is given strings.
+template <class Function, class... Strings>
+std::string printed(Function function, Strings... strings)
+{
+    const auto given = std::tuple_cat(std::make_tuple(bytes(strings), strings.size())...);
+    return reply([&](auto... room) {
+        return std::apply([&](auto... it) { return function(it..., room...); }, given);
+    }).printed();
+}
+
 template <class Files, class Function>
 std::vector<file> collated(Function function, std::string_view document, const Files &files)
 {
@@ -137,18 +226,40 @@ std::vector<file> project(std::string_view document, const Files &files)
 // The dyndep file of a scan document.
 inline std::string one(std::string_view scan, std::string_view dir, std::string_view ext)
 {
-    using detail::bytes;
-    return detail::reply([&](auto... room) {
-        return dyncollate_one(bytes(scan), scan.size(), bytes(dir), dir.size(), bytes(ext), ext.size(), room...);
-    }).printed();
+    return detail::printed(dyncollate_one, scan, dir, ext);
 }
 
-// The statements of a dyndep file. The line of an error has the number of the faulty line: `line 2: Y8 BadLine`.
+// The edge list as it is once Ninja has loaded the dyndep file under this name.
+inline std::string effect(std::string_view name, std::string_view edges, std::string_view dyndep)
+{
+    return detail::printed(dyncollate_effect, name, edges, dyndep);
+}
+
+// The first outputs of the edges, each after those that it needs.
+inline std::vector<std::string> order(std::string_view edges)
+{
+    const std::string lines = detail::printed(dyncollate_order, edges);
+    std::vector<std::string> outputs;
+    for (std::string_view rest = lines; !rest.empty();)
+        outputs.push_back(detail::cut(rest, {"\n"}));
+    return outputs;
+}
+
+// The dyndep file as `dyncollate` writes it.
+inline std::string show(std::string_view dyndep)
+{
+    return detail::printed(dyncollate_show, dyndep);
+}
+
+// The statements of a dyndep file.
 inline std::vector<statement> statements(std::string_view dyndep)
 {
-    detail::reply got([&](auto... room) { return dyncollate_statements(detail::bytes(dyndep), dyndep.size(), room...); });
+    detail::reply got([&](auto... room) {
+        return dyncollate_statements(detail::bytes(dyndep), dyndep.size(), room...);
+    });
     if (got.status != DYNCOLLATE_DONE)
-        throw error(got.status, "line " + std::to_string(got.number()) + ": " + got.text);
+        throw error(got.status,
+                    "dyncollate: line " + std::to_string(got.number()) + ": " + got.text);
     std::vector<statement> found;
     while (got.more()) {
         statement &it = found.emplace_back();

@@ -3,16 +3,22 @@
 
     wheels.py LIBRARY MACHINE [DIRECTORY]
 
-writes one into the directory that has the shared object LIBRARY in it, for MACHINE, x86_64 or aarch64, and prints its name. The
-library may need glibc 2.17 at most, as the tag manylinux2014 says. The same files give the same bytes.
+writes one into the directory that has the shared object LIBRARY in it, for MACHINE, x86_64 or
+aarch64, and prints its name. The library may need glibc 2.17 at most, as the tag manylinux2014
+says. The same files give the same bytes.
 
-pip also calls this file, by pyproject.toml. The wheel has no library then, and loads the one that the system finds.
+pip and other frontends also call this file, by pyproject.toml (PEP 517 and 660). What they make has
+no library in it, and loads the one that the system finds.
 """
 import base64
+import gzip
 import hashlib
+import io
+import json
 import re
 import subprocess
 import sys
+import tarfile
 import zipfile
 from pathlib import Path
 
@@ -28,11 +34,20 @@ class Wrong(Exception):
 
 def metadata():
     """The name and the version of the package, and its METADATA."""
-    project = dict(re.findall(r'^([\w-]+) = "(.*)"$', (HERE / "pyproject.toml").read_text(encoding="utf-8"), re.M))
-    version = re.search(r'^__version__ = "(.*)"$', (HERE / "dyncollate/__init__.py").read_text(encoding="utf-8"), re.M)[1]
-    text = (f"Metadata-Version: 2.1\nName: {project['name']}\nVersion: {version}\nSummary: {project['description']}\n"
-            f"Requires-Python: {project['requires-python']}\nDescription-Content-Type: text/markdown\n\n")
-    return project["name"], version, text + (HERE / project["readme"]).read_text(encoding="utf-8")
+    values = re.findall(r'^([\w-]+) = (".*"|\[[^]]*\])$', text_of("pyproject.toml"), re.M)
+    project = {name: json.loads(value) for name, value in values}
+    version = re.search(r'^__version__ = "(.*)"$', text_of("dyncollate/__init__.py"), re.M)[1]
+    fields = [("Metadata-Version", "2.1"), ("Name", project["name"]), ("Version", version),
+              ("Summary", project["description"]), ("Keywords", ",".join(project["keywords"])),
+              *(("Classifier", it) for it in project["classifiers"]),
+              ("Requires-Python", project["requires-python"]),
+              ("Description-Content-Type", "text/markdown")]
+    lines = "".join(f"{name}: {value}\n" for name, value in fields)
+    return project["name"], version, f"{lines}\n{text_of(project['readme'])}"
+
+
+def text_of(name):
+    return (HERE / name).read_text(encoding="utf-8")
 
 
 def check(library, machine):
@@ -54,19 +69,33 @@ def recorded(name, data):
     return f"{name},sha256={digest},{len(data)}\n"
 
 
+def modules(name):
+    """The files of the package, by their paths in a wheel."""
+    files = [*sorted((HERE / name).glob("*.py")), HERE / name / "py.typed"]
+    return {f"{name}/{it.name}": it.read_bytes() for it in files}
+
+
 def write(folder, library=None, machine=None):
     """Writes a wheel, with the library for the machine or without one. Returns its name."""
-    name, version, described = metadata()
-    platforms = [f"manylinux_{GLIBC[0]}_{GLIBC[1]}_{machine}", f"manylinux2014_{machine}"] if library else ["any"]
-    files = {f"{name}/{it.name}": it.read_bytes() for it in sorted((HERE / name).glob("*.py"))}
-    files[f"{name}/py.typed"] = b""
+    name = metadata()[0]
+    files = modules(name)
     if library:
         files[f"{name}/libdyncollate.so.1"] = check(Path(library), machine)
+    platforms = ["manylinux_{}_{}_".format(*GLIBC) + str(machine), f"manylinux2014_{machine}"]
+    return pack(folder, files, platforms if library else ["any"])
+
+
+def pack(folder, files, platforms):
+    """Writes a wheel of these files for these platforms. Returns its name."""
+    name, version, described = metadata()
+    is_pure = str(platforms == ["any"]).lower()
     info = f"{name}-{version}.dist-info"
     files[f"{info}/METADATA"] = described.encode()
-    files[f"{info}/WHEEL"] = (f"Wheel-Version: 1.0\nGenerator: dyncollate\nRoot-Is-Purelib: {str(not library).lower()}\n"
-                              + "".join(f"Tag: py3-none-{it}\n" for it in platforms)).encode()
-    files[f"{info}/RECORD"] = ("".join(recorded(*it) for it in files.items()) + f"{info}/RECORD,,\n").encode()
+    lines = ["Wheel-Version: 1.0", "Generator: dyncollate", f"Root-Is-Purelib: {is_pure}",
+             *(f"Tag: py3-none-{it}" for it in platforms)]
+    files[f"{info}/WHEEL"] = "".join(f"{it}\n" for it in lines).encode()
+    record = "".join(recorded(*it) for it in files.items())
+    files[f"{info}/RECORD"] = f"{record}{info}/RECORD,,\n".encode()
     wheel = f"{name}-{version}-py3-none-{'.'.join(platforms)}.whl"
     with zipfile.ZipFile(Path(folder, wheel), "w") as archive:
         for path, data in files.items():
@@ -77,8 +106,27 @@ def write(folder, library=None, machine=None):
 
 
 def build_wheel(wheel_directory, config_settings=None, metadata_directory=None):
-    """pip calls this (PEP 517)."""
     return write(wheel_directory)
+
+
+def build_editable(wheel_directory, config_settings=None, metadata_directory=None):
+    """A wheel that has only the path of the sources: their changes are in effect at once."""
+    return pack(wheel_directory, {"dyncollate.pth": f"{HERE}\n".encode()}, ["any"])
+
+
+def build_sdist(sdist_directory, config_settings=None):
+    name, version, described = metadata()
+    files = modules(name) | {"PKG-INFO": described.encode()}
+    files |= {it: (HERE / it).read_bytes() for it in ("README.md", "pyproject.toml", "wheels.py")}
+    packed = io.BytesIO()
+    with tarfile.open(fileobj=packed, mode="w") as archive:
+        for path, data in files.items():
+            entry = tarfile.TarInfo(f"{name}-{version}/{path}")
+            entry.size = len(data)
+            archive.addfile(entry, io.BytesIO(data))
+    file = f"{name}-{version}.tar.gz"
+    Path(sdist_directory, file).write_bytes(gzip.compress(packed.getvalue(), mtime=0))
+    return file
 
 
 def main(words):

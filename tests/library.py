@@ -69,7 +69,7 @@ class Statements(unittest.TestCase):
         except module.Error as error:
             self.assertEqual(row.status, 1)
             self.assertEqual(error.status, 1)
-            self.assertTrue(row.line.startswith(error.line.encode()), (row.line, error.line))
+            self.assertEqual(error.line.encode(), b"dyncollate: " + row.line)
         else:
             self.assertEqual(b"".join([V, *map(statement_line, statements)]), row.out)
 

@@ -10,6 +10,7 @@ from tests import embedded
 from tests.case import each, tree
 from tests.files import DATA, TARGETS, document
 from tests.program import TOP
+from tests.python_package import ERRORS
 from tests.run import InRoom, output_of, run, run_apart
 
 NEEDS_LIBRARY = True
@@ -178,17 +179,31 @@ class Examples(InRoom):
 
     @embedded.needs_tools("g++")
     def test_wrapper(self):
-        """dyncollate.hpp: statements, files and errors."""
-        program = embedded.compiled("g++", "-std=c++17", "-pedantic", "-Wconversion", *SANITIZED, f"{TOP}/tests/wrapper.cpp", embedded.STATIC,
-                                    to=self.room / "wrapper")
+        """dyncollate.hpp: statements, files and errors, and what it throws if an allocation fails."""
+        program = self.wrapper()
         info = '{"modules":[],"target":"t","version":2}'
         dyndep = "ninja_dyndep_version = 1\nbuild b.o: dyndep\n"
-        self.assertEqual(run_apart(program), (0, (
+        self.assertEqual(run_apart(program, seconds=60), (0, (
             "a restat: b c | d e f\ng: |\n3000 object2999.o m2999\n" + dyndep +
             f"i {len(info)} restat\nd {len(dyndep)}\n2\n"
             "3 dyncollate: cannot read s\n1 dyncollate: target: S2 BadVersion document\ndyncollate: a name is not UTF-8\n"
-            "1 dyncollate: scan 0: S1 NotJson document\n1 line 2: Y9 NoOutput\n0\n"
-            "3 S6 rule 2 requires 1\n7 Y9 line 2\n"), ""))
+            "1 dyncollate: scan 0: S1 NotJson document\n1 dyncollate: line 2: Y9 NoOutput\n0\n"
+            "3 S6 rule 2 requires 1\n7 Y9 line 2\n"
+            "b\na\nbuild a | c: x | b || t.dd\n  dyndep = t.dd\nbuild b: x\n"
+            "ninja_dyndep_version = 1\nbuild a: dyndep\n"
+            "1 dyncollate: cycle a\n1 dyncollate: name: N1 Empty\n1 dyncollate: line 2: N9 Variable at 7\nno memory\n"), ""))
+
+    def wrapper(self):
+        wrapped = "-Wl,--wrap=malloc,--wrap=realloc"
+        return embedded.compiled("g++", "-std=c++17", "-pedantic", "-Wconversion", *SANITIZED, wrapped,
+                                 f"{TOP}/tests/wrapper.cpp", embedded.STATIC, to=self.room / "wrapper")
+
+    @embedded.needs_tools("g++")
+    def test_errors_of_wrapper(self):
+        """dyncollate::error has the code and the names that the package for Python has."""
+        lines = "".join(f"dyncollate: {line}\n" for line, *_ in ERRORS)
+        wanted = "".join("|".join([code or "", name or "", *names]) + "\n" for _, code, name, _, _, names in ERRORS)
+        self.assertEqual(run_apart(self.wrapper(), "errors", input=lines), (0, wanted, ""))
 
     @embedded.needs_tools("gcc")
     def test_header(self):

@@ -1,18 +1,16 @@
-"""The Python package: its arguments, errors and types, and its wheels, which are installed in a virtual environment."""
+"""The Python package: its arguments, errors and types."""
 import os
 import pickle
 import re
-import shutil
 import sys
 import tempfile
 import unittest
-import zipfile
 from pathlib import Path
 
 from tests import embedded
 from tests.case import each
 from tests.program import TOP
-from tests.run import InRoom, run, run_apart
+from tests.run import InRoom, run
 from tests.tables import all_rows
 
 NEEDS_LIBRARY = True
@@ -57,6 +55,7 @@ ERRORS = [
 ]
 
 
+@embedded.needs_library
 @each(ERRORS, lambda row: row[0])
 class Errors(unittest.TestCase):
     """The parts of an error, by its line."""
@@ -69,6 +68,7 @@ class Errors(unittest.TestCase):
         self.assertEqual(vars(pickle.loads(pickle.dumps(error))), vars(error))
 
 
+@embedded.needs_library
 class Lines(unittest.TestCase):
     def test_each_line_of_the_rows(self):
         """The code of a line is the first one in it. An error of modules names something, and one of a document has a place in it. The
@@ -118,8 +118,33 @@ class Arguments(InRoom):
                 self.module.collate(TARGET, {"main.ddi": given})
         with self.assertRaises(TypeError):
             self.module.run("one", SCAN)
+        with self.assertRaises(TypeError):
+            self.module.one(SCAN, 7, ".bmi")
         with self.assertRaises(FileNotFoundError):
             self.module.show(self.scan.with_name("none.dd"))
+
+    def test_paths(self):
+        """A directory and the name of a dyndep file are strings or paths."""
+        scan = SCAN.replace(b"}]", b',"provides":[{"logical-name":"A"}]}]')
+        self.assertEqual(self.module.one(scan, Path("mod/sub"), ".bmi"), self.module.one(scan, "mod/sub", ".bmi"))
+        edges = b"build a: x || t.dd\n  dyndep = t.dd\n"
+        self.assertEqual(self.module.effect(Path("t.dd"), edges, DYNDEP.replace(b"main.o", b"a")), edges)
+
+    def test_public_names(self):
+        """What a user sees is what `help` lists."""
+        self.assertEqual({it for it in vars(self.module) if not it.startswith("_")}, set(self.module.__all__))
+        error = self.module.Error(1, "dyncollate: usage")
+        self.assertEqual({it for it in dir(error) if not it.startswith("_")} - set(dir(Exception)),
+                         {"status", "line", "code", "name", "document", "place", "names"})
+
+    def test_lines(self):
+        """The line of an error is the whole line, whichever function reports it."""
+        faulty = b"ninja_dyndep_version = 1\nbuild a$x: dyndep\n"
+        for call in self.module.show, self.module.statements:
+            with self.assertRaises(self.module.Error) as raised:
+                call(faulty)
+            self.assertEqual(raised.exception.line, "dyncollate: line 2: N9 Variable at 7")
+            self.assertEqual(raised.exception.place, {"line": 2, "offset": 7})
 
     def test_commands(self):
         edges = b"build a: x | b || t.dd\n  dyndep = t.dd\nbuild b: x\n"
@@ -140,6 +165,45 @@ class Arguments(InRoom):
         self.assertEqual(self.module.version(), version)
 
 
+# Prints what a call raises if the process can get no more than this memory, and then what it returns if it can.
+LIMITED = """
+import dyncollate, resource
+scan = b'{"version":1,"rules":[{"primary-output":"main.o"}],"a":[' + b"[]," * 1000000 + b"0]}"
+dyncollate.one(b'{"version":1,"rules":[]}', "", "")
+pages = int(open("/proc/self/statm").read().split()[0])
+resource.setrlimit(resource.RLIMIT_AS, (pages * resource.getpagesize() + (32 << 20), resource.RLIM_INFINITY))
+try:
+    dyncollate.one(scan, "", "")
+except MemoryError:
+    print("no memory")
+resource.setrlimit(resource.RLIMIT_AS, (resource.RLIM_INFINITY, resource.RLIM_INFINITY))
+print(dyncollate.one(scan, "", "").decode())
+"""
+MANY = """
+import dyncollate
+lines = b"".join(b"build %d: dyndep\\n" % it for it in range(200000))
+print(dyncollate.statements(b"ninja_dyndep_version = 1\\n" + lines)[-1].output.decode())
+"""
+
+
+@embedded.needs_library
+class Sizes(unittest.TestCase):
+    """Calls of much, in a process of their own, which a time limit ends."""
+    seconds = 20
+
+    def prints(self, script, printed):
+        environment = os.environ | {"PYTHONPATH": embedded.PACKAGE, "DYNCOLLATE_LIBRARY": embedded.SHARED}
+        self.assertEqual(run(sys.executable, "-c", script, env=environment, seconds=60), (0, printed))
+
+    def test_no_memory(self):
+        """MemoryError is raised, and the next call works."""
+        self.prints(LIMITED, f"no memory\n{DYNDEP.decode()}\n")
+
+    def test_many_statements(self):
+        """The time grows as their number does: in the square of 200,000 the limit is far exceeded."""
+        self.prints(MANY, "199999\n")
+
+
 # What a user writes, and what mypy says of it.
 USES = [
     ('dyncollate.collate(Path("t.json"), {"a.ddi": b"", "b.ddi": Path("b")})["app.dd"].split(b" ")', ""),
@@ -148,6 +212,8 @@ USES = [
     ('[it.output.decode() for it in dyncollate.statements(b"")]', ""),
     ('dyncollate.Error(1, "").place["scan"] + 1', ""),
     ('dyncollate.run("show", b"").restat.union({"a"})', ""),
+    ('dyncollate.one(b"", Path("mod"), ".bmi") + dyncollate.effect(Path("t.dd"), b"", b"")', ""),
+    ('files: dyncollate.Files = {"a.ddi": b""}', ""),
     ('dyncollate.collate("t.json", {})', "arg-type"),
     ('dyncollate.collate(b"", {"a.ddi": "text"})', "dict-item"),
     ('dyncollate.one(b"", b"mod", ".bmi")', "arg-type"),
@@ -175,101 +241,6 @@ class Types(unittest.TestCase):
             file.write_text("from pathlib import Path\nimport dyncollate\n" + "".join(f"{use}\n" for use, _ in USES))
             found = {int(line): kind for line, kind in re.findall(r":(\d+): error: .*\[([\w-]+)\]$", self.mypy(file), re.M)}
         self.assertEqual(found, {line: kind for line, (_, kind) in enumerate(USES, 3) if kind})
-
-
-@embedded.needs_library
-class Installed(InRoom):
-    """Wheels in a virtual environment, which nothing is downloaded for."""
-    seconds = 15
-
-    def setUp(self):
-        super().setUp()
-        self.environment = {name: text for name, text in os.environ.items() if name not in ("DYNCOLLATE_LIBRARY", "PYTHONPATH")}
-
-    def call(self, *words, **more):
-        return run_apart(*words, cwd=self.room, env=self.environment | more)
-
-    def wheel(self, *words):
-        return self.call(sys.executable, f"{embedded.PACKAGE}/wheels.py", *words)
-
-    def install(self, thing):
-        """The Python of a virtual environment in which this is installed, in place of what was there."""
-        python = self.room / "venv/bin/python"
-        if not python.exists() and self.call(sys.executable, "-m", "venv", "venv")[0]:
-            self.skipTest("python3-venv: not there")
-        words = ["--quiet", "--no-index", "--disable-pip-version-check", "--no-cache-dir", "--force-reinstall"]
-        self.assertEqual(self.call(python, "-m", "pip", "install", *words, thing), (0, "", ""))
-        return python
-
-    def says(self, python, expression, **more):
-        return self.call(python, "-c", f"import dyncollate; print({expression})", **more)
-
-    @embedded.needs_tools("readelf")
-    def test_wheel(self):
-        """It has the library and its types, and works with no other library. Then the sources are installed in its place."""
-        status, name, err = self.wheel(embedded.SHARED, "x86_64")
-        version = Path(TOP, "VERSION").read_text().strip()
-        wanted = f"dyncollate-{version}-py3-none-manylinux_2_17_x86_64.manylinux2014_x86_64.whl\n"
-        self.assertEqual((status, name, err), (0, wanted, ""))
-        python = self.install(self.room / name.strip())
-        self.assertEqual(self.says(python, f"dyncollate.one({SCAN!r}, 'mod', '.bmi').decode()", LD_LIBRARY_PATH=""),
-                         (0, DYNDEP.decode() + "\n", ""))
-        self.assertEqual(self.says(python, "dyncollate.version(), dyncollate.__version__"), (0, f"{version} {version}\n", ""))
-        home = Path(self.says(python, "dyncollate.__path__[0]")[1].strip())
-        self.assertEqual(home.parts[:len(self.room.parts) + 1], (*self.room.parts, "venv"))
-        self.assertEqual((home / "libdyncollate.so.1").read_bytes(), Path(embedded.SHARED).read_bytes())
-        self.assertTrue((home / "py.typed").exists())
-        self.the_sources()
-
-    def the_sources(self):
-        """`pip install` of the directory installs no library: the package loads that of the system."""
-        shutil.copytree(embedded.PACKAGE, self.room / "python", ignore=shutil.ignore_patterns("__pycache__"))
-        python = self.install("./python")
-        home = Path(self.says(python, "dyncollate.__path__[0]")[1].strip())
-        self.assertEqual(sorted(it.name for it in home.iterdir() if it.is_file()), ["__init__.py", "_errors.py", "_library.py", "py.typed"])
-        (self.room / "lib").mkdir()
-        shutil.copy(embedded.SHARED, self.room / "lib")
-        expression = f"dyncollate.one({SCAN!r}, 'mod', '.bmi').decode()"
-        self.assertEqual(self.says(python, expression, LD_LIBRARY_PATH=str(self.room / "lib")), (0, DYNDEP.decode() + "\n", ""))
-        self.assertEqual(self.says(python, expression, DYNCOLLATE_LIBRARY=embedded.SHARED)[0], 0)
-
-    @embedded.needs_tools("readelf")
-    def test_twice_it_has_the_same_bytes(self):
-        (self.room / "other").mkdir()
-        self.assertEqual(self.wheel(embedded.SHARED, "x86_64", "other")[0], 0)
-        name = self.wheel(embedded.SHARED, "x86_64")[1].strip()
-        self.assertEqual((self.room / name).read_bytes(), (self.room / "other" / name).read_bytes())
-        with zipfile.ZipFile(self.room / name) as wheel:
-            self.assertIsNone(wheel.testzip())
-            self.assertEqual({it.date_time for it in wheel.infolist()}, {(1980, 1, 1, 0, 0, 0)})
-
-    @embedded.needs_tools("aarch64-linux-gnu-gcc", "readelf")
-    def test_another_processor(self):
-        (self.room / "a.c").write_text("int a(void) { return 0; }\n")
-        self.assertEqual(self.call("aarch64-linux-gnu-gcc", "-shared", "-nostdlib", "a.c", "-o", "a.so"), (0, "", ""))
-        status, name, err = self.wheel("a.so", "aarch64")
-        self.assertEqual((status, name.split("-py3-none-")[1:], err), (0, ["manylinux_2_17_aarch64.manylinux2014_aarch64.whl\n"], ""))
-        with zipfile.ZipFile(self.room / name.strip()) as wheel:
-            self.assertEqual(wheel.read("dyncollate/libdyncollate.so.1"), (self.room / "a.so").read_bytes())
-            tags = re.findall("^Tag: (.*)$", wheel.read(next(it for it in wheel.namelist() if it.endswith("/WHEEL"))).decode(), re.M)
-        self.assertEqual(tags, ["py3-none-manylinux_2_17_aarch64", "py3-none-manylinux2014_aarch64"])
-
-    @embedded.needs_tools("gcc", "readelf")
-    def test_libraries_that_get_no_wheel(self):
-        (self.room / "libc.c").write_text("void of_newer(void) {}\n")
-        (self.room / "libc.map").write_text("GLIBC_2.18 { global: of_newer; };\n")
-        (self.room / "new.c").write_text("void of_newer(void);\nvoid calls(void) { of_newer(); }\n")
-        shared = "gcc", "-shared", "-fPIC", "-nostdlib"
-        self.assertEqual(self.call(*shared, "libc.c", "-Wl,--version-script=libc.map", "-o", "libc.so"), (0, "", ""))
-        self.assertEqual(self.call(*shared, "new.c", "libc.so", "-o", "new.so"), (0, "", ""))
-        for words, line in [(["new.so", "aarch64"], "new.so is not a shared object for aarch64"),
-                            (["new.so", "x86_64"], "new.so needs glibc 2.18, and the wheel may need 2.17 at most"),
-                            (["new.c", "x86_64"], "new.c is not a shared object for x86_64"),
-                            (["new.so", "riscv64"], "MACHINE is one of x86_64, aarch64, not riscv64"),
-                            (["none.so", "x86_64"], "[Errno 2] No such file or directory: 'none.so'"),
-                            (["new.so"], "usage: wheels.py LIBRARY MACHINE [DIRECTORY]")]:
-            self.assertEqual(self.wheel(*words), (1, "", f"wheels.py: {line}\n"))
-        self.assertEqual(list(self.room.glob("*.whl")), [])
 
 
 if __name__ == "__main__":

@@ -1,4 +1,5 @@
-// Calls dyncollate.hpp, and prints what it returns and throws.
+// Calls dyncollate.hpp, and prints what it returns and throws. With an argument, it prints what the
+// errors of the lines on standard input say.
 #include <dyncollate.hpp>
 
 #include <iostream>
@@ -22,8 +23,35 @@ void fails(Call call)
     }
 }
 
-int main()
+// The library's allocations, which the linker redirects to these.
+extern "C" void *__real_malloc(std::size_t size);
+extern "C" void *__real_realloc(void *block, std::size_t size);
+static bool has_memory = true;
+extern "C" void *__wrap_malloc(std::size_t size)
 {
+    return has_memory ? __real_malloc(size) : nullptr;
+}
+extern "C" void *__wrap_realloc(void *block, std::size_t size)
+{
+    return has_memory ? __real_realloc(block, size) : nullptr;
+}
+
+static int print_errors()
+{
+    for (std::string line; std::getline(std::cin, line);) {
+        const dyncollate::error error(1, line);
+        std::cout << error.code << "|" << error.name;
+        for (const std::string &name : error.names)
+            std::cout << "|" << name;
+        std::cout << "\n";
+    }
+    return 0;
+}
+
+int main(int count, char **)
+{
+    if (count > 1)
+        return print_errors();
     const std::string version = "ninja_dyndep_version = 1\n";
     for (const dyncollate::statement &it : dyncollate::statements(version + "build a | b c: dyndep | d e f\n  restat = 1\nbuild g: dyndep\n")) {
         std::cout << it.output << (it.restat ? " restat:" : ":");
@@ -71,5 +99,21 @@ int main()
         const dyncollate_location &at = error.location;
         std::cout << at.document << " " << char(at.letter) << at.number << " line " << at.line
                   << (at.item == DYNCOLLATE_ABSENT && at.index == DYNCOLLATE_ABSENT ? "\n" : " ?\n");
+    }
+
+    const std::string edges = "build a: x | b || t.dd\n  dyndep = t.dd\nbuild b: x\n";
+    for (const std::string &output : dyncollate::order(edges))
+        std::cout << output << "\n";
+    std::cout << dyncollate::effect("./t.dd", edges, version + "build a | c: dyndep\n")
+              << dyncollate::show(version + "build   a: dyndep\n");
+    fails([&] { dyncollate::order("build a: x a\n"); });
+    fails([&] { dyncollate::effect("", edges, version); });
+    fails([&] { dyncollate::show(version + "build a$x: dyndep\n"); });
+
+    has_memory = false;
+    try {
+        dyncollate::one(scan, "", "");
+    } catch (const std::bad_alloc &) {
+        std::cout << "no memory\n";
     }
 }

@@ -48,15 +48,15 @@ class Error(Exception):
         self.document: Optional[str] = None
         self.place: dict[str, int] = {}
         self.names: tuple[str, ...] = ()
-        self.take_numbers()
-        self.take_names()
+        self._take_numbers()
+        self._take_names()
 
     def __reduce__(self) -> tuple[type[Error], tuple[int, str]]:
         return type(self), (self.status, self.line)
 
-    def take_numbers(self) -> None:
+    def _take_numbers(self) -> None:
         """Takes the code, the document and the place, as the library reads them from the line."""
-        found = located(os.fsencode(f"dyncollate: {self.line.removeprefix('dyncollate: ')}\n"))
+        found = located(os.fsencode(f"{self.line}\n"))
         if found.letter:
             self.code = f"{chr(found.letter)}{found.number}"
         self.document = DOCUMENTS[found.document]
@@ -65,18 +65,18 @@ class Error(Exception):
                    LISTS[found.list]: found.entry, "offset": found.offset}
         self.place = {word: number for word, number in numbers.items() if number != ABSENT}
 
-    def take_names(self) -> None:
+    def _take_names(self) -> None:
         """Takes the name of the error, and what it names."""
         rest = LABELS.sub("", self.line.removeprefix("dyncollate: "))
         if self.code and (coded := CODED.match(rest)):
             self.name = coded[1]
-            self.take_subject(self.code, rest[coded.end():])
+            self._take_subject(self.code, rest[coded.end():])
         elif rest.startswith("cycle "):
             self.names = tuple(rest.removeprefix("cycle ").split(" -> "))
         elif rest.startswith("cannot read "):
             self.names = (rest.removeprefix("cannot read "),)
 
-    def take_subject(self, code: str, subject: str) -> None:
+    def _take_subject(self, code: str, subject: str) -> None:
         if code in SUBJECTS:
             found = re.fullmatch(SUBJECTS[code], subject, re.S)
             self.names = found.groups() if found else (subject,)

@@ -8,11 +8,12 @@ from collections.abc import Iterator, Mapping, Sequence
 from pathlib import Path
 from typing import Any, Union
 
+Name = Union[str, "os.PathLike[str]"]
 # The bytes of a file, or the path from which they are read.
 File = Union[bytes, bytearray, memoryview, "os.PathLike[str]"]
 # Files by their names in a document.
 Files = Mapping[str, File]
-Given = Union[str, File, Files]
+Given = Union[Name, File, Files]
 
 STRING: list[Any] = [ctypes.c_char_p, ctypes.c_size_t]
 NUMBERS: list[Any] = [ctypes.POINTER(ctypes.c_size_t), ctypes.c_size_t]
@@ -46,12 +47,18 @@ class Location(ctypes.Structure):
 @functools.lru_cache(None)
 def library() -> ctypes.CDLL:
     """The shared object."""
-    beside = Path(__file__).with_name("libdyncollate.so.1")
-    loaded = ctypes.CDLL(os.environ.get("DYNCOLLATE_LIBRARY") or (str(beside) if beside.exists() else beside.name))
-    for command, kinds in COMMANDS.items():
-        function = getattr(loaded, f"dyncollate_{command}")
-        function.argtypes = [it for kind in kinds for it in PARAMETERS[kind]] + NUMBERS + STRING
-        function.restype = Outcome
+    near = Path(__file__).with_name("libdyncollate.so.1")
+    name = os.environ.get("DYNCOLLATE_LIBRARY") or (str(near) if near.exists() else near.name)
+    try:
+        loaded = ctypes.CDLL(name)
+        for command, kinds in COMMANDS.items():
+            function = getattr(loaded, f"dyncollate_{command}")
+            function.argtypes = [it for kind in kinds for it in PARAMETERS[kind]] + NUMBERS + STRING
+            function.restype = Outcome
+    except (OSError, AttributeError) as error:
+        raise OSError(f"{error}; install a wheel of dyncollate, which has libdyncollate in it, or "
+                      "install libdyncollate, or set DYNCOLLATE_LIBRARY to the path of "
+                      "libdyncollate.so.1") from None
     return loaded
 
 
@@ -82,8 +89,9 @@ def bytes_of(file: File) -> bytes:
     raise TypeError(f"a file is given as bytes or as a path, not as {type(file).__name__}")
 
 
-def encoded(name: Union[str, bytes]) -> bytes:
+def encoded(name: Union[Name, bytes]) -> bytes:
     """A name in UTF-8. One with other bytes keeps them, so that the library rejects it."""
+    name = os.fspath(name)
     return name if isinstance(name, bytes) else name.encode("utf-8", "surrogateescape")
 
 
