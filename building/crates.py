@@ -13,7 +13,10 @@ from pathlib import Path
 # other work on the machine). Only the proportions count: for the order and the progress.
 SECONDS = {"ninja_text": 135, "dep_order": 92, "dyndep_file": 79, "table_keys": 10, "document_values": 28, "scan_docs": 205,
            "module_maps": 69, "module_table": 293, "build_effect": 212, "collate_core": 191, "command_line": 50,
-           "system_files": 26, "commands": 252, "dyncollate": 97, "in_memory": 118, "c_library": 94}
+           "system_files": 120, "commands": 252, "disk_folder": 60, "dyncollate": 97, "in_memory": 118, "c_library": 94}
+
+# What is made of a crate that is no library for others.
+MADE = {"dyncollate": ["dyncollate"], "c_library": ["libdyncollate.a", "libdyncollate.so.1"]}
 
 
 @dataclass(eq=False)
@@ -29,18 +32,23 @@ class Crate:
 
     def __post_init__(self):
         self.home, self.seconds = f"crates/{self.name}", SECONDS.get(self.name, 60)
+        self.parts, self.proved = ("src", "specs", "proofs"), f"{self.home}/out/proved/{self.name}.rlib"
         self.makes(f"{self.home}/out/proved", [f"{self.name}.rlib"])
 
-    def makes(self, out, names, more_sources=()):
-        self.out, self.products, self.more_sources = out, [f"{out}/{it}" for it in names], more_sources
+    def makes(self, out, names, flags=(), more_sources=()):
+        self.out, self.products, self.flags, self.more_sources = out, [f"{out}/{it}" for it in names], flags, more_sources
         self.stamp, self.record = f"{out}/built", f"{out}/digest"
+
+    def root(self):
+        """The file of src/ that the compiler is given."""
+        return "src/main.rt" if os.path.exists(f"{self.home}/src/main.rt") else "src/lib.rt"
 
     def is_there(self):
         return all(map(os.path.exists, self.products))
 
     def sources(self):
         """The directories and files that it is made of, without the crates below."""
-        for folder, folders, names in (it for part in ("src", "specs", "proofs") for it in os.walk(f"{self.home}/{part}")):
+        for folder, folders, names in (it for part in self.parts for it in os.walk(f"{self.home}/{part}")):
             folders.sort()
             yield from [folder, *(f"{folder}/{it}" for it in sorted(names))]
         yield from self.more_sources
@@ -52,9 +60,8 @@ def say(text, status=None):
         sys.exit(status)
 
 
-def read_crates(is_library, is_arm):
-    """The crates that the program or the library for a processor is made of, each after those that it uses, and the goal at last."""
-    goal = "c_library" if is_library else "dyncollate"
+def read_crates(goal, is_arm=False):
+    """A crate of crates.txt and those below it, each after those that it uses. dyncollate and c_library make files for a processor."""
     lines = [line.partition(":") for line in Path("crates.txt").read_text().splitlines() if line.strip()]
     uses, crates = {head.split()[0]: tail.split() for head, _, tail in lines}, {}
     if goal not in uses:
@@ -72,9 +79,33 @@ def read_crates(is_library, is_arm):
         crate.chain += crate.seconds
         for lower in crate.below:
             lower.chain = max(lower.chain, crate.chain)
-    names = ["libdyncollate.a", "libdyncollate.so.1"] if is_library else ["dyncollate"]
-    ours[-1].makes(f"crates/{goal}/out" + "/aarch64" * is_arm, names, ["cross/heap.c", "cross/system.c"] * is_arm)
+    if goal in MADE:
+        is_library, link = goal == "c_library", ["building/link", *["cross/heap.c", "cross/system.c"] * is_arm]
+        flags = ["--crate-type", "staticlib"] * is_library + ["--backend", "llvm"]
+        flags += ["--target", "aarch64-unknown-linux-gnu", "--cpu", "generic"] * is_arm or ["--cpu", "x86-64"] * is_library
+        ours[-1].makes(f"crates/{goal}/out" + "/aarch64" * is_arm, MADE[goal], flags, link)
     return ours
+
+
+def read_unproved():
+    """The crates of the program, which is made of the code alone."""
+    *_, goal = crates = read_crates("dyncollate")
+    goal.makes("crates/dyncollate/out/unproved", MADE["dyncollate"], more_sources=["building/loop.py"])
+    for crate in crates:
+        crate.parts = ("src",)
+    return crates
+
+
+def prover_words(crate, kit):
+    """What each call of the prover says of a crate, as the gate rt ci makes it, in the crate's directory."""
+    ours = {it.name: os.path.abspath(it.proved) for it in crate.below}
+    words = ["--crate-name", crate.name, crate.root()]
+    for name in ["std", *crate.uses]:
+        words += ["--extern", f"{name}={ours.get(name, f'{kit}/rlibs/{name}.rlib')}"]
+    for folder in [*map(os.path.dirname, ours.values()), f"{kit}/rlibs"]:
+        words += ["-L", f"dependency={folder}"]
+    words += ["--antt-project", f"{kit}/rattle/logic/antt-project.json", "--logic-built", f"{kit}/logic_built"]
+    return [*words, "--links", f"{crate.name}="]
 
 
 def lock_of(folder, waits=None):
@@ -101,7 +132,7 @@ def write_stamp(stamp, goal):
     Path(stamp).touch()
     since = os.stat(stamp).st_mtime_ns
     # (a crate's directory changes if it gets its first file of specs or proofs)
-    paths = ["crates.txt", *(it for crate in [*goal.below, goal] for it in [crate.home, *crate.sources()])]
+    paths = ["crates.txt", "building/crates.py", *(it for crate in [*goal.below, goal] for it in [crate.home, *crate.sources()])]
     Path(stamp).write_bytes(b"".join(os.fsencode(it) + b"\0" for it in paths))
     os.utime(stamp, ns=(since, since))
 
@@ -124,7 +155,7 @@ def digest_of(paths, text=""):
 
 def take_digest(crate):
     """Those of the crates below have been taken."""
-    return digest_of(crate.sources(), f"{crate.name}: {' '.join([*crate.uses, *(it.digest for it in crate.below)])}")
+    return digest_of(crate.sources(), f"{crate.name}: {' '.join([*crate.uses, *(it.digest for it in crate.below), *crate.flags])}")
 
 
 def is_made(crate, toolchain):

@@ -82,7 +82,7 @@ class Made(InRoom):
     def setUp(self):
         super().setUp()
         self.top, self.control, kit = self.room / "checkout", self.room / "control", self.room / "kit"
-        for name in "build", "dyncollate", "building/crates.py", "building/link", "cross/heap.c", "cross/system.c":
+        for name in "build", "dyncollate", "building/crates.py", "building/link", "building/loop.py", "cross/heap.c", "cross/system.c":
             (self.top / name).parent.mkdir(parents=True, exist_ok=True)
             shutil.copy(f"{TOP}/{name}", self.top / name)
         write(self.top / "crates.txt", CRATES)
@@ -320,8 +320,10 @@ class Failures(Made):
 
     def test_words(self):
         status, out, err = self.build("--help")
-        self.assertEqual((status, err, out.splitlines()[0]), (0, [], "usage: ./build [--is-current] [library] [aarch64]"))
-        for words in ["program"], ["library", "library"], ["aarch64", "library"], ["library", "--is-current"], ["--help", "library"], [""]:
+        self.assertEqual((status, err, out.splitlines()[0]), (
+            0, [], "usage: ./build [--is-current] [unproved | [library] [aarch64]] or ./build --check CRATE [FLAG..]"))
+        for words in ["program"], ["library", "library"], ["aarch64", "library"], ["library", "--is-current"], ["--help", "library"], [""], [
+                "unproved", "aarch64"], ["--is-current", "--check", "low"]:
             self.assertEqual(self.build(*words), (3, "", [f"dyncollate: {out.splitlines()[0]}"]), words)
         self.assertEqual(self.begun(), [])
 
@@ -393,6 +395,9 @@ class Changes(Made):
         os.utime(older, (1, 1))
         yield "an older file moved there", lambda: older.rename(crate / "proofs/Q.antt"), ["right", "top", "dyncollate"]
         yield "without a file", (crate / "proofs/Q.antt").unlink, ["right", "top", "dyncollate"]
+        link, flags = (self.top / f"building/{it}" for it in ("link", "crates.py"))
+        yield "another way to link", lambda: link.write_text(link.read_text() + "# more\n"), ["dyncollate"]
+        yield "another flag", lambda: flags.write_text(flags.read_text().replace('"llvm"', '"other"')), ["dyncollate"]
         yield "another use", lambda: (self.top / "crates.txt").write_text(CRATES.replace("right: low", "right: low std_io")), [
             "right", "top", "dyncollate"]
 
@@ -566,16 +571,16 @@ class Policy(unittest.TestCase):
         self.assertEqual(self.jobs([30], [(100, 3)]), (1, 19))
         self.assertEqual(self.jobs([30], [(100, 4)])[0], 0)
 
-    def progress(self, passed, finished, left, running=()):
-        """What is said after these seconds, when crates of these seconds are proved in this run, and others are left, of which some
-        run: how many jobs, for how long, and the seconds of the crate."""
+    def progress(self, passed, finished, left, running=(), rate=1):
+        """What is said after these seconds, when crates of these seconds are proved in this run, at this rate, and others are left, of
+        which some run: how many jobs, for how long, and the seconds of the crate."""
         made = {it: self.crates["Crate"](f"c{it}", [], []) for it in [*left, *(it for _, _, it in running)]}
         for seconds, crate in made.items():
             crate.seconds = seconds
         run = self.build["Run"].__new__(self.build["Run"])
         now = time.monotonic()
         run.began, run.left, run.whole = now - passed, list(made.values()), finished + sum(made)
-        run.todo = run.whole
+        run.todo, run.spent = run.whole, finished / rate
         run.running = [type("Job", (), {"crate": made[it], "jobs": jobs, "began": now - ago}) for jobs, ago, it in running]
         return run.progress()
 
@@ -587,6 +592,8 @@ class Policy(unittest.TestCase):
         # one that takes longer than expected is not yet done
         self.assertEqual(self.progress(3600.5, 100, [], [(2, 3600, 300)]), "25 % after 60:00, about 5 min left")
         self.assertEqual(self.progress(100.5, 100, []), "100 % after 1:40")
+        # on a machine of a third of the speed, two jobs have done 50 seconds of what is left
+        self.assertEqual(self.progress(100.5, 100, [], [(2, 75, 300)], rate=1 / 3), "25 % after 1:40, about 3 min left")
 
     def test_the_seconds(self):
         """Each crate that ./build proves has its seconds."""
@@ -603,7 +610,7 @@ class Old(InRoom):
         write(self.room / "build", "#!/bin/sh\necho $* >> asked\nexit 1\n", 0o755)
         for name in "dyncollate/out/dyncollate", "c_library/out/libdyncollate.a", "c_library/out/libdyncollate.so.1":
             write(self.room / "crates" / name, "#!/bin/sh\n", 0o755)
-        self.environment = {name: it for name, it in os.environ.items() if name not in ("DYNCOLLATE", "LIBRARY", "TESTS", "RESULTS")}
+        self.environment = {name: it for name, it in os.environ.items() if name not in ("DYNCOLLATE", "LIBRARY", "TESTS", "RESULTS", "UNPROVED")}
 
     def stops(self, *tests, command, **more):
         status, printed = run(sys.executable, "-B", "-m", "unittest", *tests, cwd=self.room, env=self.environment | more)
@@ -615,6 +622,8 @@ class Old(InRoom):
         """The tests of the second module run in several processes."""
         for tests in "tests.dyndep_files", "tests.damage":
             self.stops(tests, command="./build")
+        self.stops("tests.dyndep_files", command="./build unproved", UNPROVED="1")
+        self.assertEqual((self.room / "asked").read_text().splitlines()[-1], "--is-current unproved")
 
     def test_library(self):
         self.stops("tests.fuzzing", command="./build library")
