@@ -1,7 +1,9 @@
-"""The C functions in cross/, which programs for other processors are linked with in place of the toolchain's.
+"""The C functions in cross/, which programs for other processors are linked with in place of the
+toolchain's, and those in web/, which the WebAssembly module is linked with.
 
-They are tested on this processor: by themselves, and linked into the program, which then has the same rows, also if allocations fail.
-What `./build aarch64` and `./build library aarch64` make, if it is there, runs under qemu-aarch64-static."""
+They are tested on this processor: by themselves, and those in cross/ linked into the program, which
+then has the same rows, also if allocations fail. What `./build aarch64` and `./build library aarch64`
+make, if it is there, runs under qemu-aarch64-static."""
 import os
 import platform
 import shutil
@@ -48,6 +50,12 @@ class Functions(Crossing):
         program = embedded.compiled("gcc", "-fsanitize=address,undefined", *CROSS, f"{TOP}/tests/cross_functions.c",
                                     to=self.room / "functions")
         self.assertEqual(call(program, "", "ab", ASAN_OPTIONS="allocator_may_return_null=1:log_path=/dev/null"), (0, ""))
+
+    @embedded.needs_tools("gcc")
+    def test_of_the_web(self):
+        program = embedded.compiled("gcc", "-std=gnu11", "-O1", "-fsanitize=address,undefined",
+                                    "-fno-sanitize-recover=all", f"{TOP}/tests/web_functions.c", to=self.room / "functions")
+        self.assertEqual(call(program, "2000"), (0, ""))
 
     @needs_emulator
     def test_on_arm(self):

@@ -243,6 +243,23 @@ class OutOfSourceWithNewerGcc(OutOfSource, Directory):
         self.compiles("src/main.cpp")
 
 
+class ScansOfGcc(Directory):
+    tools = []
+
+    def test_from_version_14_on(self):
+        """GCC scans by itself, with the line in docs/GUIDE.md, and no other compiler is needed."""
+        Path("targets").write_text("program app a.cpp\n")
+        self.environment |= {"GCC": "./g++", "CLANG": "./none", "SCANNER": "./none", "DYNCOLLATE": "true"}
+        command = [sys.executable, GENERATE, "gcc", "targets"]
+        for version, result in (("13.2.0", (1, "generate: ./none is not there; the environment variable CLANG may name another\n")),
+                                ("14.1.0", (0, ""))):
+            Path("g++").write_text(f"#!/bin/sh\necho {version}\n")
+            Path("g++").chmod(0o755)
+            self.assertEqual(run(*command, env=self.environment), result)
+        line, = (it for it in (TOP / "docs/GUIDE.md").read_text().splitlines() if "-fdeps-format=p1689r5" in it and it.startswith("    "))
+        self.assertIn(line, Path("build.ninja").read_text().splitlines())
+
+
 # ---- projects that need more than the examples do
 
 class WithClang(Directory):
@@ -335,8 +352,7 @@ class WithClang(Directory):
         at = lines.index("dyncollate: M5 ModuleUnknown numbers in obj/app/src/app/main.cpp.o")
         self.assertEqual(lines[at + 1:at + 4], [
             "M5 ModuleUnknown: obj/app/src/app/main.cpp.o imports numbers, and nothing provides it",
-            "  obj/app/src/app/main.cpp.o is rule 0 of scan/app/src/app/main.cpp.ddi.",
-            "  A like name is number: base provides it, by dd/base.info.json."])
+            "src/app/main.cpp:1:8: imports numbers", "src/base/number.cppm:1:15: provides number"])
         edit("src/app/main.cpp", r"\Aimport numbers;\n", "")
         self.makes("42")
 

@@ -9,25 +9,58 @@ from pathlib import Path
 
 from tests import embedded, program, releases
 from tests.files import DATA, TARGETS
-from tests.releases import ENVIRONMENT, EXAMPLE, VERSION, call
-from tests.run import run_at_once
+from tests.releases import ENVIRONMENT, EXAMPLE, TOP, VERSION, call
+from tests.run import InRoom, run_at_once
 
 NEEDS_LIBRARY = True
 
 REAL = f"libdyncollate.so.{VERSION}"
 # what ./install puts below its prefix, and examples. LIB is the directory of the libraries.
-INSTALLED = ["bin/dyncollate", "bin/dyncollate-cmake", "bin/dyncollate-explain", "bin/dyncollate-ninja",
-             "include/dyncollate.h", "include/dyncollate.hpp",
+INSTALLED = ["bin/dyncollate", "bin/dyncollate-cmake", "bin/dyncollate-explain", "bin/dyncollate-meson",
+             "bin/dyncollate-ninja", "include/dyncollate.h", "include/dyncollate.hpp",
              *(f"LIB/{it}" for it in ("libdyncollate.a", REAL, "libdyncollate.so.1", "libdyncollate.so", "pkgconfig/dyncollate.pc",
                                       "cmake/dyncollate/dyncollate-config.cmake", "cmake/dyncollate/dyncollate-config-version.cmake")),
-             "share/man/man1/dyncollate.1", "share/man/man3/dyncollate.3",
+             *(f"share/man/man1/dyncollate{it}.1" for it in ("", "-cmake", "-explain", "-ninja")), "share/man/man3/dyncollate.3",
+             *(f"share/{it}" for name in ("dyncollate", "dyncollate-cmake", "dyncollate-explain")
+               for it in (f"bash-completion/completions/{name}", f"fish/vendor_completions.d/{name}.fish")),
+             "share/zsh/site-functions/_dyncollate",
              *(f"share/doc/dyncollate/{it}.md" for it in ("CHANGELOG", "FORMATS", "GUIDE")),
-             *(f"share/dyncollate/cmake_{it}.py" for it in ("adopt", "exports", "files", "step")),
-             "share/dyncollate/dyncollate.html", "share/dyncollate/installed", "share/dyncollate/project.schema.json", "share/dyncollate/target.schema.json"]
+             *(f"share/dyncollate/cmake_{it}.py" for it in ("adopt", "exports", "files", "ninja", "reached", "step")),
+             *(f"share/dyncollate/meson_{it}.py" for it in ("adopt", "group", "statements", "std", "steps", "targets", "why")),
+             "share/dyncollate/compilers.py", "share/dyncollate/ninja_files.py",
+             *(f"share/dyncollate/{it}" for it in ("VERSION", "dyncollate.html", "installed", "meanings.json", "project.schema.json",
+                                                   "target.schema.json", "error_line.py")),
+             *(f"share/dyncollate/explain_{it}.py" for it in ("build", "codes", "documents", "errors", "files", "modules", "others", "page",
+                                                              "places", "sources"))]
 # what version 1.1.0 installed, and the directories that it recorded
 OF_1_1_0 = ["bin/dyncollate", "bin/dyncollate-cmake", "share/man/man1/dyncollate.1", "include/dyncollate.h", "lib/libdyncollate.a",
             "lib/libdyncollate.so.1", "lib/libdyncollate.so", "lib/pkgconfig/dyncollate.pc"]
 RECORD_OF_1_1_0 = "bin\ninclude\nlib\nlib/pkgconfig\nshare\nshare/man\nshare/man/man1\nshare/dyncollate\n"
+
+
+class InstallProgram(InRoom):
+    """The program and the scripts, of sources whose library is not built."""
+
+    def test_install(self):
+        home, prefix = self.room / "home", self.room / "prefix"
+        for name in "adapters", "cmake", "completions", "docs", "examples", "explain":
+            shutil.copytree(TOP / name, home / name)
+        for name in "install", "CHANGELOG.md", "VERSION":
+            shutil.copy(TOP / name, home / name)
+        (home / "crates/dyncollate/out").mkdir(parents=True)
+        (home / "crates/dyncollate/out/dyncollate").write_text("#!/bin/sh\n")
+        (home / "build").write_text("#!/bin/sh\nexit $#\n")
+        os.chmod(home / "build", 0o755)
+        self.assertEqual(call(home / "install", prefix), (3, "", "install: the library is not built, so nothing was installed\n"))
+        status, out, err = call(home / "install", "--program", prefix)
+        files = {it.relative_to(prefix).as_posix() for it in prefix.rglob("*") if it.is_file()}
+        self.assertEqual((status, {os.path.relpath(it, prefix) for it in out.splitlines()}, err), (0, files, ""))
+        of_library = {it for it in INSTALLED if it.startswith(("include/", "LIB/")) or it.endswith(("man3/dyncollate.3", ".html"))}
+        self.assertEqual({it for it in files if "/examples/" not in it}, {*INSTALLED} - of_library)
+        self.assertTrue(any("/examples/std/" in it for it in files))
+        self.assertFalse(any("/embed/" in it for it in files))
+        self.assertEqual(call(home / "install", "--uninstall", prefix)[0], 0)
+        self.assertEqual([*prefix.iterdir()], [])
 
 
 @embedded.needs_library
@@ -50,12 +83,14 @@ class Install(releases.Released):
         self.assertEqual({it: os.readlink(it) for it in installed if it.is_symlink()},
                          {prefix / "lib/libdyncollate.so": "libdyncollate.so.1", prefix / "lib/libdyncollate.so.1": REAL})
         self.assertEqual({it for it in installed if it.stat().st_mode & 0o777 == 0o755 and not it.is_symlink()},
-                         {prefix / it for it in ("bin/dyncollate", "bin/dyncollate-cmake", "bin/dyncollate-explain", "bin/dyncollate-ninja", f"lib/{REAL}",
+                         {prefix / it for it in ("bin/dyncollate", "bin/dyncollate-cmake", "bin/dyncollate-explain", "bin/dyncollate-meson",
+                                                 "bin/dyncollate-ninja", f"lib/{REAL}",
                                                  "share/dyncollate/examples/generate")})
         self.assertEqual({it.stat().st_mode & 0o777 for it in installed}, {0o644, 0o755})
         self.assertEqual(call(prefix / "bin/dyncollate", "one", prefix / "share/dyncollate/examples/b.ddi", "mod", ".bmi"), (0, EXAMPLE, ""))
         self.assertEqual((prefix / "share/man/man1/dyncollate.1").read_bytes(), (self.home / "docs/dyncollate.1").read_bytes())
-        self.assertEqual(call(prefix / "bin/dyncollate-cmake", "--help"), call(self.home / "cmake/dyncollate-cmake", "--help"))
+        for folder, name in ("cmake", "dyncollate-cmake"), ("adapters/meson", "dyncollate-meson"):
+            self.assertEqual(call(prefix / "bin" / name, "--help"), call(self.home / folder / name, "--help"))
         status, out, err = call(self.home / "install", "--uninstall", prefix)
         self.assertEqual((status, err), (0, ""))
         self.assertEqual(sorted(prefix.rglob("*")), before)
@@ -73,7 +108,7 @@ class Install(releases.Released):
                  for name in re.findall(r"\]\((?!https?:|#)([^)#]+)", page.read_text())]
         self.assertGreater(len(links), 10)
         self.assertEqual([(page, name) for page, name in links if not (page.parent / name).exists()], [])
-        pages = "".join((self.home / f"docs/dyncollate.{it}").read_text() for it in (1, 3))
+        pages = "".join(it.read_text() for it in (self.home / "docs").glob("*.[13]"))
         names = re.findall(r"(?:bin|include|lib|share)/[^ ,\n]+", pages)
         self.assertGreater(len(names), 10)
         self.assertEqual([name for name in names if not (prefix / name).exists()], [])
@@ -153,7 +188,7 @@ class Install(releases.Released):
         self.found_by_cmake(prefix)
 
     def test_install_words(self):
-        for words in [], ["a", "b"], [""], ["-x"], ["--uninstall"], ["--uninstall", "-x"]:
+        for words in [], ["a", "b"], [""], ["-x"], ["--uninstall"], ["--uninstall", "-x"], ["--program"]:
             status, out, err = call(self.home / "install", *words, cwd=self.room)
             self.assertEqual((status, out, err.split(":")[:2]), (2, "", ["install", " usage"]), words)
 

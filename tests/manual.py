@@ -1,7 +1,14 @@
-"""Compares the fault codes, the commands and the limits of the manual page with those of the program's sources, and the functions of
-the library's page with its header: each of either has to be in the other."""
+"""Compares the fault codes, the commands and the limits of the manual page with those of the
+program's sources, its DIAGNOSTICS with the table of meanings, and the functions of the library's
+page with its header: each of either has to be in the other.
+
+    python3 -m tests.manual --write    writes the meanings of the table into the manual page
+"""
+import json
 import re
 import shutil
+import sys
+import textwrap
 import unittest
 from pathlib import Path
 
@@ -9,6 +16,7 @@ from tests.run import output_of, run
 
 TOP = Path(__file__).resolve().parent.parent
 PAGE, LIBRARY_PAGE = TOP / "docs/dyncollate.1", TOP / "docs/dyncollate.3"
+MEANINGS = TOP / "explain/meanings.json"
 FAULT = r"[NYSMEK][0-9]+ [A-Z][A-Za-z]+"
 
 
@@ -21,9 +29,41 @@ def section(text, first, after):
     return re.search(rf"^\.Sh {first}.*?^\.Sh {after}", text, re.M | re.S)[0]
 
 
+def meanings():
+    """The table of meanings: a title of the manual page, such as `M5 ModuleUnknown`; its text."""
+    table = json.loads(MEANINGS.read_text())
+    return {f"{it['code']} {it['name']}".strip(): f"{it['meaning']} {it['advice']}" for it in table}
+
+
+def in_mdoc(text):
+    """A text of the table in the manual page's language: a line per sentence, which is wrapped."""
+    for sentence in re.split(r"(?<=\.) (?=[A-Z])", text):
+        for part in re.split(r"(`[^`]*`[.,;:]?) ?", sentence):
+            found = re.fullmatch(r"`(.*)`(.?)", part)
+            yield from [f".Ql {found[1]} {found[2]}".rstrip()] if found else textwrap.wrap(
+                part, 80, break_on_hyphens=False, break_long_words=False)
+
+
+def with_meanings(page):
+    """The manual page, in which each error of DIAGNOSTICS has the text of the table."""
+    known = meanings()
+
+    def item(found):
+        return found[1] + "".join(f"{line}\n" for line in in_mdoc(known[found[2]]))
+    start, errors, end = re.split(r"(^\.Sh DIAGNOSTICS.*?)(?=^\.Sh LIMITS)", page, 1, re.M | re.S)
+    errors = re.sub(r"^(\.It (?:Sy|Li) (.*)\n)(?:.*\n)*?(?=\.(?:It|El))", item, errors, flags=re.M)
+    return start + errors + end
+
+
 class Manual(unittest.TestCase):
     def setUp(self):
         self.page = PAGE.read_text()
+
+    def test_meanings(self):
+        """DIAGNOSTICS has each entry of the table, in its order, and its text."""
+        errors = section(self.page, "DIAGNOSTICS", "LIMITS")
+        self.assertEqual(re.findall(r"^\.It (?:Sy|Li) (.*)", errors, re.M), list(meanings()))
+        self.assertEqual(with_meanings(self.page), self.page, "see `python3 -m tests.manual --write`")
 
     def equal_lists(self, in_sources, in_page):
         """A list of the sources is not empty, and the page has each of its entries once, and no other."""
@@ -59,12 +99,30 @@ class Manual(unittest.TestCase):
                 self.assertIn(f"{int(number):,}", in_page)
 
     def test_form(self):
-        """mandoc reports nothing, except that the pages refer to each other and are not installed."""
-        for page, chapter in (PAGE, 1), (LIBRARY_PAGE, 3):
+        """mandoc reports nothing, except that pages which are not installed name each other. Each
+        page has its name, and that of dyncollate names the others."""
+        pages = sorted((TOP / "docs").glob("*.[13]"))
+        self.assertGreater(len(pages), 4)
+        allowed = re.compile(r"manual not found: Xr dyncollate(-\w+)? [13]")
+        for page in pages:
+            name, chapter = page.name.rsplit(".", 1)
             if shutil.which("mandoc"):
                 lines = run("mandoc", "-T", "lint", "-W", "style", page)[1].splitlines()
-                self.assertEqual([it for it in lines if f"manual not found: Xr dyncollate {4 - chapter}" not in it], [])
-            self.assertRegex(page.read_text(), rf"(?m)^\.Dt DYNCOLLATE {chapter}$")
+                self.assertEqual([it for it in lines if not allowed.search(it)], [])
+            self.assertRegex(page.read_text(), rf"(?m)^\.Dt {name.upper()} {chapter}$")
+            if page != PAGE:
+                self.assertRegex(self.page, rf"(?m)^\.Xr {name} {chapter}\b")
+
+    def test_scripts(self):
+        """The page of a script has the options and the commands that its help shows."""
+        for script in TOP / "explain/dyncollate-explain", TOP / "cmake/dyncollate-cmake":
+            page = (TOP / f"docs/{script.name}.1").read_text()
+            synopsis = section(page, "SYNOPSIS", "DESCRIPTION")
+            used = re.findall(rf"^ +{script.name} (?:-(-[a-z]+)|([a-z]+))",
+                              output_of(script, "--help"), re.M)
+            self.assertGreater(len(used), 1)
+            for option, command in used:
+                self.assertRegex(synopsis, rf"{option}\b" if option else rf"(?m)^\.Cm {command}$")
 
     def test_functions(self):
         """The library's page has the functions of the header, with their parameters in order."""
@@ -79,3 +137,10 @@ class Manual(unittest.TestCase):
         self.assertEqual(sorted(in_page), sorted(wanted))
         named = re.search(r"^\.Sh NAME\n(.*?)^\.Nd", page, re.M | re.S)[1]
         self.assertEqual(sorted(re.findall(r"^\.Nm (\w+)", named, re.M)), sorted(name for _, name, _ in found))
+
+
+if __name__ == "__main__":
+    if sys.argv[1:] == ["--write"]:
+        PAGE.write_text(with_meanings(PAGE.read_text()))
+    else:
+        unittest.main()

@@ -8,13 +8,17 @@ import tempfile
 from tests.run import output_of, run
 
 TOP = os.path.dirname(os.path.dirname(os.path.abspath(__file__)))
-PROGRAM = os.path.abspath(os.environ.get("DYNCOLLATE", f"{TOP}/crates/dyncollate/out/dyncollate"))
+# UNPROVED=1 has the tests take the program of ./build unproved, and leaves out the line that it prints at each run.
+IS_UNPROVED = os.environ.get("UNPROVED") == "1"
+NOTICE = b"dyncollate: this program is not proved\n"
+PROGRAM = os.path.abspath(os.environ.get("DYNCOLLATE", f"{TOP}/crates/dyncollate/out/{'unproved/' * IS_UNPROVED}dyncollate"))
 
 
 @functools.lru_cache(None)
 def stop_unless_current(product):
     """Ends the run of tests if the program or the library is older than its sources, unless the environment names another one."""
-    variable, *command = {"program": ("DYNCOLLATE", "./build"), "library": ("LIBRARY", "./build", "library")}[product]
+    variable, *command = {"program": ("DYNCOLLATE", "./build", *["unproved"] * IS_UNPROVED),
+                          "library": ("LIBRARY", "./build", "library")}[product]
     if variable not in os.environ and run(f"{TOP}/build", "--is-current", *command[1:])[0]:
         sys.exit(f"The {product} is missing, or older than its sources. `{' '.join(command)}` builds it, and {variable} may name another.")
     if product == "program" and not os.access(PROGRAM, os.X_OK):
@@ -61,7 +65,8 @@ class Caller:
         signal.alarm(seconds)
         _, status = os.waitpid(child, 0)
         signal.alarm(0)
-        return os.waitstatus_to_exitcode(status), emptied(self.out), emptied(self.err)
+        said = emptied(self.err)
+        return os.waitstatus_to_exitcode(status), emptied(self.out), said.removeprefix(NOTICE) if IS_UNPROVED else said
 
     def run(self, *words, **given):
         return self.end(self.begin(*words, **given))

@@ -1,4 +1,4 @@
-"""Projects: all targets by one call, and the files of each."""
+"""`project`: the files of all targets, from one run."""
 from tests.case import Case, each
 from tests.rows import projects as rows
 

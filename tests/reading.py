@@ -300,14 +300,14 @@ class Reading(unittest.TestCase):
     def test_rows_of_calls(self):
         """The sources have what a row names."""
         rows = list(rows_of_calls())
-        self.assertEqual({crate for crate, _ in rows}, set(CRATES) - {"dyncollate", "library_tests", "system_files"})
+        self.assertEqual({crate for crate, _ in rows}, set(CRATES) - {"dyncollate", "library_tests"})
         for crate, row in rows:
             with self.subTest(crate=crate, row=row):
                 self.assertEqual(list(unknown(crate, row)), [])
 
     def test_examples(self):
         """The page of a library quotes its example: python3 -m tests.reading --write"""
-        self.assertEqual(set(EXAMPLES), set(CRATES) - {"c_library", "command_line", "commands", "dyncollate", "library_tests",
+        self.assertEqual(set(EXAMPLES), set(CRATES) - {"c_library", "command_line", "commands", "disk_folder", "dyncollate", "library_tests",
                                                        "system_files", "table_keys"})
         for crate, path in EXAMPLES.items():
             with self.subTest(crate):

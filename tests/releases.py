@@ -14,8 +14,8 @@ import unittest
 import zipfile
 from pathlib import Path
 
-from tests import embedded, program
-from tests.run import output_of, run_apart
+from tests import embedded, program, web
+from tests.run import output_of, run, run_apart
 from tests.tools import tool
 
 NEEDS_LIBRARY = True
@@ -24,14 +24,21 @@ TOP = Path(program.TOP)
 VERSION = (TOP / "VERSION").read_text().strip()
 NAME = f"dyncollate-{VERSION}-linux-x86_64"
 WHEEL = f"dyncollate-{VERSION}-py3-none-manylinux_2_17_x86_64.manylinux2014_x86_64.whl"
+PACKAGE, SUMS = f"dyncollate-{VERSION}.tgz", f"dyncollate-{VERSION}-SHA256SUMS"
+MADE = sorted([f"{NAME}.tar.gz", WHEEL, PACKAGE, SUMS, f"dyncollate-{VERSION}.html"])
 # the files that ./release takes from the commit, and the files that it needs itself
-SOURCES = ["CHANGELOG.md", "VERSION", "cmake", "explain", "docs/GUIDE.md", "docs/FORMATS.md", "docs/dyncollate.1", "docs/dyncollate.3",
-           "docs/project.schema.json", "docs/target.schema.json", "examples", "include", "install", "python"]
+SOURCES = ["CHANGELOG.md", "VERSION", "adapters", "cmake", "completions", "explain", "docs/GUIDE.md", "docs/FORMATS.md",
+           *(f"docs/{it.name}" for it in sorted((TOP / "docs").glob("*.[13]"))), "docs/project.schema.json", "docs/target.schema.json", "examples", "include", "install", "python"]
 TOOLS = [".gitignore", "ARCHIVE.md", "build", "building", "cross", "crates.txt", "release", "web"]
 # what ./build and ./build library make, by the directory where they leave it
 BUILT = {"dyncollate": {"dyncollate": program.PROGRAM},
          "c_library": {"libdyncollate.a": embedded.STATIC, "libdyncollate.so.1": embedded.SHARED}}
 PAGE = "the page that web/make makes"
+# the module that web/build makes, if it is there
+WASM = web.WASM.read_bytes() if web.WASM.exists() else b"the module"
+# the files of the JavaScript package, and what they are in the sources
+JAVASCRIPT = {"README.md": "package.md", "dyncollate.d.mts": "dyncollate.d.mts", "dyncollate.mjs": "dyncollate.mjs",
+              "dyncollate.wasm": "out/dyncollate.wasm", "package.json": "package.json"}
 EXAMPLE = "ninja_dyndep_version = 1\nbuild obj/b.o | mod/B.bmi: dyndep\n  restat = 1\n"
 # what examples/embed/collate.c does
 BY_MODULE = """
@@ -62,35 +69,67 @@ def is_clone():
     return bool(shutil.which("git")) and call("git", "-C", TOP, "rev-parse", "--show-toplevel")[1] == f"{TOP}\n"
 
 
+# the functions of the library, by the version that they are new in
+ADDED = {"1.1.0": "collate project one effect order show statements", "1.2.0": "locate version"}
+
+
+def numbers_of(version):
+    return tuple(map(int, version.split(".")))
+
+
 class Version(unittest.TestCase):
     def test_form(self):
         self.assertRegex((TOP / "VERSION").read_text(), r"\A(0|[1-9]\d*)(\.(0|[1-9]\d*)){2}\n\Z")
 
     def test_changelog(self):
-        """The first version of the changelog is this one, and has a day."""
-        found = re.findall(r"^## \[([^]]+)\](.*)$", (TOP / "CHANGELOG.md").read_text(), re.M)
-        name, day = next(it for it in found if it[0] != "Unreleased")
-        self.assertEqual(name, VERSION)
-        self.assertRegex(day, r"\A - \d{4}-\d\d-\d\d\Z")
+        """The changelog begins with this version, which has a day once it is released, as each earlier one has."""
+        found = re.findall(r"^## (.*)$", (TOP / "CHANGELOG.md").read_text(), re.M)
+        day = r"\d{4}-\d\d-\d\d"
+        self.assertRegex(found[0], rf"\A\[{re.escape(VERSION)}\] - ({day if self.tags() else f'not released|{day}'})\Z")
+        for heading in found[1:]:
+            self.assertRegex(heading, rf"\A\[\d+\.\d+\.\d+\] - {day}\Z")
+        versions = [numbers_of(it[1:it.index("]")]) for it in found]
+        self.assertEqual(versions, sorted(set(versions), reverse=True))
 
     def test_manual(self):
-        for chapter in 1, 3:
-            self.assertIn(f"\n.Os dyncollate {VERSION}\n", (TOP / f"docs/dyncollate.{chapter}").read_text())
+        for page in (TOP / "docs").glob("*.[13]"):
+            self.assertIn(f"\n.Os dyncollate {VERSION}\n", page.read_text(), page)
 
     def test_library(self):
         """The number in the header and in the export is that of the version."""
-        major, minor, patch = map(int, VERSION.split("."))
+        major, minor, patch = numbers_of(VERSION)
         number = 10000 * major + 100 * minor + patch
         self.assertIn(f"\n#define DYNCOLLATE_VERSION {number}\n", (TOP / "include/dyncollate.h").read_text())
         self.assertRegex((TOP / "crates/c_library/src/lib.rt").read_text(), rf"dyncollate_version\(\) -> u32\n.*\n{{\n    {number}\n}}")
 
-    def test_package(self):
+    def test_packages(self):
         self.assertIn(f'\n__version__ = "{VERSION}"\n', (TOP / "python/dyncollate/__init__.py").read_text())
+        self.assertEqual(json.loads((TOP / "web/package.json").read_text())["version"], VERSION)
+
+    def tags(self):
+        """The tags of versions that this commit has."""
+        return git("tag", "--points-at", "HEAD", "--list", "v[0-9]*").split() if is_clone() else []
 
     def test_tag(self):
         if not is_clone():
             self.skipTest("this is no clone")
-        self.assertIn(git("tag", "--points-at", "HEAD", "--list", "v[0-9]*").split(), ([], [f"v{VERSION}"]))
+        self.assertIn(self.tags(), ([], [f"v{VERSION}"]))
+
+    def test_functions(self):
+        """This version is at least the one that each function of the header is new in."""
+        self.assertEqual({it for names in ADDED.values() for it in names.split()}, {
+            *re.findall(r"^\w+ dyncollate_(\w+)\(", (TOP / "include/dyncollate.h").read_text(), re.M)})
+        self.assertLessEqual(max(map(numbers_of, ADDED)), numbers_of(VERSION))
+
+    @embedded.needs_tools("readelf")
+    def test_shared_object(self):
+        """What `./build library` made has each of these functions, and returns this version."""
+        if not os.path.exists(embedded.SHARED):
+            self.skipTest("there is no library; ./build library makes it")
+        shown = output_of("readelf", "-W", "--dyn-syms", embedded.SHARED)
+        self.assertEqual(set(re.findall(r" FUNC .* dyncollate_(\w+)@@DYNCOLLATE_1\n", shown)),
+                         {it for names in ADDED.values() for it in names.split()})
+        self.assertEqual(embedded.module().version(), VERSION)
 
 
 class Released(unittest.TestCase):
@@ -138,6 +177,7 @@ class Released(unittest.TestCase):
             (out / "digest").write_text(toolchain)
         (clone / "web/out").mkdir(exist_ok=True)
         (clone / "web/out/dyncollate.html").write_text(PAGE)
+        (clone / "web/out/dyncollate.wasm").write_bytes(WASM)
 
     @classmethod
     def release(cls, *words, clone=None, processor="x86_64", **environment):
@@ -166,8 +206,37 @@ class Released(unittest.TestCase):
 @embedded.needs_library
 class Archive(Released):
     def test_made(self):
-        self.assertEqual(self.made, (0, f"{NAME}.tar.gz\n{WHEEL}\ndyncollate-{VERSION}.html\n", ""))
+        self.assertEqual(self.made, (0, "".join(f"{it}\n" for it in MADE), ""))
         self.assertEqual((self.clone / f"dyncollate-{VERSION}.html").read_text(), PAGE)
+        self.assertEqual(sorted(it.name for it in self.clone.glob("dyncollate-*")), MADE)
+
+    def test_sums_of_all_that_is_made(self):
+        """The file has the sum of each file next to it."""
+        sums = "".join(f"{hashlib.sha256((self.clone / it).read_bytes()).hexdigest()}  {it}\n" for it in MADE if it != SUMS)
+        self.assertEqual((self.clone / SUMS).read_text(), sums)
+        self.assertEqual(call("sha256sum", "--check", "--strict", "--quiet", SUMS, cwd=self.clone), (0, "", ""))
+
+    def test_javascript(self):
+        """The package has the module and its types, also in the archive. npm installs it, and the example in its README works."""
+        with tarfile.open(self.clone / PACKAGE) as tar:
+            files = {it.name: tar.extractfile(it).read() for it in tar.getmembers() if it.isfile()}
+        wanted = {name: (self.clone / "web" / source).read_bytes() for name, source in JAVASCRIPT.items()}
+        self.assertEqual(files, {f"package/{name}": data for name, data in wanted.items()})
+        self.assertEqual({it.name: it.read_bytes() for it in (self.home / "javascript").iterdir()}, wanted)
+        listed = json.loads(wanted["package.json"])
+        self.assertEqual({listed["types"], *listed["exports"]["."].values(), listed["exports"]["./dyncollate.wasm"]},
+                         {f"./{it}" for it in wanted if it not in ("README.md", "package.json")})
+        if not (web.WASM.exists() and shutil.which("npm") and shutil.which("node")):
+            self.skipTest("there is no WebAssembly module, or no npm; web/build makes the module")
+        folder = self.room / "uses it"
+        folder.mkdir()
+        (folder / "package.json").write_text("{}")
+        status, printed = run("npm", "install", "--offline", "--no-audit", "--no-fund", self.clone / PACKAGE, cwd=folder, env=ENVIRONMENT)
+        self.assertEqual(status, 0, printed)
+        example = re.search(r"```js\n(.*?)```\n", wanted["README.md"].decode(), re.S)[1]
+        (folder / "a.mjs").write_text('const document = "{}", scan = "", info = "";\n' + example)
+        line = "dyncollate: target: S2 BadVersion document { document: 'target', code: 'S2' }\n"
+        self.assertEqual(call("node", "a.mjs", cwd=folder), (0, "", line))
 
     def test_twice_it_has_the_same_bytes(self):
         """Also from another clone of the commit, in another place, whose files are of other times and rights."""
@@ -179,8 +248,9 @@ class Archive(Released):
                 path.chmod(path.stat().st_mode & 0o700)
         self.build(other)
         self.assertEqual(self.release(clone=other, LANG="tr_TR.UTF-8", TZ="Asia/Kolkata")[0], 0)
-        self.assertEqual((other / f"{NAME}.tar.gz").read_bytes(), before)
-        self.assertEqual((other / WHEEL).read_bytes(), (self.clone / WHEEL).read_bytes())
+        self.assertEqual(self.archive.read_bytes(), before)
+        for name in MADE:
+            self.assertEqual((other / name).read_bytes(), (self.clone / name).read_bytes(), name)
 
     def test_members(self):
         """What is in it: nothing of the machine, the user or the time when it was made."""
@@ -188,6 +258,7 @@ class Archive(Released):
         with tarfile.open(self.archive) as tar:
             members = tar.getmembers()
         wanted = git("ls-files", *SOURCES, cwd=self.clone).splitlines() + ["PROVED.txt", "README.md", "SHA256SUMS", "dyncollate.html"]
+        wanted += [f"javascript/{it}" for it in JAVASCRIPT]
         wanted += [name for files in BUILT.values() for name in files]
         self.assertEqual(sorted(it.name for it in members if it.isfile()), sorted(f"{NAME}/{it}" for it in wanted))
         self.assertEqual([it.name for it in members], sorted(it.name for it in members))
@@ -236,8 +307,11 @@ class Archive(Released):
         text = (self.home / "PROVED.txt").read_text()
         self.assertIn("\n./build and ./build library made files of these sums", text)
         found = re.findall(r"^([0-9a-f]{64})  (\S+)$", text, re.M)
-        self.assertEqual(found, [(hashlib.sha256(Path(file).read_bytes()).hexdigest(), f"crates/{crate}/out/{name}")
-                                 for crate, files in BUILT.items() for name, file in files.items()])
+        made = [(f"crates/{crate}/out/{name}", Path(file).read_bytes()) for crate, files in BUILT.items() for name, file in files.items()]
+        made += [("web/out/dyncollate.html", PAGE.encode()), ("web/out/dyncollate.wasm", WASM)]
+        self.assertEqual(found, [(hashlib.sha256(data).hexdigest(), name) for name, data in made])
+        self.assertIn("\nThe page dyncollate.html and the module javascript/dyncollate.wasm were made from the library by\n"
+                      "web/make. This step is not proved:\n", text)
 
     @embedded.needs_tools("aarch64-linux-gnu-gcc", "aarch64-linux-gnu-strip")
     def test_for_arm(self):
@@ -253,7 +327,7 @@ class Archive(Released):
         built = {crate: {name: made / name for name in files} for crate, files in BUILT.items()}
         self.build(clone, built, "/aarch64")
         name = f"dyncollate-{VERSION}-linux-aarch64"
-        names = [f"{NAME}.tar.gz", WHEEL, f"{name}.tar.gz", WHEEL.replace("x86_64", "aarch64"), f"dyncollate-{VERSION}.html"]
+        names = sorted([*MADE, f"{name}.tar.gz", WHEEL.replace("x86_64", "aarch64")])
         self.assertEqual(self.release(clone=clone, processor=""), (0, "".join(f"{it}\n" for it in names), ""))
         self.assertEqual((clone / f"{NAME}.tar.gz").read_bytes(), self.archive.read_bytes())
         with tarfile.open(clone / f"{name}.tar.gz") as tar, tarfile.open(self.archive) as other:
@@ -287,7 +361,7 @@ class Archive(Released):
         folder = self.room / "tested"
         folder.mkdir()
         self.assertEqual(call(self.clone / "release", "x86_64", file, cwd=folder),
-                         (0, f"{NAME}.tar.gz\n{WHEEL}\ndyncollate-{VERSION}.html\n", ""))
+                         (0, "".join(f"{it}\n" for it in MADE), ""))
         with tarfile.open(folder / f"{NAME}.tar.gz") as tar:
             text = tar.extractfile(f"{NAME}/PROVED.txt").read().decode()
         self.assertIn(f"\n    {gate}\n    7 passed, 0 failed\n    9 passed, 0 failed, 1 skipped\n", text)

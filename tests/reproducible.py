@@ -22,10 +22,10 @@ PARTS = ["build", "building", "crates.txt", "cross"]
 
 def is_proved(is_library):
     """Whether only the last crate is left to be checked."""
-    script = ("import subprocess, sys; from building.crates import *; *below, goal = read_crates(bool(int(sys.argv[1])), False); "
+    script = ("import subprocess, sys; from building.crates import *; *below, goal = read_crates(sys.argv[1]); "
               "rt = subprocess.run(['rt', 'version'], stdout=subprocess.PIPE, text=True).stdout.strip(); "
               "[setattr(it, 'digest', take_digest(it)) for it in below]; sys.exit(not all(is_made(it, rt) for it in below))")
-    return run(sys.executable, "-c", script, str(int(is_library)), cwd=TOP)[0] == 0
+    return run(sys.executable, "-c", script, "c_library" if is_library else "dyncollate", cwd=TOP)[0] == 0
 
 
 def copied(file, to):

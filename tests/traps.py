@@ -230,6 +230,22 @@ class WithGcc(Directory):
     def without_sed(self):
         edit("build.ninja", r" \$\n    && sed.*", "")
 
+    def copy_for_newer_gcc(self):
+        newer = next((it for it in ("g++-16", "g++-15", "g++-14") if shutil.which(it)), None)
+        if not newer:
+            self.skipTest("g++-14: not there")
+        self.environment["GCC"] = newer
+        self.copy("single", "gcc")
+
+    def test_what_a_scan_by_gcc_leaves_out(self):
+        """An import of the source's own module. At a header unit, the scan fails."""
+        self.copy_for_newer_gcc()
+        for imported, said in ("units", "cannot import module in its own purview"), ("<vector>", "failed to read compiled module"):
+            edit("src/units.cppm", r"^export module units;\n(import .*\n)?", f"export module units;\nimport {imported};\n")
+            self.assertEqual(self.ninja()[0], 1, self.log)
+            self.assertIn(said, self.log)
+            self.assertNotIn("\ndyncollate:", self.log)
+
     def test_without_mno_modules_ninja_rejects_the_depfile(self):
         if version("gcc") >= (14,):
             self.skipTest("GCC 11 to 13: not there")
@@ -241,11 +257,7 @@ class WithGcc(Directory):
 
     def test_module_files_in_the_depfile(self):
         """A new import compiles all sources, and an import that is reversed is a false cycle, also after a clean."""
-        newer = next((it for it in ("g++-16", "g++-15", "g++-14") if shutil.which(it)), None)
-        if not newer:
-            self.skipTest("g++-14: not there")
-        self.environment["GCC"] = newer
-        self.copy("single", "gcc")
+        self.copy_for_newer_gcc()
         self.without_sed()
         write_all_maps()
         self.makes("600")

@@ -56,7 +56,7 @@ def prove(policy, names, room):
         def command(self, crate, jobs):
             return [sys.executable, __file__, "--child", f"{room}/{crate.name} {jobs}", *super().command(crate, jobs)]
 
-    crates = build.read_crates(False, False)
+    crates = build.read_crates("dyncollate")
     unknown = set(names) - {it.name for it in crates}
     if unknown:
         sys.exit(f"bench/run build: the program has no crate {min(unknown)}")
