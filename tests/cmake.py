@@ -1,4 +1,4 @@
-"""Tests cmake/dyncollate-cmake without CMake: on documents that CMake recorded, and on Ninja files and documents made here."""
+"""Tests adapters/cmake/dyncollate-cmake without CMake: on documents that CMake recorded, and on Ninja files and documents made here."""
 import concurrent.futures
 import json
 import os
@@ -13,8 +13,8 @@ from tests.case import Case, each
 from tests.run import run
 
 TOP = Path(program.TOP)
-ADAPTER = str(TOP / "cmake/dyncollate-cmake")
-NINJA = str(TOP / "cmake/dyncollate-ninja")
+ADAPTER = str(TOP / "adapters/cmake/dyncollate-cmake")
+NINJA = str(TOP / "adapters/cmake/dyncollate-ninja")
 DATA = TOP / "tests/data/cmake"
 
 
@@ -508,7 +508,7 @@ class NinjaFiles(Case):
         """It is named by the environment, or next to the adapter, or in the PATH."""
         self.fails("none: there is no such program", "adopt", "b", env=environment(DYNCOLLATE="none"))
         self.fails("dyncollate: there is no such program", "adopt", "b", env=environment(DYNCOLLATE="", PATH="/nowhere"))
-        shutil.copytree(TOP / "cmake", "bin")
+        shutil.copytree(TOP / "adapters/cmake", "bin")
         for name, path in ("bin/dyncollate", "/nowhere"), ("other/dyncollate", f"{os.getcwd()}/other"):
             put(name, "#!/bin/sh\n")
             os.chmod(name, 0o755)
@@ -518,7 +518,7 @@ class NinjaFiles(Case):
 
     def test_installed(self):
         """The modules are in PREFIX/share/dyncollate, which a user may not write: the cache of Python is in the build directory."""
-        for name in (TOP / "cmake").iterdir():
+        for name in (TOP / "adapters/cmake").iterdir():
             if name.is_file():
                 put(f"prefix/{'share/dyncollate' if name.suffix else 'bin'}/{name.name}", name.read_text())
         before = sorted(Path("prefix").rglob("*"))

@@ -43,7 +43,7 @@ class InstallProgram(InRoom):
 
     def test_install(self):
         home, prefix = self.room / "home", self.room / "prefix"
-        for name in "adapters", "cmake", "completions", "docs", "examples", "explain":
+        for name in "adapters", "completions", "docs", "examples", "explain":
             shutil.copytree(TOP / name, home / name)
         for name in "install", "CHANGELOG.md", "VERSION":
             shutil.copy(TOP / name, home / name)
@@ -89,7 +89,7 @@ class Install(releases.Released):
         self.assertEqual({it.stat().st_mode & 0o777 for it in installed}, {0o644, 0o755})
         self.assertEqual(call(prefix / "bin/dyncollate", "one", prefix / "share/dyncollate/examples/b.ddi", "mod", ".bmi"), (0, EXAMPLE, ""))
         self.assertEqual((prefix / "share/man/man1/dyncollate.1").read_bytes(), (self.home / "docs/dyncollate.1").read_bytes())
-        for folder, name in ("cmake", "dyncollate-cmake"), ("adapters/meson", "dyncollate-meson"):
+        for folder, name in ("adapters/cmake", "dyncollate-cmake"), ("adapters/meson", "dyncollate-meson"):
             self.assertEqual(call(prefix / "bin" / name, "--help"), call(self.home / folder / name, "--help"))
         status, out, err = call(self.home / "install", "--uninstall", prefix)
         self.assertEqual((status, err), (0, ""))

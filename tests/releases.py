@@ -27,7 +27,7 @@ WHEEL = f"dyncollate-{VERSION}-py3-none-manylinux_2_17_x86_64.manylinux2014_x86_
 PACKAGE, SUMS = f"dyncollate-{VERSION}.tgz", f"dyncollate-{VERSION}-SHA256SUMS"
 MADE = sorted([f"{NAME}.tar.gz", WHEEL, PACKAGE, SUMS, f"dyncollate-{VERSION}.html"])
 # the files that ./release takes from the commit, and the files that it needs itself
-SOURCES = ["CHANGELOG.md", "VERSION", "adapters", "cmake", "completions", "explain", "docs/GUIDE.md", "docs/FORMATS.md",
+SOURCES = ["CHANGELOG.md", "VERSION", "adapters", "completions", "explain", "docs/GUIDE.md", "docs/FORMATS.md",
            *(f"docs/{it.name}" for it in sorted((TOP / "docs").glob("*.[13]"))), "docs/project.schema.json", "docs/target.schema.json", "examples", "include", "install", "python"]
 TOOLS = [".gitignore", "ARCHIVE.md", "build", "building", "cross", "crates.txt", "release", "web"]
 # what ./build and ./build library make, by the directory where they leave it

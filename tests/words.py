@@ -75,7 +75,7 @@ EXCEPTIONS = [
     "tests: a run needs no random bytes but for names of new files", "FORMATS: fewer words once more", "must-fail edits: 3 refused",
 ]
 # The scripts and tests, and those of them that are not read yet. This file has the turns themselves.
-SCRIPTS = ["build", "dyncollate", "install", "release", "test", ".ci/run", "bench/**/*", "building/*", "adapters/**/*", "cmake/*", "completions/*/*", "cross/*", "examples/generate",
+SCRIPTS = ["build", "dyncollate", "install", "release", "test", ".ci/run", "bench/**/*", "building/*", "adapters/**/*", "completions/*/*", "cross/*", "examples/generate",
            "examples/embed/*", "explain/*", "include/*", "python/**/*", "tests/**/*", "web/*"]
 NOT_READ = re.compile(r"/__pycache__/|/out/|tests/data/|tests/words\.py$|\.(?:bench|css|html|md|toml|typed|in|svg)$|/dictionary$|/deps$")
 # The commit after which subjects are checked.
@@ -200,7 +200,7 @@ class Words(unittest.TestCase):
 
     def test_scripts(self):
         said = scripts()
-        self.assertLessEqual({"build", "install", "release", "test", "building/link", "bench/run", "cmake/dyncollate-ninja", "adapters/meson/dyncollate-meson", "cross/heap.c", "examples/generate",
+        self.assertLessEqual({"build", "install", "release", "test", "building/link", "bench/run", "adapters/cmake/dyncollate-ninja", "adapters/meson/dyncollate-meson", "cross/heap.c", "examples/generate",
                               "explain/dyncollate-explain", "python/wheels.py", "tests/preload", "tests/fuzz/calls.c", "web/page.mjs"}, set(said))
         for name, text in said.items():
             with self.subTest(name):

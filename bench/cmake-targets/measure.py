@@ -99,7 +99,7 @@ class Build:
         return subprocess.run(words, stdout=subprocess.PIPE, text=True, check=True).stdout
 
     def adopt(self):
-        self.call(sys.executable, TOP / "cmake/dyncollate-cmake", "adopt", self.top)
+        self.call(sys.executable, TOP / "adapters/cmake/dyncollate-cmake", "adopt", self.top)
 
     def made(self):
         return [it for pattern in ("CXX.dd", "*.modmap", "CXXModules.json") for it in self.top.rglob(pattern)]
@@ -153,7 +153,7 @@ def measure_configuring(form, targets):
     """Prints the best and the median time of CMake with both programs, and how much longer the second takes at best."""
     with tempfile.TemporaryDirectory(prefix="dyncollate-") as room:
         write_project(Path(room, "project"), form, targets)
-        times = {shutil.which(NINJA): [], f"{TOP}/cmake/dyncollate-ninja": []}
+        times = {shutil.which(NINJA): [], f"{TOP}/adapters/cmake/dyncollate-ninja": []}
         for _ in range(ROUNDS):
             for program, its_times in times.items():
                 before = processor_ms()

@@ -59,7 +59,7 @@ def write_project(folder, count, modules):
 def measure(folder, count, modules):
     what = "modules" if modules else "plain"
     write_project(folder, count, modules)
-    ours, built = str(TOP / "cmake/dyncollate-ninja"), str(folder / "ours")
+    ours, built = str(TOP / "adapters/cmake/dyncollate-ninja"), str(folder / "ours")
     for name, ninja in ("ninja", "ninja"), ("ours", ours):
         time = milliseconds("meson", "setup", str(folder / name), str(folder), NINJA=ninja)
         print(f"setup.{what}.{name} {time:.0f}", flush=True)
