@@ -1,7 +1,7 @@
 -- Under the premises there is exactly one effect, and there is one if and only if no check fails.
 use Rattle.std.proofs.Common.{◌≡◌, ◌≢◌, ℕ, ◌+◌, ◌<◌, ◌⊎◌, Bool, List, ◌++◌, length, Some, Result, Ok, refl, ap, subst, sym, ◌∙◌, inl, inr, arith, append_assoc, zero, suc, Err}
 use Rattle.std.proofs.lemmas.Option.{slice_get_within}
-use Rattle.build_effect.specs.Prelude.{slice_get, path_of, PathFault, StatementValue, ChecksSuffice, FaultsExclude, EdgeValue, ArePaths, IsCanonical, AreCanonical, IsOn, IsTheOneOn, AllBound, extended, Extends, Effect, EffectGives, path_texts, IsRepeated, NoneRepeated, AllMentioned, added_outputs, NoneMadeBefore, made_by, Names, MakesAt, IsMade, MadeOnce, AddedOnce, MeetsPremises, OneEffect, AddedTwice, BadPath, NotBound, NotMentioned, StatementTwice}
+use Rattle.build_effect.specs.Prelude.{slice_get, path_of, PathFault, StatementValue, ChecksSuffice, FaultsExclude, EdgeValue, ArePaths, IsCanonical, AreCanonical, IsOn, IsTheOneOn, AllBound, extended, Extends, Effect, EffectGives, path_texts, IsRepeated, NoneRepeated, AllMentioned, added_outputs, NoneMadeBefore, made_by, Names, MakesAt, IsMade, MadeOnce, AddsAt, AddedOnce, MeetsPremises, OneEffect, AddedTwice, BadPath, NotBound, NotMentioned, StatementTwice}
 use Rattle.build_effect.proofs.Lists.{path_option_decides, same_lists, same_map, same_ok, one_part, from_some}
 use Rattle.ninja_text.proofs.ForCallers.{in_append, from_map, to_map, element_at, choose, in_first, in_second, three_ways, offset, in_flat_map, from_flat_map}
 
@@ -76,16 +76,39 @@ Origin g additions i j file =
     ⊎ ((e : EdgeValue) × (k : ℕ) × (a : StatementValue) × (m : ℕ) × (slice_get g i ≡ Some e) × (slice_get additions k ≡ Some a) × IsOn a e ×
     (slice_get a.implicit_outputs m ≡ Some file) × (j ≡ length (made_by e) + m))
 
+-- an edge stays as it is, or gains what a statement on it adds
+abbrev pub Grows : List StatementValue → EdgeValue → EdgeValue → Type 0
+Grows additions e x = (x ≡ e) ⊎ ((k : ℕ) × (a : StatementValue) × (slice_get additions k ≡ Some a) × IsOn a e × (x ≡ extended e a))
+
+pub origin_of : (g : List EdgeValue) (additions : List StatementValue) (i j : ℕ) (file : List ℕ) (e x : EdgeValue) → slice_get g i ≡ Some e →
+    slice_get (made_by x) j ≡ Some file → Grows additions e x → Origin g additions i j file
+origin_of g additions i j file e x here makes (inl same) = inl (e, here, ap (λ d. slice_get (made_by d) j) (sym same) ∙ makes)
+origin_of g additions i j file e x here makes (inr b) =
+    let joined : slice_get (made_by e ++ b.1.implicit_outputs) j ≡ Some file =
+    ap (λ xs. slice_get xs j) (append_assoc e.outputs e.implicit_outputs b.1.implicit_outputs) ∙ ap (λ d. slice_get (made_by d) j) (sym b.4) ∙ makes in
+    elim (in_append (made_by e) b.1.implicit_outputs j file joined) [
+      | inl h ↦ inl (e, here, h)
+      | inr h ↦ inr (e, b.0, b.1, h.0, here, b.2, b.3, h.2, h.1)
+    ]
+
 pub origin_in : (g : List EdgeValue) (name : List ℕ) (additions : List StatementValue) (i j : ℕ) (file : List ℕ) (e x : EdgeValue) → slice_get g i ≡ Some e →
     slice_get (made_by x) j ≡ Some file → Becomes name additions e x → Origin g additions i j file
-origin_in g name additions i j file e x here makes (inl b) = inl (e, here, ap (λ d. slice_get (made_by d) j) (sym b.1) ∙ makes)
-origin_in g name additions i j file e x here makes (inr b) =
-    let joined : slice_get (made_by e ++ b.2.implicit_outputs) j ≡ Some file =
-    ap (λ xs. slice_get xs j) (append_assoc e.outputs e.implicit_outputs b.2.implicit_outputs) ∙ ap (λ d. slice_get (made_by d) j) (sym b.4) ∙ makes in
-    elim (in_append (made_by e) b.2.implicit_outputs j file joined) [
-      | inl h ↦ inl (e, here, h)
-      | inr h ↦ inr (e, b.1, b.2, h.0, here, b.3.is, b.3.on, h.2, h.1)
-    ]
+origin_in g name additions i j file e x here makes (inl b) = origin_of g additions i j file e x here makes (inl b.1)
+origin_in g name additions i j file e x here makes (inr b) = origin_of g additions i j file e x here makes (inr (b.1, b.2, b.3.is, b.3.on, b.4))
+
+-- files that have an origin are made once, if those made before were, and no output is added that was made before or is added twice
+pub one_index : (g : List EdgeValue) (additions : List StatementValue) → MadeOnce g → AddedOnce additions →
+    ((k m : ℕ) (file : List ℕ) → AddsAt additions k m file → IsMade g file → ⊥) → (i j k l : ℕ) (file : List ℕ) → Origin g additions i j file →
+    Origin g additions k l file → (i ≡ k) × (j ≡ l)
+one_index g additions made_once once fresh i j k l file (inl p) (inl q) = made_once i j k l file p q
+one_index g additions made_once once fresh i j k l file (inl p) (inr q) = absurd (fresh q.1 q.3 file (q.2, q.5, q.7) (i, j, p))
+one_index g additions made_once once fresh i j k l file (inr p) (inl q) = absurd (fresh p.1 p.3 file (p.2, p.5, p.7) (k, l, q))
+one_index g additions made_once once fresh i j k l file (inr p) (inr q) =
+    let same = once p.1 p.3 q.1 q.3 file (p.2, p.5, p.7) (q.2, q.5, q.7) in
+    let addition : p.2 ≡ q.2 = cc in
+    let edges = made_once i p.6.0 k q.6.0 q.2.output (p.0, p.4, p.6.1 ∙ ap (λ a. Some a.output) addition) (q.0, q.4, q.6.1) in
+    let edge : p.0 ≡ q.0 = cc in
+    (edges.0, p.8 ∙ ap (λ e. length (made_by e) + p.3) edge ∙ ap (λ m. length (made_by q.0) + m) same.1 ∙ sym q.8)
 
 module _ (g : List EdgeValue) (name : List ℕ) (additions : List StatementValue) (once : AddedOnce additions) (meets : MeetsPremises g name additions) where
   the_one : (i : ℕ) (e : EdgeValue) → slice_get g i ≡ Some e → Names name e → (k : ℕ) × (a : StatementValue) × IsTheOneOn additions e k a
@@ -139,17 +162,6 @@ module _ (g : List EdgeValue) (name : List ℕ) (additions : List StatementValue
         let b = each i m.0 m.1 in
         origin_in g name additions i j file b.0 m.0 b.1 m.2 b.2
 
-    one_index : (i j k l : ℕ) (file : List ℕ) → Origin g additions i j file → Origin g additions k l file → (i ≡ k) × (j ≡ l)
-    one_index i j k l file (inl p) (inl q) = meets.made_once i j k l file p q
-    one_index i j k l file (inl p) (inr q) = absurd (meets.fresh q.1 q.3 file (q.2, q.5, q.7) (i, j, p))
-    one_index i j k l file (inr p) (inl q) = absurd (meets.fresh p.1 p.3 file (p.2, p.5, p.7) (k, l, q))
-    one_index i j k l file (inr p) (inr q) =
-        let same = once p.1 p.3 q.1 q.3 file (p.2, p.5, p.7) (q.2, q.5, q.7) in
-        let addition : p.2 ≡ q.2 = cc in
-        let edges = meets.made_once i p.6.0 k q.6.0 q.2.output (p.0, p.4, p.6.1 ∙ ap (λ a. Some a.output) addition) (q.0, q.4, q.6.1) in
-        let edge : p.0 ≡ q.0 = cc in
-        (edges.0, p.8 ∙ ap (λ e. length (made_by e) + p.3) edge ∙ ap (λ m. length (made_by q.0) + m) same.1 ∙ sym q.8)
-
     gives : Extends g name additions new
     gives =
         record {
@@ -157,7 +169,7 @@ module _ (g : List EdgeValue) (name : List ℕ) (additions : List StatementValue
           others = others;
           named = named;
           bound = λ k a at. meets.names.bound k a.output (to_map (λ (b : StatementValue). b.output) additions k a at);
-          made_once = λ i j k l file p q. one_index i j k l file (origin i j file p) (origin k l file q);
+          made_once = λ i j k l file p q. one_index g additions meets.made_once once meets.fresh i j k l file (origin i j file p) (origin k l file q);
         }
 
 pub one_effect : OneEffect

@@ -1,7 +1,7 @@
 -- The edges with what statements add are the effect.
 use Rattle.std.proofs.Common.{◌≡◌, ◌≢◌, ◌⊎◌, ℕ, ◌+◌, List, [], ◌∷◌, ◌++◌, length, take, get_or, Option, Some, None, refl, ap, sym, subst, ◌∙◌, inl, inr, arith, slice_get, length-append}
 use Rattle.std.proofs.lemmas.Option.{slice_get_within, slice_get-get_or, get_or_from_slice_get}
-use Rattle.build_effect.specs.Prelude.{StatementValue, ChecksSuffice, EdgeValue, IsOn, extended, Extends, OnlyEffect, made_by, HasInput, Names, MakesAt, IsGraph, added_files, AreChecked, IsEdgeAfter, AreExtended, Has, Made, AreMade, statement_on, AreInverse}
+use Rattle.build_effect.specs.Prelude.{StatementValue, ChecksSuffice, EdgeValue, IsOn, extended, Extends, OnlyEffect, made_by, HasInput, Names, MakesAt, MadeOnce, IsGraph, added_files, AreChecked, IsEdgeAfter, AreExtended, Has, Made, AreMade, statement_on, AreInverse}
 use Rattle.build_effect.proofs.MakerTables.{from_numbered, in_numbered}
 use Rattle.build_effect.proofs.Lists.{same_lists, from_some}
 use Rattle.ninja_text.proofs.ForCallers.{in_append, in_first, in_second, element_at, from_push, from_take, in_take, take_next}
@@ -107,6 +107,26 @@ module _ (g : List EdgeValue) (name : List ℕ) (ss additions : List StatementVa
       let same = given_are r.1 in
       (subst (Extends g name additions) same r.1, subst (OnlyEffect g name ss) same r.2)
 
+-- an edge that gains something reads and makes what it did
+pub still_reads : (e : EdgeValue) (a : StatementValue) {file : List ℕ} → HasInput e file → HasInput (extended e a) file
+still_reads e a {file} h =
+    elim (in_append e.inputs (e.implicit_inputs ++ e.order_only) h.0 file h.1) [
+      | inl p ↦ has_first e.inputs ((e.implicit_inputs ++ a.implicit_inputs) ++ e.order_only) file (h.0, p)
+      | inr p ↦ has_second e.inputs ((e.implicit_inputs ++ a.implicit_inputs) ++ e.order_only) file
+          (elim (in_append e.implicit_inputs e.order_only p.0 file p.2) [
+            | inl q ↦ has_first (e.implicit_inputs ++ a.implicit_inputs) e.order_only file (has_first e.implicit_inputs a.implicit_inputs file (p.0, q))
+            | inr q ↦ has_second (e.implicit_inputs ++ a.implicit_inputs) e.order_only file (q.0, q.2)
+          ])
+    ]
+
+-- each statement that is on an edge is one of the additions
+abbrev pub AreOn : List EdgeValue → List StatementValue → List (Option ℕ) → Type 0
+AreOn g additions statement_of =
+    (i k : ℕ) → statement_on statement_of i ≡ Some k → (a : StatementValue) × (slice_get additions k ≡ Some a) × (e : EdgeValue) × (slice_get g i ≡ Some e)
+    × IsOn a e
+
+module _ (g : List EdgeValue) (additions : List StatementValue) (statement_of : List (Option ℕ)) (new : List EdgeValue) (on : AreOn g additions statement_of)
+    (are : AreExtended g additions statement_of new) where
   -- the origin of each edge of the new graph
   from_old : (i : ℕ) {x : EdgeValue} → slice_get new i ≡ Some x →
       (e : EdgeValue) × (slice_get g i ≡ Some e) × ((x ≡ e) ⊎ ((a : StatementValue) × (x ≡ extended e a)))
@@ -115,22 +135,11 @@ module _ (g : List EdgeValue) (name : List ℕ) (ss additions : List StatementVa
       let at = element_at g i (omega arith) in
       elim (on_or_not (statement_on statement_of i)) [
         | inl none ↦ (at.0, at.1, inl (from_some (sym at_x ∙ are.plain i at.0 at.1 none)))
-        | inr some ↦ let p = checked.matched.on i some.0 some.1 in (at.0, at.1, inr (p.0, from_some (sym at_x ∙ are.more i some.0 at.0 p.0 at.1 some.1 p.1)))
+        | inr some ↦ let p = on i some.0 some.1 in (at.0, at.1, inr (p.0, from_some (sym at_x ∙ are.more i some.0 at.0 p.0 at.1 some.1 p.1)))
       ]
 
-  still_reads : (e : EdgeValue) (a : StatementValue) {file : List ℕ} → HasInput e file → HasInput (extended e a) file
-  still_reads e a {file} h =
-      elim (in_append e.inputs (e.implicit_inputs ++ e.order_only) h.0 file h.1) [
-        | inl p ↦ has_first e.inputs ((e.implicit_inputs ++ a.implicit_inputs) ++ e.order_only) file (h.0, p)
-        | inr p ↦ has_second e.inputs ((e.implicit_inputs ++ a.implicit_inputs) ++ e.order_only) file
-            (elim (in_append e.implicit_inputs e.order_only p.0 file p.2) [
-              | inl q ↦ has_first (e.implicit_inputs ++ a.implicit_inputs) e.order_only file (has_first e.implicit_inputs a.implicit_inputs file (p.0, q))
-              | inr q ↦ has_second (e.implicit_inputs ++ a.implicit_inputs) e.order_only file (q.0, q.2)
-            ])
-      ]
-
-  pub is_graph : IsGraph g → ChecksSuffice → IsGraph new
-  is_graph graph suffice =
+  pub is_graph : IsGraph g → MadeOnce new → IsGraph new
+  is_graph graph once =
       record {
         outputs = λ i x at.
             let b = from_old i at in
@@ -138,7 +147,7 @@ module _ (g : List EdgeValue) (name : List ℕ) (ss additions : List StatementVa
               | inl same ↦ subst (λ (z : EdgeValue). z.outputs ≢ []) (sym same) (graph.outputs i b.0 b.1)
               | inr more ↦ subst (λ (z : EdgeValue). z.outputs ≢ []) (sym more.1) (graph.outputs i b.0 b.1)
             ];
-        made_once = (is_effect graph suffice).0.made_once;
+        made_once = once;
         dyndep_is_input = λ i x file at names.
             let b = from_old i at in
             elim b.2 [
@@ -158,7 +167,7 @@ module _ (g : List EdgeValue) (name : List ℕ) (ss additions : List StatementVa
         elim (on_or_not (statement_on statement_of i)) [
           | inl none ↦ (h.0, (e, are.plain i e at none, h.1))
           | inr some ↦
-              let p = checked.matched.on i some.0 some.1 in
+              let p = on i some.0 some.1 in
               let outputs = e.implicit_outputs ++ p.0.implicit_outputs in
               let there : Has (made_by (extended e p.0)) file =
               elim (in_append e.outputs e.implicit_outputs h.0 file h.1) [
@@ -176,12 +185,12 @@ module _ (g : List EdgeValue) (name : List ℕ) (ss additions : List StatementVa
               let r = from_numbered (λ (a : StatementValue). a.implicit_outputs) (λ n. get_or edge_of n 0) additions h.0 file i h.2 in
               let within = slice_get_within additions r.0 r.1 r.3 in
               let edge = slice_get-get_or edge_of r.0 0 (omega (arith, within, as_many)) ∙ ap (λ n. Some n) r.4 in
-              let on = inverse.to r.0 i edge in
-              let p = checked.matched.on i r.0 on in
+              let here = inverse.to r.0 i edge in
+              let p = on i r.0 here in
               let same : p.0 ≡ r.1 = cc in
-              let there = has_second p.2.0.outputs (p.2.0.implicit_outputs ++ r.1.implicit_outputs) file
-              (has_second p.2.0.implicit_outputs r.1.implicit_outputs file (r.2, r.5)) in
-              (there.0, (extended p.2.0 r.1, are.more i r.0 p.2.0 r.1 p.2.1 on r.3, there.1))
+              let there = has_second p.2.outputs (p.2.implicit_outputs ++ r.1.implicit_outputs) file
+              (has_second p.2.implicit_outputs r.1.implicit_outputs file (r.2, r.5)) in
+              (there.0, (extended p.2 r.1, are.more i r.0 p.2 r.1 p.3 here r.3, there.1))
         ]
 
     all : (i j : ℕ) (file : List ℕ) → MakesAt new i j file → (k : ℕ) × (slice_get (made ++ added_files edge_of additions) k ≡ Some (file, i))
@@ -195,7 +204,7 @@ module _ (g : List EdgeValue) (name : List ℕ) (ss additions : List StatementVa
               let same = from_some (sym at_x ∙ are.plain i e.0 e.1 none) in
               old (j, ap (λ z. slice_get (made_by z) j) (sym same) ∙ at_j)
           | inr some ↦
-              let p = checked.matched.on i some.0 some.1 in
+              let p = on i some.0 some.1 in
               let same = from_some (sym at_x ∙ are.more i some.0 e.0 p.0 e.1 some.1 p.1) in
               elim (in_append e.0.outputs (e.0.implicit_outputs ++ p.0.implicit_outputs) j file (ap (λ z. slice_get (made_by z) j) (sym same) ∙ at_j)) [
                 | inl h ↦ old (has_first e.0.outputs e.0.implicit_outputs file (j, h))

@@ -7,6 +7,8 @@ mod Effects
 mod Extensions
 mod FileOrders
 mod EdgeOrders
+mod JoinedFiles
+mod Unions
 pub mod ListingRuns
 pub mod ListingLineLemmas
 pub mod ListingForms

@@ -6,7 +6,7 @@ use Rattle.build_effect.specs.Prelude.{ForFault, IsFirstAt, AllDiffer, RepeatsFi
 use Rattle.build_effect.proofs.MakerTables.{AreMakers}
 use Rattle.build_effect.proofs.Lists.{nat_decides, from_some}
 use Rattle.ninja_text.proofs.ForCallers.{three_ways, element_at, from_push, from_take, in_take, take_next, differ_push}
-use Rattle.build_effect.proofs.Extensions.{on_or_not, is_effect, is_graph, new_made}
+use Rattle.build_effect.proofs.Extensions.{AreOn, on_or_not, is_effect, is_graph, new_made}
 
 -- ---- which statement is on which edge
 
@@ -140,18 +140,18 @@ repeated_on edge_of i {j} {edge} at are all is =
     let t = from_take i edge_of j edge (are.from edge j is) in
     record { repeated = edge; earlier = t.0; here = t.1; again = at; before = all }
 
--- one more edge has its statement
-pub more_have : (g : List EdgeValue) (name : List ℕ) (statement_of : List (Option ℕ)) (i : ℕ) (e : EdgeValue) → slice_get g i ≡ Some e →
-    ((j : ℕ) (d : EdgeValue) → j < i → slice_get g j ≡ Some d → Names name d → (k : ℕ) × (statement_on statement_of j ≡ Some k)) →
-    (Names name e → (k : ℕ) × (statement_on statement_of i ≡ Some k)) → (j : ℕ) (d : EdgeValue) → j < i + 1 → slice_get g j ≡ Some d → Names name d →
+-- one more edge of some kind has its statement
+pub more_have : (g : List EdgeValue) (Kind : EdgeValue → Type 0) (statement_of : List (Option ℕ)) (i : ℕ) (e : EdgeValue) → slice_get g i ≡ Some e →
+    ((j : ℕ) (d : EdgeValue) → j < i → slice_get g j ≡ Some d → Kind d → (k : ℕ) × (statement_on statement_of j ≡ Some k)) →
+    (Kind e → (k : ℕ) × (statement_on statement_of i ≡ Some k)) → (j : ℕ) (d : EdgeValue) → j < i + 1 → slice_get g j ≡ Some d → Kind d →
     (k : ℕ) × (statement_on statement_of j ≡ Some k)
-more_have g name statement_of i e at before here j d less at_d names =
+more_have g Kind statement_of i e at before here j d less at_d kind =
     elim (three_ways j i) [
-      | inl earlier ↦ before j d earlier at_d names
+      | inl earlier ↦ before j d earlier at_d kind
       | inr rest ↦ elim rest [
         | inl same ↦
             let edge : d ≡ e = cc in
-            let k = here (subst (λ (x : EdgeValue). Names name x) edge names) in
+            let k = here (subst Kind edge kind) in
             (k.0, ap (λ n. get_or statement_of n None) same ∙ k.1)
         | inr more ↦ absurd (omega arith)
       ]
@@ -323,8 +323,10 @@ module _ (g : List EdgeValue) where
   passed {name} {ss} {additions} {edge_of} {statement_of} {made} {new} graph made_are suffice canonical are inverse have once extended =
       let matched = all_matched g name additions edge_of graph.made_once are statement_of inverse have in
       let checked : AreChecked g name ss additions statement_of =
-      record { canonical = canonical; matched = matched; fresh = none_made additions made_are once } in (
-        is_graph g name ss additions statement_of new checked extended graph suffice,
-        new_made g name ss additions statement_of new checked extended edge_of are.count inverse made made_are,
-        (is_effect g name ss additions statement_of new checked extended graph suffice).1,
+      record { canonical = canonical; matched = matched; fresh = none_made additions made_are once } in
+      let effect = is_effect g name ss additions statement_of new checked extended graph suffice in
+      let on : AreOn g additions statement_of = λ i k is. (let p = matched.on i k is in (p.0, p.1, p.2.0, p.2.1, p.2.3)) in (
+        is_graph g additions statement_of new on extended graph effect.0.made_once,
+        new_made g additions statement_of new on extended edge_of are.count inverse made made_are,
+        effect.1,
       )

@@ -7,6 +7,7 @@ pub mod Checks
 pub mod Premises
 pub mod Files
 pub mod Numbering
+pub mod DyndepFiles
 pub mod ListingLines
 pub mod ListingGrammar
 pub mod ListingSteps

@@ -1,5 +1,5 @@
 -- The names that clauses and proofs cite most, passed on from one place. Declares nothing.
-pub use Rattle.std.specs.Prelude.{ℕ, not, List, [], map, length, get_or, is_some, is_ok, IfOk, IfErr, OnOk, IsTrue, nat_lt, slice_get, slice_index, slice_index_or, slice_set, slice_range, MatchOption, MatchResult, All, Contains, Err, HoldsAt, MatchBool, Ok, Option, Result, Some, bytes_eq, codes, filter_map, flat_map, option_and_then, option_copied, option_map, vec_len}
+pub use Rattle.std.specs.Prelude.{ℕ, not, List, [], map, length, get_or, is_some, is_ok, IfOk, IfSome, IfErr, OnOk, IsTrue, nat_lt, slice_get, slice_index, slice_index_or, slice_set, slice_range, MatchOption, MatchResult, All, Contains, Err, HoldsAt, MatchBool, Ok, Option, Result, Some, bytes_eq, codes, filter_map, flat_map, option_and_then, option_copied, option_map, vec_len}
 pub use Rattle.std.specs.Cmp.Lexicographic.{bytes_decides}
 pub use Rattle.std.specs.HashMap.{hasher_of}
 pub use Rattle.std.specs.Iterator.{YieldsFirstBy}
@@ -42,6 +42,7 @@ pub use Rattle.ninja_text.specs.declared.token.Words.{Words}
 pub use Rattle.dyndep_file.specs.StatementValue.{StatementValue}
 pub use Rattle.dyndep_file.specs.Writing.{spaced}
 pub use Rattle.build_effect.specs.Checks.{ChecksSuffice, FaultsExclude}
+pub use Rattle.build_effect.specs.DyndepFiles.{DyndepFileValue, HasOrderAfter}
 pub use Rattle.build_effect.specs.EdgeValue.{EdgeValue}
 pub use Rattle.build_effect.specs.Effect.{ArePaths, IsCanonical, AreCanonical, IsOn, IsTheOneOn, IsBound, AllBound, extended, Extends, Effect, OnlyEffect, HasNoEffect, EffectGives}
 pub use Rattle.build_effect.specs.FaultTexts.{graph_fault_text, graph_fault_path, effect_fault_text, effect_fault_path}
@@ -70,6 +71,7 @@ pub use Rattle.build_effect.specs.inner.Makers.{Made, files_of, seen_files, Tabl
 pub use Rattle.build_effect.specs.inner.ReadLines.{PassesLine, RefusesLine, fault_of_cutter}
 pub use Rattle.build_effect.specs.inner.StatementEdges.{IsBoundTo, IsBoundOutput, IsUnboundOutput, AreEdgesOf, IsFirstUnbound, statement_on, AreInverse, IsFirstRepeated, HaveStatements, IsFirstUnmentioned}
 pub use Rattle.build_effect.specs.inner.Strings.{text_of, texts_of, IsWithin, AreWithin, AreEnds, edge_texts_of}
+pub use Rattle.build_effect.specs.inner.Unions.{AreNames, AreJoined, NamesListed, ListedHaveStatements, HasEffectWithin}
 pub use Rattle.build_effect.specs.declared.fault.EffectFault.{EffectFault}
 pub use Rattle.build_effect.specs.declared.fault.EffectFault.TheVariants.{AddedTwice, BadPath, NotBound, NotMentioned, StatementTwice}
 pub use Rattle.build_effect.specs.declared.fault.GraphFault.{GraphFault}

@@ -10,3 +10,4 @@ pub mod Extended
 pub mod ListingWalk
 pub mod ListingRows
 pub mod ReadLines
+pub mod Unions

@@ -59,11 +59,11 @@ pub fn apply(
     Ok(Graph { edges, makers })
 }
 
-type Checked<T> = Result<T, Failure<EffectFault>>;
+pub(crate) type Checked<T> = Result<T, Failure<EffectFault>>;
 
 /// Returns the edge of each statement, which makes its output and names the file, or E5. No file is
 /// made twice, so only the edge that makes the output can be the one.
-fn edges_of_statements(
+pub(crate) fn edges_of_statements(
     alloc: Global,
     edges: &[Edge],
     name: &Path,
@@ -97,7 +97,7 @@ fn names(edge: &Edge, name: &Path) -> bool
 
 /// Returns the statement on each edge, given the edge of each statement, or E4 for the first
 /// statement on the edge of an earlier one.
-fn statements_of_edges(
+pub(crate) fn statements_of_edges(
     alloc: Global,
     count: usize,
     edge_of: &[usize],
@@ -145,7 +145,7 @@ fn check_mentioned(
 
 /// A statement of a dyndep file with its paths made canonical.
 #[derive(Drop)]
-struct Addition {
+pub(crate) struct Addition {
     /// The output, then the implicit outputs, then the implicit inputs.
     paths: Vec<Path>,
     /// How many paths there are up to the end of the implicit outputs.
@@ -183,7 +183,10 @@ impl Addition {
 
 /// Returns the statements with canonical paths, or E8 for the first string that is not a valid
 /// path. The paths of a statement share one text.
-fn canonical_statements(alloc: Global, statements: &[Statement]) -> Checked<Vec<Addition>>
+pub(crate) fn canonical_statements(
+    alloc: Global,
+    statements: &[Statement],
+) -> Checked<Vec<Addition>>
     ensures canonical { IfOk result (λ additions. AreCanonical statements.now additions.items) }
     ensures fault { IfErr result (ForFault (IsBadStatement statements.now)) }
 {
@@ -225,7 +228,7 @@ fn canonical_paths(alloc: Global, strings: &SharedStrings, statement: usize) -> 
 
 /// Returns the makers with the added outputs, each on the edge of its statement, or E7 if an edge
 /// makes one already or it was added before.
-fn added_makers(
+pub(crate) fn added_makers(
     alloc: Global,
     makers: &Makers,
     additions: &[Addition],
@@ -248,7 +251,7 @@ fn added_makers(
 }
 
 /// Returns the edges, each with what the statement on it adds.
-fn extended_edges(
+pub(crate) fn extended_edges(
     alloc: Global,
     edges: &[Edge],
     additions: &[Addition],

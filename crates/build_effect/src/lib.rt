@@ -12,6 +12,8 @@
 //!   after them.
 //! - [`edge_order`] returns an order of the edges or the least cycle (`specs/Graphs.antt`,
 //!   `EdgeNeeds`).
+//! - [`orders_after_each`] checks many dyndep files on one graph at once (`specs/DyndepFiles.antt`,
+//!   `HasOrderAfter`).
 //!
 //! The view of a graph is the list of its edges, and the view of a path is its canonical string.
 //! Definitions that only private clauses use are in `specs/inner/`.
@@ -19,6 +21,7 @@
 
 mod effect;
 mod fault;
+mod files;
 mod graph;
 pub mod laws;
 mod listing;
@@ -26,5 +29,6 @@ mod strings;
 
 pub use effect::apply;
 pub use fault::{EffectFault, GraphFault, LineCause, LineFault, ListFault, ListingWriteFault};
+pub use files::{DyndepFile, orders_after_each};
 pub use graph::{Edge, Graph, edge_order, listing_write};
 pub use listing::ListingReader;

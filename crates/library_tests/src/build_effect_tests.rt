@@ -3,6 +3,7 @@
 ghost use Rattle.std.specs.Prelude.{◌≡◌, ◌≢◌, [], All, IfOk, OnOk};
 
 mod growths;
+mod many_files;
 
 use crate::common::{path, value};
 use crate::dyndep_file_tests::TWO_STATEMENTS;

@@ -1,6 +1,6 @@
 use Rattle.std.proofs.Common.{◌∙◌, true, false, refl, ap, sym}
 use Rattle.std.proofs.lemmas.Option.{slice_get_read}
-use Rattle.build_effect.specs.Prelude.{not}
+use Rattle.build_effect.specs.Prelude.{not, EdgeValue, Names}
 use Rattle.build_effect.proofs.StatementChecks.{more_have, is_there}
 use Rattle.build_effect.proofs.effect.check_mentioned.Goals as goal
 use Rattle.build_effect.proofs.effect.check_mentioned.Goals.{else-is_none-via-then-is_none+else-names, else-is_none-via-else-is_none}
@@ -30,7 +30,7 @@ pub loop-edge_index-preserved : goal.loop-edge_index-preserved
 loop-edge_index-preserved c =
     let i = c.loop-edge_index.edge_index in
     let e = c.index-edges-edge_index.result in
-    more_have c.args.edges.now c.args.name.now c.args.statement_of.now i e
+    more_have c.args.edges.now (λ (x : EdgeValue). Names c.args.name.now x) c.args.statement_of.now i e
     (slice_get_read c.args.edges.now _ i e refl c.loop-edge_index-test.true c.index-edges-edge_index.is) c.loop-edge_index.invariant (λ names.
     elim c.else-is_none.branch [
       | else-is_none-via-then-is_none+else-names w ↦ absurd (w.if-names.ensures names)
