@@ -1,4 +1,4 @@
 pub mod Pushes
 pub mod LinesOnly
-pub mod GccTexts
+pub mod MarkedTexts
 pub mod ClangTexts

@@ -14,7 +14,8 @@ pub use Rattle.module_maps.specs.declared.module_map.MapEntry.{MapEntry}
 pub use Rattle.module_maps.specs.Values.{ModuleMapValue}
 pub use Rattle.module_maps.specs.Maps.{lent_pairs, lent_map, pairs_of, IsModulePair, IsModuleMap, IsRising, IsWrittenText, FaultsAreOfMaps, ReadsWritten, KeepsPairs}
 pub use Rattle.module_maps.specs.MapLines.{LineForm, is_map_byte, is_fit, first_unfit, lines_of, canonical_in, name_in, path_in, cut, both, pair_in, behind, named, nameless, ended_line, read_lines, AppendsFirst}
-pub use Rattle.module_maps.specs.GccMaps.{gcc_line, gcc_text, gcc_written, gcc_kept, gcc_form, gcc_entries}
+pub use Rattle.module_maps.specs.MarkedMaps.{marked_line, marked_result, marked_written, marked_kept, marked_form, marked_entries}
+pub use Rattle.module_maps.specs.GccMaps.{gcc_written, gcc_kept, gcc_entries}
 pub use Rattle.module_maps.specs.ClangMaps.{module_flag, output_flag, file_flag, file_line, output_text, clang_text, clang_result, clang_written, clang_kept, rises_behind, file_pair, file_entry, output_path, clang_form, read_behind, read_provided, clang_read, clang_entries}
 pub use Rattle.module_maps.specs.map_laws.LineLemmas.{Pairs, AreModules, AreFit, lines_text, read_on, parts_at, pair-of, name-text, name-other, lines-cut, lines-whole, line-read, line-bad}
 pub use Rattle.module_maps.specs.map_laws.ClangLemmas.{RisesBehind, last-entry, map_with, one-text, read_behind_first, is-provided, provided-line}

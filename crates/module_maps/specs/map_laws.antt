@@ -1,3 +1,3 @@
 pub mod LineLemmas
-pub mod GccLemmas
+pub mod MarkedLemmas
 pub mod ClangLemmas

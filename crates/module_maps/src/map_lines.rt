@@ -5,7 +5,9 @@ ghost use Rattle.module_maps.specs.Prelude.{position, Some, None, option_copied,
 ghost use Rattle.module_maps.specs.Prelude.{IfSome, MatchOption, Gives, pairs_of, lent_pairs};
 ghost use Rattle.module_maps.specs.Prelude.{LineForm, AppendsFirst, is_map_byte, first_unfit};
 ghost use Rattle.module_maps.specs.Prelude.{is_fit, named, nameless, ended_line, lines_of, cut};
-ghost use Rattle.module_maps.specs.Prelude.{path_in, pair_in, read_lines};
+ghost use Rattle.module_maps.specs.Prelude.{path_in, pair_in, read_lines, IsWrittenText};
+ghost use Rattle.module_maps.specs.Prelude.{marked_entries, marked_form, marked_kept};
+ghost use Rattle.module_maps.specs.Prelude.{marked_written};
 
 use crate::fault::MapFault;
 use crate::module_map::{MapEntry, ModuleMap};
@@ -217,4 +219,64 @@ pub fn push_nameless(
         entries.push(MapEntry { name: None, path })?;
     }
     Ok(())
+}
+
+/// Returns the entries of all modules of a map, with their names, or an error if an allocation
+/// fails.
+pub(crate) fn keep_marked(alloc: Global, map: &ModuleMap<'_>) -> Result<Vec<MapEntry>, AllocError>
+    ensures { IfOk result (λ found. found.items ≡ marked_kept map.now) }
+{
+    let mut entries = Vec::new(alloc);
+    push_named(alloc, &mut entries, map.provided())?;
+    push_named(alloc, &mut entries, map.needed())?;
+    Ok(entries)
+}
+
+/// Returns the text of a map that has a line for each module: its name, the mark and its path.
+pub(crate) fn write_marked(
+    alloc: Global,
+    mark: u8,
+    map: &ModuleMap<'_>,
+) -> Result<Vec<u8>, Failure<MapFault>>
+    ensures { Gives (λ text. text.items) result (marked_written mark map.now) }
+{
+    if let Some(path) = first_unfit(map) {
+        let path = path.copy(alloc)?;
+        return Err(Failure::Fault(MapFault::MapPath { path }));
+    }
+    let mut text = Vec::with_capacity(alloc, map.text_len(b" \n", b" \n"))?;
+    push_lines(&mut text, b"", mark, map.provided())?;
+    push_lines(&mut text, b"", mark, map.needed())?;
+    Ok(text)
+}
+
+/// Returns the entries of the text of such a map, or K4 with the first bad line if no map is
+/// written as it.
+pub(crate) fn read_marked(
+    alloc: Global,
+    mark: u8,
+    text: &[u8],
+) -> Result<Vec<MapEntry>, Failure<MapFault>>
+    ensures entries { Gives (λ found. found.items) result (marked_entries mark text.now) }
+    ensures written { IfOk result (λ found.
+        IsWrittenText (marked_written mark) marked_kept text.now found.items) }
+{
+    read_lines(alloc, &Marked { mark }, Vec::new(alloc), 1, text)
+}
+
+/// The form of the lines of such a map.
+#[derive(Drop)]
+struct Marked {
+    mark: u8,
+}
+
+impl LineForm for Marked {
+    ghost form = { λ lines. marked_form lines.mark };
+
+    fn entry(&self, alloc: Global, _entries: &[MapEntry], line: &[u8]) -> LineEntry {
+        Ok(pair_in(alloc, self.mark, line)?.map(|(name, path)| MapEntry {
+            name: Some(name),
+            path,
+        }))
+    }
 }

@@ -4,12 +4,12 @@ ghost use Rattle.std.specs.Prelude.{◌≡◌, ◌++◌, ◌-◌, length, slice_
 ghost use Rattle.module_maps.specs.Prelude.{Gives, lent_pairs, gcc_entries, clang_kept, clang_form};
 ghost use Rattle.module_maps.specs.Prelude.{IsWrittenText, lines_of, read_provided, clang_written};
 ghost use Rattle.module_maps.specs.Prelude.{output_text, rises_behind, gcc_written, clang_entries};
-ghost use Rattle.module_maps.specs.Prelude.{gcc_kept, gcc_form};
+ghost use Rattle.module_maps.specs.Prelude.{gcc_kept};
 
 use crate::fault::MapFault;
 use crate::map_lines::{
-    LineEntry, LineForm, cut_line, first_unfit, pair_in, path_in, push_lines, push_named,
-    push_nameless, read_lines,
+    LineEntry, LineForm, cut_line, first_unfit, keep_marked, pair_in, path_in, push_lines,
+    push_named, push_nameless, read_lines, read_marked, write_marked,
 };
 use crate::module_map::{MapEntry, MapStyle, ModuleMap};
 use document_values::Name;
@@ -23,7 +23,10 @@ use std::alloc::{AllocError, Global};
 pub struct Gcc;
 
 impl MapStyle for Gcc {
-    ghost use Rattle.module_maps.specs.map_laws.GccLemmas.{gcc-faults, gcc-back, gcc-pairs};
+    ghost use Rattle.std.proofs.Common.{refl};
+    ghost use Rattle.ninja_text.specs.Bytes.{space};
+    ghost use Rattle.module_maps.specs.map_laws.MarkedLemmas.{marked-faults, marked-back};
+    ghost use Rattle.module_maps.specs.map_laws.MarkedLemmas.{marked-pairs};
 
     ghost written = { λ _ m. gcc_written m };
 
@@ -31,32 +34,22 @@ impl MapStyle for Gcc {
 
     ghost entries = { λ _ text. gcc_entries text };
 
-    ghost faults_of_maps = { λ s m line is. gcc-faults m line };
+    ghost faults_of_maps = { λ s m line is. marked-faults space m line };
 
-    ghost reads_back = { λ s m text is e. gcc-back m text is e };
+    ghost reads_back = { λ s m text is e. marked-back space (refl, refl) m text is e };
 
-    ghost keeps_pairs = { λ s m is. gcc-pairs m };
+    ghost keeps_pairs = { λ s m is. marked-pairs m };
 
     fn fits(&self, map: &ModuleMap<'_>) -> bool {
         first_unfit(map).is_none()
     }
 
     fn keeps(&self, alloc: Global, map: &ModuleMap<'_>) -> Result<Vec<MapEntry>, AllocError> {
-        let mut entries = Vec::new(alloc);
-        push_named(alloc, &mut entries, map.provided())?;
-        push_named(alloc, &mut entries, map.needed())?;
-        Ok(entries)
+        keep_marked(alloc, map)
     }
 
     fn write(&self, alloc: Global, map: &ModuleMap<'_>) -> Result<Vec<u8>, Failure<MapFault>> {
-        if let Some(path) = first_unfit(map) {
-            let path = path.copy(alloc)?;
-            return Err(Failure::Fault(MapFault::MapPath { path }));
-        }
-        let mut text = Vec::with_capacity(alloc, map.text_len(b" \n", b" \n"))?;
-        push_lines(&mut text, b"", b' ', map.provided())?;
-        push_lines(&mut text, b"", b' ', map.needed())?;
-        Ok(text)
+        write_marked(alloc, b' ', map)
     }
 
     /// Returns the entries of a text, or K4 with the first bad line if no map is written as it.
@@ -66,18 +59,7 @@ impl MapStyle for Gcc {
         ensures written { IfOk result (λ found.
             IsWrittenText gcc_written gcc_kept text.now found.items) }
     {
-        read_lines(alloc, self, Vec::new(alloc), 1, text)
-    }
-}
-
-impl LineForm for Gcc {
-    ghost form = { λ _. gcc_form };
-
-    fn entry(&self, alloc: Global, _entries: &[MapEntry], line: &[u8]) -> LineEntry {
-        Ok(pair_in(alloc, b' ', line)?.map(|(name, path)| MapEntry {
-            name: Some(name),
-            path,
-        }))
+        read_marked(alloc, b' ', text)
     }
 }
 

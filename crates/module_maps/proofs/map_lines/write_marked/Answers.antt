@@ -1,7 +1,7 @@
 use Rattle.std.proofs.Common.{Ok, option_copied, ap, sym, ◌∙◌}
-use Rattle.module_maps.specs.Prelude.{ended_line, gcc_line}
+use Rattle.module_maps.specs.Prelude.{ended_line, marked_line}
 use Rattle.std.proofs.lemmas.Grind.{flat_map-append}
-use Rattle.module_maps.proofs.styles.GccMapStyle.write.Goals as goal
+use Rattle.module_maps.proofs.map_lines.write_marked.Goals as goal
 
 pub returns : goal.returns
 returns c =
@@ -13,4 +13,4 @@ returns c =
       c.in_ok-text.ensures.items,
       c.provided.ensures.pairs,
       c.needed.ensures.pairs,
-    ) (ap Ok (flat_map-append (λ pair. ended_line (gcc_line pair)) map.provided map.needed))
+    ) (ap Ok (flat_map-append (λ pair. ended_line (marked_line c.args.mark pair)) map.provided map.needed))
