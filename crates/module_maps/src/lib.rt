@@ -17,9 +17,9 @@
 //! `must-fail/` has a wrong body of each public function with these exceptions.
 //! [`ModuleMap::of_rising`], [`ModuleMap::provided`] and [`ModuleMap::needed`] fill or return
 //! fields, and their clauses name the fields. In [`map_lines`], the clauses of `path_in`,
-//! `push_named` and `push_nameless` are equations for the result. `gcc_map_without_the_needed`,
-//! `nothing_fits`, `clang_map_keeps_no_needed` and `nothing_read` show the clauses of `write`,
-//! `fits`, `keeps` and `read`, which are the same for each style.
+//! `pair_in`, `push_named` and `push_nameless` are equations for the result.
+//! `gcc_map_without_the_needed`, `nothing_fits`, `clang_map_keeps_no_needed` and `nothing_read`
+//! show the clauses of `write`, `fits`, `keeps` and `read`, which are the same for each style.
 #![tactic(auto)]
 
 mod fault;
