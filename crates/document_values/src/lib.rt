@@ -6,12 +6,11 @@
 //! - [`Rule`] is a rule of a scan document (`specs/Rule.antt`), and [`Info`] what a target tells
 //!   the targets that link it (`specs/Info.antt`).
 //!
-//! `must-fail/` has a wrong body for each clause that is stated here. The clause that rejects
-//! `name_bytes_of_another` is also that of [`Name::text`] and [`TargetName::text`], and
-//! `name_copy_of_another` also stands for the copies of [`TargetName`]. `name_limit_one_less` turns
-//! the test that [`Name::of`] and [`SharedNames::read`] share. Names are compared as the texts that
-//! they hold ([`ninja_text::SharedText`]). No clause says which names share the string of a
-//! [`SharedNames`], because it decides only how much memory they take.
+//! `must-fail/` has a wrong body for each clause that is stated here, except for those of strings
+//! and copies of names, which name the value. `name_limit_one_less` turns the test that
+//! [`Name::of`] and [`SharedNames::read`] share. Names are compared as the texts that they hold
+//! ([`ninja_text::SharedText`]). No clause says which names share the string of a [`SharedNames`],
+//! because it decides only how much memory they take.
 #![tactic(auto)]
 
 mod name;
