@@ -27,8 +27,9 @@
 //! function is recursive. The crate depends on std alone. Definitions that only private contracts
 //! use are in `specs/inner/`.
 //!
-//! `must-fail/` has a wrong body of each public function, except for laws, which have no body, and
-//! for [`Reaching::new`], which only fills fields.
+//! `must-fail/` has a wrong body of each public function, except for laws, which have no body, for
+//! [`Digraph::new`] and [`Reaching::new`], which only fill fields, and for [`reach`], which sorts
+//! what [`Reaching::from`] finds.
 //!
 //! # Dependencies between other things
 //!
