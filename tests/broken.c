@@ -126,6 +126,28 @@ int open(const char *name, int flags, int mode) {
   return file;
 }
 
+// The permissions of a file are set as it is closed, and not before its bytes are written.
+static int file_to_change = -1;
+static unsigned later_mode;
+
+int fchmod(int file, unsigned mode) {
+  int (*next)(int, unsigned) = dlsym(NEXT, "fchmod");
+  if (!is("permissions_after_the_bytes"))
+    return next(file, mode);
+  file_to_change = file;
+  later_mode = mode;
+  return 0;
+}
+
+int close(int file) {
+  int (*next)(int) = dlsym(NEXT, "close"), (*change)(int, unsigned) = dlsym(NEXT, "fchmod");
+  if (file == file_to_change) {
+    change(file, later_mode);
+    file_to_change = -1;
+  }
+  return next(file);
+}
+
 // The file is copied, byte by byte, in place of being renamed.
 static int copied(const char *from, const char *to, int flags) {
   int source = __open(from, 0), target = __open(to, TO_WRITE | CREATED | flags, 0666);

@@ -112,6 +112,7 @@ CALLS = [
     Broken("files written in place if no file can be created on a full disk", "a_full_disk_at_creation", "whole_files.Faults", "other_errors"),
     Broken("files written in place if none can be renamed on a full disk", "a_full_disk_at_renaming", "whole_files.Faults", "other_errors"),
     Broken("the same names of temporary files in each run", "the_same_random_bytes", "whole_files.Faults", "names_of_temporary"),
+    Broken("permissions set after the bytes", "permissions_after_the_bytes", "whole_files.Faults", "permissions_come_before"),
     Broken("only files that exist are written", "no_file_made", "targets", "GCC_s_maps"),
     Broken("files written to the current directory", "a_file_in_this_directory", "files.Collated", "single_clang"),
     Broken("a dyndep file written nowhere", "the_dyndep_file_nowhere", "targets", "GCC_s_maps"),

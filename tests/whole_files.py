@@ -134,6 +134,20 @@ class Faults(Faulty):
             halves = {TEMPORARY.fullmatch(name)[1] for _, left in seen for name, text in left.items() if text}
             self.assertEqual(halves, set(NEW), "temporaries that were half written")
 
+    def test_permissions_come_before_the_bytes(self):
+        """Nobody can read in a temporary file what may not be read in the file that it replaces."""
+        found = set()
+        for number in itertools.count(1):
+            lay(READ | {os.fsdecode(name): text for name, text in OLD.items()})
+            for name in OLD:
+                os.chmod(name, 0o600)
+            answer = self.call_with_fault(["collate", "t.target.json"], number)
+            filled = [it for it in os.listdir(b".") if TEMPORARY.fullmatch(it) and os.path.getsize(it)]
+            found |= {stat.S_IMODE(os.stat(it).st_mode) for it in filled}
+            if answer == DONE:
+                break
+        self.same(found, {0o600})
+
     def test_failed_calls(self):
         """A call that fails, because space or rights are missing or for another reason, leaves whole files and no temporary one."""
         for old in {}, OLD:
