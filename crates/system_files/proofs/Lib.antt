@@ -2,3 +2,4 @@ pub mod ForCallers
 pub mod Calls
 pub mod InPlace
 pub mod Moments
+pub mod ReadFrom

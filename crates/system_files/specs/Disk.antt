@@ -1,10 +1,20 @@
 -- The calls by which the system's files are read and written.
 use Rattle.std.specs.Prelude.{◌≡◌, ℕ, List, ◌++◌, take, Option, option_map, Result, Ok, Err, String, string_bytes}
 use Rattle.std.specs.Global.{Global}
+use Rattle.std.specs.Fs.{metadata_mode, permissions_mode, file_type, IsFile, IsSymlink}
+use Rattle.std.specs.declared.fs.Metadata.{Metadata}
 use Rattle.std.specs.declared.fs.Permissions.{Permissions}
 use Rattle.std.specs.declared.io.Error.{Error}
 pub use Rattle.ninja_text.specs.Bytes.{Bytes, PathText}
 use Rattle.system_files.specs.declared.disk.Kind.{Kind}
+use Rattle.system_files.specs.declared.disk.Kind.TheVariants.{File, Link, Other}
+
+-- what there is under a name, by its metadata
+abbrev pub IsKindOf : Metadata → Kind → Type 0
+IsKindOf found Link = IsSymlink (file_type found)
+IsKindOf found (File permissions) =
+    IsFile (file_type found) × (permissions_mode permissions ≡ metadata_mode found)
+IsKindOf found Other = (IsSymlink (file_type found) → ⊥) × (IsFile (file_type found) → ⊥)
 
 -- whether a call succeeded, or its error
 abbrev pub DoneOrError : Type 0

@@ -1,6 +1,9 @@
 -- What is true at each moment of a write, whatever it finds.
-use Rattle.std.specs.Prelude.{◌≡◌, ◌⊎◌, ℕ, List, ◌∷◌, ◌++◌, Some, Ok, Err}
-use Rattle.system_files.specs.Disk.{Bytes, PathText, DiskCall, DoneOrError, resolving, emptying}
+use Rattle.std.specs.Prelude.{◌≡◌, ◌⊎◌, ℕ, List, [], ◌∷◌, ◌++◌, Some, Bool, true, false, Ok, Err}
+use Rattle.std.specs.declared.fs.Permissions.{Permissions}
+use Rattle.system_files.specs.declared.disk.Kind.{Kind}
+use Rattle.system_files.specs.declared.disk.Kind.TheVariants.{File}
+use Rattle.system_files.specs.Disk.{Bytes, PathText, DiskCall, DoneOrError, following, resolving, emptying}
 use Rattle.system_files.specs.Moments.{Files, SameBut, AtEachMoment, AllLeave, OldOrNew}
 use Rattle.system_files.specs.Writing.{new_name}
 
@@ -38,3 +41,11 @@ OldOrBeginning name bytes old new =
     ((new name ≡ old name)
     ⊎ ((some rest : Bytes) × (bytes ≡ some ++ rest) × (new name ≡ Some some)))
     × SameBut name name old new
+
+-- A file that was compared with bytes has them, or has not, or is no regular file.
+abbrev pub Differs : Bytes → Bytes → Bool → List DiskCall → Type 0
+Differs wanted bytes true calls = bytes ≡ wanted
+Differs wanted bytes false calls =
+    (bytes ≡ wanted → ⊥)
+    ⊎ ((name : PathText) × (kind : Kind) × (calls ≡ following name (Ok kind) ∷ [])
+    × ((permissions : Permissions) → kind ≡ File permissions → ⊥))

@@ -1,7 +1,7 @@
 -- What calls leave, if they are made one after another, and if they are cut short.
-use Rattle.std.specs.Prelude.{◌≡◌, ◌⊎◌, ℕ, ◌≤◌, List, [], ◌∷◌, ◌++◌, take, Option, Some, None, Ok}
+use Rattle.std.specs.Prelude.{◌≡◌, ◌⊎◌, ⊤, ℕ, ◌≤◌, List, [], ◌∷◌, ◌++◌, take, Option, Some, None, Ok}
 use Rattle.std.specs.Option.{unwrap_or}
-use Rattle.system_files.specs.Disk.{Bytes, PathText, DiskCall, creating, emptying, appending, renaming, removing}
+use Rattle.system_files.specs.Disk.{Bytes, PathText, DiskCall, getting, creating, emptying, appending, renaming, removing}
 
 -- the bytes of each name that has a file
 abbrev pub Files : Type 0
@@ -34,6 +34,14 @@ Leaves (renaming from to (Ok done)) old new =
     (new to ≡ old from) × (new from ≡ None) × SameBut from to old new
 Leaves (removing name (Ok done)) old new = PutsBytes name None old new
 Leaves call old new = Same old new
+
+-- What calls read of an open file that has these bytes yet: each what comes next, and nothing only
+-- at the end.
+abbrev pub ReadsFrom : Bytes → List DiskCall → Type 0
+ReadsFrom rest [] = ⊤
+ReadsFrom rest (getting name (Ok piece) ∷ calls) =
+    (after : Bytes) × (rest ≡ piece ++ after) × (piece ≡ [] → after ≡ []) × ReadsFrom after calls
+ReadsFrom rest (call ∷ calls) = ReadsFrom rest calls
 
 -- What is left if a run is killed in a call: some of the bytes were appended, or the call has been
 -- made or has not.

@@ -1,6 +1,6 @@
 //! The calls of the system by which files are read and written, one by one.
 
-ghost use Rattle.std.specs.Prelude.{◌≡◌, ◌∷◌, List, Option, IfOk};
+ghost use Rattle.std.specs.Prelude.{◌≡◌, ◌<◌, ◌∷◌, List, length, Option, IfOk};
 ghost use Rattle.std.specs.Io.{ReadsAtMost, WritesAtMost};
 ghost use Rattle.system_files.specs.Prelude.{[], DiskCall, AddsDiskCalls, done, found_name, got_in};
 ghost use Rattle.system_files.specs.Prelude.{drawing};
@@ -65,6 +65,7 @@ pub trait Disk {
     /// Reads what comes next of an open file into the buffer, and returns how many bytes: none at
     /// the end of the file.
     fn read(&mut self, file: &mut OpenFile<'_, Self::File>, buffer: &mut [u8]) -> io::Result<usize>
+        requires { 0 < length buffer.old }
         ensures bound { ReadsAtMost result buffer.new }
         ensures call { AddsDiskCalls (calls self.old) (calls self.new)
             (getting file.old.name.now (got_in buffer.new result) ∷ []) }

@@ -1,6 +1,7 @@
 //! The system's calls, one for each function. Nothing is known of them.
 
 ghost use Rattle.std.specs.Prelude.{None};
+ghost use Rattle.system_files.specs.Prelude.{IsKindOf};
 
 use crate::disk::{Disk, Kind, OpenFile};
 use std::alloc::Global;
@@ -80,7 +81,10 @@ impl<R: Files + RandomSource + AllocGlobal> Disk for SystemDisk<'_, R> {
     }
 }
 
-fn kind_of(found: &Metadata) -> Kind {
+/// Returns what there is under a name that has this metadata.
+fn kind_of(found: &Metadata) -> Kind
+    ensures { IsKindOf found.now result }
+{
     if found.is_symlink() {
         Kind::Link
     } else if found.is_file() {
