@@ -1,141 +1,225 @@
--- What there is of files at each moment of a run that writes them.
-use Rattle.std.proofs.Common.{◌≡◌, ◌⊎◌, List, [], ◌∷◌, ◌++◌, Bool, true, false, if◌then◌else◌, Option, Some, Result, Ok, Err, OnOk, refl, sym, ◌∙◌, inl, inr, append-nil}
+-- What there is of files at each moment of a run, even if it is killed in a call of the disk.
+use Rattle.std.proofs.Common.{◌≡◌, ◌∙◌, ◌⊎◌, ℕ, List, [], ◌∷◌, ◌++◌, Bool, true, false, Option, Some, Result, Ok, Err, OnOk, map, refl, ap, sym, append_assoc, inl, inr}
+use Rattle.std.proofs.lemmas.Bool.{false≢true}
 use Rattle.std.specs.declared.io.Error.{Error}
-use Rattle.ninja_text.specs.Bytes.{Bytes, PathText}
-use Rattle.ninja_text.specs.declared.failure.Failure.{Failure}
-use Rattle.commands.specs.Folder.{FileCall, comparing, writing}
-use Rattle.commands.specs.Outcomes.{FileValue, LineValue, Outcome, Comes, InTurn, goes_on, stops}
-use Rattle.commands.specs.Files.{writes, WritesFile, WritesFiles}
-use Rattle.disk_folder.specs.Killed.{FilesNow, SameButOne, LeavesAfter, CutShortIn, AtEachMomentOfRun, HaveBytes, AreOld, AreWritten, NoneNamed, AreApart}
+use Rattle.system_files.specs.declared.disk.Kind.{Kind}
+use Rattle.system_files.specs.declared.disk.Kind.TheVariants.{File, Link, Other}
+use Rattle.system_files.specs.Disk.{Bytes, PathText, DiskCall, DoneOrError, looking, following, opening, getting}
+use Rattle.system_files.specs.Moments.{Files, Same, Leaves, CutShort, AllLeave}
+use Rattle.system_files.specs.Reading.{GetsBytes, GetsUpTo, GetsUntil, Opens, Compares, ComparesFound, HasBytes}
+use Rattle.system_files.proofs.ReadFrom.{all_read}
+use Rattle.commands.specs.Folder.{FileCall, FileRead, reading, comparing, writing}
+use Rattle.commands.specs.Outcomes.{FileValue, Outcome}
+use Rattle.commands.specs.Files.{WritesFiles}
+use Rattle.disk_folder.specs.Runs.{Step, Reads, Makes, calls_in, made_in, AreSteps, is_true}
+use Rattle.disk_folder.specs.Killed.{ReadsNow, AtEachCall, AtEachMomentOfRun, HaveBytes, AreOld, AreWritten, AreApart, HaveNoLink}
+use Rattle.disk_folder.proofs.Writes.{SameButOne, AllSpare, write_puts}
+use Rattle.disk_folder.proofs.FileCalls.{LeavesAfter, CutShortIn, AtEachFileCall, file_moments}
 
--- at each moment what is weaker holds too
-at-map : (P Q : FilesNow → Type 0) → ((now : FilesNow) → P now → Q now) → (calls : List FileCall) (files : FilesNow) → AtEachMomentOfRun P calls files →
-    AtEachMomentOfRun Q calls files
-at-map P Q f [] files h = f files h
-at-map P Q f (call ∷ calls) files h = (f files h.0, (λ cut short. f cut (h.1 cut short)), λ next leaves. at-map P Q f calls next (h.2 next leaves))
+-- ---- what holds still after each of some calls
 
--- what holds still if a file of this name changes
-abbrev StableAt : (FilesNow → Type 0) → PathText → Type 0
-StableAt D name = (old new : FilesNow) → SameButOne name old new → D old → D new
+abbrev Closed : (Files → Type 0) → List DiskCall → Type 0
+Closed Stays [] = Unit {0}
+Closed Stays (call ∷ calls) =
+    ((now next : Files) → Stays now → Leaves call now next → Stays next)
+    × ((now cut : Files) → Stays now → CutShort call now cut → Stays cut)
+    × Closed Stays calls
 
-abbrev Stable : (FilesNow → Type 0) → List FileValue → Type 0
-Stable D [] = Unit {0}
-Stable D (file ∷ files) = StableAt D file.name × Stable D files
-
--- ---- the calls that write a file
-
-compare_step : (P D : FilesNow → Type 0) (name : PathText) (bytes : Bytes) → StableAt D name → ((now : FilesNow) → D now → P now) →
-    (after : List FileCall) (files : FilesNow) → D files → ((next : FilesNow) → D next → AtEachMomentOfRun P after next) →
-    AtEachMomentOfRun P (comparing name bytes false ∷ after) files
-compare_step P D name bytes stable weak after files d go = (
-  weak files d,
-  (λ cut short. weak cut (stable files cut (λ other apart. short other) d)),
-  λ next leaves. go next (stable files next (λ other apart. leaves other) d),
+inside : (Stays Holds : Files → Type 0) (calls : List DiskCall) (now : Files) → Closed Stays calls → ((some : Files) → Stays some → Holds some) → Stays now →
+    AtEachCall Holds calls now
+inside Stays Holds [] now closed weak stays = weak now stays
+inside Stays Holds (call ∷ calls) now closed weak stays = (
+  weak now stays,
+  (λ cut short. weak cut (closed.1 now cut stays short)),
+  (λ next leaves. inside Stays Holds calls next closed.2 weak (closed.0 now next stays leaves)),
 )
 
-same_step : (P D : FilesNow → Type 0) (name : PathText) (bytes : Bytes) → StableAt D name → ((now : FilesNow) → D now → P now) →
-    (after : List FileCall) (files : FilesNow) → D files → ((next : FilesNow) → D next → next name ≡ Some bytes → AtEachMomentOfRun P after next) →
-    AtEachMomentOfRun P (comparing name bytes true ∷ after) files
-same_step P D name bytes stable weak after files d go = (
-  weak files d,
-  (λ cut short. weak cut (stable files cut (λ other apart. short other) d)),
-  λ next leaves. go next (stable files next (λ other apart. leaves.1 other) d) (leaves.1 name ∙ leaves.0),
+ended : (Stays : Files → Type 0) (calls : List DiskCall) (now next : Files) → ((old new : Files) → Stays old → Same old new → Stays new) →
+    Closed Stays calls → Stays now → AllLeave calls now next → Stays next
+ended Stays [] now next same closed stays left = same now next stays left
+ended Stays (call ∷ calls) now next same closed stays left =
+    ended Stays calls left.0 next same closed.2 (closed.0 now left.0 stays left.1) left.2
+
+-- ---- a step that writes a file
+
+spared : (name : PathText) (start : Files) (calls : List DiskCall) → AllSpare name calls → Closed (λ now. SameButOne name start now) calls
+spared name start [] spare = tt
+spared name start (call ∷ calls) spare = (
+  (λ now next stays leaves other real apart. spare.0.0 now next leaves other real apart ∙ stays other real apart),
+  (λ now cut stays short other real apart. spare.0.1 now cut short other real apart ∙ stays other real apart),
+  spared name start calls spare.1,
 )
 
-write_step : (P D : FilesNow → Type 0) (name : PathText) (bytes : Bytes) (result : Result (Unit {0}) Error) → StableAt D name →
-    ((now : FilesNow) → D now → P now) →
-    (after : List FileCall) (files : FilesNow) → D files →
-    ((next : FilesNow) → D next → OnOk result (next name ≡ Some bytes) → AtEachMomentOfRun P after next) →
-    AtEachMomentOfRun P (writing name bytes result ∷ after) files
-write_step P D name bytes (Ok done) stable weak after files d go =
-    (weak files d, (λ cut short. weak cut (stable files cut short d)), λ next leaves. go next (stable files next leaves.1 d) leaves.0)
-write_step P D name bytes (Err error) stable weak after files d go =
-    (weak files d, (λ cut short. weak cut (stable files cut short d)), λ next leaves. go next (stable files next leaves d) tt)
+left_written : (name : PathText) (bytes : Bytes) (result : DoneOrError) (old new : Files) → OnOk result (new name ≡ Some bytes) → SameButOne name old new →
+    LeavesAfter (writing name bytes result) old new
+left_written name bytes (Ok done) old new has same = (has, same)
+left_written name bytes (Err error) old new has same = same
 
-writes_step : (P D : FilesNow → Type 0) (keeps : Bool) (name : PathText) (bytes : Bytes) (result : Result (Unit {0}) Error) → StableAt D name →
-    ((now : FilesNow) → D now → P now) → (after : List FileCall) (files : FilesNow) → D files →
-    ((next : FilesNow) → D next → OnOk result (next name ≡ Some bytes) → AtEachMomentOfRun P after next) →
-    AtEachMomentOfRun P (((if keeps then comparing name bytes false ∷ [] else []) ++ writing name bytes result ∷ []) ++ after) files
-writes_step P D true name bytes result stable weak after files d go =
-    compare_step P D name bytes stable weak (writing name bytes result ∷ after) files d
-    (λ next now. write_step P D name bytes result stable weak after next now go)
-writes_step P D false name bytes result stable weak after files d go = write_step P D name bytes result stable weak after files d go
+-- ---- a step that reads a file
 
-file_then : (P D : FilesNow → Type 0) (file : FileValue) → StableAt D file.name → ((now : FilesNow) → D now → P now) →
-    (calls : List FileCall) (done : Unit {0}) →
-    WritesFile file calls (Ok done) → (after : List FileCall) (files : FilesNow) → D files →
-    ((next : FilesNow) → D next → next file.name ≡ Some file.bytes → AtEachMomentOfRun P after next) → AtEachMomentOfRun P (calls ++ after) files
-file_then P D file stable weak calls done written after files d go = elim written [
-  | inl same ↦ rw same.1 (same_step P D file.name file.bytes stable weak after files d go)
-  | inr is ↦ rw is (writes_step P D file.keeps file.name file.bytes (Ok tt) stable weak after files d go)
-]
+-- a call that changes nothing
+abbrev Quiet : DiskCall → Type 0
+Quiet call = ((old new : Files) → Leaves call old new → Same old new) × ((old new : Files) → CutShort call old new → Same old new)
 
-file_stops : (P D : FilesNow → Type 0) (file : FileValue) → StableAt D file.name → ((now : FilesNow) → D now → P now) →
-    (calls : List FileCall) (stop : Failure LineValue) →
-    WritesFile file calls (Err stop) → (files : FilesNow) → D files → AtEachMomentOfRun P (calls ++ []) files
-file_stops P D file stable weak calls stop written files d =
-    rw written.0.1 (writes_step P D file.keeps file.name file.bytes (Err written.0.0) stable weak [] files d (λ next now ok. weak next now))
+abbrev AllQuiet : List DiskCall → Type 0
+AllQuiet [] = Unit {0}
+AllQuiet (call ∷ calls) = Quiet call × AllQuiet calls
 
-comes_none : (after : List FileCall) (value : Unit {0}) (outcome : Outcome (Unit {0})) → Comes (λ last. last ≡ value) after outcome → after ≡ []
-comes_none after value (Ok done) h = h.0
-comes_none after value (Err stop) h = absurd h
-
--- ---- all files of a run
-
--- a file that was written keeps its bytes
-abbrev And : (FilesNow → Type 0) → FileValue → FilesNow → Type 0
-And D file now = D now × (now file.name ≡ Some file.bytes)
-
-stable-and : (D : FilesNow → Type 0) (file : FileValue) (files : List FileValue) → NoneNamed file.name files → Stable D files → Stable (And D file) files
-stable-and D file [] apart stable = tt
-stable-and D file (next ∷ files) apart stable = (
-  (λ old new same now. (stable.0 old new same now.0, same file.name (λ is. apart.0 (sym is)) ∙ now.1)),
-  stable-and D file files apart.1 stable.1,
+stills : (start : Files) (calls : List DiskCall) → AllQuiet calls → Closed (λ now. Same start now) calls
+stills start [] quiet = tt
+stills start (call ∷ calls) quiet = (
+  (λ now next stays leaves other. quiet.0.0 now next leaves other ∙ stays other),
+  (λ now cut stays short other. quiet.0.1 now cut short other ∙ stays other),
+  stills start calls quiet.1,
 )
 
-stable-unit : (files : List FileValue) → Stable (λ now. Unit {0}) files
-stable-unit [] = tt
-stable-unit (file ∷ files) = ((λ old new same now. tt), stable-unit files)
+opens-quiet : (name : PathText) (result : DoneOrError) → Quiet (opening name result)
+opens-quiet name result = ((λ old new left. left), λ old new short. elim short [ inl left ↦ left | inr same ↦ same ])
 
-old-start : (files : List FileValue) (old : FilesNow) → AreOld files old old
-old-start [] old = tt
-old-start (file ∷ files) old = (refl, old-start files old)
+follows-quiet : (name : PathText) (found : Result Kind Error) → Quiet (following name found)
+follows-quiet name found = ((λ old new left. left), λ old new short. elim short [ inl left ↦ left | inr same ↦ same ])
 
-old-stays : (files : List FileValue) (name : PathText) (old now next : FilesNow) → NoneNamed name files → SameButOne name now next → AreOld files old now →
-    AreOld files old next
-old-stays [] name old now next apart same olds = tt
-old-stays (file ∷ files) name old now next apart same olds = (same file.name apart.0 ∙ olds.0, old-stays files name old now next apart.1 same olds.1)
+gets-quiet : (name : PathText) (piece : Result Bytes Error) → Quiet (getting name piece)
+gets-quiet name piece = ((λ old new left. left), λ old new short. elim short [ inl left ↦ left | inr same ↦ same ])
 
-moments : (D : FilesNow → Type 0) (files : List FileValue) (old now : FilesNow) (calls : List FileCall) (outcome : Outcome (Unit {0})) →
-    Stable D files → AreApart files → D now → AreOld files old now → WritesFiles files calls outcome →
-    AtEachMomentOfRun (λ n. D n × AreWritten files old n) calls now
-moments D [] old now calls outcome stable apart d olds written = rw (comes_none calls tt outcome written) (d, tt)
-moments D (file ∷ files) old now calls outcome stable apart d olds (goes_on value before after is first second) =
-    let E : FilesNow → Type 0 = λ n. D n × AreOld files old n in
-    let P : FilesNow → Type 0 = λ n. D n × AreWritten (file ∷ files) old n in
-    let at_file : StableAt E file.name = λ o n same has. (stable.0 o n same has.0, old-stays files file.name old o n apart.0 same has.1) in
-    rw is (file_then P E file at_file (λ n has. (has.0, inr has.1)) before value first after now (d, olds.1)
-    (λ next has bytes. at-map (λ n. And D file n × AreWritten files old n) P (λ n h. (h.0.0, inl (h.0.1, h.1))) after next
-    (moments (And D file) files old next after outcome (stable-and D file files apart.0 stable.1) apart.1 (has.0, bytes) has.1 second)))
-moments D (file ∷ files) old now calls outcome stable apart d olds (stops stop first is) =
-    let E : FilesNow → Type 0 = λ n. D n × AreOld files old n in
-    let P : FilesNow → Type 0 = λ n. D n × AreWritten (file ∷ files) old n in
-    let at_file : StableAt E file.name = λ o n same has. (stable.0 o n same has.0, old-stays files file.name old o n apart.0 same has.1) in
-    rw (sym (append-nil calls)) (file_stops P E file at_file (λ n has. (has.0, inr has.1)) calls stop first now (d, olds.1))
+all_get-quiet : (name : PathText) (pieces : List (Result Bytes Error)) → AllQuiet (map (getting name) pieces)
+all_get-quiet name [] = tt
+all_get-quiet name (piece ∷ pieces) = (gets-quiet name piece, all_get-quiet name pieces)
 
-pub run_moments : (files : List FileValue) (calls : List FileCall) (outcome : Outcome (Unit {0})) (old : FilesNow) → AreApart files →
-    WritesFiles files calls outcome →
-    AtEachMomentOfRun (AreWritten files old) calls old
-run_moments files calls outcome old apart written =
-    at-map (λ n. Unit {0} × AreWritten files old n) (AreWritten files old) (λ n h. h.1) calls old
-    (moments (λ n. Unit {0}) files old old calls outcome (stable-unit files) apart tt (old-start files old) written)
+both_quiet : (calls more : List DiskCall) → AllQuiet calls → AllQuiet more → AllQuiet (calls ++ more)
+both_quiet [] more first second = second
+both_quiet (call ∷ calls) more first second = (first.0, both_quiet calls more first.1 second)
 
--- a file among others that are as they were
-old-among : (before after : List FileValue) (file : FileValue) (old now : FilesNow) → AreOld (before ++ file ∷ after) old now → now file.name ≡ old file.name
+bytes-quiet : (name : PathText) (calls : List DiskCall) (bytes : Bytes) → GetsBytes name calls bytes → AllQuiet calls
+bytes-quiet name calls bytes gets = rw gets.calls_are (all_get-quiet name gets.pieces)
+
+up_to-quiet : (name : PathText) (calls : List DiskCall) (bytes : Bytes) (last : Result Bytes Error) → GetsUpTo name calls bytes last → AllQuiet calls
+up_to-quiet name calls bytes last gets =
+    rw gets.2 (both_quiet gets.0 (getting name last ∷ []) (bytes-quiet name gets.0 bytes gets.1) (gets-quiet name last, tt))
+
+until-quiet : (name : PathText) (calls : List DiskCall) (error : Error) → GetsUntil name calls error → AllQuiet calls
+until-quiet name calls error (inl failed) = up_to-quiet name calls failed.0 (Err error) failed.1
+until-quiet name calls error (inr spent) = bytes-quiet name calls spent.0 spent.1
+
+reads-quiet : (name : PathText) (calls : List DiskCall) (result : Result FileRead Error) → Reads name calls result → AllQuiet calls
+reads-quiet name calls (Ok file) (inl all) = up_to-quiet name calls file.bytes (Ok []) all
+reads-quiet name calls (Ok file) (inr some) = bytes-quiet name calls file.bytes some.0
+reads-quiet name calls (Err error) (inl until) = until-quiet name calls error until
+reads-quiet name calls (Err error) (inr memory) = bytes-quiet name calls memory.0 memory.1
+
+compares-quiet : (bytes : Bytes) (name : PathText) (calls : List DiskCall) (told : Result Bool Error) → Compares bytes name calls told → AllQuiet calls
+compares-quiet bytes name calls (Ok true) all = up_to-quiet name calls bytes (Ok []) all
+compares-quiet bytes name calls (Ok false) (inl other) = bytes-quiet name calls other.0 other.1
+compares-quiet bytes name calls (Ok false) (inr short) = up_to-quiet name calls short.0 (Ok []) short.1
+compares-quiet bytes name calls (Err error) until = until-quiet name calls error until
+
+opened-quiet : {V : Type 0} (Inner : List DiskCall → Result V Error → Type 0) (name : PathText) (calls : List DiskCall) (result : Result V Error) →
+    ((some : List DiskCall) → Inner some result → AllQuiet some) → Opens Inner name calls result → AllQuiet calls
+opened-quiet Inner name calls result quiet (inl failed) = rw failed.1 (opens-quiet name (Err failed.0), tt)
+opened-quiet Inner name calls result quiet (inr opened) = rw opened.1 (opens-quiet name (Ok tt), quiet opened.0 opened.2)
+
+found-quiet : (bytes : Bytes) (name : PathText) (found : Result Kind Error) (calls : List DiskCall) (told : Result Bool Error) →
+    ComparesFound bytes name found calls told → AllQuiet calls
+found-quiet bytes name (Ok (File permissions)) calls told h = opened-quiet (Compares bytes name) name calls told (λ some compares. compares-quiet bytes name some told compares) h
+found-quiet bytes name (Ok Link) calls told h = rw h.0 tt
+found-quiet bytes name (Ok Other) calls told h = rw h.0 tt
+found-quiet bytes name (Err error) calls told h = rw h.0 tt
+
+has-quiet : (bytes : Bytes) (name : PathText) (calls : List DiskCall) (told : Result Bool Error) → HasBytes bytes name calls told → AllQuiet calls
+has-quiet bytes name calls told has = rw has.2 (follows-quiet name has.0, found-quiet bytes name has.0 has.1 told has.3)
+
+-- ---- a file that has its bytes
+
+ok_err : {V : Type 0} (value : V) (error : Error) → (let r : Result V Error = Ok value in r) ≡ Err error → ⊥
+ok_err value error is = cc
+
+true_false : (let r : Result Bool Error = Ok true in r) ≡ Ok false → ⊥
+true_false is = cc
+
+found-right : (bytes : Bytes) (name : PathText) (found : Result Kind Error) (now : Files) (calls made : List DiskCall) → made ≡ following name found ∷ calls →
+    ComparesFound bytes name found calls (Ok true) → ReadsNow now made → now name ≡ Some bytes
+found-right bytes name (Ok (File permissions)) now calls made is (inl failed) reads = absurd (ok_err true failed.0 failed.2)
+found-right bytes name (Ok (File permissions)) now calls made is (inr opened) reads =
+    let read = reads name (following name (Ok (File permissions)) ∷ []) opened.0 (is ∙ ap (λ (cs : List DiskCall). following name (Ok (File permissions)) ∷ cs) opened.1) in
+    read.1 ∙ ap Some (sym (all_read name read.0 bytes opened.0 read.2 opened.2))
+found-right bytes name (Ok Link) now calls made is h reads = absurd (true_false h.1)
+found-right bytes name (Ok Other) now calls made is h reads = absurd (true_false h.1)
+found-right bytes name (Err error) now calls made is h reads = absurd (ok_err true error h.1)
+
+has-right : (bytes : Bytes) (name : PathText) (now : Files) (made : List DiskCall) (told : Result Bool Error) → true ≡ is_true told →
+    HasBytes bytes name made told → ReadsNow now made → now name ≡ Some bytes
+has-right bytes name now made (Ok true) same has reads = found-right bytes name has.0 now has.1 made has.2 has.3 reads
+has-right bytes name now made (Ok false) same has reads = absurd (false≢true (sym same))
+has-right bytes name now made (Err error) same has reads = absurd (false≢true (sym same))
+
+-- ---- a step
+
+no_change : (old new next : Files) → Same old new → Same new next → Same old next
+no_change old new next first second = λ other. second other ∙ first other
+
+step_inside : (Holds : Files → Type 0) (old mark : Option ℕ) (call : FileCall) (made : List DiskCall) (now : Files) → Makes old mark call made →
+    HaveNoLink made → ((cut : Files) → CutShortIn call now cut → Holds cut) → AtEachCall Holds made now
+step_inside Holds old mark (reading name result) made now makes unlinked cut =
+    inside (λ f. Same now f) Holds made now
+    (stills now made (opened-quiet (Reads name) name made result (λ some reads. reads-quiet name some result reads) makes.1)) cut (λ other. refl)
+step_inside Holds old mark (comparing name bytes same) made now makes unlinked cut =
+    inside (λ f. Same now f) Holds made now (stills now made (has-quiet bytes name made makes.1.0 makes.1.1)) cut (λ other. refl)
+step_inside Holds old mark (writing name bytes result) made now makes unlinked cut =
+    let puts = write_puts old mark name bytes made result (unlinked name) makes in
+    inside (λ f. SameButOne name now f) Holds made now (spared name now made puts.spare) cut (λ other real apart. refl)
+
+same_after : (now next : Files) (made : List DiskCall) → AllQuiet made → AllLeave made now next → Same now next
+same_after now next made quiet left = ended (λ f. Same now f) made now next (λ some more. no_change now some more) (stills now made quiet) (λ other. refl) left
+
+step_leaves : (old mark : Option ℕ) (call : FileCall) (made : List DiskCall) (now next : Files) → Makes old mark call made → HaveNoLink made →
+    AllLeave made now next → ReadsNow now made → LeavesAfter call now next
+step_leaves old mark (reading name result) made now next makes unlinked left reads =
+    same_after now next made (opened-quiet (Reads name) name made result (λ some reads. reads-quiet name some result reads) makes.1) left
+step_leaves old mark (comparing name bytes true) made now next makes unlinked left reads =
+    (has-right bytes name now made makes.1.0 makes.1.2 makes.1.1 reads, same_after now next made (has-quiet bytes name made makes.1.0 makes.1.1) left)
+step_leaves old mark (comparing name bytes false) made now next makes unlinked left reads =
+    same_after now next made (has-quiet bytes name made makes.1.0 makes.1.1) left
+step_leaves old mark (writing name bytes result) made now next makes unlinked left reads =
+    let puts = write_puts old mark name bytes made result (unlinked name) makes in
+    left_written name bytes result now next (puts.end now next left)
+    (ended (λ f. SameButOne name now f) made now next (λ some more stays same other real apart. same other ∙ stays other real apart)
+    (spared name now made puts.spare) (λ other real apart. refl) left)
+
+-- ---- a run
+
+first_unlinked : (calls more : List DiskCall) → HaveNoLink (calls ++ more) → HaveNoLink calls
+first_unlinked calls more unlinked name before after is =
+    unlinked name before (after ++ more) (ap (λ (cs : List DiskCall). cs ++ more) is ∙ append_assoc before (looking name (Ok Link) ∷ after) more)
+
+rest_unlinked : (calls more : List DiskCall) → HaveNoLink (calls ++ more) → HaveNoLink more
+rest_unlinked calls more unlinked name before after is =
+    unlinked name (calls ++ before) after
+    (ap (λ (cs : List DiskCall). calls ++ cs) is ∙ sym (append_assoc calls before (looking name (Ok Link) ∷ after)))
+
+each_step : (Holds : Files → Type 0) (steps : List Step) (start end : Option ℕ) (now : Files) → AreSteps start end steps → HaveNoLink (made_in steps) →
+    AtEachFileCall Holds (calls_in steps) now → AtEachMomentOfRun Holds steps now
+each_step Holds [] start end now are unlinked at_each = at_each
+each_step Holds (step ∷ steps) start end now are unlinked at_each =
+    let first = first_unlinked step.made (made_in steps) unlinked in (
+      step_inside Holds start are.0 step.call step.made now are.1 first at_each.1,
+      λ next left reads.
+          each_step Holds steps are.0 end next are.2 (rest_unlinked step.made (made_in steps) unlinked)
+          (at_each.2 next (step_leaves start are.0 step.call step.made now next are.1 first left reads)),
+    )
+
+pub run_moments : (files : List FileValue) (steps : List Step) (outcome : Outcome (Unit {0})) (start end : Option ℕ) (old : Files) → AreApart files →
+    WritesFiles files (calls_in steps) outcome → AreSteps start end steps → HaveNoLink (made_in steps) →
+    AtEachMomentOfRun (AreWritten files old) steps old
+run_moments files steps outcome start end old apart written are unlinked =
+    each_step (AreWritten files old) steps start end old are unlinked (file_moments files (calls_in steps) outcome old apart written)
+
+-- ---- a file among others
+
+old-among : (before after : List FileValue) (file : FileValue) (old now : Files) → AreOld (before ++ file ∷ after) old now → now file.name ≡ old file.name
 old-among [] after file old now olds = olds.0
 old-among (first ∷ before) after file old now olds = old-among before after file old now olds.1
 
-pub old_or_all_before_new : (before after : List FileValue) (file : FileValue) (old now : FilesNow) → AreWritten (before ++ file ∷ after) old now →
+pub old_or_all_before_new : (before after : List FileValue) (file : FileValue) (old now : Files) → AreWritten (before ++ file ∷ after) old now →
     (now file.name ≡ old file.name) ⊎ HaveBytes before now
 old_or_all_before_new [] after file old now written = inr tt
 old_or_all_before_new (first ∷ before) after file old now written = elim written [

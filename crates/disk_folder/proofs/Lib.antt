@@ -1,2 +1,5 @@
-pub mod Feeding
+pub mod Histories
+pub mod Runs
+pub mod Writes
+pub mod FileCalls
 pub mod Killed

@@ -1,3 +1,4 @@
-pub mod Feeding
+pub mod Histories
+pub mod Runs
 pub mod Killed
 pub mod Prelude

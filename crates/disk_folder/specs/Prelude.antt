@@ -1,12 +1,15 @@
 -- The names that clauses and proofs of this crate cite, passed on from one place. Declares nothing.
 pub use Rattle.std.specs.Prelude.{[], Option, Ok, Err}
+pub use Rattle.std.specs.Borrow.{ftrue}
 pub use Rattle.std.specs.declared.io.Error.{Error}
 pub use Rattle.std.specs.Cow.{cow_slice_items}
-pub use Rattle.system_files.specs.Disk.{MakesDiskCalls}
-pub use Rattle.system_files.specs.Reading.{Opens, ReadsUpTo, HasBytes}
-pub use Rattle.system_files.specs.Writing.{WritesInRun}
-pub use Rattle.commands.specs.Folder.{FileCall, GivesPieces}
+pub use Rattle.system_files.specs.Disk.{Bytes, MakesDiskCalls}
+pub use Rattle.system_files.specs.Moments.{Files}
+pub use Rattle.system_files.specs.Reading.{Opens}
+pub use Rattle.commands.specs.Folder.{FileCall, answer_of, WasGiven, reading, writing}
 pub use Rattle.commands.specs.Outcomes.{FileValue, Outcome}
 pub use Rattle.commands.specs.Files.{WritesFiles}
-pub use Rattle.disk_folder.specs.Feeding.{FeedsDisk, bytes_of_value, is_true}
-pub use Rattle.disk_folder.specs.Killed.{FilesNow, AtEachMomentOfRun, AreApart, AreWritten, HaveBytes}
+pub use Rattle.commands.specs.Program.{words_of}
+pub use Rattle.disk_folder.specs.Histories.{fed, given_after, calls_of}
+pub use Rattle.disk_folder.specs.Runs.{Reads, IsUnused, calls_known, HasMade, IsDiskRun, Step, AreSteps, calls_in, made_in}
+pub use Rattle.disk_folder.specs.Killed.{AtEachMomentOfRun, AreApart, AreWritten, HaveBytes, HaveNoLink}

@@ -1,11 +1,10 @@
 //! The files of a disk, as a `Folder`: how each of its calls is made of the disk's.
 
-ghost use Rattle.std.specs.Prelude.{◌≡◌, Bool, List, Result};
-ghost use Rattle.disk_folder.specs.Prelude.{[], cow_slice_items, MakesDiskCalls, Opens, ReadsUpTo};
-ghost use Rattle.disk_folder.specs.Prelude.{HasBytes, WritesInRun, GivesPieces, FeedsDisk};
-ghost use Rattle.disk_folder.specs.Prelude.{bytes_of_value};
-ghost use Rattle.disk_folder.specs.Prelude.{is_true, Error};
+ghost use Rattle.std.specs.Prelude.{◌≡◌, Bool, List, Result, IfOk};
+ghost use Rattle.disk_folder.specs.Prelude.{[], cow_slice_items, MakesDiskCalls, Opens, Reads};
+ghost use Rattle.disk_folder.specs.Prelude.{HasMade, IsUnused, answer_of, calls_known, fed, WasGiven};
 
+use crate::history::{Call, History};
 use commands::{Folder, PieceReader};
 use std::alloc::Global;
 use std::borrow::CowSlice;
@@ -13,92 +12,124 @@ use std::io;
 use std::io::ErrorKind;
 use system_files::{Disk, OpenFile, has_bytes, read, write};
 
-/// The files of a disk.
+/// The files of a disk on which no other calls were made.
 #[derive(Drop)]
-pub struct DiskFolder<D> {
+pub(crate) struct DiskFolder<D: Disk> {
     alloc: Global,
-    pub disk: D,
+    pub(crate) disk: D,
     /// The random number in the names of new files, once one was drawn.
-    pub mark: Option<u64>,
+    mark: Option<u64>,
+    pub(crate) history: History,
+    ghost made: { ∥ HasMade mark (D.calls disk) history.calls ∥₁ },
 }
 
 impl<D: Disk> DiskFolder<D> {
     /// Returns the folder of the files of this disk.
-    pub fn new(alloc: Global, disk: D) -> DiskFolder<D>
+    pub(crate) fn new(alloc: Global, disk: D) -> DiskFolder<D>
+        requires { IsUnused (D.calls disk) }
         ensures disk { result.disk ≡ disk }
-        ensures mark { result.mark ≡ None }
+        ensures calls { result.history.calls ≡ [] }
     {
         DiskFolder {
             alloc,
             disk,
             mark: None,
+            history: History::new(),
         }
     }
 }
 
 impl<'f, D: Disk> Folder<'f> for DiskFolder<D> {
-    ghost use Rattle.std.specs.Prelude.{None};
+    ghost calls = { λ s. calls_known (D.calls s.disk) s.history.calls };
 
-    ghost calls = { λ _. None };
-
-    fn read(&mut self, name: &str, most: usize) -> io::Result<CowSlice<'f, u8>>
-        ensures { MakesDiskCalls (D.calls self.old.disk) (D.calls self.new.disk)
-            (λ calls. Opens (ReadsUpTo most name.now) name.now calls
-            (bytes_of_value cow_slice_items result)) }
-    {
-        match read(self.alloc, &mut self.disk, name, most) {
-            Ok(bytes) => Ok(CowSlice::Owned(bytes)),
-            Err(error) => Err(error),
-        }
+    fn read(&mut self, name: &str, most: usize) -> io::Result<CowSlice<'f, u8>> {
+        let result = read_owned(self.alloc, &mut self.disk, name, most);
+        self.history = self.history.then(&Call::Read(name, most, &result));
+        result
     }
 
     /// Stops at the first piece that the reader rejects.
-    fn feed<R: PieceReader>(&mut self, name: &str, reader: &mut R) -> io::Result<()>
-        ensures calls { R.has_read [] reader.old
-            → MakesDiskCalls (D.calls self.old.disk) (D.calls self.new.disk)
-            (λ calls. Opens (FeedsDisk R.has_read R.has_failed reader.new name.now) name.now calls
-            result) }
-        ensures pieces { R.has_read [] reader.old
-            → GivesPieces R.has_read R.has_failed name.now None None result reader.new }
-    {
-        match self.disk.open(name) {
-            Ok(mut file) => feed_open(&mut self.disk, &mut file, reader),
+    fn feed<R: PieceReader>(&mut self, name: &str, reader: &mut R) -> io::Result<()> {
+        let ended = feed_file(&mut self.disk, &mut self.history, name, reader);
+        self.history = self.history.then(&Call::Fed(name, &ended));
+        match ended {
+            Ok(_) => Ok(()),
             Err(error) => Err(error),
         }
     }
 
-    fn has(&mut self, name: &str, bytes: &[u8]) -> bool
-        ensures { MakesDiskCalls (D.calls self.old.disk) (D.calls self.new.disk)
-            (λ calls. (told : Result Bool Error) × HasBytes bytes.now name.now calls told
-            × (result ≡ is_true told)) }
-    {
-        has_bytes(&mut self.disk, name, bytes).unwrap_or(false)
+    fn has(&mut self, name: &str, bytes: &[u8]) -> bool {
+        let same = has_bytes(&mut self.disk, name, bytes).unwrap_or(false);
+        self.history = self.history.then(&Call::Compared(name, bytes, same));
+        same
     }
 
-    fn write(&mut self, name: &str, bytes: &[u8]) -> io::Result<()>
-        ensures { MakesDiskCalls (D.calls self.old.disk) (D.calls self.new.disk)
-            (λ calls. WritesInRun self.old.mark self.new.mark name.now bytes.now calls result) }
-    {
-        write(self.alloc, &mut self.disk, &mut self.mark, name, bytes)
+    fn write(&mut self, name: &str, bytes: &[u8]) -> io::Result<()> {
+        let result = write(self.alloc, &mut self.disk, &mut self.mark, name, bytes);
+        self.history = self.history.then(&Call::Written(name, bytes, &result));
+        result
     }
 }
 
-/// Gives the bytes of an open file to a new reader, in pieces, as they are read.
+/// Reads the file of this name into memory of its own.
+fn read_owned<'f, D: Disk>(
+    alloc: Global,
+    disk: &mut D,
+    name: &str,
+    most: usize,
+) -> io::Result<CowSlice<'f, u8>>
+    ensures { MakesDiskCalls (D.calls disk.old) (D.calls disk.new)
+        (λ calls. Opens (Reads name.now) name.now calls (answer_of cow_slice_items most result)) }
+{
+    match read(alloc, disk, name, most) {
+        Ok(bytes) => Ok(CowSlice::Owned(bytes)),
+        Err(error) => Err(error),
+    }
+}
+
+/// Gives the bytes of the file of this name to a reader, and returns whether the file has ended.
+fn feed_file<D: Disk, R: PieceReader>(
+    disk: &mut D,
+    history: &mut History,
+    name: &str,
+    reader: &mut R,
+) -> io::Result<bool>
+    ensures calls { history.new.calls ≡ history.old.calls }
+    ensures disk { MakesDiskCalls (D.calls disk.old) (D.calls disk.new)
+        (λ calls. Opens (Reads name.now) name.now calls (fed history.new.given result)) }
+    ensures reader { R.has_read [] reader.old → IfOk result (λ ended.
+        WasGiven R.has_read R.has_failed (record { bytes = history.new.given; ended = ended })
+        reader.new) }
+{
+    match disk.open(name) {
+        Ok(mut file) => feed_open(disk, history, &mut file, reader),
+        Err(error) => Err(error),
+    }
+}
+
+/// Gives the bytes of an open file to a reader, in pieces, as they are read.
 fn feed_open<D: Disk, R: PieceReader>(
     disk: &mut D,
+    history: &mut History,
     file: &mut OpenFile<'_, D::File>,
     reader: &mut R,
-) -> io::Result<()>
-    ensures { R.has_read [] reader.old → MakesDiskCalls (D.calls disk.old) (D.calls disk.new)
-        (λ calls. FeedsDisk R.has_read R.has_failed reader.new file.old.name.now calls result) }
+) -> io::Result<bool>
+    ensures calls { history.new.calls ≡ history.old.calls }
+    ensures disk { MakesDiskCalls (D.calls disk.old) (D.calls disk.new)
+        (λ calls. Reads file.old.name.now calls (fed history.new.given result)) }
+    ensures reader { R.has_read [] reader.old → IfOk result (λ ended.
+        WasGiven R.has_read R.has_failed (record { bytes = history.new.given; ended = ended })
+        reader.new) }
 {
+    *history = history.then(&Call::Opened);
     let mut piece = [0; 65536];
     for _ in 0..u64::MAX {
         match disk.read(file, &mut piece) {
-            Ok(0) => return Ok(()),
+            Ok(0) => return Ok(true),
             Ok(count) => {
+                *history = history.then(&Call::Piece(&piece[..count]));
                 if !reader.feed(&piece[..count]) {
-                    return Ok(());
+                    return Ok(false);
                 }
             }
             Err(error) if error.kind() == ErrorKind::Interrupted => {}

@@ -1,11 +1,13 @@
-//! The files of a disk, as the `Folder` of a run.
+//! The program over a disk: its calls of a `Folder`, made of the calls of a `Disk` of
+//! `system_files`.
 //!
-//! [`DiskFolder`] reads, compares and writes files by the calls of a `Disk` of `system_files`. Its
-//! clauses say which calls: so what is proved of these calls holds for the files of a run. What a
-//! run leaves of all its files together, if it is killed, is in [`laws`].
+//! [`run`] says which calls the program makes on its disk. What it leaves of its files, if it is
+//! killed at any moment, is in [`laws`].
 #![tactic(auto)]
 
 mod folder;
+mod history;
 pub mod laws;
+mod program;
 
-pub use folder::DiskFolder;
+pub use program::run;

@@ -11,25 +11,17 @@
 //! the library `system_files`.
 #![tactic(auto)]
 
-use commands::program_run;
-use disk_folder::DiskFolder;
+use disk_folder::run;
 use ninja_text::Counted;
+use std::env;
 use std::process::ExitCode;
-use std::rt::Env;
-use std::{env, io};
 use system_files::SystemDisk;
 
 fn main(rt: HostRuntime) -> ExitCode {
-    let arguments = arguments_of(&rt);
-    let mut folder = DiskFolder::new(rt.alloc(), SystemDisk { rt: &rt });
+    let arguments = env::args(&rt).and_then(|words| Ok(words.collect(rt.alloc())?));
+    let disk = SystemDisk { rt: &rt };
     let mut out = Counted::new(rt.stdout());
     let mut err = Counted::new(rt.stderr());
-    let status = program_run(rt.alloc(), &arguments, &mut folder, &mut out, &mut err);
+    let (status, _) = run(rt.alloc(), &arguments, disk, &mut out, &mut err);
     ExitCode::from(status)
-}
-
-/// Returns the arguments, the program's own name the first of them.
-fn arguments_of<R: Env + AllocGlobal>(rt: &R) -> io::Result<Vec<String>> {
-    let arguments = env::args(rt)?.collect(rt.alloc())?;
-    Ok(arguments)
 }

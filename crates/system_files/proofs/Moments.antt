@@ -19,17 +19,17 @@ same-but : (ours : PathText) (old new : Files) → Same old new → SameBut ours
 same-but ours old new same other one two = same other
 
 -- a call that is made or is not
-touching : (ours : PathText) (call : DiskCall) → ((old new : Files) → Leaves call old new → SameBut ours ours old new) → IsCut call → Touches ours call
+pub touching : (ours : PathText) (call : DiskCall) → ((old new : Files) → Leaves call old new → SameBut ours ours old new) → IsCut call → Touches ours call
 touching ours call leaves cut = record {
   leaves = leaves;
   cut = λ old new short. elim (cut old new short) [ inl left ↦ leaves old new left | inr same ↦ same-but ours old new same ];
 }
 
 -- a call that changes nothing
-quiet : (ours : PathText) (call : DiskCall) → ((old new : Files) → Leaves call old new → Same old new) → IsCut call → Touches ours call
+pub quiet : (ours : PathText) (call : DiskCall) → ((old new : Files) → Leaves call old new → Same old new) → IsCut call → Touches ours call
 quiet ours call leaves cut = touching ours call (λ old new left. same-but ours old new (leaves old new left)) cut
 
-look-touches : (ours name : PathText) (found : Result Kind Error) → Touches ours (looking name found)
+pub look-touches : (ours name : PathText) (found : Result Kind Error) → Touches ours (looking name found)
 look-touches ours name found = quiet ours (looking name found) (λ old new left. left) (λ old new short. short)
 
 follow-touches : (ours name : PathText) (found : Result Kind Error) → Touches ours (following name found)
@@ -38,24 +38,24 @@ follow-touches ours name found = quiet ours (following name found) (λ old new l
 resolve-touches : (ours name : PathText) (found : Result PathText Error) → Touches ours (resolving name found)
 resolve-touches ours name found = quiet ours (resolving name found) (λ old new left. left) (λ old new short. short)
 
-draw-touches : (ours : PathText) (mark : Option ℕ) → Touches ours (drawing mark)
+pub draw-touches : (ours : PathText) (mark : Option ℕ) → Touches ours (drawing mark)
 draw-touches ours mark = quiet ours (drawing mark) (λ old new left. left) (λ old new short. short)
 
-create-touches : (ours : PathText) (result : DoneOrError) → Touches ours (creating ours result)
+pub create-touches : (ours : PathText) (result : DoneOrError) → Touches ours (creating ours result)
 create-touches ours (Ok done) = touching ours (creating ours (Ok done)) (λ old new left. left.1) (λ old new short. short)
 create-touches ours (Err error) = quiet ours (creating ours (Err error)) (λ old new left. left) (λ old new short. short)
 
-allow-touches : (ours : PathText) (permissions : Permissions) (result : DoneOrError) → Touches ours (allowing ours permissions result)
+pub allow-touches : (ours : PathText) (permissions : Permissions) (result : DoneOrError) → Touches ours (allowing ours permissions result)
 allow-touches ours permissions result = quiet ours (allowing ours permissions result) (λ old new left. left) (λ old new short. short)
 
-append-touches : (ours : PathText) (one : Append) → Touches ours (append_call ours one)
+pub append-touches : (ours : PathText) (one : Append) → Touches ours (append_call ours one)
 append-touches ours (some_of bytes count) = record { leaves = λ old new left. left.1; cut = λ old new short. short.2.1 }
 append-touches ours (none_of bytes error) = quiet ours (appending ours bytes (Err error)) (λ old new left. left) (λ old new short. short)
 
-keep-touches : (ours name : PathText) (error : Error) → Touches ours (renaming ours name (Err error))
+pub keep-touches : (ours name : PathText) (error : Error) → Touches ours (renaming ours name (Err error))
 keep-touches ours name error = quiet ours (renaming ours name (Err error)) (λ old new left. left) (λ old new short. short)
 
-remove-touches : (ours : PathText) (result : DoneOrError) → Touches ours (removing ours result)
+pub remove-touches : (ours : PathText) (result : DoneOrError) → Touches ours (removing ours result)
 remove-touches ours (Ok done) = touching ours (removing ours (Ok done)) (λ old new left. left.1) (λ old new short. short)
 remove-touches ours (Err error) = quiet ours (removing ours (Err error)) (λ old new left. left) (λ old new short. short)
 
@@ -152,7 +152,7 @@ replace_moments name ours permissions bytes calls result files apart (renamed al
 touch_end : (ours : PathText) (call : DiskCall) (old new : Files) → Touches ours call → AllLeave (call ∷ []) old new → SameBut ours ours old new
 touch_end ours call old new touches left other one two = left.2 other ∙ touches.leaves old left.0 left.1 other one two
 
-all_leave-append : (xs ys : List DiskCall) (old new : Files) → AllLeave (xs ++ ys) old new → (mid : Files) × AllLeave xs old mid × AllLeave ys mid new
+pub all_leave-append : (xs ys : List DiskCall) (old new : Files) → AllLeave (xs ++ ys) old new → (mid : Files) × AllLeave xs old mid × AllLeave ys mid new
 all_leave-append [] ys old new left = (old, (λ name. refl), left)
 all_leave-append (x ∷ xs) ys old new left =
     let rest = all_leave-append xs ys left.0 new left.2 in (rest.0, (left.0, left.1, rest.1), rest.2)
@@ -206,7 +206,7 @@ not_tried : (error : Error) (result : Result Bool Error) (name : PathText) (byte
 not_tried error (Ok was) name bytes old new unless same = rw unless.0 same
 not_tried error (Err same) name bytes old new unless is = is
 
-replace_end : (name ours : PathText) (permissions : Option Permissions) (bytes : Bytes) (calls : List DiskCall) (result : Result Bool Error) (old new : Files) →
+pub replace_end : (name ours : PathText) (permissions : Option Permissions) (bytes : Bytes) (calls : List DiskCall) (result : Result Bool Error) (old new : Files) →
     (name ≡ ours → ⊥) → Replaces name ours permissions bytes calls result → AllLeave calls old new → Tried result name bytes old new
 replace_end name ours permissions bytes calls result old new apart (not_created error is unless) left =
     not_tried error result name bytes old new unless
@@ -224,7 +224,7 @@ replace_end name ours permissions bytes calls result old new apart (renamed allo
     let parts = fill_end ours permissions allows appends (renaming ours name (Ok tt) ∷ []) all.appends old new allowed all.calls_are (rw is at left) in
     rw ok (parts.2.2 name ∙ parts.2.1.0 ∙ parts.1.0 ∙ ap Some all.whole.0)
 
-tried_end : (end : Result Bool Error) (result : DoneOrError) (name : PathText) (bytes : Bytes) (old new : Files) → IsEnd end result →
+pub tried_end : (end : Result Bool Error) (result : DoneOrError) (name : PathText) (bytes : Bytes) (old new : Files) → IsEnd end result →
     Tried end name bytes old new → Ends result name bytes old new
 tried_end (Ok true) result name bytes old new is tried = rw is tried
 tried_end (Ok false) result name bytes old new is tried = absurd is
@@ -238,7 +238,7 @@ ends-from (Err error) name bytes old next new same ends = ends ∙ same
 -- ---- a whole write
 
 -- the new file has another name
-other_name : (name : PathText) (number : ℕ) → name ≡ new_name name number → ⊥
+pub other_name : (name : PathText) (number : ℕ) → name ≡ new_name name number → ⊥
 other_name name number is = omega (arith, ap length is, length-append name (new_ending number))
 
 in_place : (before : List DiskCall) {name : PathText} {bytes : Bytes} {calls : List DiskCall} {result : DoneOrError} → InPlace name bytes calls result →

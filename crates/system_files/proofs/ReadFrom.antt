@@ -1,6 +1,6 @@
 -- What calls read of a file that has these bytes.
 use Rattle.std.proofs.Common.{◌≡◌, ◌∙◌, ℕ, List, [], ◌∷◌, ◌++◌, take, map, Bool, true, false, Result, Ok, Err, refl, ap, sym, append_assoc, append-nil, inl, inr}
-use Rattle.std.specs.List.{All, flat_map}
+use Rattle.std.specs.List.{flat_map}
 use Rattle.std.proofs.lemmas.List.{take_at, take_all}
 use Rattle.system_files.specs.declared.disk.Kind.{Kind}
 use Rattle.system_files.specs.declared.disk.Kind.TheVariants.{File, Link, Other}

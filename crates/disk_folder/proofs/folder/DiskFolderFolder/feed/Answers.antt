@@ -1,16 +1,11 @@
-use Rattle.std.proofs.Common.{◌∷◌, [], refl, sym, Ok, inr}
-use Rattle.system_files.specs.Disk.{opening}
-use Rattle.system_files.proofs.ForCallers.{both_made}
-use Rattle.disk_folder.proofs.Feeding.{fed}
+use Rattle.std.proofs.Common.{refl, ap, [], ◌∷◌, ◌++◌, ◌∙◌}
+use Rattle.disk_folder.specs.Prelude.{fed, reading}
+use Rattle.disk_folder.proofs.Runs.{told_next}
 use Rattle.disk_folder.proofs.folder.DiskFolderFolder.feed.Goals as goal
 
-pub returns-in-Ok-clause-calls : goal.returns-in-Ok-clause-calls
-returns-in-Ok-clause-calls g c = λ new.
-    let all = c.feed_open.ensures new in
-    let call = opening c.args.name.now (Ok tt) in
-    (call ∷ all.0, both_made _ _ _ (call ∷ []) all.0 c.in-Ok.ensures.call all.1, inr (all.0, refl, rw (sym c.in-Ok.ensures.name) all.2))
-
-pub returns-in-Ok-clause-pieces : goal.returns-in-Ok-clause-pieces
-returns-in-Ok-clause-pieces g c = λ new.
-    let all = c.feed_open.ensures new in
-    fed g.R.PieceReader.has_read g.R.PieceReader.has_failed c.feed_open.new.reader c.in-Ok.file.name.now c.args.name.now all.0 c.feed_open.result all.2
+pub invariant_of-self : goal.invariant_of-self
+invariant_of-self g c = record {
+  made = told_next _ _ _ _ _ (reading c.args.name.now (fed c.feed_file-ended.new.history.given c.feed_file-ended.result)) _
+      (λ made reads. (refl, reads)) c.args.self.now.made c.feed_file-ended.ensures.disk
+      (c.then-self.ensures.1 ∙ ap (λ calls. calls ++ reading c.args.name.now (fed c.feed_file-ended.new.history.given c.feed_file-ended.result) ∷ []) c.feed_file-ended.ensures.calls);
+}
