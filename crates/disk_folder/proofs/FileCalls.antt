@@ -3,11 +3,11 @@ use Rattle.std.proofs.Common.{◌≡◌, ◌∙◌, List, [], ◌∷◌, ◌++�
 use Rattle.std.specs.declared.io.Error.{Error}
 use Rattle.ninja_text.specs.declared.failure.Failure.{Failure}
 use Rattle.system_files.specs.Disk.{Bytes, PathText}
-use Rattle.system_files.specs.Moments.{Files}
-use Rattle.commands.specs.Folder.{FileCall, comparing, writing}
+use Rattle.system_files.specs.Moments.{Files, Same}
+use Rattle.commands.specs.Folder.{FileCall, reading, comparing, writing}
 use Rattle.commands.specs.Outcomes.{FileValue, LineValue, Outcome, Comes, goes_on, stops}
 use Rattle.commands.specs.Files.{WritesFile, WritesFiles}
-use Rattle.disk_folder.specs.Killed.{AreOld, AreWritten, NoneNamed, IsNotNew, AreApart}
+use Rattle.disk_folder.specs.Killed.{AreOld, AreWritten, NoneNamed, IsNotNew, AreApart, AllRead}
 use Rattle.disk_folder.proofs.Writes.{SameButOne}
 
 -- What a call leaves. One that compares a file, and says that it has these bytes, is right.
@@ -119,7 +119,7 @@ stable-unit : (files : List FileValue) → Stable (λ now. Unit {0}) files
 stable-unit [] = tt
 stable-unit (file ∷ files) = ((λ old new same now. tt), stable-unit files)
 
-old-start : (files : List FileValue) (old : Files) → AreOld files old old
+pub old-start : (files : List FileValue) (old : Files) → AreOld files old old
 old-start [] old = tt
 old-start (file ∷ files) old = (refl, old-start files old)
 
@@ -146,9 +146,36 @@ moments D (file ∷ files) old now calls outcome stable apart d olds (stops stop
     let at_file : StableAt E file.name = λ o n same has. (stable.0 o n same has.0, old-stays files file.name old o n apart.0 apart.2 same has.1) in
     rw (sym (append-nil calls)) (file_stops P E file at_file (λ n has. (has.0, inr has.1)) calls stop first now (d, olds.1))
 
-pub file_moments : (files : List FileValue) (calls : List FileCall) (outcome : Outcome (Unit {0})) (old : Files) → AreApart files →
-    WritesFiles files calls outcome →
-    AtEachFileCall (AreWritten files old) calls old
-file_moments files calls outcome old apart written =
-    at-map (λ n. Unit {0} × AreWritten files old n) (AreWritten files old) (λ n h. h.1) calls old
-    (moments (λ n. Unit {0}) files old old calls outcome (stable-unit files) apart tt (old-start files old) written)
+pub file_moments : (files : List FileValue) (calls : List FileCall) (outcome : Outcome (Unit {0})) (old now : Files) → AreApart files →
+    AreOld files old now → WritesFiles files calls outcome →
+    AtEachFileCall (AreWritten files old) calls now
+file_moments files calls outcome old now apart olds written =
+    at-map (λ n. Unit {0} × AreWritten files old n) (AreWritten files old) (λ n h. h.1) calls now
+    (moments (λ n. Unit {0}) files old now calls outcome (stable-unit files) apart tt olds written)
+
+-- ---- calls that read, before those that write
+
+old_written : (files : List FileValue) (old now : Files) → AreOld files old now → AreWritten files old now
+old_written [] old now olds = tt
+old_written (file ∷ files) old now olds = inr olds.1
+
+same_old : (files : List FileValue) (old now : Files) → Same old now → AreOld files old now
+same_old [] old now same = tt
+same_old (file ∷ files) old now same = (same file.name, same_old files old now same)
+
+read_moments : (Holds : Files → Type 0) (old : Files) (reads writes : List FileCall) → AllRead reads → ((some : Files) → Same old some → Holds some) →
+    ((some : Files) → Same old some → AtEachFileCall Holds writes some) → (now : Files) → Same old now → AtEachFileCall Holds (reads ++ writes) now
+read_moments Holds old [] writes read weak go now same = go now same
+read_moments Holds old (reading name result ∷ reads) writes read weak go now same = (
+  weak now same,
+  (λ cut short. weak cut (λ other. short other ∙ same other)),
+  (λ next leaves. read_moments Holds old reads writes read weak go next (λ other. leaves other ∙ same other)),
+)
+read_moments Holds old (comparing name bytes told ∷ reads) writes read weak go now same = absurd read
+read_moments Holds old (writing name bytes result ∷ reads) writes read weak go now same = absurd read
+
+pub run_calls : (files : List FileValue) (reads writes : List FileCall) (outcome : Outcome (Unit {0})) (old : Files) → AllRead reads → AreApart files →
+    WritesFiles files writes outcome → AtEachFileCall (AreWritten files old) (reads ++ writes) old
+run_calls files reads writes outcome old read apart written =
+    read_moments (AreWritten files old) old reads writes read (λ some same. old_written files old some (same_old files old some same))
+    (λ some same. file_moments files writes outcome old some apart (same_old files old some same) written) old (λ other. refl)

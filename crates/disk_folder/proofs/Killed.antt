@@ -1,5 +1,5 @@
 -- What there is of files at each moment of a run, even if it is killed in a call of the disk.
-use Rattle.std.proofs.Common.{◌≡◌, ◌∙◌, ◌⊎◌, ℕ, List, [], ◌∷◌, ◌++◌, Bool, true, false, Option, Some, Result, Ok, Err, OnOk, map, refl, ap, sym, append_assoc, inl, inr}
+use Rattle.std.proofs.Common.{◌≡◌, ◌∙◌, ◌⊎◌, ℕ, List, [], ◌∷◌, ◌++◌, Bool, true, false, Option, Some, Result, Ok, Err, OnOk, map, refl, ap, sym, append_assoc, append-nil, subst, inl, inr}
 use Rattle.std.proofs.lemmas.Bool.{false≢true}
 use Rattle.std.specs.declared.io.Error.{Error}
 use Rattle.system_files.specs.declared.disk.Kind.{Kind}
@@ -9,12 +9,17 @@ use Rattle.system_files.specs.Moments.{Files, Same, Leaves, CutShort, AllLeave}
 use Rattle.system_files.specs.Reading.{GetsBytes, GetsUpTo, GetsUntil, Opens, Compares, ComparesFound, HasBytes}
 use Rattle.system_files.proofs.ReadFrom.{all_read}
 use Rattle.commands.specs.Folder.{FileCall, FileRead, reading, comparing, writing}
-use Rattle.commands.specs.Outcomes.{FileValue, Outcome}
+use Rattle.ninja_text.specs.declared.failure.Failure.TheVariants.{Memory, Fault}
+use Rattle.command_line.specs.Tasks.{TaskValue}
+use Rattle.commands.specs.Outcomes.{FileValue, Outcome, OutputValue, Comes, InTurn, goes_on, stops}
 use Rattle.commands.specs.Files.{WritesFiles}
+use Rattle.commands.specs.Program.{Words, ArgumentsOf, ArgumentsRun}
+use Rattle.commands.specs.Runs.{TaskRun}
 use Rattle.disk_folder.specs.Runs.{Step, Reads, Makes, calls_in, made_in, AreSteps, is_true}
-use Rattle.disk_folder.specs.Killed.{ReadsNow, AtEachCall, AtEachMomentOfRun, HaveBytes, AreOld, AreWritten, AreApart, HaveNoLink}
+use Rattle.disk_folder.specs.Killed.{ReadsNow, AtEachCall, AtEachMomentOfRun, HaveBytes, AreOld, AreWritten, HaveNoLink, AllRead, LeavesFiles}
 use Rattle.disk_folder.proofs.Writes.{SameButOne, AllSpare, write_puts}
-use Rattle.disk_folder.proofs.FileCalls.{LeavesAfter, CutShortIn, AtEachFileCall, file_moments}
+use Rattle.disk_folder.proofs.FileCalls.{LeavesAfter, CutShortIn, AtEachFileCall, run_calls}
+use Rattle.disk_folder.proofs.Reading.{task_reads}
 
 -- ---- what holds still after each of some calls
 
@@ -207,11 +212,58 @@ each_step Holds (step ∷ steps) start end now are unlinked at_each =
           (at_each.2 next (step_leaves start are.0 step.call step.made now next are.1 first left reads)),
     )
 
-pub run_moments : (files : List FileValue) (steps : List Step) (outcome : Outcome (Unit {0})) (start end : Option ℕ) (old : Files) → AreApart files →
-    WritesFiles files (calls_in steps) outcome → AreSteps start end steps → HaveNoLink (made_in steps) →
-    AtEachMomentOfRun (AreWritten files old) steps old
-run_moments files steps outcome start end old apart written are unlinked =
-    each_step (AreWritten files old) steps start end old are unlinked (file_moments files (calls_in steps) outcome old apart written)
+-- what a run has of the files that it is to write
+abbrev Ended : List FileCall → Type 0
+Ended calls =
+    (files : List FileValue) × (reads writes : List FileCall) × (outcome : Outcome (Unit {0})) × (calls ≡ reads ++ writes) × AllRead reads
+    × WritesFiles files writes outcome
+
+nothing_written : (calls : List FileCall) → AllRead calls → Ended calls
+nothing_written calls read = ([], calls, [], Ok tt, sym (append-nil calls), read, (refl, refl))
+
+no_argument_calls : (words : Words) (calls : List FileCall) (outcome : Outcome TaskValue) → ArgumentsOf words calls outcome → calls ≡ []
+no_argument_calls words calls (Ok task) h = h.0
+no_argument_calls words calls (Err Memory) h = h
+no_argument_calls words calls (Err (Fault stop)) h = h.0
+
+no_more : (output : OutputValue) (calls : List FileCall) (outcome : Outcome OutputValue) → Comes (λ last. last ≡ output) calls outcome → calls ≡ []
+no_more output calls (Ok value) h = h.0
+no_more output calls (Err stop) h = absurd h
+
+output_written : (output : OutputValue) (reads calls : List FileCall) (outcome : Outcome OutputValue) → AllRead reads →
+    InTurn (WritesFiles output.files) (λ done. Comes (λ last. last ≡ output)) calls outcome → Ended (reads ++ calls)
+output_written output reads calls outcome read (goes_on value writes after is written comes) =
+    (output.files, reads, writes, Ok value, ap (λ cs. reads ++ cs) (is ∙ ap (λ cs. writes ++ cs) (no_more output after outcome comes) ∙ append-nil writes), read, written)
+output_written output reads calls outcome read (stops stop written is) = (output.files, reads, calls, Err stop, refl, read, written)
+
+task_written : (task : TaskValue) (calls : List FileCall) (outcome : Outcome OutputValue) →
+    InTurn (TaskRun task) (λ output. InTurn (WritesFiles output.files) (λ done. Comes (λ last. last ≡ output))) calls outcome → Ended calls
+task_written task calls outcome (goes_on output reads writes is first second) =
+    rw is (output_written output reads writes outcome ((task_reads task).reads reads (Ok output) first) second)
+task_written task calls outcome (stops stop first is) = nothing_written calls ((task_reads task).reads calls (Err stop) first)
+
+arguments_written : (words : Words) (calls : List FileCall) (outcome : Outcome OutputValue) → ArgumentsRun words calls outcome → Ended calls
+arguments_written words calls outcome (goes_on task before after is first second) =
+    rw (is, no_argument_calls words before (Ok task) first) (task_written task after outcome second)
+arguments_written words calls outcome (stops stop first is) = rw (no_argument_calls words calls (Err stop) first) (nothing_written [] tt)
+
+pub leaves_files : (words : Words) (steps : List Step) (outcome : Outcome OutputValue) (start end : Option ℕ) →
+    ArgumentsRun words (calls_in steps) outcome → AreSteps start end steps → LeavesFiles steps
+leaves_files words steps outcome start end ran are =
+    let wrote = arguments_written words (calls_in steps) outcome ran in
+    record {
+      files = wrote.0;
+      reads = wrote.1;
+      writes = wrote.2;
+      outcome = wrote.3;
+      calls_are = wrote.4;
+      are_reads = wrote.5;
+      are_writes = wrote.6;
+      killed = λ old apart unlinked.
+          each_step (AreWritten wrote.0 old) steps start end old are unlinked
+          (let At : List FileCall → Type 0 = λ calls. AtEachFileCall (AreWritten wrote.0 old) calls old in
+          subst At (sym wrote.4) (run_calls wrote.0 wrote.1 wrote.2 wrote.3 old wrote.5 apart wrote.6));
+    }
 
 -- ---- a file among others
 

@@ -70,6 +70,10 @@ reads_opened most name calls (Err error) (inr opened) = inr (opened.0, opened.1,
 -- ---- a whole run
 
 -- the calls on a disk on which none was made before
+abbrev file_calls : Option (List FileCall) → List FileCall
+file_calls None = []
+file_calls (Some calls) = calls
+
 some_none : {V : Type 0} {value : V} → Some value ≡ None → ⊥
 some_none is = cc
 
@@ -79,3 +83,9 @@ all_made None None made calls more unused are adds = refl
 all_made None (Some now) made calls more unused are adds = absurd (some_none adds)
 all_made (Some before) None made calls more unused are adds = absurd (some_none (sym adds))
 all_made (Some before) (Some now) made calls more unused are adds = are ∙ ap (λ b. Some (b ++ made)) (sym (ap out unused))
+
+pub calls_made : (old new : Known) (calls more : List FileCall) (before : List DiskCall) → old ≡ Some before →
+    Adds (calls_known old []) (calls_known new calls) more → more ≡ calls
+calls_made None new calls more before is adds = absurd (some_none (sym is))
+calls_made (Some was) None calls more before is adds = absurd (some_none (sym adds))
+calls_made (Some was) (Some now) calls more before is adds = sym (ap file_calls adds)

@@ -4,8 +4,10 @@ use Rattle.system_files.specs.Disk.{Bytes, PathText, DiskCall, looking, opening}
 use Rattle.system_files.specs.declared.disk.Kind.TheVariants.{Link}
 use Rattle.system_files.specs.Moments.{Files, Leaves, CutShort, AllLeave, ReadsFrom}
 use Rattle.system_files.specs.Writing.{new_name}
-use Rattle.commands.specs.Outcomes.{FileValue}
-use Rattle.disk_folder.specs.Runs.{Step}
+use Rattle.commands.specs.Files.{WritesFiles}
+use Rattle.commands.specs.Folder.{FileCall, reading}
+use Rattle.commands.specs.Outcomes.{FileValue, Outcome}
+use Rattle.disk_folder.specs.Runs.{Step, calls_in, made_in}
 
 -- What is read of each file that these calls open is what it has.
 abbrev pub ReadsNow : Files → List DiskCall → Type 0
@@ -65,3 +67,22 @@ abbrev pub HaveNoLink : List DiskCall → Type 0
 HaveNoLink calls =
     (name : PathText) (before after : List DiskCall) → calls ≡ before ++ looking name (Ok Link) ∷ after
     → ⊥
+
+-- all of these calls read
+abbrev pub AllRead : List FileCall → Type 0
+AllRead [] = ⊤
+AllRead (reading name result ∷ calls) = AllRead calls
+AllRead (call ∷ calls) = ⊥
+
+-- The run reads, and then writes these files. At each moment a beginning of them is new, and all
+-- others but the next one are as they were.
+pub record LeavesFiles (steps : List Step) : Type 0 where
+  pub files : List FileValue
+  pub reads : List FileCall
+  pub writes : List FileCall
+  pub outcome : Outcome (Unit {0})
+  pub calls_are : calls_in steps ≡ reads ++ writes
+  pub are_reads : AllRead reads
+  pub are_writes : WritesFiles files writes outcome
+  pub killed : (old : Files) → AreApart files → HaveNoLink (made_in steps)
+      → AtEachMomentOfRun (AreWritten files old) steps old

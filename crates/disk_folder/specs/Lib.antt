@@ -1,4 +1,5 @@
 pub mod Histories
 pub mod Runs
 pub mod Killed
+pub mod Program
 pub mod Prelude

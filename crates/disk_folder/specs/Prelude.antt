@@ -7,9 +7,9 @@ pub use Rattle.system_files.specs.Disk.{Bytes, MakesDiskCalls}
 pub use Rattle.system_files.specs.Moments.{Files}
 pub use Rattle.system_files.specs.Reading.{Opens}
 pub use Rattle.commands.specs.Folder.{FileCall, answer_of, WasGiven, reading, writing}
-pub use Rattle.commands.specs.Outcomes.{FileValue, Outcome}
-pub use Rattle.commands.specs.Files.{WritesFiles}
-pub use Rattle.commands.specs.Program.{words_of}
+pub use Rattle.commands.specs.Outcomes.{FileValue, Outcome, OutputValue}
+pub use Rattle.commands.specs.Program.{Words, words_of, ArgumentsRun}
 pub use Rattle.disk_folder.specs.Histories.{fed, given_after, calls_of}
-pub use Rattle.disk_folder.specs.Runs.{Reads, IsUnused, calls_known, HasMade, IsDiskRun, Step, AreSteps, calls_in, made_in}
-pub use Rattle.disk_folder.specs.Killed.{AtEachMomentOfRun, AreApart, AreWritten, HaveBytes, HaveNoLink}
+pub use Rattle.disk_folder.specs.Runs.{Reads, IsUnused, calls_known, HasMade, Step, AreSteps, calls_in}
+pub use Rattle.disk_folder.specs.Killed.{AreWritten, HaveBytes, LeavesFiles}
+pub use Rattle.disk_folder.specs.Program.{IsDiskRun}

@@ -4,12 +4,10 @@ use Rattle.std.specs.List.{flat_map}
 use Rattle.std.specs.IoError.{error_kind}
 use Rattle.std.specs.declared.io.Error.{Error}
 use Rattle.std.specs.declared.io.ErrorKind.TheVariants.{OutOfMemory}
-use Rattle.ninja_text.specs.declared.counting.Counted.{Counted}
-use Rattle.system_files.specs.Disk.{Bytes, PathText, DiskCall, AddsDiskCalls}
+use Rattle.system_files.specs.Disk.{Bytes, PathText, DiskCall}
 use Rattle.system_files.specs.Reading.{GetsBytes, GetsAll, GetsUntil, Opens, HasBytes}
 use Rattle.system_files.specs.Writing.{WritesInRun}
 use Rattle.commands.specs.Folder.{FileCall, FileRead, reading, comparing, writing}
-use Rattle.commands.specs.Program.{Words, IsProgramRun}
 
 -- Calls that read an open file: all of its bytes, or a beginning. An error is that of the system,
 -- or that memory ran out.
@@ -63,14 +61,3 @@ abbrev pub HasMade : Option ℕ → Option (List DiskCall) → List FileCall →
 HasMade mark known calls =
     (steps : List Step) × (known ≡ option_map (λ made. made_in steps) known)
     × (calls ≡ calls_in steps) × AreSteps None mark steps
-
--- The program makes these calls on its disk and no other, and they make the calls of the program.
-pub record IsDiskRun {O E : Type 0} (outs : O → Option Bytes) (errs : E → Option Bytes)
-    (old new : Option (List DiskCall)) (old_out new_out : Counted O) (old_err new_err : Counted E)
-    (words : Words) (number : ℕ) : Type 0 where
-  pub steps : List Step
-  pub mark : Option ℕ
-  pub made : AddsDiskCalls old new (made_in steps)
-  pub are : AreSteps None mark steps
-  pub runs : IsProgramRun outs errs (calls_known old []) (calls_known new (calls_in steps))
-      old_out new_out old_err new_err words number
