@@ -15,7 +15,7 @@ use Rattle.commands.specs.Outcomes.{FileValue, Outcome, OutputValue, Comes, InTu
 use Rattle.commands.specs.Files.{WritesFiles}
 use Rattle.commands.specs.Program.{Words, ArgumentsOf, ArgumentsRun}
 use Rattle.commands.specs.Runs.{TaskRun}
-use Rattle.disk_folder.specs.Runs.{Step, Reads, Makes, calls_in, made_in, AreSteps, is_true}
+use Rattle.disk_folder.specs.Runs.{Step, ReadsFile, MakesCall, calls_in, made_in, AreSteps, is_true}
 use Rattle.disk_folder.specs.Killed.{ReadsNow, AtEachCall, AtEachMomentOfRun, HaveBytes, AreOld, AreWritten, HaveNoLink, AllRead, LeavesFiles}
 use Rattle.disk_folder.proofs.Writes.{SameButOne, AllSpare, write_puts}
 use Rattle.disk_folder.proofs.FileCalls.{LeavesAfter, CutShortIn, AtEachFileCall, run_calls}
@@ -106,7 +106,7 @@ until-quiet : (name : PathText) (calls : List DiskCall) (error : Error) → Gets
 until-quiet name calls error (inl failed) = up_to-quiet name calls failed.0 (Err error) failed.1
 until-quiet name calls error (inr spent) = bytes-quiet name calls spent.0 spent.1
 
-reads-quiet : (name : PathText) (calls : List DiskCall) (result : Result FileRead Error) → Reads name calls result → AllQuiet calls
+reads-quiet : (name : PathText) (calls : List DiskCall) (result : Result FileRead Error) → ReadsFile name calls result → AllQuiet calls
 reads-quiet name calls (Ok file) (inl all) = up_to-quiet name calls file.bytes (Ok []) all
 reads-quiet name calls (Ok file) (inr some) = bytes-quiet name calls file.bytes some.0
 reads-quiet name calls (Err error) (inl until) = until-quiet name calls error until
@@ -162,11 +162,11 @@ has-right bytes name now made (Err error) same has reads = absurd (false≢true 
 no_change : (old new next : Files) → Same old new → Same new next → Same old next
 no_change old new next first second = λ other. second other ∙ first other
 
-step_inside : (Holds : Files → Type 0) (old mark : Option ℕ) (call : FileCall) (made : List DiskCall) (now : Files) → Makes old mark call made →
+step_inside : (Holds : Files → Type 0) (old mark : Option ℕ) (call : FileCall) (made : List DiskCall) (now : Files) → MakesCall old mark call made →
     HaveNoLink made → ((cut : Files) → CutShortIn call now cut → Holds cut) → AtEachCall Holds made now
 step_inside Holds old mark (reading name result) made now makes unlinked cut =
     inside (λ f. Same now f) Holds made now
-    (stills now made (opened-quiet (Reads name) name made result (λ some reads. reads-quiet name some result reads) makes.1)) cut (λ other. refl)
+    (stills now made (opened-quiet (ReadsFile name) name made result (λ some reads. reads-quiet name some result reads) makes.1)) cut (λ other. refl)
 step_inside Holds old mark (comparing name bytes same) made now makes unlinked cut =
     inside (λ f. Same now f) Holds made now (stills now made (has-quiet bytes name made makes.1.0 makes.1.1)) cut (λ other. refl)
 step_inside Holds old mark (writing name bytes result) made now makes unlinked cut =
@@ -176,10 +176,10 @@ step_inside Holds old mark (writing name bytes result) made now makes unlinked c
 same_after : (now next : Files) (made : List DiskCall) → AllQuiet made → AllLeave made now next → Same now next
 same_after now next made quiet left = ended (λ f. Same now f) made now next (λ some more. no_change now some more) (stills now made quiet) (λ other. refl) left
 
-step_leaves : (old mark : Option ℕ) (call : FileCall) (made : List DiskCall) (now next : Files) → Makes old mark call made → HaveNoLink made →
+step_leaves : (old mark : Option ℕ) (call : FileCall) (made : List DiskCall) (now next : Files) → MakesCall old mark call made → HaveNoLink made →
     AllLeave made now next → ReadsNow now made → LeavesAfter call now next
 step_leaves old mark (reading name result) made now next makes unlinked left reads =
-    same_after now next made (opened-quiet (Reads name) name made result (λ some reads. reads-quiet name some result reads) makes.1) left
+    same_after now next made (opened-quiet (ReadsFile name) name made result (λ some reads. reads-quiet name some result reads) makes.1) left
 step_leaves old mark (comparing name bytes true) made now next makes unlinked left reads =
     (has-right bytes name now made makes.1.0 makes.1.2 makes.1.1 reads, same_after now next made (has-quiet bytes name made makes.1.0 makes.1.1) left)
 step_leaves old mark (comparing name bytes false) made now next makes unlinked left reads =

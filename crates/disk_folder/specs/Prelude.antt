@@ -10,6 +10,6 @@ pub use Rattle.commands.specs.Folder.{FileCall, answer_of, WasGiven, reading, wr
 pub use Rattle.commands.specs.Outcomes.{FileValue, Outcome, OutputValue}
 pub use Rattle.commands.specs.Program.{Words, words_of, ArgumentsRun}
 pub use Rattle.disk_folder.specs.Histories.{fed, given_after, calls_of}
-pub use Rattle.disk_folder.specs.Runs.{Reads, IsUnused, calls_known, HasMade, Step, AreSteps, calls_in}
+pub use Rattle.disk_folder.specs.Runs.{ReadsFile, HasNoCalls, calls_known, HasMade, Step, AreSteps, calls_in}
 pub use Rattle.disk_folder.specs.Killed.{AreWritten, HaveBytes, LeavesFiles}
 pub use Rattle.disk_folder.specs.Program.{IsDiskRun}

@@ -11,10 +11,10 @@ use Rattle.commands.specs.Folder.{FileCall, FileRead, reading, comparing, writin
 
 -- Calls that read an open file: all of its bytes, or a beginning. An error is that of the system,
 -- or that memory ran out.
-abbrev pub Reads : PathText → List DiskCall → Result FileRead Error → Type 0
-Reads name calls (Ok file) =
+abbrev pub ReadsFile : PathText → List DiskCall → Result FileRead Error → Type 0
+ReadsFile name calls (Ok file) =
     GetsAll name calls file.bytes ⊎ (GetsBytes name calls file.bytes × (file.ended ≡ false))
-Reads name calls (Err error) =
+ReadsFile name calls (Err error) =
     GetsUntil name calls error
     ⊎ ((bytes : Bytes) × GetsBytes name calls bytes × (error_kind error ≡ OutOfMemory))
 
@@ -24,12 +24,12 @@ is_true (Ok same) = same
 is_true (Err error) = false
 
 -- calls of the disk that make this call, by the mark of the run before and after them
-abbrev pub Makes : Option ℕ → Option ℕ → FileCall → List DiskCall → Type 0
-Makes old new (reading name result) calls = (new ≡ old) × Opens (Reads name) name calls result
-Makes old new (comparing name bytes same) calls =
+abbrev pub MakesCall : Option ℕ → Option ℕ → FileCall → List DiskCall → Type 0
+MakesCall old new (reading name result) calls = (new ≡ old) × Opens (ReadsFile name) name calls result
+MakesCall old new (comparing name bytes same) calls =
     (new ≡ old)
     × ((told : Result Bool Error) × HasBytes bytes name calls told × (same ≡ is_true told))
-Makes old new (writing name bytes result) calls = WritesInRun old new name bytes calls result
+MakesCall old new (writing name bytes result) calls = WritesInRun old new name bytes calls result
 
 -- a call of a run, with the calls of the disk that make it
 pub record Step : Type 0 where
@@ -46,11 +46,11 @@ made_in steps = flat_map (λ (step : Step). step.made) steps
 abbrev pub AreSteps : Option ℕ → Option ℕ → List Step → Type 0
 AreSteps old new [] = new ≡ old
 AreSteps old new (step ∷ steps) =
-    (mid : Option ℕ) × Makes old mid step.call step.made × AreSteps mid new steps
+    (mid : Option ℕ) × MakesCall old mid step.call step.made × AreSteps mid new steps
 
 -- no call was made on the disk yet, if it is known which were made
-abbrev pub IsUnused : Option (List DiskCall) → Type 0
-IsUnused known = known ≡ option_map (λ before. []) known
+abbrev pub HasNoCalls : Option (List DiskCall) → Type 0
+HasNoCalls known = known ≡ option_map (λ before. []) known
 
 -- the calls of a run, if those of its disk are known
 abbrev pub calls_known : Option (List DiskCall) → List FileCall → Option (List FileCall)

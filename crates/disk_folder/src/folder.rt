@@ -1,8 +1,8 @@
 //! The files of a disk, as a `Folder`: how each of its calls is made of the disk's.
 
-ghost use Rattle.std.specs.Prelude.{◌≡◌, Bool, List, Result, IfOk};
-ghost use Rattle.disk_folder.specs.Prelude.{[], cow_slice_items, MakesDiskCalls, Opens, Reads};
-ghost use Rattle.disk_folder.specs.Prelude.{HasMade, IsUnused, answer_of, calls_known, fed, WasGiven};
+ghost use Rattle.std.specs.Prelude.{◌≡◌, IfOk};
+ghost use Rattle.disk_folder.specs.Prelude.{[], HasMade, HasNoCalls, MakesDiskCalls, Opens};
+ghost use Rattle.disk_folder.specs.Prelude.{ReadsFile, WasGiven, calls_known, fed};
 
 use crate::history::{Call, History};
 use commands::{Folder, PieceReader};
@@ -10,11 +10,11 @@ use std::alloc::Global;
 use std::borrow::CowSlice;
 use std::io;
 use std::io::ErrorKind;
-use system_files::{Disk, OpenFile, has_bytes, read, write};
+use system_files::{Disk, has_bytes, read, write};
 
 /// The files of a disk on which no other calls were made.
 #[derive(Drop)]
-pub(crate) struct DiskFolder<D: Disk> {
+pub struct DiskFolder<D: Disk> {
     alloc: Global,
     pub(crate) disk: D,
     /// The random number in the names of new files, once one was drawn.
@@ -25,8 +25,8 @@ pub(crate) struct DiskFolder<D: Disk> {
 
 impl<D: Disk> DiskFolder<D> {
     /// Returns the folder of the files of this disk.
-    pub(crate) fn new(alloc: Global, disk: D) -> DiskFolder<D>
-        requires { IsUnused (D.calls disk) }
+    pub fn new(alloc: Global, disk: D) -> DiskFolder<D>
+        requires { HasNoCalls (D.calls disk) }
         ensures disk { result.disk ≡ disk }
         ensures calls { result.history.calls ≡ [] }
     {
@@ -43,7 +43,10 @@ impl<'f, D: Disk> Folder<'f> for DiskFolder<D> {
     ghost calls = { λ s. calls_known (D.calls s.disk) s.history.calls };
 
     fn read(&mut self, name: &str, most: usize) -> io::Result<CowSlice<'f, u8>> {
-        let result = read_owned(self.alloc, &mut self.disk, name, most);
+        let result = match read(self.alloc, &mut self.disk, name, most) {
+            Ok(bytes) => Ok(CowSlice::Owned(bytes)),
+            Err(error) => Err(error),
+        };
         self.history = self.history.then(&Call::Read(name, most, &result));
         result
     }
@@ -71,23 +74,8 @@ impl<'f, D: Disk> Folder<'f> for DiskFolder<D> {
     }
 }
 
-/// Reads the file of this name into memory of its own.
-fn read_owned<'f, D: Disk>(
-    alloc: Global,
-    disk: &mut D,
-    name: &str,
-    most: usize,
-) -> io::Result<CowSlice<'f, u8>>
-    ensures { MakesDiskCalls (D.calls disk.old) (D.calls disk.new)
-        (λ calls. Opens (Reads name.now) name.now calls (answer_of cow_slice_items most result)) }
-{
-    match read(alloc, disk, name, most) {
-        Ok(bytes) => Ok(CowSlice::Owned(bytes)),
-        Err(error) => Err(error),
-    }
-}
-
-/// Gives the bytes of the file of this name to a reader, and returns whether the file has ended.
+/// Gives the bytes of the file of this name to a reader, in pieces, as they are read. Returns
+/// whether the file has ended.
 fn feed_file<D: Disk, R: PieceReader>(
     disk: &mut D,
     history: &mut History,
@@ -96,35 +84,19 @@ fn feed_file<D: Disk, R: PieceReader>(
 ) -> io::Result<bool>
     ensures calls { history.new.calls ≡ history.old.calls }
     ensures disk { MakesDiskCalls (D.calls disk.old) (D.calls disk.new)
-        (λ calls. Opens (Reads name.now) name.now calls (fed history.new.given result)) }
-    ensures reader { R.has_read [] reader.old → IfOk result (λ ended.
-        WasGiven R.has_read R.has_failed (record { bytes = history.new.given; ended = ended })
-        reader.new) }
-{
-    match disk.open(name) {
-        Ok(mut file) => feed_open(disk, history, &mut file, reader),
-        Err(error) => Err(error),
-    }
-}
-
-/// Gives the bytes of an open file to a reader, in pieces, as they are read.
-fn feed_open<D: Disk, R: PieceReader>(
-    disk: &mut D,
-    history: &mut History,
-    file: &mut OpenFile<'_, D::File>,
-    reader: &mut R,
-) -> io::Result<bool>
-    ensures calls { history.new.calls ≡ history.old.calls }
-    ensures disk { MakesDiskCalls (D.calls disk.old) (D.calls disk.new)
-        (λ calls. Reads file.old.name.now calls (fed history.new.given result)) }
+        (λ calls. Opens (ReadsFile name.now) name.now calls (fed history.new.given result)) }
     ensures reader { R.has_read [] reader.old → IfOk result (λ ended.
         WasGiven R.has_read R.has_failed (record { bytes = history.new.given; ended = ended })
         reader.new) }
 {
     *history = history.then(&Call::Opened);
+    let mut file = match disk.open(name) {
+        Ok(file) => file,
+        Err(error) => return Err(error),
+    };
     let mut piece = [0; 65536];
     for _ in 0..u64::MAX {
-        match disk.read(file, &mut piece) {
+        match disk.read(&mut file, &mut piece) {
             Ok(0) => return Ok(true),
             Ok(count) => {
                 *history = history.then(&Call::Piece(&piece[..count]));

@@ -5,7 +5,8 @@ ghost use Rattle.disk_folder.specs.Prelude.{Words, ArgumentsRun, calls_in, Leave
 ghost use Rattle.disk_folder.specs.Prelude.{HaveBytes};
 
 /// A run reads, and then writes its files. At each moment of its calls on the disk, even if it is
-/// killed in one, a beginning of the files is new, and all others but the next one are as they were.
+/// killed in one, a beginning of the files is new, and all others but the next one are as they
+/// were.
 pub fn a_beginning_of_the_files_is_new()
     ensures { (words : Words) (steps : List Step) (outcome : Outcome OutputValue)
         (start end : Option ℕ) → ArgumentsRun words (calls_in steps) outcome

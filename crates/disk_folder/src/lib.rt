@@ -10,4 +10,5 @@ mod history;
 pub mod laws;
 mod program;
 
+pub use folder::DiskFolder;
 pub use program::run;

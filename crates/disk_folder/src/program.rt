@@ -1,6 +1,6 @@
 //! The program over a disk.
 
-ghost use Rattle.disk_folder.specs.Prelude.{IsDiskRun, IsUnused, words_of};
+ghost use Rattle.disk_folder.specs.Prelude.{IsDiskRun, HasNoCalls, words_of};
 
 use crate::folder::DiskFolder;
 use commands::program_run;
@@ -18,7 +18,7 @@ pub fn run<D: Disk, O: WriteCall, E: WriteCall>(
     out: &mut Counted<O>,
     err: &mut Counted<E>,
 ) -> (u8, D)
-    requires { IsUnused (D.calls disk) }
+    requires { HasNoCalls (D.calls disk) }
     ensures { ∥ IsDiskRun O.contents E.contents (D.calls disk) (D.calls result.1)
         out.old out.new err.old err.new (words_of arguments.now) result.0 ∥₁ }
 {

@@ -1,4 +1,5 @@
-//! What is true at each moment of a write, and what is read. A law is the contract of a function that does nothing.
+//! What is true at each moment of a write, and what is read. A law is the contract of a function
+//! that does nothing.
 ghost use Rattle.std.specs.Prelude.{◌≡◌, ◌⊎◌, ℕ, List, ◌++◌, take, Bool, Option, Ok, Some};
 ghost use Rattle.system_files.specs.Prelude.{Bytes, DiskCall, DoneOrError, PathText, WritesInRun};
 ghost use Rattle.system_files.specs.Prelude.{IsInPlace};
@@ -25,8 +26,8 @@ pub fn a_file_in_place_is_old_or_a_beginning()
 {}
 
 /// What is read of a file that nobody changes meanwhile: all of its bytes, or a beginning. So
-/// [`read`](crate::read) returns its bytes, or the first `most`, and [`has_bytes`](crate::has_bytes)
-/// returns whether it has these.
+/// [`read`](crate::read) returns its bytes, or the first `most`, and
+/// [`has_bytes`](crate::has_bytes) returns whether it has these.
 pub fn a_file_is_read_as_it_is()
     ensures all { (name : PathText) (bytes got : Bytes) (calls : List DiskCall)
         → ReadsFrom bytes calls → GetsAll name calls got → got ≡ bytes }

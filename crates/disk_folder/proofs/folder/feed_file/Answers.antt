@@ -1,10 +1,51 @@
-use Rattle.std.proofs.Common.{◌∷◌, [], refl, sym, Ok, inr}
-use Rattle.system_files.specs.Disk.{opening}
-use Rattle.system_files.proofs.ForCallers.{both_made}
+use Rattle.std.proofs.Common.{rules, ◌∙◌, [], refl, append-nil, inl, inr, Ok, Err, take, false}
+use Rattle.system_files.proofs.ForCallers.{read-last, read-next, read-signal, read-calls, read-spent, some_read}
+use Rattle.disk_folder.proofs.Runs.{after_opening}
 use Rattle.disk_folder.proofs.folder.feed_file.Goals as goal
+use Rattle.disk_folder.proofs.folder.feed_file.Goals.{in-Ok-read+else-not-feed, in-Err-read}
 
-pub returns-in-Ok-clause-disk : goal.returns-in-Ok-clause-disk
-returns-in-Ok-clause-disk g c =
-    let all = c.feed_open.ensures.disk in
-    let call = opening c.args.name.now (Ok tt) in
-    (call ∷ all.0, both_made _ _ _ (call ∷ []) all.0 c.in-Ok.ensures.call all.1, inr (all.0, refl, rw (sym c.in-Ok.ensures.name) all.2))
+pub returns-in-Ok-eq0-clause-disk : goal.returns-in-Ok-eq0-clause-disk
+returns-in-Ok-eq0-clause-disk g c =
+    let so = c.loop.invariant.0 in
+    let last = read-last _ _ _ _ _ _ _ (Ok []) so.2 (rw (c.in-Ok-eq0.is, c.in-Ok-eq0.field-0-test) at c.read.ensures.call) c.loop.invariant.3 in
+    after_opening _ _ _ _ last.0 _ so.1 last.1 (inl last.2)
+
+pub returns-then-not-feed-clause-disk : goal.returns-then-not-feed-clause-disk
+returns-then-not-feed-clause-disk g c =
+    let so = c.loop.invariant.0 in
+    let piece = take c.in-Ok-read.count c.read.new.buffer in
+    let next = read-next _ _ _ _ _ _ _ (Ok piece) so.2 c.in-Ok-read.ensures.call c.loop.invariant.3
+    (some_read c.in-Ok-read.count c.read.new.buffer (search rules) (search rules)) in
+    let all = read-calls _ _ _ _ _ next in
+    after_opening _ _ _ _ all.0 _ so.1 all.1 (inr (rw c.then-in-Ok-read.ensures.0 all.2, refl {a = false}))
+
+pub returns-in-Err-2-clause-disk : goal.returns-in-Err-2-clause-disk
+returns-in-Err-2-clause-disk g c =
+    let so = c.loop.invariant.0 in
+    let last = read-last _ _ _ _ _ _ _ (Err c.in-Err-read.error) so.2 c.in-Err-read.ensures.call c.loop.invariant.3 in
+    after_opening _ _ _ _ last.0 _ so.1 last.1 (inl (inl (_, last.2, search rules)))
+
+pub loop-preserved : goal.loop-preserved
+loop-preserved g c =
+    let so = c.loop.invariant.0 in
+    elim c.match-read.branch [
+      | in-Ok-read+else-not-feed w ↦
+          let piece = take w.in-Ok-read.count c.read.new.buffer in
+          let next = read-next _ _ _ _ _ _ _ (Ok piece) so.2 w.in-Ok-read.ensures.call c.loop.invariant.3
+          (some_read w.in-Ok-read.count c.read.new.buffer (search rules) (search rules)) in
+          rw (w.history-is, w.reader-is) (
+            (so.0, so.1, rw w.then-in-Ok-read.ensures.0 next),
+            w.then-in-Ok-read.ensures.1 ∙ append-nil c.loop.history.calls ∙ c.loop.invariant.1,
+            (λ new. rw w.then-in-Ok-read.ensures.0 (rw w.if-not-feed.false at (w.feed.ensures c.loop.history.given (c.loop.invariant.2 new)))),
+            c.read.ensures.name ∙ c.loop.invariant.3,
+          )
+      | in-Err-read w ↦
+          let next = read-signal _ _ _ _ _ _ _ w.in-Err-read.error so.2 w.in-Err-read.ensures.call c.loop.invariant.3 (search rules) in
+          rw (w.history-is, w.reader-is) ((so.0, so.1, next), c.loop.invariant.1, c.loop.invariant.2, c.read.ensures.name ∙ c.loop.invariant.3)
+    ]
+
+pub returns-clause-disk : goal.returns-clause-disk
+returns-clause-disk g c =
+    let so = c.loop.invariant.0 in
+    let all = read-spent _ _ _ _ _ c.into.result so.2 (search rules) in
+    after_opening _ _ _ _ all.0 _ so.1 all.1 (inl all.2)
