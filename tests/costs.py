@@ -30,7 +30,7 @@ LIMIT = 1.2  # how many times as much a byte of the input may cost if there are 
 # more than an ordinary input of their size.
 SIZES = {"edges": 1 << 18, "dyndep": 1 << 18, "modules": 600, "targets": 400, "keyless": 400,
          "work-dir": 400, "ext": 400, "paths": 300, "requires": 1600, "info": 3200, "plugins": 40,
-         "services": 40, "providers": 100, "diamonds": 12}
+         "services": 40, "providers": 100, "diamonds": 12, "shared": 40}
 
 
 @functools.lru_cache(None)

@@ -312,6 +312,24 @@ def diamonds(made, ordinary, size):
     return words
 
 
+def shared_edges(made, ordinary, size):
+    """Targets that all name one edge list, or each a list of its own edges."""
+    for directory, is_shared in (made, True), (ordinary, False):
+        project = Project(directory)
+        lists = []
+        for number in range(size):
+            name, own = f"t{number}", [f"t{number}.m{it}" for it in range(20)]
+            dyndep = f"out/{name}.dd"
+            lines = [f"build o/{name}/{it}: cxx s || {dyndep}\n  dyndep = {dyndep}\n" for it in range(20)]
+            lists.append("".join(lines))
+            listed = "edges" if is_shared else f"e/{number}"
+            project.add(name, [([it], []) for it in own], [], edges=listed)
+        for number, text in enumerate(["".join(lists)] if is_shared else lists):
+            write(directory / ("edges" if is_shared else f"e/{number}"), text)
+        words = project.written()
+    return words
+
+
 # The label, the inputs, the size that bench/run hostile takes, and how many times as long as the
 # ordinary input it may take. `names` and `links` still take more.
 SHAPES = [
@@ -322,4 +340,5 @@ SHAPES = [
     ("info", info_requires, 80_000, 2), ("plugins", plugins, 400, 1.5),
     ("services", services, 400, 2), ("providers", providers, 4000, 2),
     ("names", shared_names, 20_000, 2), ("links", links, 1000, 2), ("diamonds", diamonds, 40, 2),
+    ("shared", shared_edges, 800, 2),
 ]

@@ -43,6 +43,7 @@ TWO_TARGETS = b'{"targets":["0.json","1.json"],"version":1}'
 L_EDGES, K_EDGES = edge(b"l.o: cxx l.cpp || 0.dd", b"0.dd"), edge(b"k.o: cxx k.cpp || 1.dd", b"1.dd")
 X_EDGES = b"build x.o: cxx\n"
 EDGED = {"0.json": member(0, more=GCC + b',"edges":"0.edges"'), "1.json": member(1, 0, more=GCC + b',"edges":"1.edges"')}
+ONE_LIST = {"0.json": member(0, more=GCC + b',"edges":"edges"'), "1.json": member(1, 0, more=GCC + b',"edges":"edges"')}
 PRIVATE_B = member(0, more=GCC + b',"target":"l","private":["B"]')
 NO_B = {"1.json": member(1, more=GCC + b',"info":"0.info"'), "1.ddi": sources(b"k.o|K|"), "2.json": member(2, 0)}
 
@@ -71,6 +72,9 @@ DONE = [
       "main.o.modmap": b"B mod/B.bmi\nL mod/L.bmi\n", "1.info": b'{"modules":[],"target":"t1","version":2}',
       "1.dd": V + statement(b"main.o", b"", b"mod/L.bmi")}),
     ("edges that have an order", EDGED | {"0.edges": L_EDGES, "1.edges": K_EDGES}, WRITTEN),
+    ("one edge list of two targets", ONE_LIST | {"edges": L_EDGES + K_EDGES}, WRITTEN),
+    ("one edge list, in which both dyndep files make a cycle, and neither alone",
+     ONE_LIST | {"edges": edge(b"l.o: cxx l.cpp || 0.dd mod/K.bmi", b"0.dd") + K_EDGES}, WRITTEN),
     ("scan documents of a megabyte", {name: PROJECT[name].ljust(MEGABYTE) for name in ("0.ddi", "1.ddi", "2.ddi")}, WRITTEN),
 ]
 
@@ -113,6 +117,11 @@ REJECTED = [
     ("* a cycle of edges",
      {"2.json": member(2, 0, 1, more=GCC + b',"edges":"edges"'),
       "edges": edge(b"main.o: cxx gen.h || 2.dd", b"2.dd") + b"build gen.h: gen main.o\n"}, b"target 2: cycle main.o -> gen.h"),
+    ("one edge list, with a cycle after the second dyndep file",
+     ONE_LIST | {"edges": L_EDGES + edge(b"k.o: cxx k.cpp gen.h || 1.dd", b"1.dd") + b"build gen.h: gen mod/K.bmi\n"},
+     b"target 1: cycle k.o -> gen.h"),
+    ("one edge list, with a faulty line", ONE_LIST | {"edges": b"rule cc\n"}, b"target 0: edges: line 1: E3 Form"),
+    ("one edge list, without the second object", ONE_LIST | {"edges": L_EDGES}, b"target 1: E5 NotBound k.o"),
     ("a faulty line of a listing", EDGED | {"0.edges": L_EDGES, "1.edges": b"rule cc\n"}, b"target 1: edges: line 1: E3 Form"),
     ("an object that no edge makes", EDGED | {"0.edges": L_EDGES, "1.edges": X_EDGES}, b"target 1: E5 NotBound k.o"),
     ("of the edges of two targets the first", EDGED | {"0.edges": X_EDGES, "1.edges": X_EDGES}, b"target 0: E5 NotBound l.o"),

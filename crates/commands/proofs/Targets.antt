@@ -1,14 +1,17 @@
 -- What the targets of a run collate to, and how a rejected one is reported.
-use Rattle.std.proofs.Common.{◌≡◌, ◌∙◌, ℕ, suc, List, [], ◌∷◌, ◌++◌, map, zip, Bool, Option, Result, Ok, Err, refl, ap, sym, arith, ◌<◌, inl, inr, true, false, cond, length, Some, None, ap₂, bytes_eq, ◌+◌, take, get_or, append-nil, All, IsUtf8, Vec, OnOk, slice_get, option_map, Global}
-use Rattle.commands.specs.Prelude.{AllZip, SettingValue, IsRule, RuleValue, rules_of, info_of, Written, TargetValue, CollatedValue, all_rules, table_of, IsScanAccepted, Collates, file_value, map_name, output_file, map_files, files_of, FileValue, LineValue, Outcome, Reports, Part, seen, ForFault, Failure, InfoValue, TableValue, table_with, IsRefusal, WasRead, Refusal, RefusedTarget, refusal_by_names, refusal_text, TargetOf, refusal_line, refused_line, ReadTargetValue, index_or_head, last_with, LinksTo, At, IsTargetOutcome, project_target, names_at, all_files, LinkEarlier, IsReportable, option_map_or, target_of, CollatesProject, IsProjectRefusal, WasReadAt}
+use Rattle.std.specs.Option.{option_or, option_and_then}
+use Rattle.std.specs.declared.rc.Rc.{Rc}
+use Rattle.std.proofs.Common.{◌⊎◌, slice_set, replicate, subst, zero, if◌then◌else◌, ◌≡◌, ◌∙◌, ℕ, suc, List, [], ◌∷◌, ◌++◌, map, zip, Bool, Option, Result, Ok, Err, refl, ap, sym, arith, ◌<◌, inl, inr, true, false, cond, length, Some, None, ap₂, bytes_eq, ◌+◌, take, get_or, append-nil, All, IsUtf8, Vec, OnOk, slice_get, option_map, Global}
+use Rattle.commands.specs.Prelude.{AllZip, SettingValue, IsRule, RuleValue, rules_of, info_of, Written, TargetValue, CollatedValue, all_rules, table_of, IsScanAccepted, Collates, file_value, map_name, output_file, map_files, files_of, FileValue, LineValue, Outcome, Reports, Part, seen, ForFault, Failure, InfoValue, TableValue, table_with, IsRefusal, WasRead, Refusal, RefusedTarget, refusal_by_names, refusal_text, TargetOf, refusal_line, refused_line, ReadTargetValue, index_or_head, last_with, LinksTo, At, IsTargetOutcome, project_target, names_at, all_files, LinkEarlier, IsReportable, DyndepFileValue, HasOrderAfter, EdgeValue, HasEffect, IsFileOf, Passes, PassesAt, ArePassed, AllEdgesPass, EdgesPass, goes_on, stops, ListingRead, HasKnownList, ListsAgree, list_named, list_value, list_with, option_map_or, target_of, CollatesProject, IsProjectRefusal, WasReadAt}
+use Rattle.std.proofs.lemmas.Slice.Eq.{bytes_eq-Decides}
 use Rattle.std.proofs.lemmas.List.{map-append, take_more, length-map, map_push}
 use Rattle.std.proofs.lemmas.List.Elements.{All-nil, All-cons, All-append, All-map}
 use Rattle.commands.specs.declared.stop.OutputFile.{OutputFile}
 use Rattle.ninja_text.specs.declared.failure.Failure.TheVariants.{Memory, Fault}
 use Rattle.collate_core.specs.declared.fault.Refusal.TheVariants.{Scan, Info, Table, StatementTooLong, Map, LinkedLater}
-use Rattle.ninja_text.proofs.ForCallers.{element_at, from_map, from_push, take_next}
+use Rattle.ninja_text.proofs.ForCallers.{element_at, from_map, from_push, in_first, take_next}
 use Rattle.commands.specs.Outcomes as outcomes
-use Rattle.std.proofs.lemmas.Option.{same_Some, slice_get_within, slice_get-get_or, slice_get-map}
+use Rattle.std.proofs.lemmas.Option.{get_or_from_slice_get, same_Some, slice_get_within, slice_get-get_or, slice_get-map}
 use Rattle.std.proofs.lemmas.Grind.{flat_map-append}
 use Rattle.std.proofs.lemmas.Simd.{map-map}
 use Rattle.std.proofs.lemmas.Slice.Zip.{get_or-zip, length-zip}
@@ -126,6 +129,228 @@ writer_push ts t key index old new before is at updates info =
     ∙ ap (cond (bytes_eq key info) (Some index)) (before info)
     ∙ ap₂ (λ k n. cond (bytes_eq k info) (Some n) (last_with ts info)) is at
     ∙ sym (last_with_push ts t info)
+
+-- ---- edge lists
+
+or_or : (a b c : Option ListingRead) → option_or (option_or a b) c ≡ option_or a (option_or b c)
+or_or None b c = refl
+or_or (Some list) b c = refl
+
+list_with_push : (ts : List ReadTargetValue) (t : ReadTargetValue) (name : List ℕ) →
+    list_with (ts ++ t ∷ []) name ≡ option_or (list_named name t) (list_with ts name)
+list_with_push [] t name = go (list_named name t)
+  where
+    go : (own : Option ListingRead) → own ≡ option_or own None
+    go None = refl
+    go (Some list) = refl
+list_with_push (h ∷ ts) t name =
+    ap (λ r. option_or r (list_named name h)) (list_with_push ts t name) ∙ or_or (list_named name t) (list_with ts name) (list_named name h)
+
+-- a list that a target has is known
+list_known : (ts : List ReadTargetValue) (index : ℕ) (t : ReadTargetValue) (name : List ℕ) (own : ListingRead) →
+    slice_get ts index ≡ Some t → list_named name t ≡ Some own → (known : ListingRead) × (list_with ts name ≡ Some known)
+list_known [] index t name own e is = cc
+list_known (h ∷ ts) zero t name own e is = go (list_with ts name)
+  where
+    first : list_named name h ≡ Some own
+    first = ap (list_named name) (same_Some _ _ e) ∙ is
+
+    go : (rest : Option ListingRead) → (known : ListingRead) × (option_or rest (list_named name h) ≡ Some known)
+    go None = (own, first)
+    go (Some list) = (list, refl)
+list_known (h ∷ ts) (suc index) t name own e is =
+    let (known, found) = list_known ts index t name own e is in
+    (known, ap (λ r. option_or r (list_named name h)) found)
+
+-- two targets that have one edge list have the same
+pub lists_same : (ts : List ReadTargetValue) (i j : ℕ) (t u : ReadTargetValue) (name : List ℕ) (k l : ListingRead) → ListsAgree ts →
+    slice_get ts i ≡ Some t → slice_get ts j ≡ Some u → list_named name t ≡ Some k → list_named name u ≡ Some l → k ≡ l
+lists_same ts i j t u name k l agree at_i at_j is_k is_l =
+    let (known, found) = list_known ts i t name k at_i is_k in
+    sym (agree i t at_i name known k found is_k) ∙ agree j u at_j name known l found is_l
+
+pub lists_push : (ts : List ReadTargetValue) (t : ReadTargetValue) → ListsAgree ts → HasKnownList ts t → ListsAgree (ts ++ t ∷ [])
+lists_push ts t before own = λ index u e name known its with_it named.
+    let found = sym (list_with_push ts t name) ∙ with_it in
+    elim (from_push ts t index u e) [
+      | inl h ↦ older index u h name known its named (list_named name t) refl found
+      | inr h ↦
+          let same : list_named name t ≡ Some its = ap (list_named name) h.1 ∙ named in
+          same_Some _ _ (sym found ∙ ap (λ r. option_or r (list_with ts name)) same)
+    ]
+  where
+    older : (index : ℕ) (u : ReadTargetValue) → slice_get ts index ≡ Some u → (name : List ℕ) (known its : ListingRead) → list_named name u ≡ Some its →
+        (new : Option ListingRead) → list_named name t ≡ new → option_or new (list_with ts name) ≡ Some known → known ≡ its
+    older index u h name known its named None is found = before index u h name known its found named
+    older index u h name known its named (Some list) is found =
+        let (first, its_first) = list_known ts index u name its h named in
+        same_Some _ _ (sym found) ∙ sym (own name first list its_first is) ∙ before index u h name first its its_first named
+
+-- the lists of one target more
+pub list_push : (ts : List ReadTargetValue) (t : ReadTargetValue) (old new : List ℕ → Option ListingRead) →
+    ((name : List ℕ) → old name ≡ list_with ts name) → ((name : List ℕ) → new name ≡ option_or (list_named name t) (old name)) →
+    (name : List ℕ) → new name ≡ list_with (ts ++ t ∷ []) name
+list_push ts t old new before updates name =
+    updates name ∙ ap (option_or (list_named name t)) (before name) ∙ sym (list_with_push ts t name)
+
+-- what a table has under a name is the list of the last target that has one
+pub list_by_table : (at : List ℕ → Option ListingRead) {own targets : List ReadTargetValue} {text name : List ℕ} {found : Option ListingRead} →
+    ((n : List ℕ) → at n ≡ list_with own n) → own ≡ targets → text ≡ name → found ≡ at text → list_with targets name ≡ found
+list_by_table at {text = text} table same named is = sym (ap₂ list_with same named) ∙ sym (table text) ∙ sym is
+
+pub known_is : (ts : List ReadTargetValue) {a b : List ℕ} {x y : ListingRead} → a ≡ b → list_with ts a ≡ Some x → list_with ts b ≡ Some y → y ≡ x
+known_is ts same first second = same_Some _ _ (sym second ∙ ap (list_with ts) (sym same) ∙ first)
+
+-- the list that a target has under a name is its list
+pub list_of_named : (name : List ℕ) (t : ReadTargetValue) (list : ListingRead) → list_named name t ≡ Some list → t.listing ≡ Some list
+list_of_named name t list is = go t.spec.edges is
+  where
+    under : (same : Bool) → (if same then t.listing else None) ≡ Some list → t.listing ≡ Some list
+    under true is = is
+    under false is = cc
+
+    go : (edges : Option (List ℕ)) → option_and_then (λ edges. if bytes_eq edges name then t.listing else None) edges ≡ Some list → t.listing ≡ Some list
+    go None is = cc
+    go (Some edges) is = under (bytes_eq edges name) is
+
+-- and its document names the list so
+pub edges_of_named : (name : List ℕ) (t : ReadTargetValue) (list : ListingRead) → list_named name t ≡ Some list → t.spec.edges ≡ Some name
+edges_of_named name t list is = go t.spec.edges is
+  where
+    under : (edges : List ℕ) (same : Bool) → bytes_eq edges name ≡ same → (if same then t.listing else None) ≡ Some list → Some edges ≡ Some name
+    under edges true same is = ap Some ((bytes_eq-Decides edges name).0 same)
+    under edges false same is = cc
+
+    go : (edges : Option (List ℕ)) → option_and_then (λ edges. if bytes_eq edges name then t.listing else None) edges ≡ Some list → edges ≡ Some name
+    go None is = cc
+    go (Some edges) is = under edges (bytes_eq edges name) refl is
+
+-- a target that has this graph passes, if that has an order after the target's dyndep file
+pub passes_after : (t : ReadTargetValue) (c : CollatedValue) (file : DyndepFileValue) (edges : List ℕ) (graph : List EdgeValue) →
+    t.listing ≡ Some (Ok graph) → IsFileOf edges t c file → HasOrderAfter graph file → Passes t c
+passes_after t c file edges graph has (named, name, stands) (new, only, orderable) =
+    let effect : HasEffect c.dyndep t.spec.dyndep_path graph new = (file.statements, stands, rw name at only) in
+    rw has (goes_on graph [] [] refl (refl, refl) (goes_on new [] [] refl (refl, effect) (refl, orderable)))
+
+-- the target of this index has its dyndep file among these
+abbrev pub HasFileIn : List ℕ → List ReadTargetValue → List CollatedValue → List DyndepFileValue → ℕ → Type 0
+HasFileIn edges targets outs files index =
+    (t : ReadTargetValue) × (c : CollatedValue) × (file : DyndepFileValue) × (slice_get targets index ≡ Some t) × (slice_get outs index ≡ Some c)
+    × ((n : ℕ) × (slice_get files n ≡ Some file)) × IsFileOf edges t c file
+
+-- the same with one file more
+files_more : (edges : List ℕ) (targets : List ReadTargetValue) (outs : List CollatedValue) (files : List DyndepFileValue) (file : DyndepFileValue) (index : ℕ) →
+    HasFileIn edges targets outs files index → HasFileIn edges targets outs (files ++ file ∷ []) index
+files_more edges targets outs files file index (t, c, its, at_t, at_c, (n, among), is) =
+    (t, c, its, at_t, at_c, (n, in_first files (file ∷ []) n its among), is)
+
+pub file_next : (edges : List ℕ) (targets : List ReadTargetValue) (outs : List CollatedValue) (indexes : List ℕ) (i index : ℕ)
+    (files new : List DyndepFileValue) (t : ReadTargetValue) (c : CollatedValue) (file : DyndepFileValue) →
+    slice_get indexes i ≡ Some index → slice_get targets index ≡ Some t → slice_get outs index ≡ Some c → IsFileOf edges t c file →
+    new ≡ files ++ file ∷ [] → All (HasFileIn edges targets outs files) (take i indexes) → All (HasFileIn edges targets outs new) (take (i + 1) indexes)
+file_next edges targets outs indexes i index files new t c file here at_t at_c is more before =
+    let own : HasFileIn edges targets outs (files ++ file ∷ []) index = (t, c, file, at_t, at_c, (length files, last files), is) in
+    rw (more, take_next indexes i index here)
+    (All-append (HasFileIn edges targets outs (files ++ file ∷ [])) (take i indexes) (index ∷ [])
+    (λ k d lt. files_more edges targets outs files file _ (before k d lt))
+    (All-cons (HasFileIn edges targets outs (files ++ file ∷ [])) index [] own (All-nil (HasFileIn edges targets outs (files ++ file ∷ [])))))
+  where
+    last : (fs : List DyndepFileValue) → slice_get (fs ++ file ∷ []) (length fs) ≡ Some file
+    last [] = refl
+    last (f ∷ fs) = last fs
+
+-- a target whose document names its edge list
+pub is_named : (t : ReadTargetValue) (edges : List ℕ) (list : ListingRead) → t.spec.edges ≡ Some edges → t.listing ≡ Some list →
+    list_named edges t ≡ Some list
+is_named t edges list named has =
+    ap (option_and_then (λ e. if bytes_eq e edges then t.listing else None)) named
+    ∙ ap (λ b. cond b t.listing None) ((bytes_eq-Decides edges edges).1 refl) ∙ has
+
+all_at : {X : Type 0} (P : X → Type 0) (xs : List X) (n : ℕ) (x : X) → All P xs → slice_get xs n ≡ Some x → P x
+all_at P xs n x h e = subst P (get_or_from_slice_get xs n x x e) (h n x (slice_get_within xs n x e))
+
+-- all targets that have the edge list of the first pass, if their files leave orders
+pub all_together : (edges : List ℕ) (targets : List ReadTargetValue) (outs : List CollatedValue) (indexes : List ℕ) (files : List DyndepFileValue)
+    (i : ℕ) (first : ReadTargetValue) (graph : List EdgeValue) → ListsAgree targets → slice_get targets i ≡ Some first →
+    list_named edges first ≡ Some (Ok graph) → All (HasFileIn edges targets outs files) indexes → All (HasOrderAfter graph) files →
+    All (PassesAt targets outs) indexes
+all_together edges targets outs indexes files i first graph agree at_first named have orders = λ k d lt.
+    let (t, c, file, at_t, at_c, (n, among), is) = have k d lt in
+    let ((list, its), named_so, stands) = is in
+    let same : Ok graph ≡ list = lists_same targets i _ first t edges (Ok graph) list agree at_first at_t named its in
+    let listing : t.listing ≡ Some (Ok graph) = list_of_named edges t list its ∙ ap Some (sym same) in
+    (t, c, at_t, at_c, passes_after t c file edges graph listing is (all_at (HasOrderAfter graph) files n file orders among))
+
+-- ---- marks
+
+marked : (marks : List Bool) (at i : ℕ) → slice_get (slice_set marks at true) i ≡ Some true → (i ≡ at) ⊎ (slice_get marks i ≡ Some true)
+marked [] at i e = cc
+marked (m ∷ ms) zero zero e = inl refl
+marked (m ∷ ms) zero (suc i) e = inr e
+marked (m ∷ ms) (suc at) zero e = inr e
+marked (m ∷ ms) (suc at) (suc i) e = elim (marked ms at i e) [
+  | inl h ↦ inl (ap suc h)
+  | inr h ↦ inr h
+]
+
+set_length : (marks : List Bool) (at : ℕ) → length (slice_set marks at true) ≡ length marks
+set_length [] at = refl
+set_length (m ∷ ms) zero = refl
+set_length (m ∷ ms) (suc at) = ap suc (set_length ms at)
+
+-- no mark is set
+pub none_passed : (targets : List ReadTargetValue) (outs : List CollatedValue) (marks : List Bool) → marks ≡ replicate (length targets) false →
+    ArePassed targets outs marks
+none_passed targets outs marks none =
+    (ap length none ∙ count (length targets), λ i e. absurd (unset (length targets) i (ap (λ m. slice_get m i) (sym none) ∙ e)))
+  where
+    count : (n : ℕ) → length (replicate n false) ≡ n
+    count zero = refl
+    count (suc n) = ap suc (count n)
+
+    unset : (n i : ℕ) → slice_get (replicate n false) i ≡ Some true → ⊥
+    unset zero i e = cc
+    unset (suc n) zero e = cc
+    unset (suc n) (suc i) e = unset n i e
+
+-- one mark more
+pub one_passed : (targets : List ReadTargetValue) (outs : List CollatedValue) (marks : List Bool) (at : ℕ) → ArePassed targets outs marks →
+    PassesAt targets outs at → ArePassed targets outs (slice_set marks at true)
+one_passed targets outs marks at (each, passed) own = (
+  set_length marks at ∙ each,
+  λ i e. elim (marked marks at i e) [
+    | inl h ↦ rw h own
+    | inr h ↦ passed i h
+  ],
+)
+
+pub passes_within : (targets : List ReadTargetValue) (outs : List CollatedValue) (at : ℕ) → PassesAt targets outs at → at < length targets
+passes_within targets outs at (t, c, here, there, own) = slice_get_within targets at t here
+
+-- the table with the list of a target
+pub list_put : (t : ReadTargetValue) (edges key : List ℕ) (list : Rc ListingRead Global) (old new : List ℕ → Option (Rc ListingRead Global)) →
+    t.spec.edges ≡ Some edges → t.listing ≡ Some list.value → key ≡ edges →
+    ((name : List ℕ) → new name ≡ cond (bytes_eq key name) (Some list) (old name)) → (name : List ℕ) →
+    list_value (new name) ≡ option_or (list_named name t) (list_value (old name))
+list_put t edges key list old new named has same updates name =
+    ap list_value (updates name) ∙ ap (λ k. list_value (cond (bytes_eq k name) (Some list) (old name))) same ∙ go (bytes_eq edges name)
+    ∙ sym (ap (λ own. option_or own (list_value (old name))) its)
+  where
+    its : list_named name t ≡ cond (bytes_eq edges name) (Some list.value) None
+    its = ap (option_and_then (λ e. if bytes_eq e name then t.listing else None)) named ∙ ap (λ l. cond (bytes_eq edges name) l None) has
+
+    go : (b : Bool) → list_value (cond b (Some list) (old name)) ≡ option_or (cond b (Some list.value) None) (list_value (old name))
+    go true = refl
+    go false = refl
+
+-- any check may run out of memory
+pub all_out_of_memory : (index : ℕ) (pairs : List (ReadTargetValue × CollatedValue)) → AllEdgesPass index pairs [] (Err Memory)
+all_out_of_memory index [] = refl
+all_out_of_memory index ((t, c) ∷ others) = stops Memory (Err Memory, edges t.listing, tt) refl
+  where
+    edges : (listing : Option ListingRead) → EdgesPass listing t.spec.dyndep_path c.dyndep [] (Err Memory)
+    edges None = refl
+    edges (Some list) = stops Memory refl refl
 
 -- ---- links
 

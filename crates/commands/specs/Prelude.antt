@@ -1,5 +1,5 @@
 -- The names that clauses and proofs of this crate cite, passed on from one place. Declares nothing.
-pub use Rattle.std.specs.Prelude.{ℕ, List, [], All, length, map, flat_map, zip, Option, Err, IfOk, IfErr, OnOk, IsUtf8, string_bytes, codes}
+pub use Rattle.std.specs.Prelude.{ℕ, List, [], All, length, map, flat_map, zip, Option, Err, IfOk, IfErr, OnOk, IsUtf8, string_bytes, codes, option_map}
 pub use Rattle.std.specs.Cow.{cow_slice_items}
 pub use Rattle.ninja_text.specs.Bytes.{Bytes, PathText, line_feed, Text}
 pub use Rattle.ninja_text.specs.Failure.{ForFault, Gives}
@@ -35,6 +35,7 @@ pub use Rattle.collate_core.specs.declared.fault.RefusedTarget.{RefusedTarget}
 pub use Rattle.std.specs.Option.{option_map_or, SomeIff}
 pub use Rattle.dyndep_file.specs.StatementValue.{StatementValue}
 pub use Rattle.build_effect.specs.EdgeValue.{EdgeValue}
+pub use Rattle.build_effect.specs.DyndepFiles.{DyndepFileValue, HasOrderAfter}
 pub use Rattle.build_effect.specs.Effect.{HasNoEffect, OnlyEffect}
 pub use Rattle.build_effect.specs.Faults.{IsEffectFault}
 pub use Rattle.build_effect.specs.declared.fault.EffectFault.{EffectFault}
@@ -75,11 +76,11 @@ pub use Rattle.commands.specs.Files.{FilesOf, WritesFile, WritesFiles, TargetFil
 pub use Rattle.commands.specs.Targets.{TargetOf}
 pub use Rattle.commands.specs.CollateCommand.{SpecOf, style_of, target_with, map_files, files_of, CollateRun, map_name, output_file, spec_text, HasSpec}
 pub use Rattle.commands.specs.One.{OneRun, PrintsDyndep, one_setting, one_target}
-pub use Rattle.commands.specs.ProjectCommand.{target_text, IsTargetOutcome, FormOf, LinksOf, TargetAfter, ReadsTargets, project_target, form_of, ProjectOf, AllEdgesPass, all_files, ProjectRun, ReadTargetValue, index_or_head, last_with, LinksTo, At, IsTargetStop, names_at, RejectedAt, IsRejectedAt, rejected_text, LinksLater, HasFormOf, HasProject, ProjectDocumentOf, project_text, ReadsTarget}
+pub use Rattle.commands.specs.ProjectCommand.{target_text, IsTargetOutcome, FormOf, LinksOf, TargetAfter, ReadsTargets, project_target, form_of, ProjectOf, AllEdgesPass, all_files, ProjectRun, ReadTargetValue, index_or_head, last_with, LinksTo, At, IsTargetStop, names_at, RejectedAt, IsRejectedAt, rejected_text, LinksLater, HasFormOf, HasProject, ProjectDocumentOf, project_text, ReadsTarget, list_named, list_with, UnlessKnown, ListAfter}
 pub use Rattle.commands.specs.Runs.{TaskRun}
 pub use Rattle.commands.specs.Program.{words_of, ArgumentsRun, IsProgramRun, AreTask, ArgumentsOf, Words}
 pub use Rattle.commands.specs.inner.Parts.{bytes_of, contents}
 pub use Rattle.commands.specs.inner.Refusals.{refusal_line, refused_line}
 pub use Rattle.commands.specs.inner.Stops.{IsStoppedWith, IsFailedCall, OrStops, ReportsPrinted}
-pub use Rattle.commands.specs.inner.ProjectTargets.{LinkEarlier, IsReportable, ReportsAt, writer_of}
+pub use Rattle.commands.specs.inner.ProjectTargets.{LinkEarlier, IsReportable, ReportsAt, writer_of, list_value, list_of, HasKnownList, ListsAgree, Passes, PassesAt, ArePassed, IsFileOf}
 pub use Rattle.commands.specs.RefusalTexts.{map_text, refusal_by_names, refusal_text}

@@ -2,7 +2,7 @@
 use Rattle.std.specs.Prelude.{◌≡◌, ⊤, ℕ, suc, ◌+◌, List, [], ◌∷◌, ◌++◌, length, map, zip, slice_get, Bool, bytes_eq, if◌then◌else◌, Option, Some, None, Ok, Err, codes}
 use Rattle.std.specs.Fmt.{decimal}
 use Rattle.std.specs.List.{flat_map}
-use Rattle.std.specs.Option.{option_map_or}
+use Rattle.std.specs.Option.{option_map_or, option_and_then, option_or}
 use Rattle.ninja_text.specs.Bytes.{Bytes, Text, PathText, Name}
 use Rattle.ninja_text.specs.declared.failure.Failure.{Failure}
 use Rattle.ninja_text.specs.declared.failure.Failure.TheVariants.{Memory, Fault}
@@ -22,9 +22,8 @@ use Rattle.collate_core.specs.Projects.{CollatesProject, IsProjectRefusal}
 use Rattle.collate_core.specs.declared.fault.Refusal.{Refusal}
 use Rattle.commands.specs.CollateCommand.{SpecOf, style_of, files_of, spec_text}
 use Rattle.commands.specs.EdgeChecks.{EdgesPass}
-use Rattle.commands.specs.Files.{TargetFilesValue, FilesOf}
-use Rattle.commands.specs.Listings.{ListingRead}
-use Rattle.commands.specs.Outcomes.{Part, Outcome, OutputValue, LineValue, FileValue, Each, Returns, Done, ReadsDocument, Writes, failed, ◌>>=◌}
+use Rattle.commands.specs.Listings.{ListingRead, ReadsListing}
+use Rattle.commands.specs.Outcomes.{Part, Outcome, OutputValue, LineValue, FileValue, Each, Returns, Done, ReadsDocument, ReadsAll, ReadsIfNamed, Writes, failed, ◌>>=◌}
 use Rattle.commands.specs.RefusalTexts.{refusal_by_names}
 
 -- ---- a part of a run about one target
@@ -73,6 +72,16 @@ abbrev pub last_with : List ReadTargetValue → PathText → Option ℕ
 last_with [] info = None
 last_with (head ∷ tail) info = index_or_head (last_with tail info) (bytes_eq head.spec.info info)
 
+-- the edge list that a target has under this name, if its document names it so
+abbrev pub list_named : PathText → ReadTargetValue → Option ListingRead
+list_named name t =
+    option_and_then (λ edges. if bytes_eq edges name then t.listing else None) t.spec.edges
+
+-- the edge list of this name, as the last of these targets that has it was given it
+abbrev pub list_with : List ReadTargetValue → PathText → Option ListingRead
+list_with [] name = None
+list_with (head ∷ tail) name = option_or (list_with tail name) (list_named name head)
+
 -- the maps of a target have the form of the maps of the first of these targets
 abbrev pub HasFormOf : List ReadTargetValue → document.TargetDocumentValue → Type 0
 HasFormOf [] spec = Unit {0}
@@ -102,10 +111,14 @@ LinksOf earlier infos =
     Returns (LinksTo earlier infos) (λ (fault : Unit {0}). LinksLater earlier infos)
     (λ fault. codes "K3 LinkedLater")
 
--- the target with these members, which links the targets of these indexes, and has these files
-abbrev pub read_target : document.TargetDocumentValue → Numbers → TargetFilesValue → ReadTargetValue
-read_target spec linked files =
-    record { spec = spec; linked = linked; scans = files.scans; listing = files.listing }
+-- a value that is known already, or a part that reads it
+abbrev pub UnlessKnown : {V : Type 0} → Option V → Part V → Part V
+UnlessKnown (Some value) Reads = Done value
+UnlessKnown None Reads = Reads
+
+-- The edge list of this name, after earlier targets: it is read once, for all that name it.
+abbrev pub ListAfter : List ReadTargetValue → PathText → Part ListingRead
+ListAfter earlier name = UnlessKnown (list_with earlier name) (ReadsListing name)
 
 -- The target of the document of this name, after earlier ones. No file of a rejected document is
 -- read, and no info file.
@@ -115,8 +128,9 @@ TargetAfter earlier name = do
   spec ← At (length earlier) (SpecOf bytes)
   _ ← At (length earlier) (FormOf earlier spec)
   linked ← At (length earlier) (LinksOf earlier spec.linked)
-  files ← FilesOf spec []
-  Done (read_target spec linked files)
+  scans ← ReadsAll spec.scans
+  listing ← ReadsIfNamed (ListAfter earlier) spec.edges
+  Done (record { spec = spec; linked = linked; scans = scans; listing = listing })
 
 -- a part that reads one target more
 abbrev pub ReadsTarget : List ReadTargetValue → PathText → Part (List ReadTargetValue)

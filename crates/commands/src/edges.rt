@@ -1,6 +1,7 @@
 //! Dyndep files and edge lists: how they are read, the commands `show`, `effect` and `order`, and
 //! the check of the edges that a target document names.
 
+ghost use Rattle.std.specs.Prelude.{Some};
 ghost use Rattle.commands.specs.Prelude.{bytes_of, HasReadDyndep, HasReadListing, IsListingFaultIn};
 ghost use Rattle.commands.specs.Prelude.{IsReadFaultIn, ListingTextOf, EffectOfRead, OrderOfRead};
 ghost use Rattle.commands.specs.Prelude.{HasFailed, ShowOfRead, ListingOf, EffectRun, EdgesPass};
@@ -110,18 +111,15 @@ pub(crate) fn order_of_read(alloc: Global, listing: &ListingRead) -> Result<Outp
     }
 }
 
-/// Checks that the edges, if there is a list, have an order after the effect of a dyndep file.
-pub(crate) fn pass_edges(
+/// Checks that the edges of a list have an order after the effect of a dyndep file.
+pub(crate) fn pass_list(
     alloc: Global,
-    listing: &Option<ListingRead>,
+    listing: &ListingRead,
     name: &Path,
     collated: &Collated,
 ) -> Result<(), Stop>
-    ensures { EdgesPass listing.now name.now collated.now.dyndep [] result }
+    ensures { EdgesPass (Some listing.now) name.now collated.now.dyndep [] result }
 {
-    let Some(listing) = listing else {
-        return Ok(());
-    };
     let graph = graph_of(alloc, listing)?;
     match check_edges(alloc, collated, name, graph) {
         Ok(Sorting::Order(_)) => Ok(()),

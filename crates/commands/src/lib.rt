@@ -30,8 +30,10 @@ mod edges;
 mod folder;
 mod lists;
 mod projects;
+mod read_targets;
 mod refusal;
 mod run;
+mod shared_lists;
 mod stop;
 mod target;
 

@@ -6,7 +6,7 @@ ghost use Rattle.commands.specs.Prelude.{cow_slice_items, Runs, file_value, File
 ghost use Rattle.commands.specs.Prelude.{SpecOf, style_of, target_with, map_files, files_of};
 ghost use Rattle.commands.specs.Prelude.{CollateRun, OneRun};
 
-use crate::edges::{ListingRead, pass_edges};
+use crate::edges::{ListingRead, pass_list};
 use crate::folder::{Folder, read_all, read_file};
 use crate::lists::{add, pushed};
 use crate::stop::{self, Output, OutputFile, Stop};
@@ -35,7 +35,9 @@ pub fn collate<'f, F: Folder<'f>>(
     let spec = read_spec(alloc, document)?;
     let files = TargetFiles::read(alloc, &spec, &spec.linked, folder)?;
     let collated = collated_of(alloc, &spec, &files)?;
-    pass_edges(alloc, &files.listing, &spec.dyndep_path, &collated)?;
+    if let Some(listing) = &files.listing {
+        pass_list(alloc, listing, &spec.dyndep_path, &collated)?;
+    }
     let mut written = Vec::new(alloc);
     append_files(alloc, collated, &spec, &mut written)?;
     Ok(Output::files(alloc, written))

@@ -46,8 +46,11 @@ returns-in_err-outs g c =
     targets_next g (goal.at.returns-in_err-outs g c).In_ok-read _ _ (c.as_slice-targets.ensures.value ∙ c.read.view_is)
     (last _ c.in_err-outs.ensures c.from_residual-in_err-outs.ensures)
 
-pub all_pass-requires : goal.all_pass-requires
-all_pass-requires g c =
+pub all_pass-requires-clause-lists : goal.all_pass-requires-clause-lists
+all_pass-requires-clause-lists g c = rw c.as_slice-targets.ensures.value c.read.invariant.1
+
+pub all_pass-requires-clause-each : goal.all_pass-requires-clause-each
+all_pass-requires-clause-each g c =
     let targets = c.as_slice-targets.result.now in
     let count : length c.in_ok-outs.outs.items ≡ length (map project_target targets) = c.in_ok-outs.ensures.1.count in
     ap length c.deref-2.ensures.value ∙ count ∙ length-map targets project_target

@@ -3,7 +3,7 @@ use Rattle.std.proofs.lemmas.List.{map_push, take_all}
 use Rattle.std.proofs.lemmas.Option.{get_or_from_slice_get}
 use Rattle.std.proofs.lemmas.Result.{IfOk-weaker}
 use Rattle.commands.specs.Prelude.{RefusedTarget, ReadTargetValue, names_at, target_text, IsReportable, ReportsAt, refusal_line}
-use Rattle.commands.specs.declared.projects.ReadTarget.TheInside.{Inside}
+use Rattle.commands.specs.declared.read_targets.ReadTarget.TheInside.{Inside}
 use Rattle.commands.proofs.Outcomes.{at_index}
 use Rattle.commands.proofs.Targets.{names_next}
 use Rattle.commands.proofs.projects.rejected_text.Goals as goal

@@ -1,7 +1,6 @@
 use Rattle.std.proofs.Common.{◌≡◌, ◌∙◌, ◌+◌, ℕ, List, ◌∷◌, [], ◌++◌, take, map, ap, ap₂, subst, sym, Vec, Global, Bor}
 use Rattle.std.proofs.lemmas.List.{map_push}
 use Rattle.commands.specs.Prelude.{cow_slice_items, ReadTargetValue}
-use Rattle.commands.specs.declared.projects.ReadTarget.TheInside.{Inside}
 use Rattle.commands.proofs.Outcomes.{mapped_next}
 use Rattle.commands.proofs.projects.scans_of.Goals as goal
 
@@ -15,8 +14,7 @@ loop-target-preserved c =
     let i : ℕ = c.loop-target.target-index in
     let lent = c.in_ok-slices.field-0 in
     let here : texts lent ≡ c.target-item.result.scans =
-    c.in_ok-slices.ensures ∙ ap (map cow_slice_items) c.deref.ensures.value
-    ∙ ap (λ (i : Inside). i.files.scans) c.target-inside.view_is ∙ ap (λ (t : ReadTargetValue). t.scans) c.target.view_is in
+    c.in_ok-slices.ensures ∙ ap (map cow_slice_items) c.deref.ensures.value ∙ ap (λ (t : ReadTargetValue). t.scans) c.target.view_is in
     subst (λ (all : List (Vec (Bor (List ℕ)) Global)). map texts all ≡ map (λ (t : ReadTargetValue). t.scans) (take (i + 1) targets))
     (sym c.in_ok-scans-2.ensures)
     (map_push texts c.loop-target.scans.items lent

@@ -1,11 +1,11 @@
-use Rattle.std.proofs.Common.{◌≡◌, ◌∙◌, ℕ, List, [], ◌++◌, map, refl, ap, string_bytes}
+use Rattle.std.proofs.Common.{◌≡◌, ◌∙◌, ℕ, List, [], Ok, Some, ◌++◌, map, refl, ap, string_bytes}
 use Rattle.commands.specs.Prelude.{TargetDocumentValue, file_value, files_of, style_of, target_with, EdgesPass, TargetFilesValue, Outcome, written}
 use Rattle.commands.specs.declared.stop.OutputFile.{OutputFile}
 use Rattle.commands.proofs.Targets.{objects_text}
 use Rattle.commands.proofs.Outcomes.{next, last, no_value, pure_next, pure_last, run_once, run_last}
 use Rattle.commands.proofs.target.collate.Given as given
 use Rattle.commands.proofs.target.collate.Goals as goal
-use Rattle.commands.proofs.target.collate.Goals.{After-read}
+use Rattle.commands.proofs.target.collate.Goals.{After-read, Joined-files, in-Some+in_ok-pass_list, in_default}
 
 -- the info files are those that the document links
 linked : (g : given.Over) (c : After-read g) → map string_bytes c.deref.result.now ≡ c.in_ok-spec.spec.linked
@@ -35,18 +35,28 @@ returns-in_err-collated g c =
     (run_once _ _ (rw (linked g (goal.at.returns-in_err-collated g c).After-read) at c.in_ok-files.ensures)
     (last _ c.in_err-collated.ensures c.from_residual-in_err-collated.ensures))
 
-pub returns-in_err-pass_edges : goal.returns-in_err-pass_edges
-returns-in_err-pass_edges g c =
+pub returns-in_err-pass_list : goal.returns-in_err-pass_list
+returns-in_err-pass_list g c =
+    let listing : c.files.inside.listing ≡ Some c.in-Some.listing = c.in-Some.is in
     pure_next _ _ c.in_ok-spec.ensures
-    (run_once _ _ (rw (linked g (goal.at.returns-in_err-pass_edges g c).After-read) at c.in_ok-files.ensures) (next _ c.in_ok-collated.ensures
-    (last _ (passes_as c.in_ok-spec.spec _ c.in_ok-files.files _ _ _ c.files.view_is c.spec.view_is c.in_err-pass_edges.ensures)
-    c.from_residual-in_err-pass_edges.ensures)))
+    (run_once _ _ (rw (linked g (goal.at.returns-in_err-pass_list g c).After-read) at c.in_ok-files.ensures) (next _ c.in_ok-collated.ensures
+    (last _ (passes_as c.in_ok-spec.spec _ c.in_ok-files.files _ _ _ c.files.view_is c.spec.view_is (rw listing c.in_err-pass_list.ensures))
+    c.from_residual-in_err-pass_list.ensures)))
+
+-- the edges pass, if there is a list
+passes : (g : given.Over) (c : Joined-files g) →
+    EdgesPass c.in_ok-files.files.listing c.in_ok-spec.spec.dyndep_path c.in_ok-collated.collated.dyndep [] (Ok tt)
+passes g c =
+    passes_as c.in_ok-spec.spec _ c.in_ok-files.files _ _ _ c.files.view_is c.spec.view_is (elim c.match-files.branch [
+      | in-Some+in_ok-pass_list w ↦ rw w.in-Some.is w.in_ok-pass_list.ensures
+      | in_default w ↦ rw w.in_default.is (refl, refl)
+    ])
 
 pub returns-in_err-append_files : goal.returns-in_err-append_files
 returns-in_err-append_files g c =
     pure_next _ _ c.in_ok-spec.ensures
     (run_once _ _ (rw (linked g (goal.at.returns-in_err-append_files g c).After-read) at c.in_ok-files.ensures) (next _ c.in_ok-collated.ensures
-    (next _ (passes_as c.in_ok-spec.spec _ c.in_ok-files.files _ _ _ c.files.view_is c.spec.view_is c.in_ok-pass_edges.ensures)
+    (next _ (passes g (goal.at.returns-in_err-append_files g c).Joined-files)
     (no_value _ _ c.from_residual-in_err-append_files.ensures))))
 
 pub returns : goal.returns
@@ -55,5 +65,5 @@ returns g c =
     ap (λ (fs : List OutputFile). map file_value fs ++ files_of c.in_ok-spec.spec c.in_ok-collated.collated) c.new-written.ensures.items in
     pure_next _ _ c.in_ok-spec.ensures
     (run_once _ _ (rw (linked g (goal.at.returns g c).After-read) at c.in_ok-files.ensures) (next _ c.in_ok-collated.ensures
-    (next _ (passes_as c.in_ok-spec.spec _ c.in_ok-files.files _ _ _ c.files.view_is c.spec.view_is c.in_ok-pass_edges.ensures)
+    (next _ (passes g (goal.at.returns g c).Joined-files)
     (refl, c.files-2.ensures ∙ ap written made))))

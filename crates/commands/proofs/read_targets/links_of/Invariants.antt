@@ -1,6 +1,6 @@
 use Rattle.std.proofs.Common.{take, map, string_bytes}
 use Rattle.commands.specs.ProjectCommand.{LinksTo}
-use Rattle.commands.proofs.projects.links_of.Given as goal
+use Rattle.commands.proofs.read_targets.links_of.Given as goal
 
 -- the indexes of the info files so far
 abbrev pub invariant-loop-info : goal.invariant-loop-info

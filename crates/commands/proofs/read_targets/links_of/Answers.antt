@@ -3,7 +3,7 @@ use Rattle.std.proofs.lemmas.List.{map_push, take_all}
 use Rattle.ninja_text.proofs.ForCallers.{to_map}
 use Rattle.commands.specs.Prelude.{ReadTargetValue, last_with, LinksLater, LinksTo, writer_of}
 use Rattle.commands.proofs.Outcomes.{at_index, its_line, mapped_next, said}
-use Rattle.commands.proofs.projects.links_of.Goals as goal
+use Rattle.commands.proofs.read_targets.links_of.Goals as goal
 
 -- the index of one info file more
 links_next : (targets : List ReadTargetValue) (infos : List (String Global)) (i : ℕ) (info : String Global) (linked new : List ℕ) (k : ℕ) →
@@ -25,7 +25,7 @@ loop-info-preserved c =
     let found : Some c.in-Some.index.now ≡ writer_of c.targets.inside.writers c.as_str.result.now = search rules in
     links_next c.args.targets.now c.args.infos.now c.loop-info.info-index c.info-item.result c.loop-info.linked.items _ c.in-Some.index.now
     c.loop-info-test.true c.info-item.is
-    (by_table (writer_of c.targets.inside.writers) c.targets.invariant.1 c.targets.view_is c.as_str.ensures.value found)
+    (by_table (writer_of c.targets.inside.writers) c.targets.invariant.2 c.targets.view_is c.as_str.ensures.value found)
     c.in_ok-linked-2.ensures c.loop-info.invariant
 
 -- all info files
@@ -42,7 +42,7 @@ returns-in_default c =
     let info = c.info-item.result in
     let none : None ≡ writer_of c.targets.inside.writers c.as_str.result.now = search rules in
     let found = by_table (writer_of c.targets.inside.writers)
-    c.targets.invariant.1 c.targets.view_is c.as_str.ensures.value none in
+    c.targets.invariant.2 c.targets.view_is c.as_str.ensures.value none in
     let here = to_map string_bytes c.args.infos.now c.loop-info.info-index info
     (at_index c.args.infos.now c.loop-info.info-index info c.loop-info-test.true c.info-item.is) in
     said (LinksTo targets infos) (λ (fault : Unit {0}). LinksLater targets infos) (λ fault. codes "K3 LinkedLater") tt c.stopped.result

@@ -1,10 +1,10 @@
-use Rattle.std.proofs.Common.{rules, ◌≡◌, ◌∙◌, [], length, map, string_bytes, refl, ap, Ok, Err}
-use Rattle.commands.specs.Prelude.{TargetDocumentValue, Outcome, FormOf, IsTargetOutcome, LinksOf, SpecOf, bytes_of, cow_slice_items, seen, At}
+use Rattle.std.proofs.Common.{rules, ◌≡◌, ◌∙◌, [], length, map, option_map, string_bytes, refl, ap, Ok, Err}
+use Rattle.commands.specs.Prelude.{ReadTargetValue, list_value, TargetDocumentValue, Outcome, FormOf, IsTargetOutcome, LinksOf, SpecOf, bytes_of, cow_slice_items, seen, At}
 use Rattle.commands.proofs.Outcomes.{pure_last, pure_next, run_next, run_once, run_last}
-use Rattle.commands.proofs.Targets.{links_within, at_target, at_target_seen, at_value}
-use Rattle.commands.proofs.projects.read_target.Given as given
-use Rattle.commands.proofs.projects.read_target.Goals as goal
-use Rattle.commands.proofs.projects.read_target.Goals.{After-read_spec, After-pass_form, After-links_of}
+use Rattle.commands.proofs.Targets.{edges_of_named, list_of_named, links_within, at_target, at_target_seen, at_value}
+use Rattle.commands.proofs.read_targets.read_target.Given as given
+use Rattle.commands.proofs.read_targets.read_target.Goals as goal
+use Rattle.commands.proofs.read_targets.read_target.Goals.{After-read_spec, After-pass_form, After-links_of, After-read_all}
 
 pub returns-in_err-document-clause-read : goal.returns-in_err-document-clause-read
 returns-in_err-document-clause-read g c = run_last _ _ c.in_err-document.ensures c.from_residual.ensures
@@ -49,20 +49,49 @@ returns-in_err-links-clause-read g c =
     (pure_next _ _ (form g before.After-pass_form (Ok tt) c.in_ok-at_target.ensures)
     (pure_last _ _ (links g before.After-links_of (Err c.in_err-links.field-0.0) c.in_err-links.ensures) c.from_residual-in_err-links.ensures)))
 
-pub returns-in_err-files-clause-read : goal.returns-in_err-files-clause-read
-returns-in_err-files-clause-read g c =
-    let before = goal.at.returns-in_err-files-clause-read g c in
+-- the names of its scan documents
+scans : (g : given.Over) (c : After-read_all g) → map string_bytes c.deref-3.result.now ≡ c.in_ok-spec.spec.scans
+scans g c = ap (map string_bytes) c.deref-3.ensures.value ∙ ap (λ (s : TargetDocumentValue). s.scans) c.spec.view_is
+
+pub returns-in_err-scans-clause-read : goal.returns-in_err-scans-clause-read
+returns-in_err-scans-clause-read g c =
+    let before = goal.at.returns-in_err-scans-clause-read g c in
     run_next _ _ c.in_ok-document.ensures (pure_next _ _ (members g before.After-read_spec (Ok c.in_ok-spec.spec) c.in_ok-spec.ensures)
     (pure_next _ _ (form g before.After-pass_form (Ok tt) c.in_ok-at_target.ensures)
     (pure_next _ _ (links g before.After-links_of (Ok c.in_ok-links.links) c.in_ok-links.ensures)
-    (run_last _ _ c.in_err-files.ensures c.from_residual-in_err-files.ensures))))
+    (run_last _ _ (rw (scans g before.After-read_all) at c.in_err-scans.ensures) c.from_residual-in_err-scans.ensures))))
+
+pub returns-in_err-listing-clause-read : goal.returns-in_err-listing-clause-read
+returns-in_err-listing-clause-read g c =
+    let before = goal.at.returns-in_err-listing-clause-read g c in
+    let edges : option_map string_bytes c.spec.inside.edges ≡ c.in_ok-spec.spec.edges = ap (λ (s : TargetDocumentValue). s.edges) c.spec.view_is in
+    run_next _ _ c.in_ok-document.ensures (pure_next _ _ (members g before.After-read_spec (Ok c.in_ok-spec.spec) c.in_ok-spec.ensures)
+    (pure_next _ _ (form g before.After-pass_form (Ok tt) c.in_ok-at_target.ensures)
+    (pure_next _ _ (links g before.After-links_of (Ok c.in_ok-links.links) c.in_ok-links.ensures)
+    (run_next _ _ (rw (scans g before.After-read_all) at c.in_ok-scans.ensures)
+    (run_last _ _ (rw edges at c.in_err-listing.ensures.read) c.from_residual-in_err-listing.ensures)))))
 
 pub returns-clause-read : goal.returns-clause-read
 returns-clause-read g c =
     let before = goal.at.returns-clause-read g c in
+    let edges : option_map string_bytes c.spec.inside.edges ≡ c.in_ok-spec.spec.edges = ap (λ (s : TargetDocumentValue). s.edges) c.spec.view_is in
     run_next _ _ c.in_ok-document.ensures (pure_next _ _ (members g before.After-read_spec (Ok c.in_ok-spec.spec) c.in_ok-spec.ensures)
     (pure_next _ _ (form g before.After-pass_form (Ok tt) c.in_ok-at_target.ensures)
-    (pure_next _ _ (links g before.After-links_of (Ok c.in_ok-links.links) c.in_ok-links.ensures) (run_once _ _ c.in_ok-files.ensures (refl, refl)))))
+    (pure_next _ _ (links g before.After-links_of (Ok c.in_ok-links.links) c.in_ok-links.ensures)
+    (run_next _ _ (rw (scans g before.After-read_all) at c.in_ok-scans.ensures)
+    (run_once _ _ (rw edges at c.in_ok-listing.ensures.read) (refl, refl))))))
+
+-- the list is the one that is known
+pub returns-clause-list : goal.returns-clause-list
+returns-clause-list g c = λ name known own with_it is.
+    let edges : option_map string_bytes c.spec.inside.edges ≡ c.in_ok-spec.spec.edges = ap (λ (s : TargetDocumentValue). s.edges) c.spec.view_is in
+    let t : ReadTargetValue = record {
+      spec = c.in_ok-spec.spec;
+      linked = c.in_ok-links.links.items;
+      scans = map cow_slice_items c.in_ok-scans.scans.items;
+      listing = list_value c.in_ok-listing.listing;
+    } in
+    c.in_ok-listing.ensures.known name known own (edges ∙ edges_of_named name t own is) with_it (list_of_named name t own is)
 
 -- the links are those of earlier targets
 pub returns-clause-links : goal.returns-clause-links

@@ -6,7 +6,7 @@ use Rattle.scan_docs.specs.declared.fault.DocFault.TheVariants.{BadShape}
 use Rattle.scan_docs.specs.declared.fault.Place.TheVariants.{Document}
 use Rattle.scan_docs.specs.declared.member.Member.TheVariants.{Map}
 use Rattle.commands.proofs.Outcomes.{or_printed}
-use Rattle.commands.proofs.projects.pass_form.Goals as goal
+use Rattle.commands.proofs.read_targets.pass_form.Goals as goal
 
 -- the first target has another form
 of_first : (ts : List ReadTargetValue) (spec : document.TargetDocumentValue) → (length ts == 0) ≡ false →

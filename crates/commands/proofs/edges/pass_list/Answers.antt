@@ -1,13 +1,8 @@
-use Rattle.std.proofs.Common.{◌≡◌, ℕ, List, [], Option, Some, length, refl, ap₂, subst, Ok, Err, Vec, Global}
-use Rattle.commands.specs.Prelude.{ForFault, IsOrderable, IsSortingOf, Sorting, EdgeValue, EdgeNeeds, HasEffect, LacksEffect, EdgesPass, GraphPasses, ListingOf, effect_text, cycle_text, ListingRead, Outcome, goes_on, stops, refusal}
+use Rattle.std.proofs.Common.{◌≡◌, ℕ, List, [], length, refl, ap₂, subst, Ok, Err, Vec, Global}
+use Rattle.commands.specs.Prelude.{ForFault, IsOrderable, IsSortingOf, Sorting, EdgeValue, EdgeNeeds, HasEffect, LacksEffect, GraphPasses, effect_text, cycle_text, goes_on, stops, refusal}
 use Rattle.dep_order.specs.declared.Sorting.TheVariants.{Order, Cycle}
 use Rattle.commands.proofs.Outcomes.{its_line, last, next, said, fault_reported, Stop}
-use Rattle.commands.proofs.edges.pass_edges.Goals as goal
-
--- a list that gives a graph
-passed_on : {given : Option ListingRead} {listing : ListingRead} (edges : List EdgeValue) (name dyndep : List ℕ) (s : Outcome (Unit {0})) →
-    given ≡ Some listing → ListingOf listing [] (Ok edges) → GraphPasses edges name dyndep [] s → EdgesPass given name dyndep [] s
-passed_on edges name dyndep s e is h = rw e (next edges is h)
+use Rattle.commands.proofs.edges.pass_list.Goals as goal
 
 -- the edges after the effect have this sorting
 abbrev Sorts : List ℕ → List ℕ → List EdgeValue → Sorting → Type 0
@@ -27,18 +22,18 @@ cyclic name dyndep old cycle stop (new, effect, is) h =
     (λ (c : Vec ℕ Global). cycle_text old c.items) cycle stop is h)
 
 pub returns-in_err-graph : goal.returns-in_err-graph
-returns-in_err-graph c = rw c.in-Some.is (last _ c.in_err-graph.ensures c.from_residual.ensures)
+returns-in_err-graph c = last _ c.in_err-graph.ensures c.from_residual.ensures
 
 pub returns-in-Ok-Order : goal.returns-in-Ok-Order
 returns-in-Ok-Order c =
-    passed_on _ _ _ _ c.in-Some.is c.in_ok-graph.ensures
+    next _ c.in_ok-graph.ensures
     (ordered c.args.name.now c.args.collated.now.dyndep c.in_ok-graph.graph.now c.in-Ok-Order.field-0-is c.in-Ok-Order.ensures.sorted)
 
 pub returns-in-Ok-Cycle : goal.returns-in-Ok-Cycle
 returns-in-Ok-Cycle c =
     let stop = c.stopped.result in
     let line = its_line 1 _ _ stop c.cycle_text.ensures c.stopped.ensures in
-    passed_on _ _ _ _ c.in-Some.is c.in_ok-graph.ensures
+    next _ c.in_ok-graph.ensures
     (cyclic c.args.name.now c.args.collated.now.dyndep c.in_ok-graph.graph.now c.in-Ok-Cycle.cycle stop
     (rw c.in-Ok-Cycle.field-0-is at c.in-Ok-Cycle.ensures.sorted)
     (subst (λ t. ForFault (λ l. l ≡ refusal t) stop) (ap₂ cycle_text c.edges.ensures.edges c.deref.ensures.value) line))
@@ -47,6 +42,6 @@ pub returns : goal.returns
 returns c =
     let stop = c.of_effect.result in
     let old = c.in_ok-graph.graph.now in
-    passed_on _ _ _ _ c.in-Some.is c.in_ok-graph.ensures
+    next _ c.in_ok-graph.ensures
     (stops stop (fault_reported (HasEffect c.args.collated.now.dyndep c.args.name.now old) (LacksEffect c.args.collated.now.dyndep c.args.name.now old)
     effect_text c.in-Err.failure stop c.in-Err.ensures.fault c.of_effect.ensures) refl)

@@ -2,9 +2,9 @@ use Rattle.std.proofs.Common.{◌≡◌, Some, slice_get, ◌≤◌, length, map
 use Rattle.std.proofs.lemmas.List.{length-map}
 use Rattle.commands.specs.Prelude.{stops, ReadsTarget, ReadsTargets}
 use Rattle.commands.proofs.Outcomes.{each_done, each_last, each_next, leads_none, mapped_at, passed, run_once}
-use Rattle.commands.proofs.projects.read_targets.Given as given
-use Rattle.commands.proofs.projects.read_targets.Goals as goal
-use Rattle.commands.proofs.projects.read_targets.Goals.{After-read_target}
+use Rattle.commands.proofs.read_targets.read_targets.Given as given
+use Rattle.commands.proofs.read_targets.read_targets.Goals as goal
+use Rattle.commands.proofs.read_targets.read_targets.Goals.{After-read_target}
 
 -- the name of this turn
 here : (g : given.Over) (c : After-read_target g) → slice_get (map string_bytes c.args.names.now) c.loop-name.name-index ≡ Some c.as_str.result.now
