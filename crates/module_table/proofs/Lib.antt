@@ -11,5 +11,6 @@ pub mod Pairs
 pub mod Mentions
 pub mod OneReported
 pub mod PartLemmas
+mod Bits
 mod PoolLemmas
 pub mod ForCallers

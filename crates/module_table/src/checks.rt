@@ -73,16 +73,10 @@ fn without_repetitions(mut needs: Vec<Vec<usize>>) -> Vec<Vec<usize>>
     ensures { AllZip HasEachOnce (rows needs.items) (rows result.items) }
 {
     for row in needs.iter_mut() {
-        sort_once(row);
+        row.sort_unstable();
+        row.dedup();
     }
     needs
-}
-
-fn sort_once(row: &mut Vec<usize>)
-    ensures { HasEachOnce row.old.items row.new.items }
-{
-    row.sort_unstable();
-    row.dedup();
 }
 
 /// Makes all checks, from the lowest code to the highest. Names, targets and files are hashed under

@@ -10,7 +10,7 @@ mod rows;
 
 use document_values::{Info, Rule};
 pub use links::Scratch;
-use links::{Links, part_of, put_links};
+use links::{Links, part_of, put_links, put_words};
 pub use requirements::Requirements;
 use rows::{Listed, ModuleAt, Related};
 use std::alloc::{AllocError, Global};
@@ -135,10 +135,17 @@ impl Pool {
         if !put_links(linked, related, &mut scratch.indexes, &mut scratch.stamps) {
             return Ok(None);
         }
+        put_words(
+            linked,
+            &scratch.indexes,
+            infos.len() / 64 + 1,
+            &mut scratch.words,
+        )?;
         let links = Links {
             linked,
             indexes: &scratch.indexes,
             stamps: &scratch.stamps,
+            words: &scratch.words,
         };
         if !links.are_fit(infos, listed, related) || !links.are_apart(listed, objects) {
             return Ok(None);

@@ -1,6 +1,7 @@
 -- What a pool stores about the known info files, and what it checks when a target links some of
 -- them.
-use Rattle.std.specs.Prelude.{◌≡◌, ◌⊎◌, ◌++◌, ◌∷◌, ◌<◌, [], ℕ, Bool, true, if◌then◌else◌, List, length, slice_get, get_or, bytes_eq, Option, Some, None}
+use Rattle.std.specs.Prelude.{◌≡◌, ◌⊎◌, ◌++◌, ◌∷◌, ◌<◌, ◌/◌, ◌%◌, [], ℕ, Bool, true, if◌then◌else◌, List, length, slice_get, get_or, bytes_eq, Option, Some, None}
+use Rattle.std.specs.Int.{bit_at}
 use Rattle.indexmap.specs.IndexMap.{get, hasher_of}
 use Rattle.table_keys.specs.declared.TableKey.{TableKey}
 use Rattle.ninja_text.specs.Bytes.{PathText, Name}
@@ -11,6 +12,7 @@ use Rattle.module_table.specs.declared.pool.rows.Row.{Row}
 use Rattle.module_table.specs.declared.pool.rows.Shared.{Shared}
 use Rattle.module_table.specs.declared.pool.rows.Listed.{Listed}
 use Rattle.module_table.specs.declared.pool.rows.Related.{Related}
+use Rattle.module_table.specs.declared.pool.rows.Word.{Word}
 use Rattle.module_table.specs.Parts.{IsAlike}
 use Rattle.module_table.specs.Indexes.{Indexes}
 
@@ -96,6 +98,18 @@ IsSource known i pair k = (l : ℕ) × (w : ModuleValue) × IsKnownModule known 
 abbrev pub IsProvidedFor : Indexes → List (Option InfoValue) → ℕ → Name × PathText → Type 0
 IsProvidedFor linked known n pair = (k : ℕ) × Has linked k × IsSource known n pair k
 
+-- info file k is in the word, or in a word of the set
+abbrev pub InWord : Word → ℕ → Type 0
+InWord w k = (w.index ≡ k / 64) × (bit_at w.bits (k % 64) ≡ 1)
+
+abbrev pub InWords : List Word → ℕ → Type 0
+InWords words k = (w : Word) × Has words w × InWord w k
+
+-- each info file whose bit is in the words, of which each has 64, is linked, at its index
+abbrev pub AreWords : Indexes → Indexes → List ℕ → Type 0
+AreWords linked indexes words = (k : ℕ) → bit_at (get_or words (k / 64) 0) (k % 64) ≡ 1
+    → slice_get linked (get_or indexes k 0) ≡ Some k
+
 -- How an added info file is related to the known ones: its modules are listed, and the modules that
 -- they require are in its sources.
 pub record IsRelated (known : List (Option InfoValue)) (info : InfoValue) (listed : Listed)
@@ -104,13 +118,13 @@ pub record IsRelated (known : List (Option InfoValue)) (info : InfoValue) (liste
       (rows_of listed by) r.shared.items
   pub sources : (j : ℕ) (m : ModuleValue) (pair : Name × PathText)
       → slice_get info.modules j ≡ Some m → Has m.required pair
-      → (k : ℕ) × Has r.sources.items k
+      → (k : ℕ) × InWords r.sources.items k
       × IsSource (known ++ Some info ∷ []) (length known) pair k
 
 -- info file k is among the sources of info file i
 abbrev pub HasSource : List (Option Related) → ℕ → ℕ → Type 0
 HasSource related i k =
-    (r : Related) × (slice_get related i ≡ Some (Some r)) × Has r.sources.items k
+    (r : Related) × (slice_get related i ≡ Some (Some r)) × InWords r.sources.items k
 
 -- info file i shares this with an earlier module
 abbrev pub HasShared : List (Option Related) → ℕ → Shared → Type 0
@@ -135,13 +149,13 @@ AreIndexes linked indexes =
 -- Linked info files have what the modules of info file n require: they are all of its sources, or
 -- have each required module.
 abbrev pub IsClosedAt : Indexes → List (Option InfoValue) → Related → ℕ → Type 0
-IsClosedAt linked known r n = ((k : ℕ) → Has r.sources.items k → Has linked k)
+IsClosedAt linked known r n = ((k : ℕ) → InWords r.sources.items k → Has linked k)
     ⊎ ((j : ℕ) (m : ModuleValue) (pair : Name × PathText) → IsKnownModule known n j m
     → Has m.required pair → IsProvidedFor linked known n pair)
 
 -- Linked info files have what linked modules require. If a linked info file shares a name or file
--- with an earlier module, the info file that had it first is not linked, and the stamp of the shared
--- number is the linked module.
+-- with an earlier module, the info file that had it first is not linked, and the stamp of the
+-- shared number is the linked module.
 pub record AreFit (linked : Indexes) (known : List (Option InfoValue))
     (related : List (Option Related)) (stamps : List ModuleAt) : Type 0 where
   pub closed : (n : ℕ) (r : Related) → Has linked n → slice_get related n ≡ Some (Some r)

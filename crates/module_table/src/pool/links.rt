@@ -1,13 +1,14 @@
 //! The links of a target, and whether a part of the linked info files is enough for its table.
 ghost use Rattle.std.specs.Prelude.{◌≡◌, false, IfNone, IfOk, IfSome, IsTrue, List, slice_get, ℕ};
 ghost use Rattle.module_table.specs.Prelude.{AreFit, AreIndexes, AreLinked, Has, InfoValue};
+ghost use Rattle.module_table.specs.Prelude.{AreWords, InWord, OnOk};
 ghost use Rattle.module_table.specs.Prelude.{IsAlike, IsApart, IsClosedAt, IsPartOf, IsProvidedFor};
 ghost use Rattle.module_table.specs.Prelude.{IsRowUnlinked, IsUnused, KeepsRequired, Kept};
 ghost use Rattle.module_table.specs.Prelude.{RuleValue, Some, true};
 
 use crate::needed::copy_pair;
 use crate::pool::requirements::Requirements;
-use crate::pool::rows::{Listed, ModuleAt, Related, Row};
+use crate::pool::rows::{Listed, ModuleAt, Related, Row, Word, with_bit};
 use document_values::{Info, InfoModule, Name, Rule};
 use ninja_text::Path;
 use std::alloc::{AllocError, Global};
@@ -23,7 +24,10 @@ pub(crate) struct Links<'a> {
     /// The linked module of each shared name or file, by its number, if it is not the first of all
     /// info files. The other modules are not linked.
     pub stamps: &'a [ModuleAt],
+    /// The set of them, by words of 64 info files each.
+    pub words: &'a [u64],
     ghost are: { AreIndexes linked.now indexes.now },
+    ghost have: { AreWords linked.now indexes.now words.now },
 }
 
 /// Puts the index in `linked` of each linked info file into `indexes`, by the index of the info
@@ -60,6 +64,28 @@ pub(crate) fn put_links(
     true
 }
 
+/// Puts the set of the linked info files into `words`, of which there are as many as given. An
+/// index that is too high is left out.
+pub(crate) fn put_words(
+    linked: &[usize],
+    indexes: &[usize],
+    count: usize,
+    words: &mut Vec<u64>,
+) -> Result<(), AllocError>
+    requires { AreIndexes linked.now indexes.now }
+    ensures { OnOk result (AreWords linked.now indexes.now words.new.items) }
+{
+    words.clear();
+    words.resize(count, 0)?;
+    for info in linked {
+        let index = *info / 64;
+        if index < words.len() {
+            words[index] = with_bit(words[index], *info % 64);
+        }
+    }
+    Ok(())
+}
+
 impl Links<'_> {
     /// Returns whether the info file of that index is linked.
     pub(crate) fn has(&self, info: usize) -> bool
@@ -68,6 +94,16 @@ impl Links<'_> {
     {
         match self.indexes.get(info) {
             Some(index) => self.linked.get(*index) == Some(&info),
+            None => false,
+        }
+    }
+
+    /// Returns whether all info files of the word are linked.
+    pub(crate) fn has_all(&self, word: Word) -> bool
+        ensures { result ≡ true → (k : ℕ) → InWord word k → Has self.now.linked.now k }
+    {
+        match self.words.get(word.index) {
+            Some(bits) => word.bits & *bits == word.bits,
             None => false,
         }
     }
@@ -126,7 +162,7 @@ impl Links<'_> {
     ) -> bool
         ensures { IsTrue result → IsClosedAt self.now.linked.now infos.now relations.now info }
     {
-        if relations.sources.iter().all(|source| self.has(*source)) {
+        if relations.sources.iter().all(|word| self.has_all(*word)) {
             return true;
         }
         let Some(Some(requiring)) = infos.get(info) else {
@@ -195,14 +231,17 @@ impl Links<'_> {
 }
 
 /// What [`crate::Pool::part`] keeps from one target to the next, so that its work for a target does
-/// not grow with the project. It is never cleared. An index counts only if the entry at that index
-/// is the one that was looked up, and a stamp counts only if its info file is linked.
+/// not grow with the project. Indexes and stamps are never cleared. An index counts only if the
+/// entry at that index is the one that was looked up, and a stamp counts only if its info file is
+/// linked.
 #[derive(Drop)]
 pub struct Scratch {
     /// The index of an info file in the list of links.
     pub(crate) indexes: Vec<usize>,
     /// The linked module of each shared name or file, by its number.
     pub(crate) stamps: Vec<ModuleAt>,
+    /// The set of linked info files. It is put anew for each target: a word for 64 info files.
+    pub(crate) words: Vec<u64>,
     pub(crate) picked: Picked,
 }
 
@@ -214,6 +253,7 @@ impl Scratch {
         Scratch {
             indexes: Vec::new(alloc),
             stamps: Vec::new(alloc),
+            words: Vec::new(alloc),
             picked: Picked {
                 modules: Vec::new(alloc),
                 indexes: Vec::new(alloc),

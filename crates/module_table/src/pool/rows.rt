@@ -2,7 +2,9 @@
 ghost use Rattle.std.specs.Prelude.{◌++◌, ◌∷◌, ◌≡◌, [], IfOk, IfSome, length, OnOk, Some};
 ghost use Rattle.module_table.specs.Prelude.{AreListed, By, get, Has, hasher_of, IsKeyed, IsPut};
 ghost use Rattle.module_table.specs.Prelude.{IsRelated, IsSource, key_of, rows_of, Shared};
-ghost use Rattle.module_table.specs.Prelude.{StillKeyed, StillListed};
+ghost use Rattle.module_table.specs.Prelude.{InWords, StillKeyed, StillListed};
+ghost use Rattle.std.specs.Prelude.{◌<◌, ◌≢◌, ℕ};
+ghost use Rattle.std.specs.Int.{bit_at};
 
 use crate::needed::copy_pair;
 use document_values::{Info, InfoModule, Name};
@@ -140,12 +142,20 @@ fn add<K: Eq + Hash + Drop>(
     Ok(true)
 }
 
+/// A word of a set of info files: the bit of each, by the last six bits of its index.
+#[derive(Clone, Copy)]
+pub(crate) struct Word {
+    /// The index of each info file, without those bits.
+    pub index: usize,
+    pub bits: u64,
+}
+
 /// How an info file is related to the others.
 pub(crate) struct Related {
     /// The modules that each of its modules requires.
     pub required: Vec<Vec<ModuleAt>>,
-    /// The info files with the modules that it requires, by index, each once.
-    pub sources: Vec<usize>,
+    /// The info files with the modules that it requires, as bits.
+    pub sources: Vec<Word>,
     /// The names and files that it shares with earlier modules.
     pub shared: Vec<Shared>,
 }
@@ -191,13 +201,43 @@ impl Related {
             required.push(row)?;
         }
         sources.sort_unstable();
-        sources.dedup();
+        let sources = words_of(alloc, sources.as_slice())?;
         Ok(Some(Related {
             required,
             sources,
             shared,
         }))
     }
+}
+
+/// Returns the set of info files with these indexes. If they are in order, it has each word once.
+fn words_of(alloc: Global, infos: &[usize]) -> Result<Vec<Word>, AllocError>
+    ensures { IfOk result (λ words. (k : ℕ) → Has infos.now k → InWords words.items k) }
+{
+    let mut words = Vec::new(alloc);
+    let Some(first) = infos.first() else {
+        return Ok(words);
+    };
+    let mut index = *first / 64;
+    let mut bits = 0;
+    for info in infos {
+        if *info / 64 != index {
+            words.push(Word { index, bits })?;
+            index = *info / 64;
+            bits = 0;
+        }
+        bits = with_bit(bits, *info % 64);
+    }
+    words.push(Word { index, bits })?;
+    Ok(words)
+}
+
+pub(crate) fn with_bit(word: u64, bit: usize) -> u64
+    requires { bit < 64 }
+    ensures set { bit_at result bit ≡ 1 }
+    ensures others { (i : ℕ) → i ≢ bit → bit_at result i ≡ bit_at word i }
+{
+    word | (1 << bit)
 }
 
 /// Returns the module of this name and this file that the info file may require: it is public, or

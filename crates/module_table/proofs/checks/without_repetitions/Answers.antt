@@ -1,5 +1,9 @@
-use Rattle.std.proofs.Common.{◌≡◌, ◌≢◌, ◌<◌, ◌++◌, ◌∙◌, ℕ, zero, suc, ap, arith, drop, get_or, get_or-set_other, get_or-set_same, inl, inr, List, [], ◌∷◌, length, refl, set, subst, sym, take, Vec, Global}
+use Rattle.std.proofs.Common.{◌≡◌, ◌≢◌, ◌<◌, ◌++◌, ◌∙◌, ℕ, zero, suc, ap, arith, drop, get_or, get_or-set_other, get_or-set_same, inl, inr, List, [], ◌∷◌, length, refl, set, subst, sym, take, Vec, Global, eqb, Contains}
 use Rattle.std.proofs.lemmas.List.{length-set}
+use Rattle.std.proofs.lemmas.List.Filters.{dedup_is}
+use Rattle.std.proofs.lemmas.List.Kept.{Contains-dedup_nat, Contains-from_dedup}
+use Rattle.std.proofs.lemmas.List.Sorted.{Contains-permutation, IsPermutation-sym}
+use Rattle.std.proofs.lemmas.Map.Keys.{IsStrictlyIncreasing-dedup}
 use Rattle.std.proofs.lemmas.Option.{get_or_from_slice_get}
 use Rattle.module_table.specs.Prelude.{AllZip, HasEachOnce, rows}
 use Rattle.module_table.proofs.Lists.{read_at}
@@ -28,9 +32,17 @@ loop-row-preserved c =
     let i = c.loop-row.row-index in
     let old = c.deref_mut-row-items.result.now in
     let now = c.loop-row.row-items in
-    let row = c.sort_once.new.row in
+    let sorted = c.sort_unstable.new.self.items in
+    let row = c.dedup.new.self in
+    let same = dedup_is eqb sorted _ c.dedup.ensures.filtered in
     let h = c.loop-row.invariant in
     let within : i < length now = omega (arith, c.loop-row-test.true, h.as_many) in
+    let once : HasEachOnce (get_or now i c.row-item.result).items row.items = record {
+      kept = λ n h. rw same (Contains-dedup_nat sorted n (Contains-permutation _ sorted n c.sort_unstable.ensures.permutation h));
+      only = λ n h. Contains-permutation sorted _ n (IsPermutation-sym _ sorted c.sort_unstable.ensures.permutation)
+          (Contains-from_dedup eqb sorted n (subst (λ (xs : List ℕ). Contains xs n) same h));
+      rising = rw same (IsStrictlyIncreasing-dedup sorted c.sort_unstable.ensures.sorted);
+    } in
     record {
       as_many = length-set now i row ∙ h.as_many;
       done = λ k d lt. elim (three_ways k i) [
@@ -40,7 +52,7 @@ loop-row-preserved c =
           | inl same ↦
               let read : get_or now i c.row-item.result ≡ get_or old i d =
               sym c.row-item.is ∙ sym (get_or_from_slice_get now i c.row-item.result d (read_at now i within c.row-item.is)) ∙ h.rest i d (omega arith) in
-              let here = subst (λ (v : Vec ℕ Global). HasEachOnce v.items row.items) read c.sort_once.ensures in
+              let here = subst (λ (v : Vec ℕ Global). HasEachOnce v.items row.items) read once in
               subst (λ n. HasEachOnce (get_or old n d).items (get_or (set now i row) n d).items) (sym same)
               (subst (λ (v : Vec ℕ Global). HasEachOnce (get_or old i d).items v.items) (sym (get_or-set_same now i row d within)) here)
           | inr more ↦ absurd (omega (arith, lt, more))

@@ -1,7 +1,7 @@
-use Rattle.std.proofs.Common.{rules, tests, ◌∙◌, ◌≡◌, ap, inl, inr, List, refl, slice_get, Some, subst, sym}
+use Rattle.std.proofs.Common.{rules, tests, ◌∙◌, ◌≡◌, ℕ, true, ap, inl, inr, List, refl, slice_get, Some, subst, sym}
 use Rattle.std.proofs.lemmas.Iterator.{YieldsList-from_slice, cases_from_all}
 use Rattle.std.proofs.lemmas.Option.{slice_get_read}
-use Rattle.module_table.specs.Prelude.{Has, InfoValue, IsProvidedFor, ModuleValue}
+use Rattle.module_table.specs.Prelude.{Has, InfoValue, InWord, Word, IsProvidedFor, ModuleValue}
 use Rattle.module_table.proofs.PoolLemmas.{all_true, below_all, below_next, modules_of}
 use Rattle.ninja_text.proofs.ForCallers.{same_some}
 use Rattle.module_table.proofs.pool.links.Links.is_closed.Goals as goal
@@ -42,8 +42,11 @@ returns c = λ is. let known = c.args.infos.now in
     each m (j, ap (λ xs. slice_get xs j) (list ∙ ap modules_of (sym same)) ∙ has.2) pair needs)
 
 pub returns-then-all : goal.returns-then-all
-returns-then-all c = λ is. let Linked = Has c.args.self.now.linked.now in
-    inl (all_true Linked _ c.args.relations.now.sources.items c.all.result
-    (cases_from_all _ _ _ Linked (λ k. Linked k → ⊥) c.all.ensures.ran
+returns-then-all c = λ is.
+    let All : Word → Type 0 = λ w. (k : ℕ) → InWord w k → Has c.args.self.now.linked.now k in
+    let No : Word → Type 0 = λ w. true ≡ true in
+    let all = all_true All _ c.args.relations.now.sources.items c.all.result
+    (cases_from_all _ _ _ All No c.all.ensures.ran
     (YieldsList-from_slice c.args.relations.now.sources.items (c.iter.ensures.rest ∙ c.deref.ensures.value))
-    (λ x q k. search (rules, tests)) (λ x q k. search (rules, tests))) c.if-all.true)
+    (λ x q k. search (rules, tests)) (λ x q k. refl)) c.if-all.true in
+    inl (λ k h. all h.0 h.1 k h.2)

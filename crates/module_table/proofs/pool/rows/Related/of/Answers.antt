@@ -1,11 +1,9 @@
-use Rattle.std.proofs.Common.{◌∙◌, ◌≤◌, ℕ, List, length, slice_get, refl, ap, sym, subst, arith, eqb}
+use Rattle.std.proofs.Common.{◌∙◌, ◌≤◌, ℕ, List, length, slice_get, refl, ap, sym, subst, arith}
 use Rattle.std.proofs.lemmas.Option.{slice_get_read}
 use Rattle.document_values.specs.Info.{ModuleValue}
 use Rattle.module_table.specs.inner.Pools.{AreListed, Has, key_of, rows_of}
 use Rattle.module_table.proofs.PoolLemmas.{IsSourced, below_next, below_all, below_map, has_grown, has_new, modules_of}
 use Rattle.ninja_text.proofs.ForCallers.{contained, placed}
-use Rattle.std.proofs.lemmas.List.Filters.{dedup_is}
-use Rattle.std.proofs.lemmas.List.Kept.{Contains-dedup_nat}
 use Rattle.std.proofs.lemmas.List.Sorted.{Contains-permutation}
 use Rattle.module_table.proofs.pool.rows.Related.of.Goals as goal
 use Rattle.module_table.proofs.Words.{Pair}
@@ -53,9 +51,7 @@ returns-clause-related c = record {
       → IsSourced c.args.infos.now c.args.info.now sources pair in
       let all : length modules ≤ c.loop-module.module-index = omega (arith, c.loop-module-test.false, ap length list) in
       let f = below_all (Found c.loop-module.sources.items) modules c.loop-module.module-index all c.loop-module.invariant m (j, at) pair h in
-      let once : Has c.dedup.new.self.items f.0 =
-      placed _ f.0 (rw (dedup_is eqb _ _ c.dedup.ensures.filtered)
-      (Contains-dedup_nat c.sort_unstable.new.self.items f.0
-      (Contains-permutation _ _ f.0 c.sort_unstable.ensures.permutation (contained c.loop-module.sources.items f.0 f.1)))) in
+      let sorted = placed _ f.0 (Contains-permutation _ _ f.0 c.sort_unstable.ensures.permutation (contained c.loop-module.sources.items f.0 f.1)) in
+      let once = c.in_ok-sources.ensures f.0 (subst (λ xs. Has xs f.0) (sym c.as_slice.ensures.value) sorted) in
       (f.0, once, f.2);
 }
