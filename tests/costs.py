@@ -26,11 +26,12 @@ COSTS = "instructions", "allocations", "bytes asked for", "bytes held"
 LIMIT = 1.2  # how many times as much a byte of the input may cost if there are twice as many
 
 # Small, but so large that the cost of a shape would be seen: if a table searches all its entries,
-# say, this is most of what a run does. The shapes `names` and `links` are not here: they still cost
-# more than an ordinary input of their size.
+# say, this is most of what a run does. (That links times sources grow with the words of a set, and
+# not with the sources, shows from a thousand targets on: in `bench/run hostile`.) The shape `names`
+# is not here: it still costs more than an ordinary input of its size.
 SIZES = {"edges": 1 << 18, "dyndep": 1 << 18, "modules": 600, "targets": 400, "keyless": 400,
          "work-dir": 400, "ext": 400, "paths": 300, "requires": 1600, "info": 3200, "plugins": 40,
-         "services": 40, "providers": 100, "diamonds": 12, "shared": 40}
+         "services": 40, "providers": 100, "links": 60, "diamonds": 12, "shared": 40}
 
 
 @functools.lru_cache(None)

@@ -270,13 +270,14 @@ def providers(made, ordinary, size):
 
 def shared_names(made, ordinary, size):
     """Two libraries whose modules have the same names, or different ones, and programs that link
-    one of them."""
+    one or the other."""
     for directory, names in (made, "ll"), (ordinary, "lm"):
         project = Project(directory)
         for library, name in zip("ab", names):
             project.add(library, [([f"{name}{number}" for number in range(size)], [])], [])
         for number in range(size // 8):
-            project.add(f"u{number}", [([], ["l0"])], ["a"])
+            library, name = "ab"[number % 2], names[number % 2]
+            project.add(f"u{number}", [([], [f"{name}0"])], [library])
         words = project.written()
     return words
 
@@ -331,7 +332,7 @@ def shared_edges(made, ordinary, size):
 
 
 # The label, the inputs, the size that bench/run hostile takes, and how many times as long as the
-# ordinary input it may take. `names` and `links` still take more.
+# ordinary input it may take. `names` still takes more.
 SHAPES = [
     ("edges", edges, 1 << 22, 2), ("dyndep", dyndep, 1 << 22, 2), ("modules", modules, 20_000, 2),
     ("targets", targets, 6000, 2), ("keyless", keyless_targets, 6000, 2),
