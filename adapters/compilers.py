@@ -8,7 +8,7 @@ import shlex
 import shutil
 import subprocess
 
-from cmake_files import Wrong
+from adapter_files import Wrong
 
 # From this version on GCC scans by itself.
 GCC_SCANS = 14

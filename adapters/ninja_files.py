@@ -4,7 +4,7 @@ import re
 import shlex
 from dataclasses import dataclass, field
 
-from cmake_files import escaped
+from adapter_files import escaped
 
 LINE = re.compile(r"(?:[^$\n]|\$(?:.|\n))*\n?", re.S)
 TOKEN = re.compile(r"(?:\$(?:\{[\w.-]+\}|\r?\n *|.)|[^$ :|\r\n])+|\|\||\|@|\||:")

@@ -508,17 +508,17 @@ class NinjaFiles(Case):
         """It is named by the environment, or next to the adapter, or in the PATH."""
         self.fails("none: there is no such program", "adopt", "b", env=environment(DYNCOLLATE="none"))
         self.fails("dyncollate: there is no such program", "adopt", "b", env=environment(DYNCOLLATE="", PATH="/nowhere"))
-        shutil.copytree(TOP / "adapters/cmake", "bin")
-        for name, path in ("bin/dyncollate", "/nowhere"), ("other/dyncollate", f"{os.getcwd()}/other"):
+        shutil.copytree(TOP / "adapters", "adapters")
+        for name, path in ("adapters/cmake/dyncollate", "/nowhere"), ("other/dyncollate", f"{os.getcwd()}/other"):
             put(name, "#!/bin/sh\n")
             os.chmod(name, 0o755)
-            called = run(sys.executable, "bin/dyncollate-cmake", "adopt", "b", env=environment(DYNCOLLATE="", PATH=path))
+            called = run(sys.executable, "adapters/cmake/dyncollate-cmake", "adopt", "b", env=environment(DYNCOLLATE="", PATH=path))
             self.assertEqual(called, (0, f"dyncollate-cmake: 2 targets of b are collated by {os.getcwd()}/{name}\n"))
             os.remove(name)
 
     def test_installed(self):
         """The modules are in PREFIX/share/dyncollate, which a user may not write: the cache of Python is in the build directory."""
-        for name in (TOP / "adapters/cmake").iterdir():
+        for name in (*TOP.glob("adapters/*.py"), *TOP.glob("adapters/cmake/*")):
             if name.is_file():
                 put(f"prefix/{'share/dyncollate' if name.suffix else 'bin'}/{name.name}", name.read_text())
         before = sorted(Path("prefix").rglob("*"))
@@ -530,7 +530,7 @@ class NinjaFiles(Case):
             rule = {"primary-output": f"a $dir/{name}.cpp.o", "provides": [{"logical-name": name[0]}]}
             put(f"a $dir/{name}.cpp.o.ddi", {"version": 1, "rules": [rule]})
         self.assertEqual(step("a $dir"), (0, ""))
-        self.assertEqual(len(list(Path("CMakeFiles/dyncollate/python").rglob("*.pyc"))), 3)
+        self.assertEqual(len(list(Path("CMakeFiles/dyncollate/python").rglob("*.pyc"))), 4)
         os.chdir("..")
         self.assertEqual(sorted(Path("prefix").rglob("*")), before)
 

@@ -8,12 +8,11 @@ which continues the build statement.
 """
 import collections
 import contextlib
-import fcntl
 import json
 import os
 import re
 
-from cmake_files import EXTENSIONS, Wrong, escaped, read, replace, write_if_changed
+from adapter_files import EXTENSIONS, Alone, Wrong, escaped, read, replace, write_if_changed
 from cmake_ninja import AFTER_CMAKE, Lines, as_cmake_wrote, ninja_files, program_of, shell
 
 # Adoption begins again this often if CMake writes its Ninja files at the same time.
@@ -194,8 +193,7 @@ def alone(build):
     """Waits until no other run adopts or restores the build."""
     ninja_files(build)
     os.makedirs(f"{build}/CMakeFiles/dyncollate", exist_ok=True)
-    with open(f"{build}/CMakeFiles/dyncollate/lock", "a", encoding="utf-8") as file:
-        fcntl.flock(file, fcntl.LOCK_EX)
+    with Alone(f"{build}/CMakeFiles/dyncollate"):
         yield
 
 

@@ -2,7 +2,7 @@
 import json
 import os
 
-from cmake_files import write_if_changed
+from adapter_files import write_if_changed
 
 
 def in_prefix(path, variable):

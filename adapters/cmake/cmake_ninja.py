@@ -7,7 +7,8 @@ import os
 import re
 import shlex
 
-from cmake_files import MAKERS, Wrong, depend_info, escaped, read
+from adapter_files import Wrong, escaped, read
+from cmake_files import MAKERS, depend_info
 
 AFTER_CMAKE = "--after-cmake"
 MADE_BY_CMAKE = "# CMAKE generated file"

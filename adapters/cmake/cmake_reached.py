@@ -7,7 +7,7 @@ target is collated without the modules that no import leads to.
 import json
 import os
 
-from cmake_files import Wrong, document, write_if_changed
+from adapter_files import Wrong, document, write_if_changed
 
 
 def write_documents(given, target, objects):

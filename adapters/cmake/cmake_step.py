@@ -8,8 +8,9 @@ import os
 import re
 import sys
 
+from adapter_files import Wrong, document, escaped, read, write, write_if_changed
 from cmake_exports import write_exports
-from cmake_files import Wrong, depend_info, document, escaped, read, write, write_if_changed
+from cmake_files import depend_info
 
 # A shell adds this to the number of the signal that killed a program, and has these statuses if it
 # could not run one.

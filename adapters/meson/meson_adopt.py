@@ -5,14 +5,13 @@ While a build is adopted, and if that fails, its Ninja file is one that adopts i
 Ninja does so, or says why not. Meson's own text is kept in the build directory.
 """
 import contextlib
-import fcntl
 import hashlib
 import os
 import re
 import sys
 from itertools import filterfalse
 
-from cmake_files import Wrong, read, replace, write_if_changed
+from adapter_files import Alone, Wrong, read, replace, write_if_changed
 from meson_statements import Statements, own_rule
 from meson_std import with_standard_library
 from meson_steps import documents_of, steps_of
@@ -86,12 +85,8 @@ def alone(folder):
     """Waits until no other run adopts or restores the build."""
     if not os.path.exists(f"{folder}/build.ninja"):
         raise Wrong(f"{folder}/build.ninja does not exist: run `meson setup` first")
-    handle = os.open(folder, os.O_RDONLY)
-    try:
-        fcntl.flock(handle, fcntl.LOCK_EX)
+    with Alone(folder):
         yield Build(folder)
-    finally:
-        os.close(handle)
 
 
 def adopt(folder, program, this, wrapper, again=True):

@@ -9,7 +9,7 @@ import json
 import os
 import subprocess
 
-from cmake_files import Wrong, document, read, write, write_if_changed
+from adapter_files import Wrong, document, read, write, write_if_changed
 
 
 class Member:

@@ -6,7 +6,7 @@ program and shared library with a target that imports std is linked with its obj
 """
 import re
 
-from cmake_files import Wrong
+from adapter_files import Wrong
 from compilers import standard_sources
 from meson_targets import FOLDER, LINK, Targets
 from ninja_files import NinjaFile, escaped, shell, value

@@ -10,7 +10,7 @@ import os
 import re
 from dataclasses import dataclass, field
 
-from cmake_files import EXTENSIONS, Wrong
+from adapter_files import EXTENSIONS, Wrong
 from compilers import CACHES, kind
 
 COMPILE = re.compile(r"cpp_COMPILER(_FOR_BUILD)?(_RSP)?$")

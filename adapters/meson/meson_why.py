@@ -3,7 +3,7 @@ import os
 import subprocess
 import sys
 
-from cmake_files import document
+from adapter_files import document
 from cmake_step import numbered_document, program_beside
 
 RECONFIGURE = ("for a first `import std`, and for the first module of a library in a source that "
