@@ -5,6 +5,7 @@ The steps of builds import this, so it needs only modules that are quick to impo
 import fcntl
 import json
 import os
+import sys
 
 # What a compiled module's name ends with, by the style of module maps.
 EXTENSIONS = {"clang": ".pcm", "gcc": ".gcm"}
@@ -80,3 +81,8 @@ class Alone:
 
     def __exit__(self, *error):
         os.close(self.handle)
+
+
+def say(line):
+    """Prints a line of the program that runs."""
+    print(f"{os.path.basename(sys.argv[0])}: {line}", file=sys.stderr)

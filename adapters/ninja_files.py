@@ -57,8 +57,9 @@ class Build:
             return shlex.join(self.inputs if name == "in" else self.outputs)
         if name in self.raw:
             return evaluated(self.raw[name], self.file.variable)
-        if name in self.file.rules.get(self.rule, {}):
-            return evaluated(self.file.rules[self.rule][name], self.variable)
+        rule = self.file.rule(self.rule)
+        if name in rule:
+            return evaluated(rule[name], self.variable)
         return self.file.variable(name)
 
     def words(self):
@@ -76,21 +77,52 @@ class Build:
         """Returns the statement with another rule, and other paths or bindings."""
         part = {**vars(self), **changed}
         more = f" |{paths(part['implicit_outputs'])}" if part["implicit_outputs"] else ""
-        line = f"build{paths(part['outputs'])}{more}: {rule}{paths(self.inputs)}"
+        line = f"build{paths(part['outputs'])}{more}: {rule}{paths(part['inputs'])}"
         line += "".join(f" {mark}{paths(part[it])}" for mark, it in INPUTS.items() if part[it])
         return "\n".join([line, *(f" {name} = {raw}" for name, raw in part["raw"].items()), ""])
 
 
-class NinjaFile:
-    """A Ninja file that includes no other."""
+@dataclass(eq=False)
+class Subninja:
+    file: "NinjaFile"
+    start: int
+    end: int
+    named: "NinjaFile"
 
-    def __init__(self, text):
-        self.text, self.builds, self.rules, self.variables = text, [], {}, {}
+
+class NinjaFile:
+    """A Ninja file. `files` has it and those that it names by `subninja`, and `builds` the
+    statements of all of them. `texts` returns the text of a file."""
+
+    def __init__(self, texts, name="build.ninja", above=None):
+        self.text, self.texts, self.name, self.above = texts(name), texts, name, above
+        self.builds, self.files = (above.builds, above.files) if above else ([], [])
+        self.rules, self.variables, self.below = {}, {}, []
+        # the names of those that differ from what the generator wrote
+        self.differs = set()
+        self.files.append(self)
         self.read()
-        self.producers = {out: it for it in self.builds for out in it.outputs + it.implicit_outputs}
+        if not above:
+            self.producers = {out: it for it in self.builds
+                              for out in it.outputs + it.implicit_outputs}
 
     def variable(self, name):
-        return self.variables.get(name, "")
+        if name in self.variables or not self.above:
+            return self.variables.get(name, "")
+        return self.above.variable(name)
+
+    def rule(self, name):
+        if name in self.rules or not self.above:
+            return self.rules.get(name, {})
+        return self.above.rule(name)
+
+    def changed(self, changed):
+        """Returns the text with other texts for these of its statements."""
+        parts, at = [], 0
+        for it in sorted(changed, key=lambda it: it.start):
+            parts += [self.text[at:it.start], changed[it]]
+            at = it.end
+        return "".join([*parts, self.text[at:]])
 
     def read(self):
         bindings, at = None, 0
@@ -115,6 +147,10 @@ class NinjaFile:
         if word == "build":
             self.builds.append(self.build_of(rest, start, end))
             return self.builds[-1].raw
+        if word == "subninja":
+            name = evaluated(rest.strip(), self.variable)
+            self.below.append(Subninja(self, start, end, NinjaFile(self.texts, name, self)))
+            return {}
         name, equals, raw = line.partition("=")
         if word not in ("default", "pool") and equals:
             self.variables[name.strip()] = evaluated(raw.strip(), self.variable)

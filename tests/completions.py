@@ -30,6 +30,7 @@ CASES = [
     ("dyncollate ", commands()), ("dyncollate one ", ["a.ddi", "sub/"]),
     ("dyncollate collate ", ["b.json", "sub/"]), ("dyncollate show ", ["c.dd", "sub/"]),
     ("dyncollate-cmake ", ["adopt", "restore", "status"]), ("dyncollate-cmake adopt ", ["sub/"]),
+    ("dyncollate-gn ", ["adopt", "restore"]), ("dyncollate-meson restore ", ["sub/"]),
     ("dyncollate-explain --", ["--help", "--page", "--version"]),
     ("dyncollate-explain ", [*FILES, "sub/"]),
 ]

@@ -115,7 +115,8 @@ class Manual(unittest.TestCase):
 
     def test_scripts(self):
         """The page of a script has the options and the commands that its help shows."""
-        for script in TOP / "explain/dyncollate-explain", TOP / "adapters/cmake/dyncollate-cmake":
+        adapters = [TOP / f"adapters/{it}/dyncollate-{it}" for it in ("cmake", "gn", "meson")]
+        for script in TOP / "explain/dyncollate-explain", *adapters:
             page = (TOP / f"docs/{script.name}.1").read_text()
             synopsis = section(page, "SYNOPSIS", "DESCRIPTION")
             used = re.findall(rf"^ +{script.name} (?:-(-[a-z]+)|([a-z]+))",

@@ -47,7 +47,7 @@ build liba.a.p/depscan.dd: depaccumulate liba.a.p/depscan.json
 build libb.a.p/depscan.dd: depaccumulate libb.a.p/depscan.json liba.a.p/depscan.json
 build app.p/depscan.dd: depaccumulate app.p/depscan.json liba.a.p/depscan.json libb.a.p/depscan.json
 """
-# Runs dyncollate-meson, and kills it at the Nth file that it would replace.
+# Runs a script, and kills it at the Nth file that it would replace.
 KILLED = """
 import os, runpy, sys
 number, calls, real = int(sys.argv[1]), [], os.replace
@@ -60,8 +60,7 @@ os.replace = replace
 del sys.argv[0:2]
 runpy.run_path(sys.argv[0], run_name="__main__")
 """
-USAGE = ("usage: dyncollate-meson adopt BUILD_DIR, dyncollate-meson restore BUILD_DIR, "
-         "or dyncollate-meson --help")
+USAGE = "usage: dyncollate-meson adopt|restore BUILD_DIR, or dyncollate-meson --help"
 
 
 @functools.lru_cache(None)
@@ -89,6 +88,7 @@ def adapter(*words, **more):
 
 class Tree:
     """A project and its build directory. A run leaves in `status` and `log` how it ended."""
+    COMPILED = re.compile(r"^\[\d+/\d+\] Compiling C\+\+ object .*/(.*)$", re.M)
 
     def __init__(self, top, files, compiler, *options, build="build", **more):
         self.top, self.build, self.compiler = top, top / build, compiler
@@ -116,24 +116,27 @@ class Tree:
 
     def compiled(self):
         """The objects that the last run compiled, without their directories."""
-        return sorted(re.findall(r"^\[\d+/\d+\] Compiling C\+\+ object .*/(.*)$", self.log, re.M))
+        return sorted(self.COMPILED.findall(self.log))
 
 
 @program.needs("program")
 class Builds(InRoom):
     # a function that returns the compiler or None, and its package
     compiler, package = staticmethod(lambda: tool("clang")), "clang-19"
+    # likewise the generator
+    generator, its_package = staticmethod(meson), "meson"
+    tree_class = Tree
     seconds = 60
 
     def setUp(self):
-        for found, name in ((meson(), "meson"), (tool("ninja"), "ninja-build"),
+        for found, name in ((self.generator(), self.its_package), (tool("ninja"), "ninja-build"),
                             (self.compiler(), self.package), (tool("scanner"), "clang-tools-19")):
             if not found:
                 self.skipTest(f"{name}: not there")
         super().setUp()
 
     def lay(self, files, *options, folder="a project", **more):
-        self.tree = Tree(self.room / folder, files, self.compiler(), *options, **more)
+        self.tree = self.tree_class(self.room / folder, files, self.compiler(), *options, **more)
 
     def edit(self, name, old, new):
         text = (self.tree.top / name).read_text()

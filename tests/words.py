@@ -200,7 +200,7 @@ class Words(unittest.TestCase):
 
     def test_scripts(self):
         said = scripts()
-        self.assertLessEqual({"build", "install", "release", "test", "building/link", "bench/run", "adapters/cmake/dyncollate-ninja", "adapters/meson/dyncollate-meson", "cross/heap.c", "examples/generate",
+        self.assertLessEqual({"build", "install", "release", "test", "building/link", "bench/run", "adapters/cmake/dyncollate-ninja", "adapters/meson/dyncollate-meson", "adapters/gn/dyncollate-gn", "cross/heap.c", "examples/generate",
                               "explain/dyncollate-explain", "python/wheels.py", "tests/preload", "tests/fuzz/calls.c", "web/page.mjs"}, set(said))
         for name, text in said.items():
             with self.subTest(name):

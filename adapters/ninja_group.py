@@ -77,10 +77,10 @@ def in_order(members, linked):
     return sorted(members, key=lambda it: order.index(it.target))
 
 
-def step(program, name):
+def group(program, name):
     """Runs the step of this document and returns its status."""
-    group = document(name)
-    members = [*map(Member, group["targets"])]
+    given = document(name)
+    members = [*map(Member, given["targets"])]
     provided = {it.info: it.provided for it in members}
     for info in {info for it in members for info in (*it.content["linked"], *it.candidates)}:
         if info not in provided:
@@ -93,7 +93,7 @@ def step(program, name):
             return status
     # the first line of each dyndep file has the version
     files = [read(it.content["dyndep"]).partition("\n") for it in members]
-    write(group["dyndep"], "\n".join([files[0][0], "".join(rest for _, _, rest in files)]))
+    write(given["dyndep"], "\n".join([files[0][0], "".join(rest for _, _, rest in files)]))
     return 0
 
 
@@ -107,8 +107,8 @@ def collate(program, member, linked):
         return 0
     status = subprocess.call([program, "collate", member.name])
     if status:
-        import meson_why  # only failures need it
-        return meson_why.why(program, member.name)
+        import ninja_why  # only failures need it
+        return ninja_why.why(program, member.name)
     return 0
 
 

@@ -1,17 +1,17 @@
 """The Ninja file of an adopted build: compilations read maps and dyndep files, and each source is
 scanned with the flags of its compilation. All other statements stay, except that the one which
-calls Meson keeps the build adopted."""
+calls the generator keeps the build adopted."""
 import re
 
+from adapter_files import Wrong
 from compilers import FILTER, compile_flags, scan_command
-from meson_targets import MODULE_FLAGS
-from ninja_files import paths, shell, value
+from ninja_files import escaped, paths, shell, value
 
-REGENERATE = re.compile(r"^(rule REGENERATE_BUILD\n command = )", re.M)
 FIRST_STATEMENT = re.compile(r"^build ", re.M)
 # Words of a compilation that are no flags of a scan. Those of the second list have their value in
 # the next word.
-NO_FLAGS = {"-MD", "-MMD", "-MP", "-c", *MODULE_FLAGS}
+NO_FLAGS = {"-MD", "-MMD", "-MP", "-c"}
+SHELL = {"&&", "||", ";", "|", ">", "&"}
 OUTPUT_FLAGS = {"-MF", "-MQ", "-MT", "-o"}
 RULES = """\
 rule dyncollate_scan
@@ -35,38 +35,45 @@ rule dyncollate_group
 
 
 class Statements:
-    """The text of a Ninja file that Meson wrote, after adoption. `this` is the command that calls
-    dyncollate-meson, and `again` the environment in which Meson adopts the build again."""
+    """The Ninja files of a build after adoption. `this` is the command that calls it."""
 
-    def __init__(self, file, steps, program, this, again):
-        self.file, self.steps, self.program, self.this, self.again = (
-            file, steps, program, this, again)
+    def __init__(self, generator, file, steps, program, this):
+        self.generator, self.file, self.steps, self.program, self.this = (
+            generator, file, steps, program, this)
 
-    def text(self):
-        changed = {build: self.compiled(step, target, build) + self.scanned(target, build)
-                   for step in self.steps for target in step.targets for build in target.compiles}
-        parts, at = [], 0
-        for build in filter(changed.get, self.file.builds):
-            parts += [self.file.text[at:build.start], changed[build]]
-            at = build.end
-        text = "".join([*parts, self.file.text[at:]])
-        text = REGENERATE.sub(lambda it: f"{it[1]}{shell(self.again)} ", text)
+    def texts(self):
+        """Returns the texts by their names. What the generator wrote into files that build.ninja
+        names stays there: a file that differs is in our directory."""
+        changed, texts = {}, {}
+        for step in self.steps:
+            for target in step.targets:
+                for build in target.compiles:
+                    text = self.compiled(step, target, build) + self.scanned(target, build)
+                    changed.setdefault(build.file, {})[build] = text
+        # each file comes after the one that names it
+        for file in reversed(self.file.files):
+            for it in file.below:
+                if it.named in changed or it.named.name in self.file.differs:
+                    name = f"{self.generator.FOLDER}/{it.named.name}"
+                    texts[name] = it.named.changed(changed.get(it.named, {}))
+                    changed.setdefault(file, {})[it] = f"subninja {escaped(name)}\n"
+        text = self.file.changed(changed[self.file])
         at = FIRST_STATEMENT.search(text).start()
         ours = [self.rules(), *map(self.collated, self.steps), "\n"]
-        return "".join([text[:at], *ours, text[at:]])
+        return {**texts, self.file.name: "".join([text[:at], *ours, text[at:]])}
 
     def rules(self):
         this = shell([*self.this, f"--program={self.program}"])
         text = RULES.format(collate=shell([self.program, "collate"]), this=this)
-        own = {it.rule: target for step in self.steps for target in step.targets
+        own = {it.rule: (target, it) for step in self.steps for target in step.targets
                if has_own_rule(target) for it in target.compiles}
-        for name, target in own.items():
-            rule = dict(self.file.rules[name])
+        for name, (target, build) in own.items():
+            rule = dict(build.file.rule(name))
             if target.is_cached:
                 # a cache does not know the module files that an object depends on
                 rule["command"] = rule["command"].partition(" ")[2]
             if target.style == "gcc":
-                rule["command"] += f" && {value(FILTER).format('$DEPFILE')}"
+                rule["command"] += f" && {value(FILTER).format(self.generator.DEPFILE)}"
             lines = [f"rule {own_rule(name)}", *(f" {key} = {raw}" for key, raw in rule.items())]
             text += "\n".join([*lines, "\n"])
         return text
@@ -85,9 +92,11 @@ class Statements:
                 + "".join(f"build{paths([it])}: phony |{below}\n" for it in step.waits))
 
     def compiled(self, step, target, build):
-        flags = [it for it in build.variable("ARGS").split(" ") if it not in MODULE_FLAGS]
+        name = self.generator.FLAGS
+        flags = [it for it in build.variable(name).split(" ")
+                 if it not in self.generator.MODULE_FLAGS]
         added = shell(compile_flags(target.style, build.outputs[0]))
-        raw = {**build.raw, "ARGS": f"{value(' '.join(flags))} {added}",
+        raw = {**build.raw, name: f"{value(' '.join(flags))} {added}",
                "dyndep": value(step.dyndep)}
         return build.text(own_rule(build.rule) if has_own_rule(target) else build.rule, raw=raw,
                           implicit=build.implicit + step.waits,
@@ -95,9 +104,12 @@ class Statements:
 
     def scanned(self, target, build):
         name, words = build.outputs[0], build.words()[target.is_cached:]
+        if not SHELL.isdisjoint(words):
+            raise Wrong(f"the command of {name} is more than a call of the compiler")
         flags = [it for before, it in zip(words, words[1:])
                  if OUTPUT_FLAGS.isdisjoint((before, it))
-                 and it not in NO_FLAGS and it not in build.inputs]
+                 and it not in NO_FLAGS and it not in self.generator.MODULE_FLAGS
+                 and it not in build.inputs]
         command = scan_command(words[0], flags, build.inputs[0], name, f"{name}.ddi")
         return build.text("dyncollate_scan", outputs=[f"{name}.ddi"], order_only=waits(build),
                           raw={"COMMAND": value(command)})

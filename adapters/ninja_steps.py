@@ -1,4 +1,4 @@
-"""The steps that collate the targets of a Meson build.
+"""The steps that collate the targets of a build.
 
 A step is mostly that of one target. Static libraries whose order only their scans tell are collated
 by one step, that of a group: in each build it finds which of them needs which.
@@ -6,7 +6,7 @@ by one step, that of a group: in each build it finds which of them needs which.
 import json
 from dataclasses import dataclass, field
 
-from meson_targets import reachability
+from ninja_targets import reachability
 
 
 @dataclass(eq=False)

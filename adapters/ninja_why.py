@@ -3,11 +3,11 @@ import os
 import subprocess
 import sys
 
-from adapter_files import document
+from adapter_files import document, say
 from cmake_step import numbered_document, program_beside
 
-RECONFIGURE = ("for a first `import std`, and for the first module of a library in a source that "
-               "was there before, run `ninja reconfigure`")
+# what adopts a build again, by the name of the program
+AGAIN = {"dyncollate-meson": "ninja reconfigure", "dyncollate-gn": "dyncollate-gn adopt"}
 
 
 def why(program, name):
@@ -27,9 +27,6 @@ def why(program, name):
         elif kind and not explainer:
             say(f"{kind} {number} is {named}")
         if line.startswith("dyncollate: M5 "):
-            say(RECONFIGURE)
+            say("for a first `import std`, and for the first module of a library in a source that "
+                f"was there before, run `{AGAIN[os.path.basename(sys.argv[0])]}`")
     return again.returncode
-
-
-def say(line):
-    print(f"dyncollate-meson: {line}", file=sys.stderr)

@@ -1,0 +1,3 @@
+module base;
+#include "value.h"
+int base() { return part() + VALUE; }

@@ -1,0 +1,3 @@
+export module shared;
+import base;
+export int shared() { return base() + 10; }

@@ -1,0 +1,269 @@
+"""How dyncollate-gn adopts a build that GN wrote Ninja files for, what is built then, and how it is
+restored.
+
+The tests whose tools are missing are skipped.
+"""
+import json
+import os
+import re
+import shutil
+import sys
+from pathlib import Path
+
+from tests import program
+from tests.case import tree
+from tests.cmake import TOP
+from tests.meson import KILLED, Builds, Tree, environment
+from tests.run import output_of, run, run_at_once
+from tests.tools import tool
+
+ADAPTER = str(TOP / "adapters/gn/dyncollate-gn")
+DATA = TOP / "tests/data/gn"
+AGAIN = ("dyncollate-gn: for a first `import std`, and for the first module of a library in a "
+         "source that was there before, run `dyncollate-gn adopt`")
+MAIN = ["obj/src/app.main"]
+
+
+def adapter(*words, **more):
+    """A run of dyncollate-gn: its status and what it prints."""
+    return run(sys.executable, ADAPTER, *words, env=environment(**more))
+
+
+class GnTree(Tree):
+    COMPILED = re.compile(r"^\[\d+/\d+\] CXX (.*)$", re.M)
+
+    def setup(self, flags=("-std=c++20",), adopts=True, **more):
+        """Runs GN, and dyncollate-gn if it `adopts` the build."""
+        shutil.copytree(DATA, self.top, dirs_exist_ok=True)
+        self.flags = flags
+        self.gn()
+        if adopts:
+            self.status, self.log = adapter("adopt", self.build, **more)
+
+    def gn(self, *words):
+        values = f"cxx=\"{self.compiler}\" flags={json.dumps(self.flags)}"
+        output_of("gn", "gen", "-q", self.build, f"--args={values}", *words, cwd=self.top)
+
+
+class GnBuilds(Builds):
+    generator, its_package = staticmethod(lambda: shutil.which("gn")), "generate-ninja"
+    tree_class = GnTree
+
+    def prints(self, text):
+        self.assertEqual(run("./app", cwd=self.tree.build), (0, text))
+
+    def adopt(self):
+        said = f"dyncollate-gn: 8 of 8 C++ targets of {self.tree.build} are scanned for modules\n"
+        self.assertEqual(adapter("adopt", self.tree.build), (0, said))
+
+
+class Adoption(GnBuilds):
+    def plain(self):
+        """A build that is as GN wrote it. Returns its files."""
+        self.lay({}, adopts=False)
+        return tree(self.tree.build)
+
+    def left(self):
+        """The files outside of our directory."""
+        return {name: text for name, text in tree(self.tree.build).items()
+                if not name.startswith("gn-dyncollate/")}
+
+    def test_restore(self):
+        """It gives GN's bytes back, and both commands can be repeated."""
+        before = self.plain()
+        for _ in range(2):
+            self.adopt()
+            adopted = tree(self.tree.build)
+            self.adopt()
+            self.assertEqual(tree(self.tree.build), adopted)
+            changed = {it for it, text in adopted.items() if before.get(it) != text}
+            self.assertEqual({it for it in changed if not it.startswith("gn-dyncollate/")},
+                             {"build.ninja", "compile_commands.json"})
+            for _ in range(2):
+                self.assertEqual(adapter("restore", self.tree.build), (0, ""))
+                self.assertEqual(self.left(), before)
+
+    def test_without_modules(self):
+        before = self.plain()
+        for it in self.tree.top.glob("src/*.cc"):
+            it.write_text("int number;\n")
+        (self.tree.top / "make.py").write_text("import sys\nopen(sys.argv[2], 'w')\n")
+        said = f"{self.tree.build} has no target whose sources have C++ modules"
+        self.assertEqual(adapter("adopt", self.tree.build), (0, f"dyncollate-gn: {said}\n"))
+        self.assertEqual(self.left(), before)
+
+    def test_kept_by_ninja(self):
+        """If Ninja calls GN, the build stays adopted. A run of GN by hand undoes it."""
+        self.lay({})
+        for _ in range(2):
+            os.utime(self.tree.top / "BUILD.gn")
+            self.tree.ninja("build.ninja")
+            self.assertIn("8 of 8 C++ targets", self.tree.log)
+            self.assertTrue(self.tree.adopted())
+        self.tree.gn()
+        self.assertFalse(self.tree.adopted())
+        self.adopt()
+        self.builds()
+
+    def test_a_failure(self):
+        """The build fails with its line. When it is mended, the next run of Ninja adopts it."""
+        tools = self.room / "tools"
+        self.lay({}, DYNCOLLATE=str(tools / "dyncollate"))
+        line = f"dyncollate-gn: {tools}/dyncollate: there is no such program"
+        self.assertEqual((self.tree.status, self.tree.log), (1, f"{line}\n"))
+        for _ in range(2):
+            self.fails(line)
+            self.assertFalse(self.tree.adopted())
+        tools.mkdir()
+        (tools / "dyncollate").symlink_to(program.PROGRAM)
+        self.builds()
+        self.assertTrue(self.tree.adopted())
+
+    def test_killed(self):
+        """A run that is killed before it replaces any of its files leaves GN's files, or one that
+        the next run of Ninja adopts."""
+        self.plain()
+        before = self.tree.text()
+        self.adopt()
+        adopted, number, ended, pending = tree(self.tree.build), 0, -9, 0
+        while ended == -9:
+            adapter("restore", self.tree.build)
+            shutil.rmtree(self.tree.build / "gn-dyncollate")
+            number += 1
+            words = ["-c", KILLED, str(number), ADAPTER, "adopt", self.tree.build]
+            ended, _ = run(sys.executable, *words, env=environment())
+            if self.tree.text() != before:
+                pending += not self.tree.adopted()
+                self.tree.ninja("build.ninja")
+                self.assertEqual(self.tree.status, 0, self.tree.log)
+                files = tree(self.tree.build)
+                self.assertEqual({it: text for it, text in files.items() if it in adopted}, adopted)
+        self.assertEqual(ended, 0)
+        # GN's text, the file that adopts and the Ninja file, and what these name
+        named = [it for it in adopted if it.startswith("gn-dyncollate/")]
+        self.assertEqual((number, pending), (len(named) + 4, len(named) + 1))
+
+    def test_adoptions_at_once(self):
+        before = self.plain()
+        call = [sys.executable, ADAPTER]
+        for _ in range(3):
+            runs = run_at_once(*[[*call, "adopt", self.tree.build]] * 4, env=environment())
+            self.assertEqual([status for status, _ in runs], [0] * 4, runs)
+            self.assertTrue(self.tree.adopted())
+            runs = run_at_once(*[[*call, "restore", self.tree.build]] * 4, env=environment())
+            self.assertEqual(runs, [(0, "")] * 4)
+            self.assertEqual(self.left(), before)
+
+    def test_compile_commands(self):
+        """They have the maps. The file that GN wrote is restored."""
+        self.plain()
+        name = self.tree.build / "compile_commands.json"
+        self.adopt()
+        for it in json.loads(name.read_text()):
+            self.assertIn(f"@{it['output']}.modmap", it["command"])
+            self.assertTrue((self.tree.build / it["directory"] / it["file"]).exists()
+                            or it["file"] == "gen/made.cc")
+        adapter("restore", self.tree.build)
+        self.assertFalse(name.exists())
+        self.tree.gn("--export-compile-commands")
+        before = name.read_text()
+        for _ in range(2):
+            self.adopt()
+            self.assertIn(".modmap", name.read_text())
+        adapter("restore", self.tree.build)
+        self.assertEqual(name.read_text(), before)
+
+    def test_clangd(self):
+        """It finds the modules."""
+        clangd = tool("clang").replace("clang++", "clangd")
+        if not shutil.which(clangd):
+            self.skipTest(f"{clangd}: not there")
+        self.lay({})
+        self.builds()
+        status, said = run(clangd, f"--compile-commands-dir={self.tree.build}",
+                           f"--check={self.tree.top}/src/main.cc")
+        self.assertEqual(status, 0, said)
+        self.assertIn("All checks completed, 0 errors", said)
+
+    def test_a_command_that_is_more(self):
+        self.plain()
+        name = Path(self.tree.top, "build/toolchain/BUILD.gn")
+        name.write_text(name.read_text().replace('-o {{output}}"', '-o {{output}} && true"', 1))
+        self.tree.gn()
+        said = ("dyncollate-gn: the command of host/obj/src/libbase.base.o is more than a call of the "
+                "compiler\n")
+        self.assertEqual(adapter("adopt", self.tree.build), (1, said))
+        self.fails(said.rstrip())
+
+    def test_a_command_without_flags(self):
+        self.plain()
+        name = Path(self.tree.top, "build/toolchain/BUILD.gn")
+        name.write_text(name.read_text().replace("{{cflags_cc}}", "-std=c++20", 1))
+        self.tree.gn()
+        said = "dyncollate-gn: the command of obj/src/libbase.base.o has no {{cflags_cc}}\n"
+        self.assertEqual(adapter("adopt", self.tree.build), (1, said))
+
+    def test_what_is_rejected(self):
+        other = self.room / "other"
+        other.mkdir()
+        (other / "build.ninja").write_text("rule a\n command = b\n")
+        usage = "usage: dyncollate-gn adopt|restore BUILD_DIR, or dyncollate-gn --help"
+        for words, status, said in (
+                ((), 2, usage), (("adopt",), 2, usage), (("restore", "a", "b"), 2, usage),
+                (("adopt", "none"), 1, "none/build.ninja does not exist: run `gn gen` first"),
+                (("adopt", other), 1, f"{other}/build.ninja is not as GN writes it")):
+            self.assertEqual(adapter(*words), (status, f"dyncollate-gn: {said}\n"))
+
+
+class Edits:
+    """What is built after an edit."""
+
+    def test_edits(self):
+        self.lay({})
+        self.builds()
+        self.prints("303 12 9\n")
+        source = self.tree.top / "src"
+        (source / "value.h").write_text("#define VALUE 2\n")
+        # by both toolchains, and what the program of one of them makes for the other
+        self.builds("host/obj/src/libbase.base_impl", "obj/BUILD_DIR/gen/app.made", *MAIN,
+                    "obj/src/libbase.base_impl")
+        self.prints("304 13 10\n")
+        self.edit("src/set.cc", "export int", "import base;\nexport int")
+        self.builds("obj/src/set.set", "obj/src/libmath.math", *MAIN)
+        self.edit("src/main.cc", "import math;\n", "import math;\nimport set;\n")
+        self.edit("src/main.cc", "math(),", "set(),")
+        self.builds(*MAIN)
+        self.prints("4 13 10\n")
+
+    def test_a_source_that_is_new(self):
+        self.lay({})
+        self.builds()
+        Path(self.tree.top, "src/more.cc").write_text("export module more;\nint more();\n")
+        self.edit("BUILD.gn", '"src/math.cc"', '"src/math.cc", "src/more.cc"')
+        self.builds("obj/src/libmath.more")
+        self.edit("src/math.cc", "import set;\n", "import set;\nimport more;\n")
+        self.builds("obj/src/libmath.math", *MAIN)
+        self.edit("BUILD.gn", ', "src/more.cc"', "")
+        self.fails("dyncollate: M5 ModuleUnknown more in obj/src/libmath.math.o", AGAIN)
+        self.edit("src/math.cc", "import more;\n", "")
+        self.builds("obj/src/libmath.math", *MAIN)
+
+    def test_what_is_not_linked(self):
+        """A target imports only from what its `deps` lead to."""
+        self.lay({})
+        self.edit("src/base_impl.cc", "#include", "import math;\n#include")
+        self.fails("dyncollate: M5 ModuleUnknown math in obj/src/libbase.base_impl.o", AGAIN)
+
+
+class EditsWithClang(Edits, GnBuilds):
+    def test_import_std(self):
+        self.lay({}, flags=["-std=c++23", "-stdlib=libc++"], adopts=False)
+        Path(self.tree.top, "src/main.cc").write_text(
+            "import std;\nimport math;\nint main() { std::puts(std::to_string(math()).data()); }\n")
+        self.adopt()
+        self.builds()
+        self.prints("303\n")
+
+
+class EditsWithGcc(Edits, GnBuilds):
+    compiler, package = staticmethod(lambda: tool("gcc")), "g++-12"
