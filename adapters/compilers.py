@@ -20,8 +20,8 @@ CACHES = {"ccache", "sccache"}
 FILTER = (r"sed -E ':a; s/ (\\ |[^ ])*\.(gcm|modmap)( |$)/\3/; ta' {0} > {0}.tmp"
           " && mv {0}.tmp {0}")
 # A scan that fails leaves nothing, and one that finds the same document leaves it alone.
-SCAN = ("""t={0}.$$ && trap 'rm -f "$t"' EXIT && {1} && """
-        """{{ cmp -s "$t" {0} || mv "$t" {0}; }}""")
+SCAN = ["""t={0}.$$ && trap 'rm -f "$t"' EXIT""", "{1}",
+        """{{ cmp -s "$t" {0} || mv "$t" {0}; }}"""]
 # The flags of GCC that matter to a scan and that Clang also knows. Those of the second list have
 # their value in the next word.
 KNOWN = re.compile(r"-([DUI].|std=|m|O|pthread|nostdinc|"
@@ -30,14 +30,14 @@ WITH_VALUE = {"-D", "-U", "-I", "-isystem", "-iquote", "-idirafter", "-include",
 
 
 @functools.lru_cache(None)
-def kind(compiler):
+def kind(*compiler):
     """Returns the style of the compiler's module maps, or "" if it is not known, and its major
     version."""
     try:
-        ran = subprocess.run([compiler, "--version"], stdout=subprocess.PIPE,
+        ran = subprocess.run([*compiler, "--version"], stdout=subprocess.PIPE,
                              stderr=subprocess.STDOUT, text=True, check=False)
     except OSError as error:
-        raise Wrong(f"{compiler}: {error.strerror}", 3) from None
+        raise Wrong(f"{compiler[0]}: {error.strerror}", 3) from None
     makers = {"clang": "clang", "Free Software Foundation": "gcc"}
     style = next((style for name, style in makers.items() if name in ran.stdout), "")
     version = re.search(r"\b(\d+)\.\d+\.\d+", ran.stdout)
@@ -70,18 +70,33 @@ def compile_flags(style, name):
 def scan_command(compiler, flags, source, name, scan):
     """Returns the command for a shell that scans the source of the object `name`, which these
     flags compile."""
-    style, version = kind(compiler)
-    depfile = ["-MD", "-MF", f"{scan}.d", "-MQ", scan]
-    if style == "gcc" and version >= GCC_SCANS:
-        words = [compiler, *flags, "-fmodules-ts", "-Mno-modules", "-E", "-x", "c++", source,
-                 *depfile, "-fdeps-format=p1689r5", f"-fdeps-target={name}", "-o", "/dev/null"]
-        text = shlex.join(words) + ' -fdeps-file="$t"'
+    if scans_by_itself(compiler):
+        words, output = scan_by_gcc([compiler, *flags], source, name, scan)
     else:
-        flags = flags if style == "clang" else known_to_clang(flags)
-        words = [*scanner(compiler), "-format=p1689", "--", compiler, *flags,
-                 "-x", "c++", "-c", source, "-o", name, *depfile]
-        text = shlex.join(words) + ' > "$t"'
-    return SCAN.format(shlex.quote(scan), text)
+        flags = flags if kind(compiler)[0] == "clang" else known_to_clang(flags)
+        words, output = scan_by_clang(scanner(compiler), [compiler, *flags], source, name, scan)
+    return " && ".join(SCAN).format(shlex.quote(scan), shlex.join(words) + output)
+
+
+def scans_by_itself(*compiler):
+    style, version = kind(*compiler)
+    return style == "gcc" and version >= GCC_SCANS
+
+
+def scan_by_gcc(command, source, name, scan):
+    """Returns the words that scan a source, and the end of the command, which writes to `$t`."""
+    return [*command, "-fmodules-ts", "-Mno-modules", "-E", "-x", "c++", source, *depfile(scan),
+            "-fdeps-format=p1689r5", f"-fdeps-target={name}",
+            "-o", "/dev/null"], ' -fdeps-file="$t"'
+
+
+def scan_by_clang(scanner_command, command, source, name, scan):
+    return [*scanner_command, "-format=p1689", "--", *command, "-x", "c++", "-c", source,
+            "-o", name, *depfile(scan)], ' > "$t"'
+
+
+def depfile(scan):
+    return ["-MD", "-MF", f"{scan}.d", "-MQ", scan]
 
 
 def known_to_clang(flags):

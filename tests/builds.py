@@ -498,7 +498,8 @@ class GuideCommands(Directory):
         if missing:
             self.skipTest(f"{', '.join(missing)}: not there")
         super().setUp()
-        shutil.copytree(TOP / "examples", "examples", ignore=shutil.ignore_patterns("build", "dd", "scan", "obj", "bmi"))
+        for name in "adapters", "examples":
+            shutil.copytree(TOP / name, name, ignore=shutil.ignore_patterns("build", "dd", "scan", "obj", "bmi"))
         os.mkdir("bin")
         os.symlink(program.PROGRAM, "bin/dyncollate")
         named = ("DYNCOLLATE", *map(str.upper, TOOLS))

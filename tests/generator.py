@@ -401,8 +401,9 @@ class Repository(Directory):
 
         def git(*words, **given):
             return run("git", *words, env=environment, **given)
-        shutil.copytree(TOP / "examples", "examples", ignore=lambda folder, names: [
-            it for it in names if git("check-ignore", "-q", Path(folder, it), cwd=TOP)[0] == 0])
+        for name in "adapters", "examples":
+            shutil.copytree(TOP / name, name, ignore=lambda folder, names: [
+                it for it in names if git("check-ignore", "-q", Path(folder, it), cwd=TOP)[0] == 0])
         shutil.copy(TOP / ".gitignore", ".")
         for words in ["init", "-q"], ["add", "."], ["-c", "user.name=a", "-c", "user.email=a@b", "commit", "-qm", "all"]:
             self.assertEqual(git(*words), (0, ""))
