@@ -3,6 +3,7 @@ that have to be compiled are compiled, and another run of Ninja has nothing to d
 
     python3 -m unittest tests.cmake_edits
     python3 -m tests.cmake_edits gcc --seed 7 --edits 300
+    python3 -m tests.cmake_edits gcc --seeds 20
 """
 import argparse
 import os
@@ -379,14 +380,17 @@ def main(clang=EditsWithClang, gcc=EditsWithGcc, tool="CMake"):
     arguments = argparse.ArgumentParser(description=f"Random edits of a project that {tool} builds with dyncollate.")
     arguments.add_argument("compiler", choices=["clang", "gcc"])
     arguments.add_argument("--seed", type=int, default=random.randrange(1 << 30))
+    arguments.add_argument("--seeds", type=int, default=1, help="that many projects, by this seed and the next ones")
     arguments.add_argument("--edits", type=int, default=EDITS)
     given = arguments.parse_args()
-    test = (clang if given.compiler == "clang" else gcc)("test_edits")
-    test.setUp()
-    try:
-        test.edits(given.seed, given.edits, lambda number, what: print(number, what, flush=True))
-    finally:
-        test.doCleanups()
+    for seed in range(given.seed, given.seed + given.seeds):
+        print("seed", seed, flush=True)
+        test = (clang if given.compiler == "clang" else gcc)("test_edits")
+        test.setUp()
+        try:
+            test.edits(seed, given.edits, lambda number, what: print(number, what, flush=True))
+        finally:
+            test.doCleanups()
 
 
 if __name__ == "__main__":

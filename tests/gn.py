@@ -120,8 +120,8 @@ class Adoption(GnBuilds):
         self.assertTrue(self.tree.adopted())
 
     def test_killed(self):
-        """A run that is killed before it replaces any of its files leaves GN's files, or one that
-        the next run of Ninja adopts."""
+        """A run that is killed at any moment leaves GN's files, or one that the next run of Ninja
+        adopts."""
         self.plain()
         before = self.tree.text()
         self.adopt()
@@ -141,7 +141,7 @@ class Adoption(GnBuilds):
         self.assertEqual(ended, 0)
         # GN's text, the file that adopts and the Ninja file, and what these name
         named = [it for it in adopted if it.startswith("gn-dyncollate/")]
-        self.assertEqual((number, pending), (len(named) + 4, len(named) + 1))
+        self.assertEqual((number, pending), (2 * len(named) + 7, 2 * len(named) + 2))
 
     def test_adoptions_at_once(self):
         before = self.plain()

@@ -47,16 +47,19 @@ build liba.a.p/depscan.dd: depaccumulate liba.a.p/depscan.json
 build libb.a.p/depscan.dd: depaccumulate libb.a.p/depscan.json liba.a.p/depscan.json
 build app.p/depscan.dd: depaccumulate app.p/depscan.json liba.a.p/depscan.json libb.a.p/depscan.json
 """
-# Runs a script, and kills it at the Nth file that it would replace.
+# Runs a script, and kills it at the Nth moment: before it writes a temporary file, whose name has
+# random bytes, or puts one in its place.
 KILLED = """
 import os, runpy, sys
-number, calls, real = int(sys.argv[1]), [], os.replace
-def replace(*names):
-    calls.append(names)
-    if len(calls) == number:
-        os.kill(os.getpid(), 9)
-    real(*names)
-os.replace = replace
+number, calls = int(sys.argv[1]), []
+def killed(real):
+    def call(*words):
+        calls.append(words)
+        if len(calls) == number:
+            os.kill(os.getpid(), 9)
+        return real(*words)
+    return call
+os.replace, os.urandom = killed(os.replace), killed(os.urandom)
 del sys.argv[0:2]
 runpy.run_path(sys.argv[0], run_name="__main__")
 """
@@ -243,8 +246,8 @@ class Adoption(Builds):
         self.assertEqual(self.tree.text(), before)
 
     def test_killed(self):
-        """A run that is killed before it replaces any of its files leaves Meson's file, or one that
-        the next run of Ninja adopts."""
+        """A run that is killed at any moment leaves Meson's file, or one that the next run of Ninja
+        adopts."""
         before = self.plain(SMALL)
         self.adopt()
         adopted, documents = self.tree.text(), self.documents()
@@ -261,7 +264,7 @@ class Adoption(Builds):
                 self.assertEqual(self.tree.status, 0, self.tree.log)
                 self.assertEqual((self.tree.text(), self.documents()), (adopted, documents))
         # Meson's text and the file that adopts, two documents, and the Ninja file
-        self.assertEqual((ended, number, pending), (0, 6, 3))
+        self.assertEqual((ended, number, pending), (0, 11, 6))
 
     def test_adoptions_at_once(self):
         before = self.plain(SMALL)

@@ -4,6 +4,7 @@ has nothing to do.
 
     python3 -m unittest tests.meson_edits
     python3 -m tests.meson_edits gcc --seed 7 --edits 300
+    python3 -m tests.meson_edits gcc --seeds 20
 """
 import graphlib
 import os

@@ -10,7 +10,7 @@ import unittest
 from collections import namedtuple
 from pathlib import Path
 
-from tests import program
+from tests import meson, program
 from tests.builds import EXAMPLES, Directory, edit, standard_modules
 from tests.run import run
 from tests.side_by_side import side_by_side
@@ -23,22 +23,14 @@ Step = namedtuple("Step", "kind command reads writes")
 TRIES = 20
 
 
-class Sandboxed(Directory):
-    """A build of an example, and its steps in sandboxes."""
+class Sandbox:
+    """The steps of a build, which is in the working directory, in sandboxes."""
     seconds = 60
-    example = form = ""
+    form = ""
 
-    def setUp(self):
-        self.tools = ["ninja", "clang", "scanner"] + (["gcc"] if self.form == "gcc" else [])
-        super().setUp()
+    def find_bubblewrap(self):
         if not shutil.which("bwrap") or run("bwrap", "--ro-bind", "/", "/", "true")[0]:
             self.skipTest("bubblewrap: not there, or not allowed")
-        self.before()
-        self.copy(self.example, self.form)
-        self.assertEqual(self.ninja()[0], 0, self.log)
-
-    def before(self):
-        pass
 
     # ---- the steps, by the rules of GUIDE
 
@@ -81,12 +73,15 @@ class Sandboxed(Directory):
         provided, needed = self.provided_and_needed(output)
         return Step(kind, command, {source, f"{output}.modmap", *self.below(output), *needed}, {output, f"{output}.d", *provided})
 
-    def steps(self):
-        """All steps of the build, by their kinds."""
-        statements = re.findall(r"^build (\S+)(?: \| (.*))?: dyndep", "".join(it.read_text() for it in Path("dd").glob("*.dd")), re.M)
+    def dyndep_files(self):
+        return Path("dd").glob("*.dd")
+
+    def steps(self, **rules):
+        """All steps of the build, by their kinds, whose rules may have other names."""
+        statements = re.findall(r"^build (\S+)(?: \| (.*))?: dyndep", "".join(it.read_text() for it in self.dyndep_files()), re.M)
         self.outputs = {name: outputs.split(" ") for name, outputs in statements}
         for kind in "scan", "collate", "compile", "archive", "link":
-            for it in json.loads(self.asked("compdb", kind)):
+            for it in json.loads(self.asked("compdb", *rules.get(kind, [kind]))):
                 yield self.step(kind, os.path.normpath(it["output"]), it["command"], os.path.normpath(it["file"]))
 
     # ---- sandboxes
@@ -125,6 +120,22 @@ class Sandboxed(Directory):
             if not different:
                 return
         self.fail(f"{sorted(different)}: other bytes than in the build, by {step}")
+
+
+class Sandboxed(Sandbox, Directory):
+    """A build of an example."""
+    example = ""
+
+    def setUp(self):
+        self.tools = ["ninja", "clang", "scanner"] + (["gcc"] if self.form == "gcc" else [])
+        super().setUp()
+        self.find_bubblewrap()
+        self.before()
+        self.copy(self.example, self.form)
+        self.assertEqual(self.ninja()[0], 0, self.log)
+
+    def before(self):
+        pass
 
     def test_each_step(self):
         kinds = [(step.kind, self.same(step)) for step in self.steps()]
@@ -184,6 +195,34 @@ class StdWithClang(Sandboxed):
 
 
 del Sandboxed
+
+
+class InMesonsBuild(Sandbox, meson.Builds):
+    """The steps of a build that Meson configured. The sources are below the build directory."""
+    tools = ["ninja", "clang", "scanner"]
+
+    def setUp(self):
+        super().setUp()
+        self.find_bubblewrap()
+        self.environment = meson.environment()
+        self.addCleanup(os.chdir, os.getcwd())
+        self.tree = meson.Tree(self.room / "build/source", meson.SMALL, self.compiler(), build="..")
+        os.chdir(self.room / "build")
+        self.builds()
+
+    def dyndep_files(self):
+        return Path("meson-dyncollate").rglob("modules.dd")
+
+    def test_each_step(self):
+        rules = {"scan": ["dyncollate_scan"], "collate": ["dyncollate_collate"], "link": ["cpp_LINKER"],
+                 "compile": ["cpp_COMPILER", "cpp_COMPILER_dyncollate"], "archive": ["STATIC_LINKER"]}
+        kinds = [(step.kind, self.same(step)) for step in self.steps(**rules)]
+        self.assertEqual([kind for kind, _ in kinds], ["scan"] * 2 + ["collate"] * 2 + ["compile"] * 2 + ["archive", "link"])
+
+
+class InMesonsBuildWithGcc(InMesonsBuild):
+    form, tools = "gcc", ["ninja", "gcc", "clang", "scanner"]
+    compiler, package = staticmethod(lambda: tool("gcc")), "g++-12"
 
 
 @unittest.skipUnless(shutil.which("ccache"), "ccache: not there")
