@@ -9,19 +9,13 @@ import shutil
 import subprocess
 
 from adapter_files import Wrong
+from ninja_files import shell
 
 # From this version on GCC scans by itself.
 GCC_SCANS = 14
 # The names of clang-scan-deps, which scans for older versions of GCC.
 SCANNERS = ["clang-scan-deps", *(f"clang-scan-deps-{it}" for it in range(22, 15, -1))]
 CACHES = {"ccache", "sccache"}
-# GCC leaves module files and maps in the depfile, from version 14 on also with -Mno-modules. Ninja
-# would keep them as inputs, even of a source that imports them no more.
-FILTER = (r"sed -E ':a; s/ (\\ |[^ ])*\.(gcm|modmap)( |$)/\3/; ta' {0} > {0}.tmp"
-          " && mv {0}.tmp {0}")
-# A scan that fails leaves nothing, and one that finds the same document leaves it alone.
-SCAN = ["""t={0}.$$ && trap 'rm -f "$t"' EXIT""", "{1}",
-        """{{ cmp -s "$t" {0} || mv "$t" {0}; }}"""]
 # The flags of GCC that matter to a scan and that Clang also knows. Those of the second list have
 # their value in the next word.
 KNOWN = re.compile(r"-([DUI].|std=|m|O|pthread|nostdinc|"
@@ -67,36 +61,38 @@ def compile_flags(style, name):
     return ["-fmodules-ts", f"-fmodule-mapper={name}.modmap", "-Mno-modules", "-x", "c++"]
 
 
-def scan_command(compiler, flags, source, name, scan):
-    """Returns the command for a shell that scans the source of the object `name`, which these
-    flags compile."""
-    if scans_by_itself(compiler):
-        words, output = scan_by_gcc([compiler, *flags], source, name, scan)
+def scan_lines(command, scanner_command=""):
+    """Returns the command of a rule that scans `$in`, the source of `$object`, in parts to be joined
+    by `&&`. `command` compiles it. Without another scanner, GCC scans. A scan that fails leaves
+    nothing, and one that finds the same document leaves it alone."""
+    depfile = "-MD -MF $out.d -MQ $out"
+    if scanner_command:
+        scan = (f"{scanner_command} -format=p1689 -- {command} -x c++ -c $in -o $object {depfile} "
+                '> "$$t"')
     else:
-        flags = flags if kind(compiler)[0] == "clang" else known_to_clang(flags)
-        words, output = scan_by_clang(scanner(compiler), [compiler, *flags], source, name, scan)
-    return " && ".join(SCAN).format(shlex.quote(scan), shlex.join(words) + output)
+        scan = (f"{command} -fmodules-ts -Mno-modules -E -x c++ $in {depfile} -fdeps-format=p1689r5"
+                ' -fdeps-target=$object -o /dev/null -fdeps-file="$$t"')
+    return ["""t=$out.$$$$ && trap 'rm -f "$$t"' EXIT""", scan,
+            """{ cmp -s "$$t" $out || mv "$$t" $out; }"""]
 
 
-def scans_by_itself(*compiler):
-    style, version = kind(*compiler)
-    return style == "gcc" and version >= GCC_SCANS
+def scan_command(compiler, flags):
+    """Returns the command of a rule that scans what this compiler compiles with these flags."""
+    style, version = kind(compiler)
+    if style == "gcc" and version >= GCC_SCANS:
+        lines = scan_lines(shell([compiler, *flags]))
+    else:
+        flags = flags if style == "clang" else known_to_clang(flags)
+        lines = scan_lines(shell([compiler, *flags]), shell(scanner(compiler)))
+    return " && ".join(lines)
 
 
-def scan_by_gcc(command, source, name, scan):
-    """Returns the words that scan a source, and the end of the command, which writes to `$t`."""
-    return [*command, "-fmodules-ts", "-Mno-modules", "-E", "-x", "c++", source, *depfile(scan),
-            "-fdeps-format=p1689r5", f"-fdeps-target={name}",
-            "-o", "/dev/null"], ' -fdeps-file="$t"'
-
-
-def scan_by_clang(scanner_command, command, source, name, scan):
-    return [*scanner_command, "-format=p1689", "--", *command, "-x", "c++", "-c", source,
-            "-o", name, *depfile(scan)], ' > "$t"'
-
-
-def depfile(scan):
-    return ["-MD", "-MF", f"{scan}.d", "-MQ", scan]
+def filtered(depfile):
+    """Returns the command of a rule that removes module files and maps from a depfile. GCC leaves
+    them there, from version 14 on also with -Mno-modules. Ninja would keep them as inputs, even of
+    a source that imports them no more."""
+    return (r"sed -E ':a; s/ (\\ |[^ ])*\.(gcm|modmap)( |$$)/\3/; ta' {0} > {0}.tmp"
+            " && mv {0}.tmp {0}").format(depfile)
 
 
 def known_to_clang(flags):

@@ -4,7 +4,7 @@ calls the generator keeps the build adopted."""
 import re
 
 from adapter_files import Wrong
-from compilers import FILTER, compile_flags, scan_command
+from compilers import compile_flags, filtered, scan_command
 from ninja_files import escaped, paths, shell, value
 
 FIRST_STATEMENT = re.compile(r"^build ", re.M)
@@ -13,14 +13,16 @@ FIRST_STATEMENT = re.compile(r"^build ", re.M)
 NO_FLAGS = {"-MD", "-MMD", "-MP", "-c"}
 SHELL = {"&&", "||", ";", "|", ">", "&"}
 OUTPUT_FLAGS = {"-MF", "-MQ", "-MT", "-o"}
-RULES = """\
-rule dyncollate_scan
- command = $COMMAND
+SCAN = """\
+rule {name}
+ command = {command}
  description = Scanning $in
  depfile = $out.d
  deps = gcc
  restat = 1
 
+"""
+RULES = """\
 rule dyncollate_collate
  command = {collate} $in || {this} --why $in
  description = Collating $in
@@ -40,6 +42,8 @@ class Statements:
     def __init__(self, generator, file, steps, program, this):
         self.generator, self.file, self.steps, self.program, self.this = (
             generator, file, steps, program, this)
+        # the names of the rules that scan, by their commands
+        self.scans = {}
 
     def texts(self):
         """Returns the texts by their names. What the generator wrote into files that build.ninja
@@ -64,7 +68,8 @@ class Statements:
 
     def rules(self):
         this = shell([*self.this, f"--program={self.program}"])
-        text = RULES.format(collate=shell([self.program, "collate"]), this=this)
+        text = "".join(SCAN.format(name=name, command=it) for it, name in self.scans.items())
+        text += RULES.format(collate=shell([self.program, "collate"]), this=this)
         own = {it.rule: (target, it) for step in self.steps for target in step.targets
                if has_own_rule(target) for it in target.compiles}
         for name, (target, build) in own.items():
@@ -73,7 +78,7 @@ class Statements:
                 # a cache does not know the module files that an object depends on
                 rule["command"] = rule["command"].partition(" ")[2]
             if target.style == "gcc":
-                rule["command"] += f" && {value(FILTER).format(self.generator.DEPFILE)}"
+                rule["command"] += f" && {filtered(self.generator.DEPFILE)}"
             lines = [f"rule {own_rule(name)}", *(f" {key} = {raw}" for key, raw in rule.items())]
             text += "\n".join([*lines, "\n"])
         return text
@@ -110,9 +115,10 @@ class Statements:
                  if OUTPUT_FLAGS.isdisjoint((before, it))
                  and it not in NO_FLAGS and it not in self.generator.MODULE_FLAGS
                  and it not in build.inputs]
-        command = scan_command(words[0], flags, build.inputs[0], name, f"{name}.ddi")
-        return build.text("dyncollate_scan", outputs=[f"{name}.ddi"], order_only=waits(build),
-                          raw={"COMMAND": value(command)})
+        number = len(self.scans) or ""
+        rule = self.scans.setdefault(scan_command(words[0], flags), f"dyncollate_scan{number}")
+        return build.text(rule, outputs=[f"{name}.ddi"], order_only=waits(build),
+                          raw={"object": shell([name])})
 
 
 def waits(build):

@@ -5,6 +5,7 @@ import json
 import os
 import re
 import shutil
+import sys
 import tempfile
 import unittest
 from collections import namedtuple
@@ -26,7 +27,7 @@ TRIES = 20
 class Sandbox:
     """The steps of a build, which is in the working directory, in sandboxes."""
     seconds = 60
-    form = ""
+    form, programs = "", []
 
     def find_bubblewrap(self):
         if not shutil.which("bwrap") or run("bwrap", "--ro-bind", "/", "/", "true")[0]:
@@ -51,6 +52,9 @@ class Sandbox:
         objects = [rule["primary-output"] for it in scans for rule in json.loads(Path(it).read_text())["rules"]]
         return targets, scans, [f"{it}.modmap" for it in objects] + [it[key] for it in targets for key in ("info", "dyndep")]
 
+    def documents(self, name):
+        return json.loads(Path(name).read_text()).get("targets", [name])
+
     def provided_and_needed(self, name):
         """The files in an object's map that the compilation writes, and the files that it may read."""
         lines = Path(f"{name}.modmap").read_text().splitlines()
@@ -62,11 +66,11 @@ class Sandbox:
 
     def step(self, kind, output, command, source):
         if kind in ("archive", "link"):
-            return Step(kind, command, set(re.findall(r"^    (?!\|)(.*)$", self.asked("query", output).split("  outputs:")[0], re.M)), {output})
+            return Step(kind, command, set(re.findall(r"^    (?:\| )?([^|].*)$", self.asked("query", output).split("  outputs:")[0], re.M)), {output})
         if kind == "scan":
             return Step(kind, command, {source, *self.below(output)}, {output, f"{output}.d"})
         if kind == "collate":
-            documents = json.loads(Path(source).read_text()).get("targets", [source])
+            documents = self.documents(source)
             targets, scans, written = self.of_documents(documents)
             linked = [info for it in targets for info in it["linked"]] if documents == [source] else []
             return Step(kind, command, {source, *documents, *scans, *linked}, set(written))
@@ -101,7 +105,7 @@ class Sandbox:
                  "--tmpfs", "/tmp", "--dir", "/var/tmp"]
         for name in "bin", "lib", "lib64", "sbin":
             words += ["--symlink", f"usr/{name}", f"/{name}"] if os.path.islink(f"/{name}") else ["--ro-bind", f"/{name}", f"/{name}"]
-        for name in {program.PROGRAM, *(os.path.realpath(tool(it)) for it in self.tools)}:
+        for name in {program.PROGRAM, *self.programs, *(os.path.realpath(tool(it)) for it in self.tools)}:
             if not name.startswith("/usr/"):
                 words += ["--ro-bind", name, name]
         words += ["--bind", room, os.getcwd(), "--chdir", os.getcwd(), "sh", "-c", step.command]
@@ -200,24 +204,45 @@ del Sandboxed
 class InMesonsBuild(Sandbox, meson.Builds):
     """The steps of a build that Meson configured. The sources are below the build directory."""
     tools = ["ninja", "clang", "scanner"]
+    # the step of a group is in Python
+    programs = [sys.prefix, f"{program.TOP}/adapters"]
 
     def setUp(self):
         super().setUp()
         self.find_bubblewrap()
-        self.environment = meson.environment()
         self.addCleanup(os.chdir, os.getcwd())
-        self.tree = meson.Tree(self.room / "build/source", meson.SMALL, self.compiler(), build="..")
+        self.addCleanup(os.environ.pop, "SOURCE_DATE_EPOCH", None)
+        os.environ["SOURCE_DATE_EPOCH"] = "1"
+        self.environment = meson.environment()
+        self.tree = meson.Tree(self.room / "build/source", meson.TWO, self.compiler(), build="..")
         os.chdir(self.room / "build")
         self.builds()
 
     def dyndep_files(self):
         return Path("meson-dyncollate").rglob("modules.dd")
 
+    def step(self, kind, output, command, source):
+        """The step of a group also writes the target documents and the dyndep files of its libraries, and Python's cache."""
+        found = super().step(kind, output, command, source)
+        if kind == "link":
+            # the archives of Meson name the objects, and do not contain them
+            return found._replace(reads=found.reads | {*map(str, Path().glob("*.p/*.o"))})
+        if "--group" not in command:
+            return found
+        documents = {it["document"] for it in json.loads(Path(source).read_text())["targets"]}
+        cached = {str(it) for it in Path("meson-dyncollate/python").rglob("*.pyc")}
+        return Step("group", command, found.reads - documents | {source}, found.writes | documents | cached | {output})
+
+    def documents(self, name):
+        members = json.loads(Path(name).read_text()).get("targets")
+        return [it["document"] for it in members] if members else [name]
+
     def test_each_step(self):
-        rules = {"scan": ["dyncollate_scan"], "collate": ["dyncollate_collate"], "link": ["cpp_LINKER"],
+        rules = {"scan": sorted(set(re.findall("^rule (dyncollate_scan.*)", self.tree.text(), re.M))),
+                 "collate": ["dyncollate_group", "dyncollate_collate"], "link": ["cpp_LINKER"],
                  "compile": ["cpp_COMPILER", "cpp_COMPILER_dyncollate"], "archive": ["STATIC_LINKER"]}
         kinds = [(step.kind, self.same(step)) for step in self.steps(**rules)]
-        self.assertEqual([kind for kind, _ in kinds], ["scan"] * 2 + ["collate"] * 2 + ["compile"] * 2 + ["archive", "link"])
+        self.assertEqual([kind for kind, _ in kinds], ["scan"] * 3 + ["group", "collate"] + ["compile"] * 3 + ["archive"] * 2 + ["link"])
 
 
 class InMesonsBuildWithGcc(InMesonsBuild):
