@@ -9,7 +9,7 @@ import hashlib
 import os
 from itertools import filterfalse
 
-from adapter_files import Alone, Wrong, read, replace, write_if_changed
+from adapter_files import Alone, Wrong, read, replace, say, write_if_changed
 from ninja_files import NinjaFile, shell
 from ninja_statements import Statements
 from ninja_std import with_standard_library
@@ -105,6 +105,8 @@ def adopt(generator, folder, program, this, wrapper, again=True):
         if not targets.scanned:
             build.restore()
             return f"{folder} has no target whose sources have C++ modules"
+        for name in targets.with_header_units():
+            say(f"{name} imports a header unit, which is not handled: include the header")
         steps = steps_of(targets.scanned)
         texts = documents_of(steps, targets.scanned, os.path.abspath(folder))
         texts.update(Statements(generator, targets.file, steps, program(), this).texts())

@@ -14,6 +14,7 @@ MODERN = re.compile(r"-std=(c|gnu)\+\+2[0-9a-z]$")
 # A line that begins a module or imports one.
 MODULE = re.compile(rb"^(?:\xef\xbb\xbf)?[ \t]*(?:export\s+)?(?:module|import)"
                     rb"(?:\s*[;:<\"]|\s+[A-Za-z_\x80-\xff])", re.M)
+HEADER_UNIT = re.compile(rb"^[ \t]*(?:export\s+)?import\s*[<\"]", re.M)
 UNITY = re.compile(r"-unity\d+\.cpp(\.o)?$")
 HEADERS = (".gch", ".pch")
 INCLUDED = re.compile(rb"^#include ?<(.*)>", re.M)
@@ -155,6 +156,11 @@ class Targets:
 
     def has_modules(self, target):
         return any(map(MODULE.search, self.sources(target)))
+
+    def with_header_units(self):
+        """Returns the names of the targets that import header units."""
+        return [name for name, it in self.scanned.items() if not self.is_ours(name)
+                and any(map(HEADER_UNIT.search, self.sources(it)))]
 
     def is_to_come(self, target):
         """Whether a source is not there yet, and may have a module."""

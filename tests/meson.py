@@ -224,6 +224,24 @@ class Adoption(Builds):
         self.adopt()
         self.assertTrue(self.tree.adopted())
 
+    def test_a_warning(self):
+        """If dyncollate-ninja builds what Meson configured without it, it says how to adopt it."""
+        self.lay(SMALL)
+        said = (f"dyncollate-ninja: warning: Meson wrote {self.tree.build}/build.ninja without "
+                f"dyncollate-ninja: run `dyncollate-meson adopt {self.tree.build}`\n")
+        for options, is_adopted in ({}, True), ({"NINJA": tool("ninja")}, False):
+            self.tree.setup("--reconfigure", **options)
+            _, printed = run(NINJA, "-C", self.tree.build, "-t", "targets", env=environment())
+            self.assertNotIn("warning", printed)
+            _, printed = run(NINJA, "-C", self.tree.build, "build.ninja", env=environment())
+            self.assertEqual(said in printed, not is_adopted, printed)
+
+    def test_a_header_unit(self):
+        lines = SMALL["main.cpp"].replace("import lib;", "import lib;\nimport <vector>;")
+        self.lay({**SMALL, "main.cpp": lines})
+        self.assertIn("dyncollate-meson: app.p imports a header unit, which is not handled: include "
+                      "the header", self.tree.log.splitlines())
+
     def test_a_failure(self):
         """The build fails with its line. When it is mended, the next run of Ninja adopts it."""
         tools = self.room / "tools"

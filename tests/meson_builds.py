@@ -14,6 +14,25 @@ RECONFIGURE = ("dyncollate-meson: for a first `import std`, and for the first mo
                "in a source that was there before, run `ninja reconfigure`")
 
 
+CROSS = """[binaries]
+c = 'aarch64-linux-gnu-gcc'
+cpp = 'aarch64-linux-gnu-g++'
+ar = 'aarch64-linux-gnu-ar'
+[host_machine]
+system = 'linux'
+cpu_family = 'aarch64'
+cpu = 'aarch64'
+endian = 'little'
+"""
+WRITER = """writer = executable('writer', 'writer.cpp', 'number.cpp', native: true)
+made = custom_target('made', output: 'made.cpp', command: writer, capture: true)
+"""
+WRITES = """#include <cstdio>
+import number;
+int main() { std::printf("export module made;\\nexport int made() { return %d; }\\n", number()); }
+"""
+
+
 class Projects:
     def lay_data(self, name, *options, **more):
         shutil.copytree(DATA / name, self.room / name)
@@ -122,6 +141,18 @@ class Projects:
         self.assertIn("which is removed: the next build makes it again", self.tree.log)
         self.builds()
 
+    def test_ccache(self):
+        """No object of an importer is one of before its module changed."""
+        if not shutil.which("ccache"):
+            self.skipTest("ccache: not there")
+        variables = {"CXX": f"ccache {self.compiler()}", "CCACHE_DIR": str(self.room / "ccache")}
+        self.lay({**SMALL, "lib.cpp": "export module lib;\nexport constexpr int lib() { return 0; }\n"},
+                 **variables)
+        for before, after in "01", "10", "01":
+            self.builds()
+            self.prints("", int(before))
+            self.edit("lib.cpp", before, after)
+
     def test_a_cache_of_objects(self):
         """It is not called for a target with modules, because it does not know their files."""
         cache = self.room / "ccache"
@@ -153,6 +184,23 @@ class ProjectsWithClang(Projects, Builds):
 
 class ProjectsWithGcc(Projects, Builds):
     compiler, package = staticmethod(lambda: tool("gcc")), "g++-12"
+
+    def test_a_cross_build(self):
+        """A program for another processor, whose source a program with a module for this one
+        writes."""
+        if not shutil.which("aarch64-linux-gnu-g++"):
+            self.skipTest("g++-aarch64-linux-gnu: not there")
+        put(self.room / "cross", CROSS)
+        self.lay({**SMALL, "meson.build": SMALL["meson.build"].replace("'main.cpp'", "'main.cpp', made")
+                  .replace("lib = ", WRITER + "lib = "), "writer.cpp": WRITES,
+                  "number.cpp": "export module number;\nexport int number() { return 3; }\n",
+                  "main.cpp": "import lib;\nimport made;\nint main() { return lib() + made(); }\n"},
+                 f"--cross-file={self.room}/cross", "-Dbuild.cpp_std=c++20", CXX="", CC="")
+        self.builds()
+        self.assertIn("ARM aarch64", run("file", "-b", self.tree.build / "app")[1])
+        if shutil.which("qemu-aarch64-static"):
+            words = ["qemu-aarch64-static", "-L", "/usr/aarch64-linux-gnu", self.tree.build / "app"]
+            self.assertEqual(run(*words), (3, ""))
 
     def test_a_precompiled_header(self):
         put(self.room / "a project/pch/all.h", "#include <cstdio>\n")
