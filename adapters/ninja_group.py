@@ -1,5 +1,6 @@
 """The step of a group of static libraries: finds from their scans which library needs which,
-collates each after those that it needs, and writes one dyndep file for all.
+collates each after those that it needs, and writes one dyndep file for all. A library that is up to
+date is not collated again, so this does not call `dyncollate project`, which collates all.
 
 It runs in the build directory, as Ninja calls it, and imports only modules that are quick to
 import.

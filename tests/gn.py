@@ -12,7 +12,7 @@ from pathlib import Path
 
 from tests import program
 from tests.case import tree
-from tests.cmake import TOP
+from tests.cmake import NINJA, TOP
 from tests.meson import KILLED, Builds, Tree, environment
 from tests.run import output_of, run, run_at_once
 from tests.tools import tool
@@ -40,9 +40,9 @@ class GnTree(Tree):
         if adopts:
             self.status, self.log = adapter("adopt", self.build, **more)
 
-    def gn(self, *words):
+    def gn(self, *words, **given):
         values = f"cxx=\"{self.compiler}\" flags={json.dumps(self.flags)}"
-        output_of("gn", "gen", "-q", self.build, f"--args={values}", *words, cwd=self.top)
+        output_of("gn", "gen", "-q", self.build, f"--args={values}", *words, cwd=self.top, **given)
 
 
 class GnBuilds(Builds):
@@ -104,6 +104,19 @@ class Adoption(GnBuilds):
         self.assertFalse(self.tree.adopted())
         self.adopt()
         self.builds()
+
+    def test_kept_by_gn(self):
+        """GN calls the Ninja that it is given, if the project asks for Ninja 1.10 or newer."""
+        self.plain()
+        name = self.tree.top / ".gn"
+        name.write_text(name.read_text() + 'ninja_required_version = "1.10.0"\n')
+        for _ in range(2):
+            self.tree.gn(f"--ninja-executable={NINJA}", env=environment())
+            self.assertTrue(self.tree.adopted())
+        self.builds()
+        (self.tree.top / "BUILD.gn").touch()
+        self.tree.ninja("build.ninja")
+        self.assertTrue(self.tree.adopted())
 
     def test_a_failure(self):
         """The build fails with its line. When it is mended, the next run of Ninja adopts it."""

@@ -58,6 +58,9 @@ class InstallProgram(InRoom):
         of_library = {it for it in INSTALLED if it.startswith(("include/", "LIB/")) or it.endswith(("man3/dyncollate.3", ".html"))}
         self.assertEqual({it for it in files if "/examples/" not in it}, {*INSTALLED} - of_library)
         self.assertTrue(any("/examples/std/" in it for it in files))
+        self.assertEqual(call(prefix / "share/dyncollate/examples/generate", "--help")[::2], (0, ""))
+        for name in "dyncollate-cmake", "dyncollate-gn", "dyncollate-meson":
+            self.assertEqual(call(prefix / "bin" / name, "--version"), (0, f"{name} {(TOP / 'VERSION').read_text()}", ""))
         self.assertFalse(any("/embed/" in it for it in files))
         self.assertEqual(call(home / "install", "--uninstall", prefix)[0], 0)
         self.assertEqual([*prefix.iterdir()], [])

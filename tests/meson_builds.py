@@ -174,12 +174,16 @@ class ProjectsWithClang(Projects, Builds):
         self.builds()
         self.prints("3 2\n")
 
-    def test_no_std(self):
-        """Clang has the module only with its own library."""
+    def test_std_of_gcc(self):
+        """Clang has the module also with the library of GCC 15 or newer, if that is there."""
         self.lay({**SMALL, "main.cpp": "import std;\n" + SMALL["main.cpp"]})
+        name = "libstdc++.modules.json"
+        if run(self.compiler(), f"-print-file-name={name}")[1].strip() != name:
+            return self.builds()
         self.fails(f"dyncollate-meson: app.p imports std, and {self.compiler()} has no "
                    "libstdc++.modules.json: Clang has it with -stdlib=libc++, and GCC from version "
                    "15 on")
+        return None
 
 
 class ProjectsWithGcc(Projects, Builds):
