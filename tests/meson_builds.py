@@ -2,6 +2,7 @@
 what errors look like."""
 import json
 import os
+import re
 import shutil
 
 from tests.cmake import NINJA, put
@@ -100,6 +101,27 @@ class Projects:
         self.builds("a.cpp", "b.cpp", "main.cpp")
         put(self.tree.top / "b.cpp", "import a;\nint b() { return a(); }\n")
         self.builds("b.cpp")
+
+    def test_what_is_collated(self):
+        """An edit of a body collates nothing. An import collates its library alone in a group, and
+        the program, because the info file of the library changes."""
+        self.lay({**TWO, "b.cpp": TWO["b.cpp"].replace("import a;\n", "").replace("a()", "0")})
+        self.builds()
+        self.edit("a.cpp", "return 0", "return 1")
+        self.assertEqual(self.collated(), ([], []))
+        self.edit("b.cpp", "module b;\n", "module b;\nimport a;\n")
+        self.assertEqual(self.collated(), (["app.p/target.json", "liba.a.p/group.json"],
+                                           ["app.p/modules.dd", "libb.a.p/modules.dd"]))
+
+    def collated(self):
+        """The documents of the steps of a build, and the dyndep files of targets that it wrote."""
+        files = sorted((self.tree.build / "meson-dyncollate").glob("*/modules.dd"))
+        times = [it.stat().st_mtime_ns for it in files]
+        self.tree.ninja()
+        self.assertEqual(self.tree.status, 0, self.tree.log)
+        written = [it for it, time in zip(files, times) if it.stat().st_mtime_ns != time]
+        return (sorted(re.findall(r"Collating meson-dyncollate/(.*)", self.tree.log)),
+                [f"{it.parent.name}/{it.name}" for it in written])
 
     def test_compile_commands(self):
         """They have the maps, by which clangd finds modules, and no scans."""
