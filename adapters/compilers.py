@@ -62,8 +62,8 @@ def compile_flags(style, name):
 
 
 def scan_lines(command, scanner_command=""):
-    """Returns the command of a rule that scans `$in`, the source of `$object`, in parts to be joined
-    by `&&`. `command` compiles it. Without another scanner, GCC scans. A scan that fails leaves
+    """Returns the command of a rule that scans `$in`, the source of `$object`, in parts that `&&`
+    joins. `command` compiles it. Without another scanner, GCC scans. A scan that fails leaves
     nothing, and one that finds the same document leaves it alone."""
     depfile = "-MD -MF $out.d -MQ $out"
     if scanner_command:

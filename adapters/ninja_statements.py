@@ -11,8 +11,9 @@ FIRST_STATEMENT = re.compile(r"^build ", re.M)
 # Words of a compilation that are no flags of a scan. Those of the second list have their value in
 # the next word.
 NO_FLAGS = {"-MD", "-MMD", "-MP", "-c"}
-SHELL = {"&&", "||", ";", "|", ">", "&"}
 OUTPUT_FLAGS = {"-MF", "-MQ", "-MT", "-o"}
+# Words of a command that is more than a call of the compiler.
+OPERATORS = {"&&", "||", ";", "|", ">", "&"}
 SCAN = """\
 rule {name}
  command = {command}
@@ -109,7 +110,7 @@ class Statements:
 
     def scanned(self, target, build):
         name, words = build.outputs[0], build.words()[target.is_cached:]
-        if not SHELL.isdisjoint(words):
+        if not OPERATORS.isdisjoint(words):
             raise Wrong(f"the command of {name} is more than a call of the compiler")
         flags = [it for before, it in zip(words, words[1:])
                  if OUTPUT_FLAGS.isdisjoint((before, it))

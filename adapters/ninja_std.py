@@ -1,8 +1,8 @@
 """The modules std and std.compat, if a source of a build imports one of them.
 
 Their sources, which the standard library ships, become a target like any other, as if the generator
-had written it: one for all targets whose compilation differs in nothing that matters to a module. Each
-program and shared library with a target that imports std is linked with its objects.
+had written it: one for all targets whose compilation differs in nothing that matters to a module.
+Each program and shared library with a target that imports std is linked with its objects.
 """
 import re
 from dataclasses import dataclass
@@ -33,7 +33,8 @@ def with_standard_library(generator, folder, file):
         found = {used[it] for it in targets.linked(build) & users.keys()}
         more = sorted(name for it in found for name in it.objects)
         if more:
-            changed.setdefault(build.file, {})[build] = build.text(build.rule, inputs=build.inputs + more)
+            text = build.text(build.rule, inputs=build.inputs + more)
+            changed.setdefault(build.file, {})[build] = text
     texts = {it.name: it.changed(changed.get(it, {})) for it in file.files}
     for it in libraries.values():
         # there the rule is known

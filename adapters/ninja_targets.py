@@ -1,4 +1,4 @@
-"""The C++ targets of a build, those that are scanned, and which targets each may import modules from.
+"""The C++ targets of a build, those that are scanned, and from which each may import modules.
 
 What differs between generators is in a module for each, such as `meson_generator`.
 """

@@ -239,8 +239,8 @@ class Adoption(Builds):
     def test_a_header_unit(self):
         lines = SMALL["main.cpp"].replace("import lib;", "import lib;\nimport <vector>;")
         self.lay({**SMALL, "main.cpp": lines})
-        self.assertIn("dyncollate-meson: app.p imports a header unit, which is not handled: include "
-                      "the header", self.tree.log.splitlines())
+        said = "dyncollate-meson: app.p imports a header unit, which is not handled: include the header"
+        self.assertIn(said, self.tree.log.splitlines())
 
     def test_a_failure(self):
         """The build fails with its line. When it is mended, the next run of Ninja adopts it."""

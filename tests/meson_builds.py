@@ -168,8 +168,7 @@ class Projects:
         if not shutil.which("ccache"):
             self.skipTest("ccache: not there")
         variables = {"CXX": f"ccache {self.compiler()}", "CCACHE_DIR": str(self.room / "ccache")}
-        self.lay({**SMALL, "lib.cpp": "export module lib;\nexport constexpr int lib() { return 0; }\n"},
-                 **variables)
+        self.lay({**SMALL, "lib.cpp": SMALL["lib.cpp"].replace("int", "constexpr int")}, **variables)
         for before, after in "01", "10", "01":
             self.builds()
             self.prints("", int(before))
@@ -217,8 +216,9 @@ class ProjectsWithGcc(Projects, Builds):
         if not shutil.which("aarch64-linux-gnu-g++"):
             self.skipTest("g++-aarch64-linux-gnu: not there")
         put(self.room / "cross", CROSS)
-        self.lay({**SMALL, "meson.build": SMALL["meson.build"].replace("'main.cpp'", "'main.cpp', made")
-                  .replace("lib = ", WRITER + "lib = "), "writer.cpp": WRITES,
+        lists = SMALL["meson.build"].replace("'main.cpp'", "'main.cpp', made")
+        self.lay({**SMALL, "meson.build": lists.replace("lib = ", WRITER + "lib = "),
+                  "writer.cpp": WRITES,
                   "number.cpp": "export module number;\nexport int number() { return 3; }\n",
                   "main.cpp": "import lib;\nimport made;\nint main() { return lib() + made(); }\n"},
                  f"--cross-file={self.room}/cross", "-Dbuild.cpp_std=c++20", CXX="", CC="")
