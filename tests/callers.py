@@ -13,8 +13,8 @@ from collections import defaultdict
 from tests.reading import CRATES, TOP, functions
 
 SHARES = {"ninja_text": 19, "dep_order": 31, "dyndep_file": 25, "table_keys": 0, "document_values": 0, "scan_docs": 34,
-          "module_maps": 29, "module_table": 42, "build_effect": 35, "collate_core": 33, "command_line": 75, "system_files": 28,
-          "commands": 36, "disk_folder": 13, "dyncollate": 50, "in_memory": 29, "c_library": 0}
+          "module_maps": 29, "module_table": 42, "build_effect": 35, "collate_core": 33, "command_line": 75, "system_files": 27,
+          "commands": 36, "disk_folder": 10, "dyncollate": 0, "in_memory": 29, "c_library": 0}
 
 
 def of_crate(crate):

@@ -1,12 +1,13 @@
 """Each allocation fails in turn: the first one of a run, then the second one, and so on until a run ends without a failure.
 
-- The worked rows, by the program. A run has to report that memory ran out, and leave each file old or new, or it has to behave as
-  if nothing had failed, because it can do without some allocations.
+- The worked rows, by the program. A run has to report that memory ran out, and leave a beginning of its files new and all others
+  old, or it has to behave as if nothing had failed, because it can do without some allocations.
 - The tests of the modules `growths` of library_tests (`crates/library_tests/src/*/growths.rt`). A test has to succeed, or to end
   with the error that memory ran out (`AllocError`, `AllocFailed`, `Failure::Memory`). A failed assertion, or any other end, is a
   failure.
 """
 import glob
+import itertools
 import os
 import re
 import unittest
@@ -40,10 +41,10 @@ def runs(called, words):
         os.close(mark)
 
 
-def are_old_or_new(there, before, made):
-    """Whether each file is as it was, or as the run makes it: the name of a new file needs memory, so files before it may be new."""
-    return there.keys() <= before.keys() | made.keys() and all(
-        there.get(it) in (before.get(it), made.get(it)) for it in before.keys() | made.keys())
+def are_begun(there, before, made):
+    """Whether a beginning of the files that the run makes is new, in the order in which it writes them, and all others are as they
+    were: the name of a new file needs memory, so files before it may be new."""
+    return any(there == before | dict(itertools.islice(made.items(), news)) for news in range(len(made) + 1))
 
 
 @each(worked(), lambda row: row.name)
@@ -56,7 +57,7 @@ class Program(Case):
         before = tree()
         for number, (ran, has_failed) in enumerate(runs(self.caller, row.words), 1):
             there = tree()
-            if not (has_failed and ran == NO_MEMORY and are_old_or_new(there, before, made)):
+            if not (has_failed and ran == NO_MEMORY and are_begun(there, before, made)):
                 what = f"allocation {number} failed" if has_failed else "no allocation failed"
                 self.same((ran, there), (row.printed(), before | made), what)
                 lay(row.texts())

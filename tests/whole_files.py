@@ -39,6 +39,11 @@ def written(folder, dyndep=b"t.dd", users=(b"b.o",)):
             + b"".join(b"build %s: dyndep | %s\n" % (it, file) for it in users)}
 
 
+def failed(what, name, error):
+    """The result of a run in which a call that reads or writes this file fails with this error."""
+    return (3, b"", b"dyncollate: out of memory\n") if error == errno.ENOMEM else cannot(what, os.fsdecode(name))
+
+
 SCAN = scan()
 READ = {"t.target.json": target(b"new"), "t.ddi": SCAN}
 NEW = written(b"new")
@@ -152,7 +157,7 @@ class Faults(Faulty):
         """A call that fails, because space or rights are missing or for another reason, leaves whole files and no temporary one."""
         for old in {}, OLD:
             calls = self.calls(old)
-            errors = errno.ENOSPC, errno.EDQUOT, errno.EACCES, errno.EIO, errno.EMFILE
+            errors = errno.ENOSPC, errno.EDQUOT, errno.EACCES, errno.EIO, errno.EMFILE, errno.EINTR, errno.ENOMEM
             for error, number in itertools.product(errors, range(1, calls + 1)):
                 with self.subTest(old=old, error=errno.errorcode[error], call=number):
                     answer, left = self.run_with_fault(old, number, FAILS_WITH=str(error))
@@ -160,8 +165,7 @@ class Faults(Faulty):
                     if news == len(NEW):
                         self.same(answer, DONE)
                     else:
-                        names = [os.fsdecode(name) for name in NEW]
-                        self.assertIn(answer, [cannot("read", it) for it in READ] + [cannot("write", names[news])])
+                        self.assertIn(answer, [failed("read", it, error) for it in READ] + [failed("write", [*NEW][news], error)])
 
     def test_interrupted_and_short_calls(self):
         """A read or a write that a signal interrupts is made again, and one that does half is followed by one for the rest."""
@@ -190,12 +194,12 @@ class Faults(Faulty):
     def test_other_errors(self):
         """If a new file can't be created or renamed for another reason, as a full disk, the run ends with status 3, and the old file
         stays."""
-        errors = errno.ENOSPC, errno.EDQUOT, errno.EIO, errno.EMFILE, errno.ENFILE, errno.ESTALE
+        errors = errno.ENOSPC, errno.EDQUOT, errno.EIO, errno.EMFILE, errno.ENFILE, errno.ENOMEM, errno.ESTALE
         for error, call, old in itertools.product(errors, ("create", "rename"), ({}, OLD)):
-            for number, name in enumerate(map(os.fsdecode, NEW), 1):
+            for number, name in enumerate(NEW, 1):
                 with self.subTest(error=errno.errorcode[error], call=call, old=old, name=name):
                     answer, left = self.run_with_fault(old, number, FAILS_WITH=str(error), COUNTED=call)
-                    self.same(answer, cannot("write", name))
+                    self.same(answer, failed("write", name, error))
                     self.assertEqual(self.whole(old, left, 0), number - 1)
 
     def test_names_of_temporary_files(self):
