@@ -198,6 +198,21 @@ class Adoption(GnBuilds):
         self.assertEqual(status, 0, said)
         self.assertIn("All checks completed, 0 errors", said)
 
+    def test_the_commands_of_guide(self):
+        """As they are printed, with the programs in the PATH."""
+        if not shutil.which("clang++-19"):
+            self.skipTest("clang++-19: not there")
+        self.plain()
+        page = (TOP / "docs/GUIDE.md").read_text().partition("\n## In a GN project\n")[2]
+        commands = re.search("^```sh\n(.*?)^```$", page, re.M | re.S)[1]
+        (self.room / "bin").mkdir()
+        for path in ADAPTER, program.PROGRAM:
+            (self.room / "bin" / Path(path).name).symlink_to(path)
+        variables = environment(PATH=f"{self.room}/bin:{os.environ['PATH']}")
+        status, said = run("sh", "-ec", commands, cwd=self.tree.top, env=variables)
+        self.assertEqual(status, 0, said)
+        self.assertEqual(run("./app", cwd=self.tree.top / "out"), (0, "303 12 9\n"))
+
     def test_a_command_that_is_more(self):
         self.plain()
         name = Path(self.tree.top, "build/toolchain/BUILD.gn")
