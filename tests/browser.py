@@ -17,6 +17,19 @@ CHROMIUM = next(filter(None, map(shutil.which, ("chromium", "chromium-browser", 
 FIREFOX = next(filter(None, map(shutil.which, ("firefox-esr", "firefox"))), None)
 SECONDS = 300
 QUIET = {"stdin": subprocess.DEVNULL, "stdout": subprocess.DEVNULL, "stderr": subprocess.DEVNULL}
+# The longest of the tasks of a page of Firefox after files were chosen, by a profile. Firefox marks tasks of 50 ms.
+LONGEST = """(whole) => {
+  const all = (it) => [it, ...it.processes.flatMap(all)], { osPid } = gBrowser.selectedBrowser.frameLoader.remoteTab;
+  const { markers, samples, stringTable } = all(whole).flatMap((it) => it.threads).find((it) => it.pid === osPid);
+  const { startTime, endTime, name, data } = markers.schema, { time, threadCPUDelta } = samples.schema;
+  const begin = markers.data.findLast((it) => it[data]?.name === "chosen")[startTime];
+  const tasks = markers.data.filter((it) => stringTable[it[name]] === "LongTask" && it[endTime] > begin);
+  return Math.max(0, ...tasks.map((it) => {
+    const start = Math.max(begin, it[startTime]), last = samples.data.findIndex((each) => each[time] >= it[endTime]);
+    const within = samples.data.slice(0, last < 0 ? undefined : last + 1).filter((each) => each[time] > start);
+    return Math.min(it[endTime] - start, within.reduce((sum, each) => sum + (each[threadCPUDelta] ?? 0) / 1e6, 0));
+  }));
+}"""
 KEYS = {"Tab": 9, "Enter": 13, "End": 35, "Home": 36, "ArrowLeft": 37, "ArrowUp": 38, "ArrowRight": 39, "ArrowDown": 40,
         "Delete": 46, "/": 191}
 
@@ -239,7 +252,8 @@ class Firefox(Page):
         found = f"new Directory({text}[0]).getFiles(true)" if is_directory else f"Promise.all({text}.map((it) => File.createFromFileName(it)))"
         name, message = "directorychooser" if is_directory else "chooser", f"{self.folder} {next(self.numbers)}"
         script = (f"data:,addMessageListener('{message}', ({{ data }}) => {{ const input = content.document.getElementById('{name}');"
-                  "input.mozSetFileArray(data); input.dispatchEvent(new content.Event('change', { bubbles: true })); })")
+                  "input.mozSetFileArray(data); content.setTimeout(() => {"
+                  " content.performance.mark('chosen'); input.dispatchEvent(new content.Event('change', { bubbles: true })); }, 300); })")
         self.evaluate("document.documentElement.dataset.busy = 'chosen'")
         self.of_browser(f"""(async () => {{ const files = await {found}, {{ messageManager }} = gBrowser.selectedBrowser;
             messageManager.loadFrameScript({json.dumps(script)}, false);
@@ -247,8 +261,13 @@ class Firefox(Page):
         self.settle()
 
     def longest_block(self, does):
-        """Not measured: Firefox does not say how long a task has had the processor."""
+        """The milliseconds of the processor that the longest task of the page takes after files were chosen, as `does` is called.
+        Firefox says at each sample how long the thread had the processor since the last one."""
+        self.of_browser("Services.profiler.StartProfiler(1 << 23, 1, ['cpu', 'nostacksampling', 'nomarkerstacks'], ['GeckoMain'])")
         does()
+        found = self.of_browser(f"Services.profiler.getProfileDataAsync().then({LONGEST})")
+        self.of_browser("Services.profiler.StopProfiler()")
+        return found
 
     def of_browser(self, expression):
         """The value of an expression of the browser itself."""

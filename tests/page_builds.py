@@ -182,10 +182,7 @@ class Builds(page.Shown):
         self.assertEqual(self.nodes(""), [f"target t{it}, 50 objects" for it in range(6)])
         self.assertTrue(self.seen()["boxes"])
         self.assertIn("t1 imports t0, 1 time", self.edges())
-        x, y = self.each("#view .target", "[it.getBoundingClientRect().x + 20, it.getBoundingClientRect().y + 9]")[0]
-        self.page.click(x, y)
-        self.page.wait("document.querySelectorAll('#view .object').length === 50")
-        self.page.settle()
+        self.open_box("target t0, 50 objects")
         seen = self.seen()
         self.assertEqual(seen["count"], 55)
         self.assertTrue(seen["boxes"])
@@ -209,19 +206,50 @@ class Builds(page.Shown):
         part = float(self.each("#overview .part", "it.getAttribute('y')")[0])
         self.page.evaluate("(document.querySelector('#larger').click(), 1)")
         self.assertNotEqual(float(self.each("#overview .part", "it.getAttribute('y')")[0]), part)
+        width = "document.querySelector('#view svg').getBoundingClientRect().width"
+        before = self.page.evaluate(width)
+        for is_ctrl, factor in ("false", 1), ("true", 1.15):
+            self.each("#view", f"it.dispatchEvent(new WheelEvent('wheel', {{ ctrlKey: {is_ctrl}, deltaY: -100, cancelable: true }}))")
+            self.assertAlmostEqual(self.page.evaluate(width) / before, factor, 2)
 
     def test_20000_objects(self):
-        """In Chromium, no task has the processor for a second."""
-        longest = self.page.longest_block(lambda: self.drop(made(self.room, 200, 100)))
+        """They are read, asked about, opened and kept, and no work of the page takes the processor for 100 ms."""
+        top = made(self.room, 200, 100)
+        self.assertLess(self.page.longest_block(lambda: self.look_through(top)), 100)
+
+    def look_through(self, top):
+        self.drop(top)
         self.assertRegex(self.result(), r"^200 of 200 targets accepted:")
         self.assertEqual(self.text("#count"), "20,200 files")
         self.assertIn("20,000 objects", self.text("#legend"))
         self.assertTrue(self.seen()["boxes"])
+        self.open_box("target t0, 100 objects")
+        self.assertEqual(len(self.nodes(".object")), 100)
+        self.assertEqual(self.ask("t0.m0", "rebuilt"), "A change of t0.m0 compiles 20,000 objects.")
+        self.assertRegex(self.ask("", "chain"), r"^The longest chain of imports has 10 objects: t0\.m0 → ")
         self.assertEqual(self.ask("t7.m0", "near"), "40 boxes near t7.m0.")
         # itself, the module that it imports, and of those that import it as many as there is room for
         self.assertEqual(sorted(self.seen()["boxes"]), ["target t3, 1 object", "target t7, 39 objects"])
-        if self.Browser is browser.Browser:
-            self.assertLess(longest, 1000)
+        self.assertRegex(self.ask("", "most"), r"^t1\.m0 is imported most, by 101 objects")
+        self.click("#tab-table")
+        self.assertEqual(len(self.texts("#view tbody tr")), 200)
+        self.click("#whole")
+        self.assertEqual(len(self.texts("#view tbody tr")), 300)
+        kept = self.page.evaluate("new Promise((done) => { URL.createObjectURL = done; HTMLAnchorElement.prototype.click = () => 1;"
+                                  " document.querySelector('#view button').click(); }).then((it) => it.text())")
+        self.assertEqual(kept.count("\n"), 20_001)
+
+    def click(self, selector):
+        self.page.evaluate(f"(document.querySelector({json.dumps(selector)}).click(), 1)")
+        self.page.settle()
+
+    def open_box(self, label):
+        """Clicks on a box in the view, and leaves the mouse there."""
+        x, y = self.each(f"#view .node[aria-label={json.dumps(label)}] .box",
+                         "(it.scrollIntoView({ block: 'center' }), [it.getBoundingClientRect().x + 20, it.getBoundingClientRect().y + 9])")[0]
+        self.page.click(x, y)
+        self.page.wait("document.querySelectorAll('#view .object').length")
+        self.page.settle()
 
     def test_a_cycle_of_30(self):
         """It is red, in the first view, and its error names modules."""

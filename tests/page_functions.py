@@ -9,7 +9,8 @@ from tests import program
 from tests.run import run_apart
 
 WEB = Path(program.TOP) / "web"
-SCRIPTS = [f"{it}.mjs" for it in ("documents", "finding", "steps", "graph", "boxes", "questions", "layout", "meanings", "suspects", "exports", "replies")]
+SCRIPTS = [f"{it}.mjs" for it in (
+    "documents finding steps graph boxes questions layout meanings suspects exports replies session").split()]
 SCAN = """const scan = (path, provides, ...requires) => JSON.stringify({ version: 1, rules: [{
   "primary-output": path, provides: provides ? [{ "logical-name": provides }] : [],
   requires: requires.map((it) => ({ "logical-name": it })) }] });
@@ -47,11 +48,18 @@ class Functions(unittest.TestCase):
                  "b.target.json": '{"version":', "c.ddi": '{"rules":[]}', "d.json": '{"version":2,"modules":[]}',
                  "CXXModules.json": '{"modules":{"a":{}}}', "e.info.json": "{", "p.json": '{"version":1,"targets":[]}',
                  "reply.json": '{"targets":[]}', "f.dd": "ninja_dyndep_version = 1\n", "g": "build a: b\n", ".ninja_log": "# ninja log v5\n",
-                 "h.json": "[]"}
+                 "h.json": "[]", "project.json": '{"version":1,"targ'}
         self.assertEqual(dict(zip(texts, self.kinds(**texts))), {
             "CXXDependInfo.json": "other", "a.json": "target", "b.target.json": "target", "c.ddi": "scan", "d.json": "info",
             "CXXModules.json": "other", "e.info.json": "info", "p.json": "project", "reply.json": "other", "f.dd": "dyndep",
-            "g": "edges", ".ninja_log": "log", "h.json": "other"})
+            "g": "edges", ".ninja_log": "log", "h.json": "other", "project.json": "project"})
+
+    def test_the_list_of_files(self):
+        """Projects and targets come first, each kind by name, in whatever order the browser has them."""
+        contents = {"b.ddi": '{"rules":[]}', "b.json": '{"version":1,"module-dir":"m","dyndep":"d"}', "p.json": '{"version":1,"targets":[]}',
+                    "a.ddi": '{"rules":[]}', "a.json": '{"version":1,"module-dir":"m","dyndep":"d"}', "a.dd": "ninja_dyndep_version = 1\n"}
+        names = self.value(f"sorted(filesOf({json.dumps(contents)})).map((it) => it.name)")
+        self.assertEqual(names, ["p.json", "a.json", "b.json", "a.ddi", "b.ddi", "a.dd"])
 
     def found(self, names, strings, document="t.target.json", **members):
         """The files that a document means by these strings."""
@@ -110,6 +118,19 @@ class Functions(unittest.TestCase):
             ["base", "right", ""], ["app", "right", ""], ["bad", "wrong", "no"], ["top", "waits", "it links bad"],
             "2 of 4 targets accepted, 1 not run because what they link is wrong",
             ["collate", "base", []], ["collate", "app", [["base.json", "info of base"]]], ["collate", "bad", []]])
+
+    def test_what_runs_again(self):
+        """A step runs again if a file that it reads has changed. What is shown of the runs, or asked about them, runs nothing."""
+        called = self.value("calls", """
+            const calls = [], run = (command, document) => (calls.push(JSON.parse(document).target), { status: 0, out: "", err: "", files: new Map() });
+            const session = new Session({ run }, {}, () => 0), steps = () => session.run({ command: "steps", name: "" }, {});
+            session.put(Object.entries({ "a.target.json": target("a", { scans: ["a.ddi"] }), "b.target.json": target("b", { scans: ["b.ddi"] }),
+              "a.ddi": scan("a.o", "a"), "b.ddi": scan("b.o", "b") }));
+            steps();
+            for (const it of ["dyndep", "info", "map", "output"]) session.outputs(it);
+            session.ask({ question: "most" }, []), session.table(), session.list();
+            steps(), session.edit("b.ddi", scan("b.o", "b", "a")), steps();""")
+        self.assertEqual(called, ["a", "b", "b"])
 
     def test_the_document_that_a_step_of_cmake_writes(self):
         """It stands for the target, in place of the document that CMake's build has."""
@@ -192,6 +213,14 @@ class Functions(unittest.TestCase):
             const contents = Object.fromEntries([...Array(500).keys()].map((it) => [`${it}.ddi`, scan(`${it}.o`, `m${it}`, ...(it ? [`m${it >> 1}`] : []))]));
             const { boxes, left, centre } = drawnGraph(graphFor(contents, { command: "all" }));""")
         self.assertEqual(drawn, [60, 440, True, True])
+
+    def test_the_centre(self):
+        """The error, a box of an object before that of a target; otherwise what is imported most."""
+        boxes = """[{ name: "a", to: [1] }, { name: "b", to: [1, 2] }, { name: "c", to: [], kind: "target", isBad: IN_TARGET },
+            { name: "d", to: [], kind: "object", isBad: IN_OBJECT }]"""
+        found = [self.value(f"centreOf({boxes.replace('IN_TARGET', one).replace('IN_OBJECT', other)}).name")
+                 for one, other in (("false", "false"), ("true", "false"), ("true", "true"))]
+        self.assertEqual(found, ["b", "c", "d"])
 
     def test_places(self):
         """No two boxes overlap, and each is to the right of what it imports."""

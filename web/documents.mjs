@@ -2,9 +2,7 @@
 // leniently and decides nothing: whether a document is valid, dyncollate says.
 
 // dyncollate rejects a larger document, so not more of it is read.
-const LARGEST = 16 << 20;
-// These files of a directory are read. Other files are read if they are given one by one.
-const DOCUMENTS = /\.(ddi|json|dd|edges)$|(^|\/)(edges|\.ninja_log)$/;
+export const LARGEST = 16 << 20;
 const KINDS = ["project", "target", "scan", "info", "edges", "dyndep", "log", "other"];
 
 export const isObject = (it) => it !== null && typeof it === "object" && !Array.isArray(it);
@@ -39,8 +37,9 @@ function kindOf(name, text, value) {
   }
   if (/^ninja_dyndep_version/.test(text)) return "dyndep";
   if (/^# ninja log/.test(text)) return "log";
-  const ending = /(\.ddi|\.target\.json|\.info\.json|CXXModules\.json)$/.exec(name)?.[1];
+  const ending = /(\.ddi|\.target\.json|\.info\.json|CXXModules\.json|project\.json)$/.exec(name)?.[1];
   if (ending === ".ddi") return "scan";
+  if (ending === "project.json") return value === null ? "project" : "other";
   // (what CMake's own step writes as CXXModules.json is no info file)
   if (ending && !isObject(value?.modules)) return ending === ".target.json" ? "target" : "info";
   return value === null && /^build /m.test(text) ? "edges" : "other";
@@ -69,49 +68,4 @@ export function canonicalPath(path, work, build) {
   }
   const found = (whole.startsWith("/") ? "/" : "") + parts.join("/");
   return build && found.startsWith(`${build}/`) ? found.slice(build.length + 1) : found;
-}
-
-// ---- files of a drop or of a choice
-
-/** The files that are to be read, by their names below the directory, if all are in one. */
-export function wantedOf(found) {
-  const tops = new Set(found.map(([name]) => name.split("/")[0]));
-  const isDirectory = tops.size === 1 && found[0][0].includes("/");
-  const below = ([name, file]) => [isDirectory ? name.slice(name.indexOf("/") + 1) : name, file];
-  const isWanted = ([name]) => !isDirectory || DOCUMENTS.test(name);
-  return { isDirectory, wanted: found.map(below).filter(isWanted) };
-}
-
-/**
- * Reads some files at once. Returns them, without what is no document in a directory, and why some
- * are not read.
- */
-export async function readFiles(some, isDirectory) {
-  const notes = [], read = await Promise.all(some.map((it) => readFile(it, notes)));
-  return { read: read.filter((it) => it && !(isDirectory && it.kind === "other")), notes };
-}
-
-const NO_NAME = "its name is not UTF-8, so no document can name it.";
-
-async function readFile([name, file], notes) {
-  try {
-    // (in place of a file that cannot be opened there is its error)
-    const error = name.includes("\ufffd") ? NO_NAME : file;
-    if (typeof error === "string") throw new Error(error);
-    const whole = file.size > LARGEST ? file.slice(0, LARGEST + 1) : file;
-    if (whole !== file) notes.push(`${name} is larger than 16 MiB, which dyncollate rejects.`);
-    return fileOf(name, textOrBytes(new Uint8Array(await whole.arrayBuffer())));
-  } catch (error) {
-    notes.push(`${name} is left out: ${error.message}`);
-    return null;
-  }
-}
-
-/** A file is edited as a string, and passed as bytes if it is not UTF-8. */
-function textOrBytes(bytes) {
-  try {
-    return new TextDecoder("utf-8", { fatal: true, ignoreBOM: true }).decode(bytes);
-  } catch {
-    return bytes;
-  }
 }

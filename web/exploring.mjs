@@ -84,9 +84,7 @@ async function shownTable() {
 }
 
 async function keepTable() {
-  const { head, rows } = await ask("table", true);
-  const lines = [head, ...rows].map((row) => `${row.join("\t")}\n`);
-  keep("modules.tsv", "text/tab-separated-values", lines.join(""));
+  keep("modules.tsv", "text/tab-separated-values", await ask("tableText"));
 }
 
 // ---- the graph

@@ -1,10 +1,8 @@
-// The files: their list, the text of one, and reading what is dropped.
-import { ask, busily, showProgress } from "./asking.mjs";
-import { plural, wantedOf } from "./documents.mjs";
+// The files: their list, and the text of one.
+import { ask, busily } from "./asking.mjs";
+import { plural } from "./documents.mjs";
 import { $, make, state } from "./elements.mjs";
 
-// How many files are read at once, and how many that are not read are named.
-const AT_ONCE = 100, MOST_NOTES = 3;
 const MARKS = { right: "✓ right", wrong: "✗ wrong", waits: "not run" };
 
 /** Shows the text of a file. */
@@ -63,21 +61,4 @@ export async function openFile(name) {
   $("files").querySelector("[aria-current=true]")?.scrollIntoView({ block: "nearest" });
   $("text").scrollIntoView({ block: "nearest" });
   $("text").focus();
-}
-
-/** Reads pairs of a path and a File, and says which it cannot. Returns how many are documents. */
-export async function readAll(found) {
-  const { wanted, isDirectory } = wantedOf(found), notes = [];
-  let count = 0;
-  for (let at = 0; at < wanted.length; at += AT_ONCE) {
-    showProgress("Reading", at, wanted.length);
-    const read = await ask("read", wanted.slice(at, at + AT_ONCE), isDirectory);
-    notes.push(...read.notes);
-    count = read.count;
-  }
-  const more = notes.length - MOST_NOTES;
-  const said = [...notes.slice(0, MOST_NOTES), more > 0 && `And ${plural(more, "file")} more.`,
-    !count && `None of ${plural(found.length, "file")} is a document that dyncollate reads.`];
-  $("taken").textContent = said.filter(Boolean).join(" ");
-  return { count, isDirectory };
 }

@@ -1,11 +1,11 @@
 // The page: files in, a call of dyncollate after each change, and what comes of it. Nothing leaves
 // the browser. A worker, which runs the same script, does all work.
 import { ask, busily, soon, startWorker } from "./asking.mjs";
-import { droppedFiles } from "./dropping.mjs";
+import { chosenFiles, droppedFiles } from "./dropping.mjs";
 import { load } from "./dyncollate.mjs";
 import { $, keep, make, state } from "./elements.mjs";
 import * as exploring from "./exploring.mjs";
-import { listFiles, moveInFiles, readAll, showFile } from "./filing.mjs";
+import { listFiles, moveInFiles, showFile } from "./filing.mjs";
 import { lookingAt } from "./looking.mjs";
 import { say } from "./saying.mjs";
 import { serve } from "./worker.mjs";
@@ -36,17 +36,30 @@ async function removeFile(name) {
 
 let taken = Promise.resolve();
 
-/** Takes the files of a drop or of a choice after those of the one before. */
-const takeNext = (found) => (taken = taken.then(() => takeFiles(found)));
+/** Takes the files of a drop or of a choice, which `pass` passes on, after those of the one before. */
+const takeNext = (pass) => (taken = taken.then(() => takeFiles(pass)));
 
-/** Takes files: pairs of a path and a File. */
-async function takeFiles(found) {
-  const { count, isDirectory } = found.length ? await readAll(found) : { count: 0 };
+async function takeFiles(pass) {
+  await pass();
+  const { count, said } = await ask("read", !state.isExample);
+  $("taken").textContent = said;
   if (!count) return;
-  await ask("take", !state.isExample && !isDirectory);
   $("example").value = "";
   state.isExample = false;
   await putFiles();
+}
+
+/**
+ * Chromium has a dialog that returns a handle. With an element for files it would make a File for
+ * each at once.
+ */
+async function chooseDirectory() {
+  try {
+    const handle = await showDirectoryPicker();
+    busily(takeNext, () => ask("findBelow", [handle]));
+  } catch (error) {
+    if (error.name !== "AbortError") $("directorychooser").click();
+  }
 }
 
 async function pasteFile() {
@@ -115,14 +128,12 @@ function listen() {
   });
   on("example", "input", () => $("example").value && (location.hash = slug($("example").value)));
   on("choose", "click", () => $("chooser").click());
-  on("directories", "click", () => $("directorychooser").click());
-  for (const id of ["chooser", "directorychooser"]) {
-    on(id, "change", () => {
-      const nameOf = (file) => file.webkitRelativePath || file.name;
-      busily(takeNext, [...$(id).files].map((file) => [nameOf(file), file]));
-      $(id).value = "";
-    });
-  }
+  on("directories", "click", chooseDirectory);
+  on("drop", "change", ({ target }) => {
+    busily(takeNext, chosenFiles(target.files));
+    // (a new element, so that the next choice leaves the files of this one alone)
+    target.outerHTML = target.outerHTML;
+  });
   on("paste", "click", () => busily(pasteFile));
   on("filter", "input", () => busily(listFiles));
   on("files", "keydown", moveInFiles);
@@ -163,8 +174,7 @@ function listenToDrops() {
   addEventListener("drop", (event) => {
     event.preventDefault();
     over(Boolean((depth = 0)));
-    const found = droppedFiles(event.dataTransfer);
-    busily(async () => takeNext(await found)).catch((error) => {
+    busily(takeNext, droppedFiles(event.dataTransfer)).catch((error) => {
       const why = `This browser cannot read what was dropped (${error.message}).`;
       $("taken").textContent = `${why} Choose it with the buttons.`;
     });
@@ -181,8 +191,6 @@ async function showExample(name) {
   await putFiles();
 }
 
-const bytesOfBase64 = (text) => Uint8Array.from(atob(text), (it) => it.charCodeAt(0));
-
 /** Begins. `unpacked` returns the bytes of an element. `scriptAddress` is where this script is. */
 export async function begin(unpacked, scriptAddress) {
   const parts = JSON.parse(new TextDecoder().decode(await unpacked("parts")));
@@ -194,16 +202,13 @@ export async function begin(unpacked, scriptAddress) {
   $("example").append(...Object.keys(state.examples).map((name) => make("option", {}, name)));
   makeTabs();
   listen();
-  const given = JSON.parse($("given").textContent);
-  if (!given) return showExample(exampleOfAddress() ?? Object.keys(state.examples)[0]);
+  const given = $("given").textContent;
+  if (given === "null") return showExample(exampleOfAddress() ?? Object.keys(state.examples)[0]);
   state.isExample = false;
   $("example").value = "";
-  document.title = `${given.name} - dyncollate`;
-  const contentOf = (given) => (typeof given === "string" ? given : bytesOfBase64(given.base64));
-  const { command, name } = given;
-  const entries = Object.entries(given.files).map(([file, content]) => [file, contentOf(content)]);
-  await ask("put", entries, { command, name });
-  return putFiles({ command, name });
+  const chosen = await ask("putGiven", given);
+  document.title = `${chosen.name} - dyncollate`;
+  return putFiles(chosen);
 }
 
 if (!globalThis.document) serve(globalThis, load);

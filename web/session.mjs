@@ -1,12 +1,13 @@
 // What is known about the files of a page: what dyncollate makes of them, their graph, and the last
 // reply.
-import { fileOf, named, plural, readFiles, secondsOf, sorted, textOf } from "./documents.mjs";
+import { fileOf, named, plural, secondsOf, sorted, textOf } from "./documents.mjs";
 import { replyTo } from "./replies.mjs";
 import { drawingOf } from "./boxes.mjs";
 import { dotOf, tableOf } from "./exports.mjs";
 import { graphOf, mark, nameOf } from "./graph.mjs";
 import { meaningOf, shortLine } from "./meanings.mjs";
 import { searched } from "./questions.mjs";
+import { filesBelow, readFiles } from "./reading.mjs";
 import { commandsFor, givenFor, requestOf, runSteps, saidOf } from "./steps.mjs";
 
 // More files, outputs or rows than these are not sent to the page, and of a longer text its
@@ -18,7 +19,7 @@ const WRITING = ["collate", "project", "steps", "all"];
 
 export class Session {
   constructor(dyncollate, advice, report) {
-    Object.assign(this, { dyncollate, advice, report, files: new Map(), taken: [], chosen: null,
+    Object.assign(this, { dyncollate, advice, report, files: new Map(), found: [], chosen: null,
       cache: new Map() });
     this.forget();
   }
@@ -30,27 +31,42 @@ export class Session {
 
   // ---- files
 
-  /** Reads some files of a drop or of a choice: pairs of a path and a File. */
-  async read(some, isDirectory) {
-    const { read, notes } = await readFiles(some, isDirectory);
-    this.taken.push(...read);
-    return { count: this.taken.length, notes };
+  /** Takes note of some files of a drop or of a choice: pairs of a path and a File. */
+  find(some) {
+    for (const it of some) this.found.push(it);
   }
 
-  /** Takes the files that were read, in place of those that are there or with them. */
-  take(isKeeping) {
-    if (!isKeeping && this.taken.length) this.files = new Map();
-    for (const file of this.taken.splice(0)) this.files.set(file.name, file);
+  async findBelow(handles) {
+    this.find(await filesBelow(handles));
   }
 
   /**
-   * Puts files in place of those that are there. The kind of the one that a command was called with
-   * is known.
+   * Reads what was found. A directory comes in place of the files that are there, and files do if
+   * those are not kept. Returns how many documents there are, and what is said about the others.
    */
-  put(entries, first) {
-    const kind = { project: "project", collate: "target", one: "scan" }[first?.command];
-    this.files = new Map(entries.map(([name, content]) =>
-      [name, fileOf(name, content, name === first?.name ? kind : "other")]));
+  async read(isKeeping) {
+    const { read, isDirectory, said } = await readFiles(this.found.splice(0), this.report);
+    if (read.length && (isDirectory || !isKeeping)) this.files = new Map();
+    for (const file of read) this.files.set(file.name, file);
+    return { count: read.length, said };
+  }
+
+  /** Puts files in place of those that are there. */
+  put(entries) {
+    this.files = new Map(entries.map(([name, content]) => [name, fileOf(name, content)]));
+  }
+
+  /**
+   * Puts the files of dyncollate-explain in place of those that are there, and returns the command
+   * that it explains. The kind of the file that the command is called with is known.
+   */
+  putGiven(text) {
+    const { command, name, files } = JSON.parse(text);
+    const kind = { project: "project", collate: "target", one: "scan" }[command];
+    const contentOf = (it) => (typeof it === "string" ? it : bytesOfBase64(it.base64));
+    this.put(Object.entries(files).map(([file, it]) => [file, contentOf(it)]));
+    this.files.set(name, fileOf(name, this.files.get(name)?.content ?? "", kind));
+    return { command, name };
   }
 
   edit(name, text) {
@@ -194,15 +210,22 @@ export class Session {
   }
 
   /** The nodes of the reply, or of the graph, as rows. */
-  table(isWhole) {
-    return tableOf(this.reply.found ?? this.graph.nodes, this.graph.targets, isWhole ? Infinity
-      : MOST.rows);
+  table(most = MOST.rows) {
+    return tableOf(this.reply.found ?? this.graph.nodes, this.graph.targets, most);
+  }
+
+  /** All of them, as text. */
+  tableText() {
+    const { head, rows } = this.table(Infinity);
+    return [head, ...rows].map((row) => `${row.join("\t")}\n`).join("");
   }
 
   dot() {
     return dotOf(this.drawn, this.graph.targets);
   }
 }
+
+const bytesOfBase64 = (text) => Uint8Array.from(atob(text), (it) => it.charCodeAt(0));
 
 function kindOfOutput(name, bytes) {
   if (name.endsWith(".modmap")) return "map";
