@@ -32,6 +32,13 @@ def is_target(name):
     return is_one and isinstance(found.get("dyndep"), str) or name.endswith(".target.json")
 
 
+def is_project(name):
+    """Whether a file is a project document, perhaps one with the usual name that is cut off."""
+    found = document(name)
+    is_one = found.get("version") == 1 and strings(found, "targets")
+    return bool(is_one or not found and name.endswith("project.json"))
+
+
 def json_files():
     """The documents of this directory and of those below it that may be of targets or projects."""
     for folder, below, names in itertools.islice(os.walk("."), MOST_DIRECTORIES):
@@ -55,8 +62,7 @@ def has(name, *members):
 def build_documents():
     """The names of the project documents below this directory, and the targets that it has."""
     names = list(itertools.islice(json_files(), MOST_DOCUMENTS))
-    projects = [it for it in names if has(it, b"targets") and strings(document(it), "targets") and
-                document(it).get("version") == 1]
+    projects = [it for it in names if has(it, b"targets") and is_project(it)]
     found = [it for it in names if it.endswith(".target.json") or
              has(it, b"module-dir", b"dyndep") and is_target(it)]
     return projects, in_order([Target(it) for it in found])
