@@ -247,11 +247,17 @@ class Page(Shown):
             self.page.resize(1280, 860, dark=dark)
             low = {names: round(it, 2) for names, it in self.contrasts().items() if it < (3 if names[0] == "edge" else 4.5)}
             self.assertEqual(low, {}, f"dark: {dark}")
+            style = 'getComputedStyle(it, "::placeholder")'
+            colours = self.each("#name, #count", f"it.id === 'name' ? {style}.color + {style}.opacity : getComputedStyle(it).color + '1'")
+            self.assertEqual(colours[0], colours[1])
 
     def test_print(self):
         """The result and the whole graph are on the page, and no controls."""
         self.show(CYCLE, "t.target.json")
+        self.page.evaluate("[...document.querySelectorAll('#view .node')].at(-1).focus()")
+        self.assertEqual({*self.each("#view .dim", "getComputedStyle(it).opacity")}, {"0.12", "0.35"})
         self.page.call("Emulation.setEmulatedMedia", media="print")
+        self.assertEqual({*self.each("#view .dim", "getComputedStyle(it).opacity")}, {"1"})
         shown = "[...document.querySelectorAll('header, #side, #questions, #row, footer, #result, #view svg')].filter((it) => it.getClientRects().length)"
         self.assertEqual(self.page.evaluate(f"{shown}.map((it) => it.id || it.tagName)"), ["result", "svg"])
         self.assertEqual(self.each("#view svg", "[it.getBoundingClientRect().right <= innerWidth, getComputedStyle(it.parentNode.parentNode).overflow]"),
@@ -292,6 +298,27 @@ class Page(Shown):
         (self.room / "empty/x.o").write_bytes(b"")
         self.page.drop(str(self.room / "empty"))
         self.assertEqual(self.text("#taken"), "None of 1 file is a document that dyncollate reads.")
+
+    def test_a_chosen_directory(self):
+        """The dialog for directories gives a handle. If the browser does not allow it, there is the dialog of an element."""
+        self.page.open(PAGE.as_uri())
+        self.page.evaluate("""(addEventListener("drop", (event) => {
+            const handle = event.dataTransfer.items[0].getAsFileSystemHandle();
+            window.showDirectoryPicker = () => handle;
+            document.documentElement.dataset.busy = "no";
+            event.stopImmediatePropagation();
+            event.preventDefault(); }, { capture: true, once: true }), 1)""")
+        self.page.drop(str(self.lay(CYCLE)))
+        self.page.evaluate("document.querySelector('#directories').click()")
+        self.page.wait("document.querySelector('#count').textContent === '5 files'")
+        self.page.settle()
+        self.assertEqual(self.nodes(".bad"), ["a.o", "b.o", "c.o"])
+        clicks = [self.page.evaluate(f"""new Promise((done) => {{ let count = 0;
+            document.querySelector("#directorychooser").click = () => count++;
+            window.showDirectoryPicker = async () => {{ throw new DOMException("no", "{name}"); }};
+            document.querySelector("#directories").click();
+            setTimeout(() => done(count), 50); }})""") for name in ("SecurityError", "AbortError")]
+        self.assertEqual(clicks, [1, 0])
 
     def test_an_edit(self):
         """The result follows the text, and a change of the maps or of the command."""

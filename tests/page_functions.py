@@ -1,6 +1,7 @@
 """What the page computes without a browser, in Node: which file a document means, the order of steps, questions about
 the graph, places of boxes, and what an error means."""
 import json
+import re
 import shutil
 import unittest
 from pathlib import Path
@@ -8,7 +9,7 @@ from pathlib import Path
 from tests import program
 from tests.run import run_apart
 
-WEB = Path(program.TOP) / "web"
+WEB, TABLE = Path(program.TOP) / "web", Path(program.TOP) / "explain/meanings.json"
 SCRIPTS = [f"{it}.mjs" for it in (
     "documents finding steps graph boxes questions layout meanings suspects exports replies session").split()]
 SCAN = """const scan = (path, provides, ...requires) => JSON.stringify({ version: 1, rules: [{
@@ -236,6 +237,19 @@ class Functions(unittest.TestCase):
             const request = requestOf({{ command: "all" }}, files, {{}}), graph = graphOf(request);""")
         self.assertEqual(said, ["dyncollate: M8 ImportCycle m0.o -> m1.o -> m2.o -> … 25 more … -> m28.o -> m29.o",
                                 "m0 imports m1 imports m2 imports … 25 more … imports m28 imports m29 imports m0."])
+
+    def test_meanings(self):
+        """Each error has the text of the table, and an error of a path also why the path is not valid."""
+        table = [(f"{it['code']} {it['name']}".strip(), f"{it['meaning']} {it['advice']}") for it in json.loads(TABLE.read_text())]
+        errors = {name: re.sub("(FILE|PATH) ?", "a.ddi ", name) for name, _ in table}
+        empty = dict(table)["N1 Empty"]
+        more = {f"{where}: {name} {rest}N1 Empty": f"{dict(table)[name]} {empty}" for where, name, rest in (
+            ("scan 0", "S7 BadPath", "rule 0 "), ("target 1: target", "S7 BadPath", "document "), ("edges: line 1", "E3 Path", ""),
+            ("statement 2", "E8 BadPath", ""))}
+        wanted = [text for _, text in table] + [*more.values()]
+        said = self.value("lines.map((it) => meaningOf(`dyncollate: ${it}`, null, { command: 'order' }, { targets: [] }, advice).text)",
+                          f"const advice = {json.dumps(dict(table))}, lines = {json.dumps([*errors.values(), *more])};")
+        self.assertEqual(said, wanted)
 
     def test_what_is_known_about_modules(self):
         """Both that provide a name, the info file with the error, and names that are like an unknown one."""

@@ -131,7 +131,7 @@ async function toggle(target) {
 // The kinds of boxes that the legend explains: a class of style, what it means, and which boxes are
 // of it.
 const LEGEND = [
-  ["provides", "a target, which opens", (box) => box.kind === "target"],
+  ["provides target", "a target, which opens", (box) => box.kind === "target"],
   ["provides", "a module and its object", (box) => box.kind === "object" && box.provides.length],
   ["plain", "an object without a module", (box) => box.kind === "object" && !box.provides.length],
   ["linked", "from an info file", (box) => box.kind === "linked"],

@@ -11,8 +11,9 @@ const MOST_STEPS = 8;
 export function meaningOf(line, index, request, graph, advice) {
   const error = line.replace(/^dyncollate: /, "").replace(/^target \d+: /, "");
   const code = /\b([NYSMEK]\d+) (\w+)/.exec(error)?.[0] ?? "";
-  const cause = /^(?:\w+ \d+: |\w+: )?S7 .*? (N\d+ \w+)/.exec(error)?.[1];
-  const texts = [advice[code] ?? adviceWithoutCode(error, advice), advice[cause]].filter(Boolean);
+  const cause = /^(?:\w+(?: \d+)?: )*(?:S7|E3|E8) .*?(N\d+ \w+)/.exec(error)?.[1];
+  const named = advice[code || error] ?? adviceWithoutCode(error, advice);
+  const texts = [named, advice[cause]].filter(Boolean);
   const target = graph.targets[index], isOfProject = request.command === "project"
     && index !== null;
   const file = fileNamedBy(error, isOfProject ? index : null, target, request);
