@@ -94,6 +94,9 @@ class Install(releases.Released):
         self.assertEqual((prefix / "share/man/man1/dyncollate.1").read_bytes(), (self.home / "docs/dyncollate.1").read_bytes())
         for folder, name in ("adapters/cmake", "dyncollate-cmake"), ("adapters/meson", "dyncollate-meson"), ("adapters/gn", "dyncollate-gn"):
             self.assertEqual(call(prefix / "bin" / name, "--help"), call(self.home / folder / name, "--help"))
+        version = (self.home / "VERSION").read_text()
+        for name in "dyncollate-cmake", "dyncollate-explain":
+            self.assertEqual(call(prefix / "bin" / name, "--version"), (0, f"{name} {version}", ""))
         status, out, err = call(self.home / "install", "--uninstall", prefix)
         self.assertEqual((status, err), (0, ""))
         self.assertEqual(sorted(prefix.rglob("*")), before)

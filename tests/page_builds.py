@@ -218,7 +218,11 @@ class Builds(page.Shown):
         self.assertLess(self.page.longest_block(lambda: self.look_through(top)), 100)
 
     def look_through(self, top):
+        self.page.evaluate("""(() => { const progress = document.querySelector("#progress"); window.said = new Set();
+            new MutationObserver(() => progress.hidden || said.add(progress.firstChild.data.split(" ")[0]))
+              .observe(progress, { characterData: true, subtree: true, attributes: true }); })()""")
         self.drop(top)
+        self.assertEqual(self.page.evaluate("[...said].filter(Boolean)"), ["Reading", "Collating"])
         self.assertRegex(self.result(), r"^200 of 200 targets accepted:")
         self.assertEqual(self.text("#count"), "20,200 files")
         self.assertIn("20,000 objects", self.text("#legend"))
