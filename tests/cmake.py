@@ -518,7 +518,7 @@ class NinjaFiles(Case):
 
     def test_installed(self):
         """The modules are in PREFIX/share/dyncollate, which a user may not write: the cache of Python is in the build directory."""
-        for name in (*TOP.glob("adapters/*.py"), *TOP.glob("adapters/cmake/*")):
+        for name in *TOP.glob("adapters/*.py"), *TOP.glob("adapters/cmake/*"), TOP / "explain/error_line.py":
             if name.is_file():
                 put(f"prefix/{'share/dyncollate' if name.suffix else 'bin'}/{name.name}", name.read_text())
         before = sorted(Path("prefix").rglob("*"))
@@ -526,10 +526,12 @@ class NinjaFiles(Case):
         for command in "adopt", "restore", "adopt":
             self.assertEqual(run(sys.executable, "prefix/bin/dyncollate-cmake", command, "b", env=environment())[0], 0)
         os.chdir("b")
-        for name in "a", "b c":
-            rule = {"primary-output": f"a $dir/{name}.cpp.o", "provides": [{"logical-name": name[0]}]}
-            put(f"a $dir/{name}.cpp.o.ddi", {"version": 1, "rules": [rule]})
-        self.assertEqual(step("a $dir"), (0, ""))
+        said = "dyncollate: scan 0: S2 BadVersion document\ndyncollate-cmake: scan 0 is a $dir/a.cpp.o.ddi\n"
+        for version, printed in (1, ""), (7, said):
+            for name in "a", "b c":
+                rule = {"primary-output": f"a $dir/{name}.cpp.o", "provides": [{"logical-name": name[0]}]}
+                put(f"a $dir/{name}.cpp.o.ddi", {"version": version, "rules": [rule]})
+            self.assertEqual(step("a $dir"), (int(bool(printed)), printed))
         self.assertEqual(len(list(Path("CMakeFiles/dyncollate/python").rglob("*.pyc"))), 4)
         os.chdir("..")
         self.assertEqual(sorted(Path("prefix").rglob("*")), before)

@@ -8,7 +8,7 @@ import os
 import re
 import sys
 
-from adapter_files import Wrong, document, escaped, read, write, write_if_changed
+from adapter_files import Wrong, document, escaped, read, say, write, write_if_changed
 from cmake_exports import write_exports
 from cmake_files import depend_info
 
@@ -16,7 +16,7 @@ from cmake_files import depend_info
 # could not run one.
 SIGNAL, NOT_RUN = 128, (126, 127)
 # Two modules have one name, or one file.
-CLASH = re.compile("dyncollate: M[34] ")
+CLASH = "M3", "M4"
 
 
 class Object:
@@ -115,7 +115,7 @@ def step(program, name):
     given.update(scans=scans, private=private)
     write_if_changed(own, json.dumps(given, indent=1))
     status, said = call(program, own)
-    if CLASH.match(said):
+    if code_in(said) in CLASH:
         status, said, own = without_unreached(program, given, target, objects)
     if status:
         pass_on(said)
@@ -173,7 +173,7 @@ def why(program, status, name):
     said = sys.stdin.buffer.read().decode(errors="surrogateescape").lstrip("\n")
     if status in NOT_RUN:
         status, said = call(program, name)
-    clash = CLASH.match(said)
+    clash = code_in(said) in CLASH
     if not clash:
         pass_on(said)
     if status > SIGNAL:
@@ -190,26 +190,39 @@ def why(program, status, name):
     return 0
 
 
+def error_in(said):
+    """Returns the parts of the line that a run of the program that failed printed, or None."""
+    from error_line import error_of, last_line  # only failures need it
+    return error_of(last_line(said))
+
+
+def code_in(said):
+    error = said and error_in(said)
+    return error.code if error else ""
+
+
 def explained(program, status, said, name):
     """Says more about a run of the program that failed and printed this line. Returns the
     status."""
-    import subprocess  # only failures need it
+    import subprocess
+    from error_line import named_by
     if status > SIGNAL:
         raise Wrong(f"{program} was killed by signal {status - SIGNAL}", 3)
     explainer = program_beside(program, "dyncollate-explain")
     if explainer:
         line = said.encode(errors="surrogateescape")
         subprocess.run([explainer, name, "-"], input=line, check=False)
-    kind, number, named = numbered_document(said, document(name))
-    if kind == "info":
+    error = error_in(said)
+    named = error and named_by(error, document(name))
+    if named and error.document == "info":
         # Ninja makes a file again that is not there, but does not know that this one is damaged
         try:
             os.remove(named)
         except FileNotFoundError:
             pass  # the step of another target did so
-        say(f"{kind} {number} was {named}, which is removed: the next build makes it again")
-    elif kind and not explainer:
-        say(f"{kind} {number} is {named}")
+        say(f"info {error.index} was {named}, which is removed: the next build makes it again")
+    elif named and not explainer:
+        say(f"{error.document} {error.index} is {named}")
     return status
 
 
@@ -218,23 +231,8 @@ def pass_on(said):
     sys.stderr.buffer.flush()
 
 
-def say(line):
-    print(f"dyncollate-cmake: {line}", file=sys.stderr)
-
-
 def program_beside(program, name):
     """Returns the path of another program that is installed next to this one or in the PATH, or
     None."""
     folders = [os.path.dirname(program), *os.get_exec_path()]
     return next((path for it in folders if os.access(path := os.path.join(it, name), os.X_OK)), None)
-
-
-def numbered_document(line, target_document):
-    """Returns the kind, the number and the name of the document that a line of the program is
-    about, such as `dyncollate: scan 3: ..`."""
-    member = {"scan": "scans", "info": "linked"}
-    words = line.split(" ", 3)
-    if len(words) < 4 or words[1] not in member or not words[2].endswith(":"):
-        return None, None, None
-    number = int(words[2][:-1])
-    return words[1], number, target_document[member[words[1]]][number]
