@@ -806,18 +806,20 @@ class Steps(Case):
                 self.fails("dyncollate-cmake: t/a.cpp.o.ddi: imports f of far, which t reaches only through links that hide it: "
                            "target_link_libraries(t PRIVATE far) is missing")
 
-    def test_a_module_of_a_package_that_a_link_hides(self):
-        """Its file is the object, which need not be in the directory of the target's modules."""
-        self.target("far@synth_0a", {"f.cppm": {"bmi-only": True}}, **{"module-dir": f"{os.getcwd()}/elsewhere"})
-        self.scan("far@synth_0a", "f.cppm", ["f"])
-        self.target("near", {"n.cppm": {}}, ["far@synth_0a"])
-        self.scan("near", "n.cppm", ["n"], ["f"])
-        self.target("t", {}, ["near"])
-        self.scan("t", "a.cpp", [], ["f"])
-        for folder in "far@synth_0a", "near":
-            self.collates(folder)
-        self.fails("dyncollate-cmake: t/a.cpp.o.ddi: imports f of far@synth_0a, which t reaches only through links that hide it: "
-                   "target_link_libraries(t PRIVATE far) is missing")
+    def test_a_module_in_another_directory_that_a_link_hides(self):
+        """The file of a package's module is the object, which need not be in the directory of the target's modules. A target may also be
+        outside the build directory."""
+        for name, folder, entry in ("far@synth_0a", f"{os.getcwd()}/elsewhere", {"bmi-only": True}), ("far", "/elsewhere", {}):
+            self.target(name, {"f.cppm": entry}, **{"module-dir": folder})
+            self.scan(name, "f.cppm", ["f"])
+            self.target("near", {"n.cppm": {}}, [name])
+            self.scan("near", "n.cppm", ["n"], ["f"])
+            self.target("t", {}, ["near"])
+            self.scan("t", "a.cpp", [], ["f"])
+            for it in name, "near":
+                self.collates(it)
+            self.fails(f"dyncollate-cmake: t/a.cpp.o.ddi: imports f of {name}, which t reaches only through links that hide it: "
+                       "target_link_libraries(t PRIVATE far) is missing")
 
     def test_checks_without_grep_and_without_its_patterns(self):
         """Only a search that found nothing passes: otherwise Python checks the same."""

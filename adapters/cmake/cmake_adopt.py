@@ -79,17 +79,21 @@ def hidden_steps(steps):
             for path, found in hidden.items()}
 
 
+def as_written(path, target):
+    """Returns a path as the program writes it: without the build directory, if that has it."""
+    below = os.path.relpath(path, target["dir-top-bld"])
+    return path if below.split("/")[0] == ".." else below
+
+
 def module_dir(target):
     """Returns the directory of the target's modules. The path of a module can't be quoted in a map,
-    so another directory is used if there is a space, a quote or the like below the build
-    directory."""
-    top = target["dir-top-bld"]
-    below = os.path.relpath(target["module-dir"], top)
-    if not re.search(r"[\x00-\x20\x7f'\"\\]", below):
+    so another directory is used if there is a space, a quote or the like in it."""
+    written = as_written(target["module-dir"], target)
+    if not re.search(r"[\x00-\x20\x7f'\"\\]", written):
         return target["module-dir"]
     import hashlib  # only such a target needs it
-    name = hashlib.sha256(below.encode("utf-8", "surrogateescape")).hexdigest()[:16]
-    return f"{top}/CMakeFiles/dyncollate/{name}"
+    name = hashlib.sha256(written.encode("utf-8", "surrogateescape")).hexdigest()[:16]
+    return f"{target['dir-top-bld']}/CMakeFiles/dyncollate/{name}"
 
 
 def target_document(step, linked):
@@ -115,10 +119,10 @@ def inputs_from(hidden):
     targets."""
     found = set()
     for it in hidden:
-        below = os.path.relpath(module_dir(it.target), it.target["dir-top-bld"])
+        folder = as_written(module_dir(it.target), it.target)
         # a module of a package is its own object, which need not be in that directory
         objects = (name for name, its in it.target["cxx-modules"].items() if its.get("bmi-only"))
-        found.update(f" {escaped(name)}\n" for name in (f"{below}/", *objects))
+        found.update(f" {escaped(name)}\n" for name in (f"{folder}/", *objects))
     return "".join(sorted(found))
 
 
