@@ -299,17 +299,20 @@ class NinjaFiles(Case):
         linked = {it: names[:index] for index, it in enumerate(names)}
         for it in names:
             put_target(it, os.getcwd(), linked=linked[it])
-        write_ninja_files({it: "gcc" for it in names}, {it: [f"{it}/a.cpp.o.ddi"] for it in names},
-                          {it: [f"{os.getcwd()}/{other}" for other in linked[it]] for it in names})
+        texts = write_ninja_files({it: "gcc" for it in names}, {it: [f"{it}/a.cpp.o.ddi"] for it in names},
+                                  {it: [f"{os.getcwd()}/{other}" for other in linked[it]] for it in names})
+        put("CMakeFiles/rules.ninja", re.sub('"|a cmake/', "", texts["./CMakeFiles/rules.ninja"]))
         os.chdir("..")
         printed = run(sys.executable, "-m", "cProfile", ADAPTER, "adopt", f"{count}",
                       env=environment())[1]
         return int(re.search(r"(\d+) function calls", printed)[1])
 
     def test_what_is_linked_costs_no_calls(self):
-        """Four times as many links of twice as many targets: the calls grow with the targets."""
+        """From 60 to 120 targets there are 2,700 links more than twice those from 30 to 60, and the calls grow with the targets, fewer than
+        700 for each."""
         few, some, many = map(self.calls_of_adoption, (30, 60, 120))
-        self.assertLess(many - some, 2.5 * (some - few))
+        self.assertLess(many - some - 2 * (some - few), 270)
+        self.assertLess(some - few, 30 * 700)
 
     def test_a_file_that_need_not_change_keeps_its_time(self):
         self.adopt()

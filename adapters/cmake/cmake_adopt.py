@@ -66,7 +66,7 @@ def hidden_steps(steps):
     # a bit for each step, so that large projects take no time
     bits = {it.path: 1 << index for index, it in enumerate(steps)}
     linked = {it.path: it.target["linked-target-dirs"] for it in steps}
-    direct = {path: sum(bits[it] for it in {*paths}) for path, paths in linked.items()}
+    direct = {path: sum(map(bits.get, {*paths})) for path, paths in linked.items()}
     reached, before = dict(direct), None
     while reached != before:
         before = dict(reached)
