@@ -308,8 +308,8 @@ class NinjaFiles(Case):
         return int(re.search(r"(\d+) function calls", printed)[1])
 
     def test_what_is_linked_costs_no_calls(self):
-        """From 60 to 120 targets there are 2,700 links more than twice those from 30 to 60, and the calls grow with the targets, fewer than
-        700 for each."""
+        """From 60 to 120 targets there are 2,700 links more than twice those from 30 to 60, and the calls
+        grow with the targets, fewer than 700 for each."""
         few, some, many = map(self.calls_of_adoption, (30, 60, 120))
         self.assertLess(many - some - 2 * (some - few), 270)
         self.assertLess(some - few, 30 * 700)
@@ -810,9 +810,10 @@ class Steps(Case):
                            "target_link_libraries(t PRIVATE far) is missing")
 
     def test_a_module_in_another_directory_that_a_link_hides(self):
-        """The file of a package's module is the object, which need not be in the directory of the target's modules. A target may also be
-        outside the build directory."""
-        for name, folder, entry in ("far@synth_0a", f"{os.getcwd()}/elsewhere", {"bmi-only": True}), ("far", "/elsewhere", {}):
+        """The file of a package's module is the object, which need not be in the directory of the
+        target's modules. A target may also be outside the build directory."""
+        for name, folder, entry in (("far@synth_0a", f"{os.getcwd()}/elsewhere", {"bmi-only": True}),
+                                    ("far", "/elsewhere", {})):
             self.target(name, {"f.cppm": entry}, **{"module-dir": folder})
             self.scan(name, "f.cppm", ["f"])
             self.target("near", {"n.cppm": {}}, [name])
@@ -821,8 +822,8 @@ class Steps(Case):
             self.scan("t", "a.cpp", [], ["f"])
             for it in name, "near":
                 self.collates(it)
-            self.fails(f"dyncollate-cmake: t/a.cpp.o.ddi: imports f of {name}, which t reaches only through links that hide it: "
-                       "target_link_libraries(t PRIVATE far) is missing")
+            self.fails(f"dyncollate-cmake: t/a.cpp.o.ddi: imports f of {name}, which t reaches only "
+                       "through links that hide it: target_link_libraries(t PRIVATE far) is missing")
 
     def test_checks_without_grep_and_without_its_patterns(self):
         """Only a search that found nothing passes: otherwise Python checks the same."""

@@ -135,6 +135,32 @@ target_link_libraries(app PRIVATE words)
     "words.cpp": "module words;\nimport std;\nstd::size_t words() { return std::string(2, 'a').size(); }\n",
     "main.cpp": "import words;\nint main() { return words() == 2 ? 0 : 1; }\n",
 }
+# Links of each kind, and a target outside the build directory, which `app` reaches only through
+# the PRIVATE links of a shared library.
+LINKED = {
+    "CMakeLists.txt": HEAD + """set(CMAKE_POSITION_INDEPENDENT_CODE ON)
+add_subdirectory(lib ${CMAKE_BINARY_DIR}/../elsewhere)
+add_library(objects OBJECT EXCLUDE_FROM_ALL)
+target_sources(objects PUBLIC FILE_SET CXX_MODULES FILES o.cppm)
+target_link_libraries(objects PUBLIC $<1:base>)
+add_library(passes INTERFACE)
+target_link_libraries(passes INTERFACE $<BUILD_INTERFACE:lib::base>)
+add_library(hidden SHARED hidden.cpp)
+target_sources(hidden PUBLIC FILE_SET CXX_MODULES FILES h.cppm)
+target_link_libraries(hidden PRIVATE passes objects)
+add_executable(app main.cpp)
+target_link_libraries(app PRIVATE hidden)
+""",
+    "lib/CMakeLists.txt": """add_library(base STATIC)
+add_library(lib::base ALIAS base)
+target_sources(base PUBLIC FILE_SET CXX_MODULES FILES b.cppm)
+""",
+    "lib/b.cppm": "export module b;\nexport inline int fb() { return 1; }\n",
+    "o.cppm": "export module o;\nimport b;\nexport inline int fo() { return fb(); }\n",
+    "h.cppm": "export module h;\nexport int fh();\n",
+    "hidden.cpp": "module h;\nimport b;\nimport o;\nint fh() { return fb() + fo(); }\n",
+    "main.cpp": "import h;\nint main() { return fh() - 2; }\n",
+}
 
 
 def library(name, kind="STATIC", more="", private="", linked=""):
@@ -200,11 +226,6 @@ def environment(**more):
     return os.environ | {"DYNCOLLATE": program.PROGRAM, "DYNCOLLATE_NINJA": tool("ninja")} | more
 
 
-def without_hashes(text):
-    """Removes what differs from build to build: a part of the directory names of imported targets."""
-    return re.sub(r"@synth_[0-9a-f]+", "@synth", str(text))
-
-
 class Tree:
     """A project and its build directory. A run of Ninja leaves in `status` and `log` how it ended."""
 
@@ -228,17 +249,22 @@ class Tree:
     def ninja(self, *words):
         self.status, self.log = run(tool("ninja"), "-C", self.build, "-j2", *words, env=environment())
 
+    def without_names(self, text):
+        """Removes what differs from build to build: the directory, and a part of the directory
+        names of imported targets."""
+        return re.sub(r"@synth_[0-9a-f]+", "@synth", str(text).replace(str(self.top), ""))
+
     def steps(self, description):
         """What the last run did of a kind of step."""
-        return sorted(re.findall(rf"^\[\d+/\d+\] {description} '?(.*?)'?$", without_hashes(self.log), re.M))
+        return sorted(re.findall(rf"^\[\d+/\d+\] {description} '?(.*?)'?$", self.without_names(self.log), re.M))
 
     def compiled(self):
         return self.steps("Building CXX object")
 
     def edges(self):
         """The statements of all dyndep files."""
-        found = {it.relative_to(self.build): it.read_text() for it in self.build.rglob("CXX.dd")}
-        return {without_hashes(name): statements(without_hashes(text)) for name, text in found.items()}
+        return {self.without_names(it): statements(self.without_names(it.read_text()))
+                for it in self.top.rglob("CXX.dd")}
 
 
 @program.needs("program")
@@ -504,6 +530,16 @@ class Others:
             self.assertEqual([len(tree.compiled()) for tree in self.trees], [count, count], source)
             self.assertEqual(*(tree.compiled() for tree in self.trees))
             self.idle()
+
+    def test_kinds_of_links(self):
+        self.lay(LINKED, folder="links")
+        self.builds("b.cppm", "o.cppm", "h.cppm", "hidden.cpp", "main.cpp")
+        self.assertEqual([len(tree.edges()) for tree in self.trees], [4, 4])
+        self.edit("main.cpp", "^import h;", "import b;\\nimport h;")
+        self.run_both()
+        self.assertTrue(all(tree.status for tree in self.trees))
+        self.assertRegex(self.trees[1].log, "\ndyncollate-cmake: CMakeFiles/app.dir/main.cpp.o.ddi: "
+                         "imports b of .*/elsewhere/CMakeFiles/base.dir, ")
 
     def test_modules_of_one_name(self):
         """Projects that CMake builds, because no import leads to two modules of one name, and what touched sources compile again."""
