@@ -19,7 +19,7 @@ OLD_COMMAND, OLD_BINDING = "  # CMake: ", "  # CMake's "
 MORE_INPUTS, DOCUMENT = " " * 8, "/CXX.target.json"
 
 STEP = " -E cmake_ninja_dyndep "
-BUILD = re.compile(r"build ((?:\$.|[^$:])*): (\S+) (.*)")
+BUILD = re.compile(r"build ([^$:]*(?:\$.[^$:]*)*): (\S+) (.*)")
 RUN_OF_CMAKE = re.compile(r"  command = .* --regenerate-during-build ", re.I)
 OUR_RUN_OF_CMAKE = re.compile(rf"(.*) && .* {AFTER_CMAKE} .*")
 
