@@ -61,10 +61,11 @@ def compile_flags(style, name):
     return ["-fmodules-ts", f"-fmodule-mapper={name}.modmap", "-Mno-modules", "-x", "c++"]
 
 
-def scan_lines(command, scanner_command=""):
+def scan_lines(command, scanner_command="", keeps_depfile=False):
     """Returns the command of a rule that scans `$in`, the source of `$object`, in parts that `&&`
     joins. `command` compiles it. Without another scanner, GCC scans. A scan that fails leaves
-    nothing, and one that finds the same document leaves it alone."""
+    nothing, and one that finds the same document leaves it alone. Ninja removes a depfile of which
+    no copy is kept."""
     depfile = "-MD -MF $out.d -MQ $out"
     if scanner_command:
         scan = (f"{scanner_command} -format=p1689 -- {command} -x c++ -c $in -o $object {depfile} "
@@ -73,6 +74,7 @@ def scan_lines(command, scanner_command=""):
         scan = (f"{command} -fmodules-ts -Mno-modules -E -x c++ $in {depfile} -fdeps-format=p1689r5"
                 ' -fdeps-target=$object -o /dev/null -fdeps-file="$$t"')
     return ["""t=$out.$$$$ && trap 'rm -f "$$t"' EXIT""", scan,
+            *["cp $out.d $out.deps"] * keeps_depfile,
             """{ cmp -s "$$t" $out || mv "$$t" $out; }"""]
 
 
