@@ -15,7 +15,9 @@ from ninja_files import shell
 GCC_SCANS = 14
 # The names of clang-scan-deps, which scans for older versions of GCC.
 SCANNERS = ["clang-scan-deps", *(f"clang-scan-deps-{it}" for it in range(22, 15, -1))]
+# What may come before a compiler. Only the last one knows the files of modules.
 CACHES = {"ccache", "sccache"}
+LAUNCHERS = {*CACHES, "dyncollate-remote"}
 # The flags of GCC that matter to a scan and that Clang also knows. Those of the second list have
 # their value in the next word.
 KNOWN = re.compile(r"-([DUI].|std=|m|O|pthread|nostdinc|"
@@ -78,14 +80,14 @@ def scan_lines(command, scanner_command="", keeps_depfile=False):
             """{ cmp -s "$$t" $out || mv "$$t" $out; }"""]
 
 
-def scan_command(compiler, flags):
+def scan_command(compiler, flags, keeps_depfile=False):
     """Returns the command of a rule that scans what this compiler compiles with these flags."""
     style, version = kind(compiler)
     if style == "gcc" and version >= GCC_SCANS:
-        lines = scan_lines(shell([compiler, *flags]))
+        lines = scan_lines(shell([compiler, *flags]), keeps_depfile=keeps_depfile)
     else:
         flags = flags if style == "clang" else known_to_clang(flags)
-        lines = scan_lines(shell([compiler, *flags]), shell(scanner(compiler)))
+        lines = scan_lines(shell([compiler, *flags]), shell(scanner(compiler)), keeps_depfile)
     return " && ".join(lines)
 
 

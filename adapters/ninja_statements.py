@@ -109,7 +109,7 @@ class Statements:
                           order_only=waits(build) + [step.dyndep, f"{build.outputs[0]}.modmap"])
 
     def scanned(self, target, build):
-        name, words = build.outputs[0], build.words()[target.is_cached:]
+        name, words = build.outputs[0], build.words()[target.is_launched:]
         if not OPERATORS.isdisjoint(words):
             raise Wrong(f"the command of {name} is more than a call of the compiler")
         flags = [it for before, it in zip(words, words[1:])
@@ -117,7 +117,8 @@ class Statements:
                  and it not in NO_FLAGS and it not in self.generator.MODULE_FLAGS
                  and it not in build.inputs]
         number = len(self.scans) or ""
-        rule = self.scans.setdefault(scan_command(words[0], flags), f"dyncollate_scan{number}")
+        kept = target.is_launched and not target.is_cached
+        rule = self.scans.setdefault(scan_command(words[0], flags, kept), f"dyncollate_scan{number}")
         return build.text(rule, outputs=[f"{name}.ddi"], order_only=waits(build),
                           raw={"object": shell([name])})
 

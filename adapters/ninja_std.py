@@ -55,7 +55,7 @@ class Library:
 def library_of(generator, target, libraries):
     """Returns the library for a target: one of `libraries`, which has them by the rule and the
     flags."""
-    command = target.words[target.is_cached:]
+    command = target.words[target.is_launched:]
     flags = [it for it in command[1:] if SHARED.match(it) and not CODE.match(it)]
     build = target.compiles[0]
     key = build.rule, *flags

@@ -8,7 +8,7 @@ import re
 from dataclasses import dataclass, field
 
 from adapter_files import EXTENSIONS, Wrong
-from compilers import CACHES, kind
+from compilers import CACHES, LAUNCHERS, kind
 
 MODERN = re.compile(r"-std=(c|gnu)\+\+2[0-9a-z]$")
 # A line that begins a module or imports one.
@@ -60,8 +60,13 @@ class Target:
         return os.path.basename(self.words[0]) in CACHES
 
     @functools.cached_property
+    def is_launched(self):
+        """Whether something else comes before the compiler."""
+        return os.path.basename(self.words[0]) in LAUNCHERS
+
+    @functools.cached_property
     def style(self):
-        return kind(self.words[self.is_cached])[0]
+        return kind(self.words[self.is_launched])[0]
 
     def is_modern(self):
         """Whether its language and its compiler have modules."""
