@@ -198,6 +198,27 @@ class StdWithClang(Sandboxed):
             self.skipTest("libc++-19-dev: not there")
 
 
+class DeprecatedWithClang(Sandboxed):
+    """A source uses a function of a module that is deprecated, and Clang quotes the line of the module."""
+    example, form = "libs", "clang"
+    test_each_step = test_a_file_of_a_map_that_is_missing = test_a_file_that_is_not_declared = None
+
+    def copy(self, example, form=None):
+        super().copy(example)
+        edit("src/base/number.cppm", "^export struct", r"export [[deprecated]] inline int old() { return 0; }\n\g<0>")
+        edit("src/math/sum.cpp", "^module sum;", r"\g<0>\nimport number;\nint use() { return old(); }")
+        self.generate(form)
+
+    def test_the_source_of_the_module(self):
+        """Without it a correct program fails, unless it is in the module file."""
+        for status, said in (1, "fatal error: cannot open file"), (0, "[[deprecated]] inline int old()"):
+            step = next(it for it in self.steps() if "obj/math/src/math/sum.cpp.o" in it.writes)
+            found, printed, _ = self.sandbox(step)
+            self.assertEqual((found, "'old' is deprecated" in printed, said in printed), (status, True, True), printed)
+            edit("build.ninja", r"^  command = (\$clang .*@\$out\.modmap)", r"  command = \1 -Xclang -fmodules-embed-all-files")
+            self.assertEqual(self.ninja()[0], 0, self.log)
+
+
 del Sandboxed
 
 
