@@ -17,7 +17,7 @@ NEEDS_LIBRARY = True
 REAL = f"libdyncollate.so.{VERSION}"
 # what ./install puts below its prefix, and examples. LIB is the directory of the libraries.
 INSTALLED = ["bin/dyncollate", "bin/dyncollate-cmake", "bin/dyncollate-explain", "bin/dyncollate-gn", "bin/dyncollate-meson",
-             "bin/dyncollate-ninja", "include/dyncollate.h", "include/dyncollate.hpp",
+             "bin/dyncollate-ninja", "bin/dyncollate-remote", "include/dyncollate.h", "include/dyncollate.hpp",
              *(f"LIB/{it}" for it in ("libdyncollate.a", REAL, "libdyncollate.so.1", "libdyncollate.so", "pkgconfig/dyncollate.pc",
                                       "cmake/dyncollate/dyncollate-config.cmake", "cmake/dyncollate/dyncollate-config-version.cmake")),
              *(f"share/man/man1/dyncollate{it}.1" for it in ("", "-cmake", "-explain", "-gn", "-meson", "-ninja")), "share/man/man3/dyncollate.3",
@@ -27,7 +27,7 @@ INSTALLED = ["bin/dyncollate", "bin/dyncollate-cmake", "bin/dyncollate-explain",
              *(f"share/doc/dyncollate/{it}.md" for it in ("CHANGELOG", "FORMATS", "GUIDE")),
              *(f"share/dyncollate/cmake_{it}.py" for it in ("adopt", "exports", "files", "ninja", "reached", "step")),
              *(f"share/dyncollate/ninja_{it}.py" for it in ("adopt", "files", "group", "main", "statements", "std", "steps", "targets", "why")),
-             *(f"share/dyncollate/{it}.py" for it in ("adapter_files", "compilers", "gn_generator", "meson_generator", "meson_hook")),
+             *(f"share/dyncollate/{it}.py" for it in ("adapter_files", "compilers", "gn_generator", "meson_generator", "meson_hook", "remote_server")),
              *(f"share/dyncollate/{it}" for it in ("VERSION", "dyncollate.html", "installed", "meanings.json", "project.schema.json",
                                                    "target.schema.json", "error_line.py")),
              *(f"share/dyncollate/explain_{it}.py" for it in ("build", "codes", "documents", "errors", "files", "modules", "others", "page",
@@ -87,12 +87,13 @@ class Install(releases.Released):
                          {prefix / "lib/libdyncollate.so": "libdyncollate.so.1", prefix / "lib/libdyncollate.so.1": REAL})
         self.assertEqual({it for it in installed if it.stat().st_mode & 0o777 == 0o755 and not it.is_symlink()},
                          {prefix / it for it in ("bin/dyncollate", "bin/dyncollate-cmake", "bin/dyncollate-explain", "bin/dyncollate-gn",
-                                                 "bin/dyncollate-meson", "bin/dyncollate-ninja", f"lib/{REAL}",
+                                                 "bin/dyncollate-meson", "bin/dyncollate-ninja", "bin/dyncollate-remote", f"lib/{REAL}",
                                                  "share/dyncollate/examples/generate")})
         self.assertEqual({it.stat().st_mode & 0o777 for it in installed}, {0o644, 0o755})
         self.assertEqual(call(prefix / "bin/dyncollate", "one", prefix / "share/dyncollate/examples/b.ddi", "mod", ".bmi"), (0, EXAMPLE, ""))
         self.assertEqual((prefix / "share/man/man1/dyncollate.1").read_bytes(), (self.home / "docs/dyncollate.1").read_bytes())
-        for folder, name in ("adapters/cmake", "dyncollate-cmake"), ("adapters/meson", "dyncollate-meson"), ("adapters/gn", "dyncollate-gn"):
+        for folder, name in ("adapters/cmake", "dyncollate-cmake"), ("adapters/meson", "dyncollate-meson"), ("adapters/gn", "dyncollate-gn"), \
+                ("adapters/remote", "dyncollate-remote"):
             self.assertEqual(call(prefix / "bin" / name, "--help"), call(self.home / folder / name, "--help"))
         version = (self.home / "VERSION").read_text()
         for name in "dyncollate-cmake", "dyncollate-explain":
