@@ -93,33 +93,22 @@ class Just(Casd):
 class Elsewhere(Casd):
     """buildbox-casd in another network and with another root, as on another machine. It has this system's /usr."""
     programs = [*Casd.programs, "ip"]
-    root = """mount -t tmpfs tmpfs "$1"
-        cd "$1"
-        mkdir -p usr proc dev tmp old ".$2"
-        ln -s usr/bin usr/lib usr/lib64 .
-        mount --rbind /usr usr
-        mount --rbind /dev dev
-        mount -t proc proc proc
-        pivot_root . old
-        umount -l old
-        shift 2
-        exec "$@\""""
-
     def start(self, room):
         self.room, number = room, os.getpid()
         self.name, net = f"server{number}", f"10.{number // 256 % 256}.{number % 256}"
         self.address = f"{net}.2", 50051
         run("ip", "netns", "delete", self.name)
         for words in (f"netns add {self.name}", f"link add v{number} type veth peer name eth0 netns {self.name}", f"addr add {net}.1/30 dev v{number}",
-                      f"link set v{number} up", f"-n {self.name} addr add {net}.2/30 dev eth0", f"-n {self.name} link set eth0 up"):
+                      f"link set v{number} up", f"-n {self.name} addr add {net}.2/30 dev eth0", f"-n {self.name} link set eth0 up", f"-n {self.name} link set lo up"):
             output_of("ip", *words.split())
-        (room / "root").mkdir()
+        (room / "casd").mkdir()
         self.again()
         return {"RECC_SERVER": "http://%s:%d" % self.address}
 
     def command(self):
-        return ["ip", "netns", "exec", self.name, "unshare", "--mount", "--pid", "--fork", "--kill-child", "sh", "-ec", self.root, "sh",
-                self.room / "root", self.room / "casd", *super().command()]
+        links = [word for it in ("bin", "lib", "lib64") for word in ("--symlink", f"usr/{it}", f"/{it}")]
+        return ["ip", "netns", "exec", self.name, "bwrap", "--die-with-parent", "--cap-add", "ALL", "--ro-bind", "/usr", "/usr", *links,
+                "--bind", "/proc", "/proc", "--dev", "/dev", "--tmpfs", "/tmp", "--bind", self.room / "casd", self.room / "casd", *super().command()]
 
 
 SERVERS = {"BySandbox": Sandbox, "ByCasd": Casd, "ByJust": Just, "Elsewhere": Elsewhere}
@@ -230,11 +219,15 @@ class Examples(Remote):
             self.skipTest(printed.strip())
         self.from_scratch_and_from_the_cache("std", 5)
 
+    def stays_the_same(self):
+        """Whether a module file does after an edit that does not matter. With justbuild, it has another directory each time."""
+        return self.form == "gcc" and self.server is not Just
+
     def test_edits(self):
         """Objects are those of a local build. What was there before comes from the cache."""
         self.both("libs")
         self.builds(6, 0)
-        for name, old, new, count in [(N, "int value;", "int value; int pad = 7;", 6), (D, "plus\\(number, number\\)", "plus(plus(number, number), number)", 1 if self.form == "gcc" else 4),
+        for name, old, new, count in [(N, "int value;", "int value; int pad = 7;", 6), (D, "plus\\(number, number\\)", "plus(plus(number, number), number)", 1 if self.stays_the_same() else 4),
                                       (B, "left.value \\+ right.value", "left.value + right.value + 1", 1), (N, "int value;", "int pad = 0, value;", 6)]:
             before = (self.room / "here" / name).read_text()
             self.edit(name, old, new)
@@ -268,7 +261,7 @@ class Examples(Remote):
         self.builds(6, 0)
         self.edit(N, "^export module number;", "export module number; // a comment")
         compiled, objects = self.built("there", self.remote)
-        self.assertEqual(compiled, [N] if self.form == "gcc" else sorted(LIBS))
+        self.assertEqual(compiled, [N] if self.stays_the_same() else sorted(LIBS))
         self.idle()
         self.assertEqual(objects, self.built("here", self.local)[1])
         self.edit(N, "int value;", "int value; int pad = 7;")

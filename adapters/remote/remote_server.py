@@ -95,8 +95,10 @@ def compiler(words):
         file.write("#include <version>\n")
     ask = [*words, "-x", "c++", "-dM", "-E", source]
     macros, programs = printed(ask), [words[0]]
-    status, _ = recc([*ask, "-o", there], [source], [there], RECC_SKIP_CACHE="1")
-    if status or os.fsdecode(read(there)) != macros:
+    status, text = recc([*ask, "-o", there], [source], [there], RECC_SKIP_CACHE="1")
+    if status:
+        raise Local(f"{words[0]} fails on the server: " + text.split("\n")[0])
+    if os.fsdecode(read(there)) != macros:
         raise Local(f"the server's {words[0]} or its standard library is not the one here")
     if "__clang__" not in macros:
         tools = [printed([words[0], f"-print-prog-name={it}"]) for it in ("cc1plus", "as")]
