@@ -241,6 +241,17 @@ class Examples(Remote):
             objects = self.built("there", self.remote)[1]
             self.assertEqual((self.counts(), objects), ((1, count), self.built("here", self.local)[1]))
 
+    def test_only_a_cache(self):
+        if self.server is Sandbox:
+            self.skipTest("the sandbox is a server")
+        self.remote["RECC_CACHE_ONLY"] = "1"
+        self.both("libs")
+        for hits in 0, 6:
+            objects = self.built("there", self.remote)[1]
+            self.assertNotIn(SAID, self.log)
+            self.clean()
+            self.assertEqual((self.counts(), objects), ((0, hits), self.built("here", self.local)[1]))
+
     def test_an_error(self):
         """It is the compiler's, here."""
         self.both("libs")
