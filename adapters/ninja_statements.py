@@ -118,7 +118,8 @@ class Statements:
                  and it not in build.inputs]
         number = len(self.scans) or ""
         kept = target.is_launched and not target.is_cached
-        rule = self.scans.setdefault(scan_command(words[0], flags, kept), f"dyncollate_scan{number}")
+        command = scan_command(words[0], flags, kept)
+        rule = self.scans.setdefault(command, f"dyncollate_scan{number}")
         return build.text(rule, outputs=[f"{name}.ddi"], order_only=waits(build),
                           raw={"object": shell([name])})
 
