@@ -10,7 +10,7 @@ use Rattle.commands.specs.Outcomes.{Part, Outcome, LineValue, InTurn, goes_on, s
 use Rattle.commands.specs.EdgeChecks.{EdgesPass}
 use Rattle.commands.specs.Files.{FilesOf}
 use Rattle.commands.specs.Listings.{ListingRead, ReadsListing}
-use Rattle.commands.specs.ProjectCommand.{At, ReadTargetValue, ReadsTarget, AllEdgesPass}
+use Rattle.commands.specs.ProjectCommand.{At, ReadTargetValue, ReadsTarget, AllEdgesPass, UnlessKnown, ListAfter, list_with}
 use Rattle.commands.specs.Runs.{TaskRun}
 use Rattle.collate_core.specs.Values.{CollatedValue}
 use Rattle.disk_folder.specs.Killed.{AllRead}
@@ -91,10 +91,18 @@ edges_read (Some listing) name dyndep = in_turn (returns _ _ _) (λ old. in_turn
 at_reads : {V : Type 0} (index : ℕ) (P : Part V) → OnlyReads P → OnlyReads (λ calls outcome. At index P calls outcome)
 at_reads index P only = record { reads = λ calls outcome h. only.reads calls h.0 h.1 }
 
+list_reads : (known : Option ListingRead) (name : PathText) → OnlyReads (λ calls outcome. UnlessKnown known (ReadsListing name) calls outcome)
+list_reads (Some list) name = returns _ _ _
+list_reads None name = as_reads _ name
+
+named_list_reads : (earlier : List ReadTargetValue) (name : Option PathText) → OnlyReads (λ calls outcome. ReadsIfNamed (ListAfter earlier) name calls outcome)
+named_list_reads earlier None = returns _ _ _
+named_list_reads earlier (Some name) = in_turn (list_reads (list_with earlier name) name) (λ value. returns _ _ _)
+
 target_reads : (earlier : List ReadTargetValue) (name : PathText) → OnlyReads (λ calls outcome. ReadsTarget earlier name calls outcome)
 target_reads earlier name =
     in_turn (in_turn (document_reads name) (λ bytes. in_turn (at_reads _ _ (returns _ _ _)) (λ spec. in_turn (at_reads _ _ (returns _ _ _)) (λ passed.
-    in_turn (at_reads _ _ (returns _ _ _)) (λ linked. in_turn (files_read spec []) (λ files. returns _ _ _))))))
+    in_turn (at_reads _ _ (returns _ _ _)) (λ linked. in_turn (all_reads spec.scans) (λ scans. in_turn (named_list_reads earlier spec.edges) (λ listing. returns _ _ _)))))))
     (λ target. returns _ _ _)
 
 all_edges_read : (index : ℕ) (pairs : List (ReadTargetValue × CollatedValue)) → OnlyReads (λ calls outcome. AllEdgesPass index pairs calls outcome)

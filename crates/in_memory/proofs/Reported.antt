@@ -1,6 +1,7 @@
 -- The message of each run that fails is that of an error.
 use Rattle.std.proofs.Common.{◌≡◌, ◌∙◌, ℕ, ◌+◌, List, [], ◌∷◌, ◌++◌, length, zip, Option, Some, None, Ok, Err, ap, refl, codes}
 use Rattle.in_memory.specs.Prelude.{Bytes, Name, PathText, Text, StatementValue, SettingValue, Written, EdgeValue, all_rules, CollatedValue, TargetValue, Refusal, CollateRun, SpecOf, style_of, target_with, DyndepOf, DyndepRead, EdgesPass, OrderableOf, TextEffectOf, EffectOf, EffectRun, ListingTextOf, NameOf, FilesOf, FileCall, FileRead, IsListingRead, ListingOf, ListingRead, ReadsListing, OneRun, one_setting, one_target, OrderOf, OrderRun, Each, LineValue, Part, ReadsAll, ReadsAs, ReadsDocument, ReadsIfNamed, ReadsNext, goes_on, stops, ◌>>=◌, AllEdgesPass, At, FormOf, LinksOf, ProjectDocumentOf, ProjectOf, ProjectRun, ReadTargetValue, ReadsTarget, TargetAfter, names_at, target_text, refusal_by_names, DyndepTextOf, ShowRun, TargetOf, CommandError, in_target, in_project, in_scan, in_info, of_modules, of_statement, of_map, of_link, of_name, in_dyndep, in_edges, of_effect, of_listing, of_cycle, of_file, error_text, EachMessageIsOfAnError, IsErrorMessage}
+use Rattle.commands.specs.ProjectCommand.{ListAfter, UnlessKnown, list_with}
 use Rattle.ninja_text.specs.declared.failure.Failure.TheVariants.{Fault, Memory}
 use Rattle.dyndep_file.specs.declared.fault.WriteFault.TheVariants as write
 use Rattle.scan_docs.specs.Target as document
@@ -170,13 +171,22 @@ at_target index Run are calls stop (Err (Fault own), holds, is) =
     let (error, same) = are calls own holds in
     (Some index, error, ap (λ (l : LineValue). l.message) is ∙ ap (target_text index) same)
 
+list_after : (known : Option ListingRead) (name : PathText) → Plain (UnlessKnown known (ReadsListing name))
+list_after (Some list) name = λ calls stop is. absurd is.1.0
+list_after None name = reads_as IsListingRead name
+
+list_if_named : (earlier : List ReadTargetValue) (name : Option PathText) → Plain (ReadsIfNamed (ListAfter earlier) name)
+list_if_named earlier None = λ calls stop is. absurd is.1.0
+list_if_named earlier (Some name) = in_turn (list_after (list_with earlier name) name) λ value calls stop is. absurd is.1.0
+
 target_after : (earlier : List ReadTargetValue) (name : PathText) → Reported (TargetAfter earlier name)
 target_after earlier name =
     in_turn (reported (ReadsDocument name) (reads name)) λ bytes.
     in_turn (at_target (length earlier) (SpecOf bytes) (spec_of bytes)) λ spec.
     in_turn (at_target (length earlier) (FormOf earlier spec) (form_of earlier spec)) λ form.
     in_turn (at_target (length earlier) (LinksOf earlier spec.linked) (links_of earlier spec.linked)) λ linked.
-    in_turn (reported (FilesOf spec []) (files spec [])) λ read calls stop is. absurd is.1.0
+    in_turn (reported (ReadsAll spec.scans) (reads_all spec.scans)) λ scans.
+    in_turn (reported (ReadsIfNamed (ListAfter earlier) spec.edges) (list_if_named earlier spec.edges)) λ listing calls stop is. absurd is.1.0
 
 reads_target : (earlier : List ReadTargetValue) (name : PathText) → Reported (ReadsTarget earlier name)
 reads_target earlier name = in_turn (target_after earlier name) λ target calls stop is. absurd is.1.0
