@@ -1,4 +1,5 @@
 -- What there is of files at each moment of a run, even if it is killed in a call of the disk.
+use Rattle.system_files.proofs.ForCallers.{ok_err}
 use Rattle.std.proofs.Common.{◌≡◌, ◌∙◌, ◌⊎◌, ℕ, List, [], ◌∷◌, ◌++◌, Bool, true, false, Option, Some, Result, Ok, Err, OnOk, map, refl, ap, sym, append_assoc, append-nil, subst, inl, inr}
 use Rattle.std.proofs.lemmas.Bool.{false≢true}
 use Rattle.std.specs.declared.io.Error.{Error}
@@ -134,9 +135,6 @@ has-quiet : (bytes : Bytes) (name : PathText) (calls : List DiskCall) (told : Re
 has-quiet bytes name calls told has = rw has.2 (follows-quiet name has.0, found-quiet bytes name has.0 has.1 told has.3)
 
 -- ---- a file that has its bytes
-
-ok_err : {V : Type 0} (value : V) (error : Error) → (let r : Result V Error = Ok value in r) ≡ Err error → ⊥
-ok_err value error is = cc
 
 true_false : (let r : Result Bool Error = Ok true in r) ≡ Ok false → ⊥
 true_false is = cc

@@ -6,7 +6,7 @@ use Rattle.std.proofs.Math.Logic.{∥∥₁_map}
 use Rattle.std.proofs.lemmas.List.{map_push}
 use Rattle.system_files.specs.Disk.{Bytes, PathText, DiskCall, opening, AddsDiskCalls, MakesDiskCalls}
 use Rattle.system_files.specs.Reading.{Opens, ReadsUpTo, seen_read}
-use Rattle.system_files.proofs.ForCallers.{Known, ReadSoFar, both_made, flat_map-push}
+use Rattle.system_files.proofs.ForCallers.{Known, ReadSoFar, both_made, flat_map-push, ok_err}
 use Rattle.commands.specs.Folder.{FileCall, FileRead, Adds, answer_of}
 use Rattle.disk_folder.specs.Runs.{ReadsFile, MakesCall, Step, made_in, AreSteps, HasMade, HasNoCalls, calls_known}
 
@@ -53,9 +53,6 @@ reads_up_to : (most : ℕ) (name : PathText) (calls : List DiskCall) (result : R
     ReadsFile name calls (answer_of (λ bytes. bytes) most result)
 reads_up_to most name calls (Ok bytes) reads = elim reads.1 [ inl all ↦ inl all | inr some ↦ inr (some.0, rw some.1 (not_less most)) ]
 reads_up_to most name calls (Err error) reads = reads
-
-ok_err : {V : Type 0} (value : V) (error : Error) → (let r : Result V Error = Ok value in r) ≡ Err error → ⊥
-ok_err value error is = cc
 
 same_error : {V : Type 0} (one two : Error) → (let r : Result V Error = Err one in r) ≡ Err two → one ≡ two
 same_error one two is = cc

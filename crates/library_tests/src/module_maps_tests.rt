@@ -68,23 +68,13 @@ fn entries_text(alloc: Global, entries: &[MapEntry]) -> Result<Vec<u8>, AllocErr
     Ok(out)
 }
 
-/// Appends the entry of a line of the form.
-fn push_entry<F: LineForm>(
-    alloc: Global,
-    form: &F,
-    entries: &mut Vec<MapEntry>,
-    line: &[u8],
-) -> Result<(), Fail> {
-    let entry = some(form.entry(alloc, entries, line)?)?;
-    entries.push(entry)?;
-    Ok(())
-}
-
 /// The entries of a line of GCC's form and of one of Clang's, which comes after it.
 pub(crate) fn entries_of_lines(alloc: Global) -> Result<Vec<u8>, Fail> {
     let mut entries = Vec::new(alloc);
-    push_entry(alloc, &Gcc, &mut entries, b"A mod/A.bmi")?;
-    push_entry(alloc, &Clang, &mut entries, b"-fmodule-file=B=mod/B.bmi")?;
+    let pair = some(pair_in(alloc, b' ', b"A mod/A.bmi")?)?;
+    push_named(alloc, &mut entries, &[(&pair.0, &pair.1)])?;
+    let entry = some(Clang.entry(alloc, &entries, b"-fmodule-file=B=mod/B.bmi")?)?;
+    entries.push(entry)?;
     Ok(entries_text(alloc, &entries)?)
 }
 

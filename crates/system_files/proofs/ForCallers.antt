@@ -13,6 +13,10 @@ use Rattle.std.specs.declared.io.ErrorKind.TheVariants.{OutOfMemory}
 abbrev pub Known : Type 0
 Known = Option (List DiskCall)
 
+-- a value is no error
+pub ok_err : {V : Type 0} (value : V) (error : Error) → (let r : Result V Error = Ok value in r) ≡ Err error → ⊥
+ok_err value error is = cc
+
 -- no call
 pub none_made : (known : Known) → AddsDiskCalls known known []
 none_made None = refl

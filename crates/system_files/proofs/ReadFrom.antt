@@ -1,4 +1,5 @@
 -- What calls read of a file that has these bytes.
+use Rattle.system_files.proofs.ForCallers.{ok_err}
 use Rattle.std.proofs.Common.{◌≡◌, ◌∙◌, ℕ, List, [], ◌∷◌, ◌++◌, take, map, Bool, true, false, Result, Ok, Err, refl, ap, sym, append_assoc, append-nil, inl, inr}
 use Rattle.std.specs.List.{flat_map}
 use Rattle.std.proofs.lemmas.List.{take_at, take_all}
@@ -34,9 +35,6 @@ all_read name bytes all calls reads gets =
     let next = some_read_from name bytes all gets.0 (getting name (Ok []) ∷ []) gets.1 (rw gets.2 at reads) in
     let nothing = next.2.1 ∙ next.2.2 refl in
     sym (next.1 ∙ ap (λ b. all ++ b) nothing ∙ append-nil all)
-
-ok_err : {V : Type 0} (value : V) (error : Error) → (let r : Result V Error = Ok value in r) ≡ Err error → ⊥
-ok_err value error is = cc
 
 pub up_to_read : (most : ℕ) (name : PathText) (bytes begun : Bytes) (calls : List DiskCall) → ReadsFrom bytes calls →
     Opens (ReadsUpTo most name) name calls (Ok begun) → begun ≡ take most bytes
