@@ -49,7 +49,7 @@ module _ {X : Type 0} (Alike : X → X → Type 0) (xs : List X) (none : (i j : 
       none_with (suc i) j y at_y (λ k l v w k_before l_before at_v at_w same. none_up_to n k l v w (omega (arith, lt, l_before)) k_before at_v at_w same) i x
       (omega arith) before at_x alike
 
-  never_twice : (i j : ℕ) (x y : X) → i < j → At xs i x → At xs j y → Alike x y → ⊥
+  pub never_twice : (i j : ℕ) (x y : X) → i < j → At xs i x → At xs j y → Alike x y → ⊥
   never_twice i j x y before at_x at_y alike = none_up_to (suc j) i j x y (omega arith) before at_x at_y alike
 
 -- what is never twice in its texts is at one place

@@ -10,7 +10,9 @@ pub mod Faultless
 pub mod Pairs
 pub mod Mentions
 pub mod OneReported
+mod BeginningLemmas
 pub mod PartLemmas
 mod Bits
 mod PoolLemmas
+mod Sparse
 pub mod ForCallers

@@ -1,10 +1,11 @@
 -- What loops push, lists that differ or have the same indexes, and the first that is rejected.
 use Rattle.std.proofs.Common.{◌≡◌, ℕ, ◌+◌, List, [], ◌∷◌, ◌++◌, map, take, Some, ap, sym, ◌∙◌, append_assoc, slice_get, zero, suc, length, refl, subst, arith, ◌<◌, true, false, ⊎_elim, not, Option, None, position, get_or, append-nil, bytes_eq, cond, IfSome, IfNone, is_some, slice_set}
-use Rattle.std.proofs.lemmas.List.{map-append, length-take-le}
+use Rattle.std.proofs.lemmas.List.{map-append, length-take-le, length-set, get_or-set_same, get_or-set_other}
+use mathlib.Core.Logic.{◌≢◌}
 use Rattle.ninja_text.proofs.ForCallers.{take_next, same_some, from_push, in_take, to_map, from_map, from_take, differ_push, not_among, found_if, new_if}
 use Rattle.module_table.specs.Prelude.{flat_map, enumerate_from, AllZip, list_any, AcceptsAll, bytes_decides, AllDiffer, RepeatsFirst, IsFirstRepetition, IsFirst, Name}
 use Rattle.std.proofs.lemmas.Grind.{flat_map-append}
-use Rattle.std.proofs.lemmas.Option.{slice_get-get_or, slice_get_within, slice_get_read}
+use Rattle.std.proofs.lemmas.Option.{slice_get-get_or, slice_get_within, slice_get_read, get_or_from_slice_get}
 use Rattle.std.proofs.lemmas.List.Quantifiers.{position-Some}
 use Rattle.std.proofs.lemmas.Slice.Zip.{AllZip-long}
 use Rattle.module_table.proofs.Words.{At}
@@ -235,3 +236,15 @@ finds keys name (Some k) e =
 pub misses : (keys : List Name) (name : Name) (r : Option ℕ) → is_some r ≡ list_any (λ k. bytes_eq name k) keys → IfNone r ((k : ℕ) → At keys k name → ⊥)
 misses keys name None e = λ k at. not_among (λ n. n) keys name (sym e) k (to_map (λ n. n) keys k name at)
 misses keys name (Some k) e = tt
+
+-- ---- a list with another element at an index
+
+pub set_there : {X : Type 0} (xs : List X) (i : ℕ) (x : X) → i < length xs → At (slice_set xs i x) i x
+set_there xs i x within =
+    slice_get-get_or (slice_set xs i x) i x (omega (arith, within, length-set xs i x)) ∙ ap Some (get_or-set_same xs i x x within)
+
+pub set_elsewhere : {X : Type 0} (xs : List X) (i j : ℕ) (x y : X) → At xs j y → j ≢ i → At (slice_set xs i x) j y
+set_elsewhere xs i j x y at other =
+    let within = slice_get_within xs j y at in
+    slice_get-get_or (slice_set xs i x) j y (omega (arith, within, length-set xs i x))
+    ∙ ap Some (get_or-set_other xs i j x y other ∙ get_or_from_slice_get xs j y y at)

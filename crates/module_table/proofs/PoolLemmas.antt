@@ -1,11 +1,11 @@
 -- What lists have, and rows of entries by keys: an entry that is added is listed.
 use Rattle.std.proofs.Common.{◌≡◌, ℕ, zero, suc, ◌+◌, ◌<◌, ◌≤◌, ◌⊎◌, Bool, true, false, cond, List, [], ◌∷◌, ◌++◌, length, Option, Some, None, option_copied, refl, ap, subst, sym, ◌∙◌, inl, inr, ⊎_elim, arith, slice_get, bytes_eq, true≢false, is_some, IfNone, IfSome, MatchBool, Bor, get_or, map, length-append}
-use Rattle.module_table.specs.Prelude.{AllZip, bytes_decides, ModuleValue, InfoValue, ModuleAt, Row, Shared, Has, By, by_name, by_file, key_of, rows_of, module_at, IsSameRow, IsPut, StillListed, AreListed, Below, IsRowUnlinked, IsUnlinked, IsKnownModule, IsSource, IsRelated, IsPool, AreIndexes, AreFit, IsFitAt, IsAlone, IsClosedAt, IsProvidedFor, IsApart, IsCopied, IsPickedOf, RuleValue, HasModule, IsAlike, IsPartOf, KeepsRequired, IsEnough, AreLinked, Related}
+use Rattle.module_table.specs.Prelude.{AllZip, bytes_decides, ModuleValue, InfoValue, Row, Has, HasBit, By, by_name, by_file, key_of, rows_of, StillInRow, IsFoundIn, IsPut, StillListed, AreListed, AreShared, Below, IsRowUnlinked, IsUnlinked, IsKnownModule, IsSource, IsRelated, IsPool, AreIndexes, AreFit, IsClosedAt, IsProvidedFor, IsApart, IsCopied, IsPickedOf, InWords, RuleValue, HasModule, IsAlike, IsPartOf, KeepsRequired, IsEnough, AreLinked, Related}
 use Rattle.std.specs.List.{AllWithin, HoldsAt}
 use Rattle.std.specs.Option.{MatchOption, option_eq}
 use Rattle.std.proofs.lemmas.Option.{slice_get_read, slice_get_within, get_or_from_slice_get}
 use Rattle.module_table.specs.declared.pool.rows.Listed.{Listed}
-use Rattle.module_table.specs.inner.Pools.{Rows, InRow, HasSource, HasShared, IsPicked}
+use Rattle.module_table.specs.inner.Pools.{Rows, HasSource, HasShared, IsPicked}
 use Rattle.ninja_text.proofs.ForCallers.{same_some, in_first, in_second, from_push, three_ways, same_cons, to_map, from_map, placed as index_of}
 use Rattle.module_table.specs.Parts.{InfosApart, OwnApart, AreClosed}
 use Rattle.module_table.proofs.Words.{At, Pair, target_of}
@@ -59,6 +59,15 @@ pub same_at : {X : Type 0} (eq : X → X → Bool) → ((x y : X) → eq x y ≡
 same_at eq means xs i None b at e = absurd (true≢false (sym e))
 same_at eq means xs i (Some x) b at e = slice_get_read xs _ i x.now refl at.0 (at.1 x.now) ∙ ap Some (means x.now b.now e)
 
+-- the element at an index is not equal to b
+pub other_at : {X : Type 0} (eq : X → X → Bool) → ((x : X) → eq x x ≡ true) → (xs : List X) (i : ℕ) (r : Option (Bor X)) (b : Bor X)
+    → MatchOption r (length xs ≤ i) (λ x. (i < length xs) × HoldsAt (λ y. x.now ≡ y) xs i) → option_eq (λ x y. eq x.now y.now) r (Some b) ≡ false
+    → At xs i b.now → ⊥
+other_at eq same xs i None b at e here = let within = slice_get_within xs i b.now here in omega (arith, within, at)
+other_at eq same xs i (Some x) b at e here =
+    let one : x.now ≡ b.now = at.1 b.now ∙ get_or_from_slice_get xs i b.now b.now here in
+    true≢false (sym (same b.now) ∙ ap (λ y. eq y b.now) (sym one) ∙ e)
+
 -- ---- truth values
 
 pub there_is : {X : Type 0} (P : X → Type 0) (o : Option X) → is_some o ≡ true → IfSome o P → (x : X) × (o ≡ Some x) × P x
@@ -82,35 +91,15 @@ last_at xs y n same = let at : n ≡ length xs + 0 = omega (arith, same) in ap (
 
 -- ---- rows
 
-abbrev pub first_of : Row → ModuleAt
-first_of row = row.first
+pub same_row : (r : Row) → StillInRow r r
+same_row r k h = h
 
-abbrev pub number_of : Row → Option ℕ
-number_of row = row.number
+-- what is found in a row that stays is found again
+pub found_still : (old new : Option Row) (k : ℕ) → ((r : Row) → old ≡ Some r → (row : Row) × (new ≡ Some row) × StillInRow r row) → IsFoundIn old k
+    → IsFoundIn new k
+found_still old new k kept h = let still = kept h.0 h.1 in (still.0, still.1, still.2 k h.2)
 
-abbrev info_at : ModuleAt → ℕ
-info_at m = m.info
-
-pub same_row : (r : Row) → IsSameRow r r
-same_row r = (refl, λ x h. h)
-
-pub row_of_row : (a b c : Row) → IsSameRow a b → IsSameRow b c → IsSameRow a c
-row_of_row a b c h k = (k.0 ∙ h.0, λ x e. k.1 x (h.1 x e))
-
--- a module stays listed in a row that stays, by all that its info shares
-in_row_still : (P Q : Shared → Type 0) (old new : Option Row) (at : ModuleAt) → ((s : Shared) → P s → Q s)
-    → ((r : Row) → old ≡ Some r → (row : Row) × (new ≡ Some row) × IsSameRow r row) → InRow P old at → InRow Q new at
-in_row_still P Q old new at more kept h =
-    let k = kept h.0 h.1 in (
-      k.0,
-      k.1,
-      elim h.2 [
-        | inl first ↦ inl (k.2.0 ∙ first)
-        | inr shared ↦ inr (shared.0, more shared.0 shared.1, k.2.1 shared.0.number shared.2, shared.3, shared.4 ∙ ap info_at (sym k.2.0))
-      ],
-    )
-
-module _ (old new : Rows) (key : List ℕ) (at : ModuleAt) (shared : List Shared) (put : IsPut bytes_eq old new key at shared) where
+module _ (old new : Rows) (key : List ℕ) (info : ℕ) (Shares : ℕ → Type 0) (put : IsPut bytes_eq old new key info Shares) where
   there : (q : List ℕ) → q ≡ key → new q ≡ Some put.row
   there q same = put.updates q ∙ ap (λ b. cond b (Some put.row) (old q)) ((bytes_decides key q).1 (sym same))
 
@@ -121,60 +110,74 @@ module _ (old new : Rows) (key : List ℕ) (at : ModuleAt) (shared : List Shared
       by true e = inl (sym ((bytes_decides key q).0 e))
       by false e = inr (put.updates q ∙ ap (λ b. cond b (Some put.row) (old q)) e)
 
-  pub row_kept : (q : List ℕ) (r : Row) → old q ≡ Some r → (row : Row) × (new q ≡ Some row) × IsSameRow r row
+  pub row_kept : (q : List ℕ) (r : Row) → old q ≡ Some r → (row : Row) × (new q ≡ Some row) × StillInRow r row
   row_kept q r h = elim (cases q) [ inl same ↦ (put.row, there q same, put.kept r (ap old (sym same) ∙ h)) | inr other ↦ (r, other ∙ h, same_row r) ]
 
-  now_in_row : (q : List ℕ) → q ≡ key → InRow (Has shared) (new q) at
-  now_in_row q same = subst (λ o. InRow (Has shared) o at) (sym (there q same)) put.listed
-
-  -- one more module of the info is listed
-  pub module_listed : (by : ModuleValue → List ℕ) (number : ℕ) (modules : List ModuleValue) (m : ModuleValue) (before : List Shared) → by m ≡ key
-      → at ≡ module_at number (length modules)
-      → ((s : Shared) → Has before s → Has shared s) → AreListed by number modules old before → AreListed by number (modules ++ m ∷ []) new shared
-  module_listed by number modules m before own here more listed j x has = elim (from_push modules m j x has) [
-    | inl old_j ↦ in_row_still (Has before) (Has shared) (old (by x)) (new (by x)) (module_at number j) more (row_kept (by x)) (listed j x old_j)
-    | inr last ↦ subst (λ a. InRow (Has shared) (new (by x)) a) (here ∙ ap (module_at number) (sym last.0)) (now_in_row (by x) (ap by (sym last.1) ∙ own))
+  -- one more module of the info file is listed
+  pub module_listed : (by : ModuleValue → List ℕ) (modules : List ModuleValue) (m : ModuleValue) → by m ≡ key → AreListed by info modules old
+      → AreListed by info (modules ++ m ∷ []) new
+  module_listed by modules m own listed j x has = elim (from_push modules m j x has) [
+    | inl old_j ↦ found_still (old (by x)) (new (by x)) info (row_kept (by x)) (listed j x old_j)
+    | inr last ↦ (put.row, there (by x) (ap by (sym last.1) ∙ own), put.listed)
   ]
 
--- the module is listed, and its info shares more
-pub put_more : (old new : Rows) (key : List ℕ) (at : ModuleAt) (before shared : List Shared) → ((s : Shared) → Has before s → Has shared s)
-    → IsPut bytes_eq old new key at before → IsPut bytes_eq old new key at shared
-put_more old new key at before shared more put = record {
+  -- what was in its row shares with it, earlier modules of the info file too
+  pub module_shared : (by : ModuleValue → List ℕ) (modules : List ModuleValue) (m : ModuleValue) (first : Rows) → by m ≡ key
+      → ((q : List ℕ) (r : Row) → first q ≡ Some r → (row : Row) × (old q ≡ Some row) × StillInRow r row) → AreListed by info modules old
+      → AreShared by info modules first Shares → AreShared by info (modules ++ m ∷ []) first Shares
+  module_shared by modules m first own still listed shared = record {
+    earlier = λ j k x has found. elim (from_push modules m j x has) [
+      | inl old_j ↦ shared.earlier j k x old_j found
+      | inr last ↦ in_own k (found_still (first key) (old key) k (still key) (subst (λ q. IsFoundIn (first q) k) (ap by (sym last.1) ∙ own) found))
+    ];
+    own = λ i j a b less has_a has_b same. elim (from_push modules m j b has_b) [
+      | inl old_j ↦ elim (from_push modules m i a has_a) [
+        | inl old_i ↦ shared.own i j a b less old_i old_j same
+        | inr last ↦ let within = slice_get_within modules j b old_j in absurd (omega (arith, within, less, last.0))
+      ]
+      | inr last ↦ elim (from_push modules m i a has_a) [
+        | inl old_i ↦ in_own info (subst (λ q. IsFoundIn (old q) info) (same ∙ ap by (sym last.1) ∙ own) (listed i a old_i))
+        | inr other ↦ absurd (omega (arith, less, last.0, other.0))
+      ]
+    ];
+  }
+    where
+      in_own : (k : ℕ) → IsFoundIn (old key) k → Shares k
+      in_own k found = put.shared found.0 k found.1 found.2
+
+-- the module is listed, and more shares with its info file
+pub put_more : (old new : Rows) (key : List ℕ) (info : ℕ) (Before Shares : ℕ → Type 0) → ((k : ℕ) → Before k → Shares k)
+    → IsPut bytes_eq old new key info Before → IsPut bytes_eq old new key info Shares
+put_more old new key info Before Shares more put = record {
   row = put.row;
   updates = put.updates;
   kept = put.kept;
-  listed = in_row_still (Has before) (Has shared) (Some put.row) (Some put.row) at more (λ r e. (r, e, same_row r)) put.listed;
+  listed = put.listed;
+  shared = λ r k at h. more k (put.shared r k at h);
+}
+
+pub shared_more : (by : ModuleValue → List ℕ) (info : ℕ) (modules : List ModuleValue) (rows : Rows) (Before Shares : ℕ → Type 0)
+    → ((k : ℕ) → Before k → Shares k) → AreShared by info modules rows Before → AreShared by info modules rows Shares
+shared_more by info modules rows Before Shares more before = record {
+  earlier = λ j k m has found. more k (before.earlier j k m has found);
+  own = λ i j a b less has_a has_b same. more info (before.own i j a b less has_a has_b same);
 }
 
 -- the module is listed by its name and by its file
-pub each_put : (old new : Listed) (m : ModuleValue) (at : ModuleAt) (shared : List Shared)
-    → IsPut bytes_eq (rows_of old by_name) (rows_of new by_name) m.name at shared → IsPut bytes_eq (rows_of old by_file) (rows_of new by_file) m.file at shared
-    → (by : By) → IsPut bytes_eq (rows_of old by) (rows_of new by) (key_of by m) at shared
-each_put old new m at shared named filed by_name = named
-each_put old new m at shared named filed by_file = filed
+pub each_put : (old new : Listed) (m : ModuleValue) (info : ℕ) (Shares : ℕ → Type 0)
+    → IsPut bytes_eq (rows_of old by_name) (rows_of new by_name) m.name info Shares
+    → IsPut bytes_eq (rows_of old by_file) (rows_of new by_file) m.file info Shares
+    → (by : By) → IsPut bytes_eq (rows_of old by) (rows_of new by) (key_of by m) info Shares
+each_put old new m info Shares named filed by_name = named
+each_put old new m info Shares named filed by_file = filed
 
 -- what `get` returns is the row of the key
-pub unlinked : (linked : List ℕ) (stamps : List ModuleAt) (rows : Rows) (key : List ℕ) (r : Option (Bor Row)) → option_copied r ≡ rows key
-    → IfSome r (λ row. IsRowUnlinked linked stamps row.now) → IsUnlinked linked stamps rows key
-unlinked linked stamps rows key None same all row e = let none : None ≡ Some row = same ∙ e in cc
-unlinked linked stamps rows key (Some r) same all row e = subst (IsRowUnlinked linked stamps) (same_some _ _ (same ∙ e)) all
+pub unlinked : (linked : List ℕ) (rows : Rows) (key : List ℕ) (r : Option (Bor Row)) → option_copied r ≡ rows key
+    → IfSome r (λ row. IsRowUnlinked linked row.now) → IsUnlinked linked rows key
+unlinked linked rows key None same all row e = let none : None ≡ Some row = same ∙ e in cc
+unlinked linked rows key (Some r) same all row e = subst (IsRowUnlinked linked) (same_some _ _ (same ∙ e)) all
 
 -- ---- What is looked at of linked info files and of objects, and what is copied of the info files
-
--- ---- what is looked at
-
-module _ (linked : List ℕ) (known : List (Option InfoValue)) (related : List (Option Related)) (stamps : List ModuleAt)
-    (fit : (n : ℕ) → Has linked n → IsFitAt linked known related stamps n) where
-  alone : (n : ℕ) (s : Shared) → Has linked n → HasShared related n s → IsAlone linked stamps n s
-  alone n s h (r, at, shared) = let f = fit n h in let same : r ≡ f.0 = cc in f.3 s (subst (λ (r : Related). Has r.shared.items s) same shared)
-
-  pub all_fit : AreFit linked known related stamps
-  all_fit = record {
-    closed = λ n r h at. let f = fit n h in
-        subst (λ (s : Related). IsClosedAt linked known s n) (same_some _ _ (same_some _ _ (sym f.1 ∙ at))) f.2;
-    first = λ n s h shared. (alone n s h shared).0;
-    stamped = λ n s h shared. (alone n s h shared).1;
-  }
 
 pub known_there : (known : List (Option InfoValue)) (n : ℕ) (value : InfoValue) → get_or known n None ≡ Some value → At known n (Some value)
 known_there [] n value e = cc
@@ -198,41 +201,29 @@ module _ (known : List (Option InfoValue)) (linked : List ℕ) (infos : List Inf
       (info.0, info.1, ap (λ (v : InfoValue). slice_get v.modules j) (same_some _ _ info.2) ∙ has.2)
 
   module _ (listed : Listed) (related : List (Option Related)) (pool : IsPool known listed related) (indexes : List ℕ) (at : AreIndexes linked indexes)
-      (stamps : List ModuleAt) (fit : AreFit linked known related stamps) where
+      (fit : AreFit linked known related) where
     -- no info is linked twice
     once : (i k n : ℕ) → At linked i n → At linked k n → i ≡ k
     once i k n a b = same_some _ _ (sym (at i n a) ∙ at k n b)
 
-    -- two linked modules in one row are one
-    one_in_row : (found : Option Row) (n p : ℕ) (j l : ℕ) → Has linked n → Has linked p → InRow (HasShared related n) found (module_at n j)
-        → InRow (HasShared related p) found (module_at p l)
-        → module_at n j ≡ module_at p l
-    one_in_row found n p j l has_n has_p a b =
-        let row : a.0 ≡ b.0 = same_some _ _ (sym a.1 ∙ b.1) in
-        elim a.2 [
-          | inl first_a ↦ elim b.2 [
-            | inl first_b ↦ sym first_a ∙ ap first_of row ∙ first_b
-            | inr s ↦ absurd (fit.first p s.0 has_p s.1 (subst (Has linked) (ap info_at (sym first_a ∙ ap first_of row)
-                ∙ sym s.4) has_n))
-          ]
-          | inr s ↦ elim b.2 [
-            | inl first_b ↦ absurd (fit.first n s.0 has_n s.1
-                (subst (Has linked) (ap info_at (sym first_b ∙ ap first_of (sym row)) ∙ sym s.4) has_p))
-            | inr t ↦
-                let number : s.0.number ≡ t.0.number = same_some _ _ (sym s.2 ∙ ap number_of row ∙ t.2) in
-                ap (module_at n) (sym s.3) ∙ same_some _ _ (sym (fit.stamped n s.0 has_n s.1) ∙ ap (slice_get stamps) number ∙ fit.stamped p t.0 has_p t.1)
-                ∙ ap (module_at p) t.3
-          ]
-        ]
+    -- linked info files do not share
+    alone : (n k : ℕ) → Has linked n → Has linked k → HasShared related n k → ⊥
+    alone n k has_n has_k shared =
+        let f = fit n has_n in
+        let same : shared.0 ≡ f.0 = same_some _ _ (same_some _ _ (sym shared.1 ∙ f.1)) in
+        f.3 k (subst (λ (r : Related). InWords r.shared.items k) same shared.2) has_k
 
     apart_by : (by : By) (i j k l : ℕ) (a b : ModuleValue) → HasModule infos i j a → HasModule infos k l b → key_of by a ≡ key_of by b → (i ≡ k) × (j ≡ l)
     apart_by by i j k l a b has_a has_b alike =
         let x = known_at i j a has_a in
         let y = known_at k l b has_b in
-        let same = one_in_row (rows_of listed by (key_of by b)) x.0 y.0 j l (i, x.1) (k, y.1)
-        (subst (λ q. InRow (HasShared related x.0) (rows_of listed by q) (module_at x.0 j)) alike (pool.are_listed by x.0 j a x.2))
-        (pool.are_listed by y.0 l b y.2) in
-        (once i k y.0 (x.1 ∙ ap (λ (m : ModuleAt). Some m.info) same) y.1, ap (λ (m : ModuleAt). m.module) same)
+        elim (pool.are_shared by x.0 j y.0 l a b x.2 y.2 alike) [
+          | inl same ↦ (once i k y.0 (x.1 ∙ ap Some same.0) y.1, same.1)
+          | inr shared ↦ elim shared [
+            | inl first ↦ absurd (alone x.0 y.0 (i, x.1) (k, y.1) first)
+            | inr second ↦ absurd (alone y.0 x.0 (k, y.1) (i, x.1) second)
+          ]
+        ]
 
     infos_apart : InfosApart infos
     infos_apart i j k l a b has_a has_b = ⊎_elim (apart_by by_name i j k l a b has_a has_b) (apart_by by_file i j k l a b has_a has_b)
@@ -244,7 +235,9 @@ module _ (known : List (Option InfoValue)) (linked : List ℕ) (infos : List Inf
         let required = index_of m.required pair needs in
         let s = pool.sources x.0 j m pair x.2 required in
         let r = s.1 in
-        let found : IsProvidedFor linked known x.0 pair = elim (fit.closed x.0 r.0 (i, x.1) r.1) [
+        let f = fit x.0 (i, x.1) in
+        let closed = subst (λ (s : Related). IsClosedAt linked known s x.0) (same_some _ _ (same_some _ _ (sym f.1 ∙ r.1))) f.2 in
+        let found : IsProvidedFor linked known x.0 pair = elim closed [
           | inl sources ↦ (s.0, sources s.0 r.2, s.2)
           | inr each ↦ each j m pair x.2 required
         ] in
@@ -259,23 +252,15 @@ module _ (known : List (Option InfoValue)) (linked : List ℕ) (infos : List Inf
           λ private. once there.0 i x.0 (there.1 ∙ ap Some (w.5 private)) x.1,
         )
 
-    -- a linked module is not in a row of which nothing is linked
-    none_in_row : (rows : Rows) (key : List ℕ) (i n j : ℕ) → At linked i n → IsUnlinked linked stamps rows key
-        → InRow (HasShared related n) (rows key) (module_at n j) → ⊥
-    none_in_row rows key i n j linked_n none h =
-        let row = none h.0 h.1 in
-        elim h.2 [
-          | inl first ↦ row.first (i, linked_n ∙ ap (λ (m : ModuleAt). Some m.info) (sym first))
-          | inr s ↦ row.stamped s.0.number (module_at n s.0.module) s.2 (fit.stamped n s.0 (i, linked_n) s.1) (i, linked_n)
-        ]
-
-    -- so a key of an object is that of no linked module
-    key_apart : (by : By) (key : List ℕ) (i k : ℕ) (m : ModuleValue) → HasModule infos i k m → IsUnlinked linked stamps (rows_of listed by) key →
+    -- a key of an object is that of no linked module
+    key_apart : (by : By) (key : List ℕ) (i k : ℕ) (m : ModuleValue) → HasModule infos i k m → IsUnlinked linked (rows_of listed by) key →
         key ≡ key_of by m → ⊥
-    key_apart by key i k m has none same = let x = known_at i k m has in
-        none_in_row (rows_of listed by) key i x.0 k x.1 none (rw same (pool.are_listed by x.0 k m x.2))
+    key_apart by key i k m has none same =
+        let x = known_at i k m has in
+        let row = pool.are_listed by x.0 k m x.2 in
+        none row.0 (ap (rows_of listed by) same ∙ row.1) x.0 row.2 (i, x.1)
 
-    module _ (objects : List RuleValue) (rules : (o : ℕ) (rule : RuleValue) → At objects o rule → IsApart linked stamps listed rule) where
+    module _ (objects : List RuleValue) (rules : (o : ℕ) (rule : RuleValue) → At objects o rule → IsApart linked listed rule) where
       own_apart : OwnApart objects infos
       own_apart = record {
         names = λ o j i k rule name file m here provides has. key_apart by_name name i k m has ((rules o rule here).provided (name, file) (j, provides)).0;
@@ -335,9 +320,9 @@ module _ (keeps : Type 0) where
 
 -- ---- how info files are related
 
--- these info files have what a module of the info file that is added requires
+-- the set has an info file with what a module of the info file that is added requires
 abbrev pub IsSourced : List (Option InfoValue) → InfoValue → List ℕ → Pair → Type 0
-IsSourced infos info sources pair = (k : ℕ) × Has sources k × IsSource (infos ++ Some info ∷ []) (length infos) pair k
+IsSourced infos info sources pair = (k : ℕ) × HasBit sources k × IsSource (infos ++ Some info ∷ []) (length infos) pair k
 
 pub is_source : (known : List (Option InfoValue)) (i k l : ℕ) (m : ModuleValue) (pair : Pair) → IsKnownModule known k l m
     → bytes_eq m.name pair.0 ≡ true → bytes_eq m.file pair.1 ≡ true → (m.is_private ≡ true → k ≡ i) → IsSource known i pair k
@@ -352,7 +337,7 @@ from_grown known x i j m has = elim (from_push known x i (Some has.0) has.1)
 
 module _ (known : List (Option InfoValue)) (listed new : Listed) (related : List (Option Related)) (pool : IsPool known listed related)
     (still : StillListed listed new)
-    (x : Option InfoValue) (r : Option Related) (is : (info : InfoValue) → x ≡ Some info → (s : Related) × (r ≡ Some s) × IsRelated known info new s) where
+    (x : Option InfoValue) (r : Option Related) (is : (info : InfoValue) → x ≡ Some info → (s : Related) × (r ≡ Some s) × IsRelated known info listed new s) where
   abbrev all_known : List (Option InfoValue)
   all_known = known ++ x ∷ []
 
@@ -362,22 +347,55 @@ module _ (known : List (Option InfoValue)) (listed new : Listed) (related : List
   as_many : length all_related ≡ length all_known
   as_many = let many = pool.many in simp length-append (omega (arith, many))
 
-  shared_kept : (i : ℕ) (s : Shared) → HasShared related i s → HasShared all_related i s
-  shared_kept i s h = (h.0, in_first related (r ∷ []) i (Some h.0) h.1, h.2)
+  shared_kept : (i k : ℕ) → HasShared related i k → HasShared all_related i k
+  shared_kept i k h = (h.0, in_first related (r ∷ []) i (Some h.0) h.1, h.2)
 
   relation_at : (i : ℕ) (s : Related) → i ≡ length known → r ≡ Some s → At all_related i (Some s)
   relation_at i s same e = let many = pool.many in last_at related r i (omega (arith, same, many)) ∙ ap Some e
 
-  now_listed : (by : By) (i j : ℕ) (m : ModuleValue) → IsKnownModule all_known i j m
-      → InRow (HasShared all_related i) (rows_of new by (key_of by m)) (module_at i j)
+  now_listed : (by : By) (i j : ℕ) (m : ModuleValue) → IsKnownModule all_known i j m → IsFoundIn (rows_of new by (key_of by m)) i
   now_listed by i j m has = elim (from_grown known x i j m has) [
-    | inl old ↦ in_row_still (HasShared related i) (HasShared all_related i) _ _ (module_at i j) (shared_kept i) (still by (key_of by m))
-        (pool.are_listed by i j m old)
+    | inl old ↦ found_still (rows_of listed by (key_of by m)) (rows_of new by (key_of by m)) i (still by (key_of by m)) (pool.are_listed by i j m old)
     | inr own ↦
         let s = is own.1.0 own.1.1 in
-        in_row_still (Has s.0.shared.items) (HasShared all_related i) _ _ (module_at i j) (λ t h. (s.0, relation_at i s.0 own.0 s.1, h))
-        (λ row e. (row, e, same_row row))
-        (subst (λ n. InRow (Has s.0.shared.items) (rows_of new by (key_of by m)) (module_at n j)) (sym own.0) (s.2.are_listed by j m own.1.2))
+        subst (IsFoundIn (rows_of new by (key_of by m))) (sym own.0) (s.2.are_listed by j m own.1.2)
+  ]
+
+  -- the info file that is added shares with an earlier one that has one of its keys
+  new_shares : (by : By) (i j k l : ℕ) (a b : ModuleValue) → IsKnownModule known i j a → k ≡ length known
+      → ((value : InfoValue) × (x ≡ Some value) × (At value.modules l b)) → key_of by a ≡ key_of by b → HasShared all_related k i
+  new_shares by i j k l a b old here own same =
+      let s = is own.0 own.1 in
+      let found = subst (λ q. IsFoundIn (rows_of listed by q) i) same (pool.are_listed by i j a old) in
+      (s.0, relation_at k s.0 here s.1, (s.2.are_shared by).earlier l i b own.2 found)
+
+  now_shared : (by : By) (i j k l : ℕ) (a b : ModuleValue) → IsKnownModule all_known i j a → IsKnownModule all_known k l b
+      → key_of by a ≡ key_of by b → ((i ≡ k) × (j ≡ l)) ⊎ HasShared all_related i k ⊎ HasShared all_related k i
+  now_shared by i j k l a b has_a has_b same = elim (from_grown known x i j a has_a) [
+    | inl old_a ↦ elim (from_grown known x k l b has_b) [
+      | inl old_b ↦ elim (pool.are_shared by i j k l a b old_a old_b same) [
+        | inl one ↦ inl one
+        | inr shared ↦ inr (elim shared [ inl first ↦ inl (shared_kept i k first) | inr second ↦ inr (shared_kept k i second) ])
+      ]
+      | inr own ↦ inr (inr (new_shares by i j k l a b old_a own.0 own.1 same))
+    ]
+    | inr own_a ↦ elim (from_grown known x k l b has_b) [
+      | inl old_b ↦ inr (inl (new_shares by k l i j b a old_b own_a.0 own_a.1 (sym same)))
+      | inr own_b ↦
+          let s = is own_a.1.0 own_a.1.1 in
+          let value : own_b.1.0 ≡ own_a.1.0 = same_some _ _ (sym own_b.1.1 ∙ own_a.1.1) in
+          let at_b = subst (λ (v : InfoValue). At v.modules l b) value own_b.1.2 in
+          let own : (p q : ℕ) (c d : ModuleValue) → p < q → At own_a.1.0.modules p c → At own_a.1.0.modules q d → key_of by c ≡ key_of by d
+          → HasShared all_related i k = λ p q c d less at_c at_d alike.
+          (s.0, relation_at i s.0 own_a.0 s.1, subst (InWords s.0.shared.items) (sym own_b.0) ((s.2.are_shared by).own p q c d less at_c at_d alike)) in
+          elim (three_ways j l) [
+            | inl less ↦ inr (inl (own j l a b less own_a.1.2 at_b same))
+            | inr rest ↦ elim rest [
+              | inl alike ↦ inl (own_a.0 ∙ sym own_b.0, alike)
+              | inr more ↦ inr (inl (own l j b a more at_b own_a.1.2 (sym same)))
+            ]
+          ]
+    ]
   ]
 
   sources : (i j : ℕ) (m : ModuleValue) (pair : Pair) → IsKnownModule all_known i j m → Has m.required pair
@@ -402,4 +420,4 @@ module _ (known : List (Option InfoValue)) (listed new : Listed) (related : List
       ]
 
   pub pool_grown : IsPool all_known new all_related
-  pool_grown = record { are_listed = now_listed; sources = sources; many = as_many }
+  pool_grown = record { are_listed = now_listed; are_shared = now_shared; sources = sources; many = as_many }

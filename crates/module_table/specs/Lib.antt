@@ -8,6 +8,7 @@ pub mod Sound
 pub mod Needed
 pub mod Added
 pub mod Outcomes
+pub mod Beginnings
 pub mod Building
 pub mod Parts
 pub mod EnoughParts

@@ -43,11 +43,11 @@ pub use Rattle.module_table.specs.declared.modules.InfoRequired.{InfoRequired}
 pub use Rattle.module_table.specs.declared.modules.Module.{Module}
 pub use Rattle.module_table.specs.declared.needed.Numbered.{Numbered}
 pub use Rattle.module_table.specs.declared.pool.requirements.Requirements.TheVariants.{Kept}
+pub use Rattle.module_table.specs.declared.pool.rows.Middle.{Middle}
 pub use Rattle.module_table.specs.declared.pool.rows.ModuleAt.{ModuleAt}
 pub use Rattle.module_table.specs.declared.pool.rows.Related.{Related}
 pub use Rattle.module_table.specs.declared.pool.rows.Row.{Row}
-pub use Rattle.module_table.specs.declared.pool.rows.Shared.{Shared}
-pub use Rattle.module_table.specs.declared.pool.rows.Word.{Word}
+pub use Rattle.module_table.specs.declared.pool.sets.Word.{Word}
 pub use Rattle.module_table.specs.inner.Finds.{AcceptsAll, Agrees, AreByObjects, AreInfosAllowed, AreInfosKnown, AreObjectsAllowed, DoInfosAgree, found, is_info_at, IsAllowed, IsByInfo, IsByObject, IsNamed, IsNotByInfo, IsNotByObject, IsPublic, LookedUp, RequiresPublic}
 pub use Rattle.module_table.specs.inner.Found.{AreLookedUp, looked_up, lookups_of}
 pub use Rattle.module_table.specs.inner.Graph.{AreModuleRows, HasEachOnce, index_in, indexes_in, info_rows, IsModuleGraph, IsModuleRow, object_row}
@@ -57,7 +57,7 @@ pub use Rattle.module_table.specs.inner.Mentioned.{ArePairsSoFar, mentioned_name
 pub use Rattle.module_table.specs.inner.Numbered.{AreRequiredIndexes, IsNumbered, maker_at}
 pub use Rattle.module_table.specs.inner.Origins.{AreNamed, AreProvided, info_origins, object_origins, Origin, origin_of, origins_of}
 pub use Rattle.module_table.specs.inner.Passed.{Passed}
-pub use Rattle.module_table.specs.inner.Pools.{AreFit, AreIndexes, AreListed, AreWords, Below, By, by_file, by_name, Has, InWord, InWords, IsAlone, IsApart, IsClosedAt, IsCopied, IsFitAt, IsKeyed, IsKnownModule, IsPickedOf, IsPool, IsProvidedFor, IsPut, IsRelated, IsRowUnlinked, IsSameRow, IsSource, IsUnlinked, key_of, module_at, rows_of, StillKeyed, StillListed}
+pub use Rattle.module_table.specs.inner.Pools.{AreFit, AreIndexes, AreListed, AreShared, AreWords, Below, By, by_file, by_name, Has, HasBit, InMiddle, InRow, InWord, InWords, IsApart, IsClosedAt, IsCopied, IsFitAt, IsFoundIn, IsKeyed, IsKnownModule, IsPickedOf, IsPool, IsProvidedFor, IsPut, IsRelated, IsListedAt, IsRowUnlinked, IsSource, IsSparse, IsUnlinked, key_of, module_at, rows_of, StillInRow, StillKeyed, StillListed}
 pub use Rattle.module_table.specs.inner.Ranks.{AreByName, AreByNumber, AreNeeds, AreNumbers, AreRanked, AreRanks, pair_in, pairs_of}
 pub use Rattle.module_table.specs.inner.Reported.{FailsWith, Reports}
 pub use Rattle.module_table.specs.inner.Views.{DoNamesDiffer, files_of, IsAbsent, IsMadeTwice, IsOfInfo, IsPrivateFault, names_of, paths_of, provision_of, requirement_of}

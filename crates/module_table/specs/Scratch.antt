@@ -2,10 +2,9 @@
 use Rattle.std.specs.Prelude.{◌≡◌, []}
 use Rattle.module_table.specs.declared.pool.links.Scratch.{Scratch}
 
--- it has no indexes, stamps and words of links, and no picked modules
+-- it has no indexes and words of links, and no picked modules
 pub record IsUnused (scratch : Scratch) : Type 0 where
   pub indexes : scratch.indexes.items ≡ []
-  pub stamps : scratch.stamps.items ≡ []
   pub words : scratch.words.items ≡ []
   pub picked : scratch.picked.modules.items ≡ []
   pub picked_indexes : scratch.picked.indexes.items ≡ []

@@ -1,6 +1,7 @@
 //! Laws of tables: functions that do nothing, and whose contracts callers' proofs may cite.
 ghost use Rattle.module_table.specs.Added.{AddedOrderable, AllRequired, FilesApart, FilesOnce};
 ghost use Rattle.module_table.specs.Added.{OneFile, RequiredFiles};
+ghost use Rattle.module_table.specs.Beginnings.{BeginningIsReported, SoundIsWhole};
 ghost use Rattle.module_table.specs.EnoughParts.{PartIsSound, PartHasTasks, PartIsNeeded};
 ghost use Rattle.module_table.specs.Outcomes.{SoundHasNoFault, FaultlessIsSound, OneTableFault};
 
@@ -16,6 +17,13 @@ pub fn sound_is_faultless()
 #[tactic(auto, using(crate::proofs::OneReported::one_told))]
 pub fn one_fault_is_reported()
     ensures { OneTableFault }
+{}
+
+/// A beginning of a target's objects or info files is enough for the fault of all, if it repeats a
+/// path or a target name: the fault is M1 or M2. A beginning that has no fault is the whole.
+pub fn a_repetition_is_reported()
+    ensures reported { BeginningIsReported }
+    ensures whole { SoundIsWhole }
 {}
 
 /// What a sound table means for the files that are added to a build. The inputs that objects gain

@@ -37,11 +37,11 @@
 //!   `Reaching` of `dep_order` in the graph, and sorts what it finds by the ranks of the names,
 //!   which are computed once.
 //! - `pool.rt`: a pool lists the modules of its info files by name and by file (`pool/rows.rt`),
-//!   hashed under one key, which covers them (`specs/Pool.antt`, `pool_entries`). A name or a file
-//!   with several modules gets a number. For each info file the pool lists the others that it
-//!   requires modules of, and the numbers of what it shares. For the links of a target, one stamp
-//!   for each number tells which linked module has it, and so whether a part of the linked modules
-//!   is enough (`pool/links.rt`). Then the pool picks the part and copies it.
+//!   hashed under one key, which covers them (`specs/Pool.antt`, `pool_entries`). For each info
+//!   file the pool has the sets of the others that it requires modules of, and of the earlier ones
+//!   that have one of its names or files (`pool/sets.rt`). These sets and that of the links of a
+//!   target tell whether a part of the linked modules is enough (`pool/links.rt`). Then the pool
+//!   picks the part and copies it.
 //!
 //! `must-fail/` has wrong bodies for each public function and for the key of a table, with these
 //! exceptions. Laws have no body. [`TableFault::name`] is a list of texts. [`Table::build`],

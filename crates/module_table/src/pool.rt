@@ -7,12 +7,13 @@ ghost use Rattle.module_table.specs.Prelude.{pool_entries, PoolValue};
 mod links;
 mod requirements;
 mod rows;
+mod sets;
 
 use document_values::{Info, Rule};
 pub use links::Scratch;
 use links::{Links, part_of, put_links, put_words};
 pub use requirements::Requirements;
-use rows::{Listed, ModuleAt, Related};
+use rows::{Listed, Related};
 use std::alloc::{AllocError, Global};
 use std::marker::Model;
 use table_keys::TableKey;
@@ -129,22 +130,13 @@ impl Pool {
     {
         let (infos, listed, related) = (&self.infos, &self.listed, &self.related);
         scratch.indexes.resize(infos.len(), 0)?;
-        scratch
-            .stamps
-            .resize(listed.numbers, ModuleAt { info: 0, module: 0 })?;
-        if !put_links(linked, related, &mut scratch.indexes, &mut scratch.stamps) {
+        if !put_links(linked, &mut scratch.indexes) {
             return Ok(None);
         }
-        put_words(
-            linked,
-            &scratch.indexes,
-            infos.len() / 64 + 1,
-            &mut scratch.words,
-        )?;
+        put_words(linked, &scratch.indexes, &mut scratch.words)?;
         let links = Links {
             linked,
             indexes: &scratch.indexes,
-            stamps: &scratch.stamps,
             words: &scratch.words,
         };
         if !links.are_fit(infos, listed, related) || !links.are_apart(listed, objects) {

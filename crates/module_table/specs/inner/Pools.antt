@@ -1,18 +1,20 @@
 -- What a pool stores about the known info files, and what it checks when a target links some of
 -- them.
-use Rattle.std.specs.Prelude.{◌≡◌, ◌⊎◌, ◌++◌, ◌∷◌, ◌<◌, ◌/◌, ◌%◌, [], ℕ, Bool, true, if◌then◌else◌, List, length, slice_get, get_or, bytes_eq, Option, Some, None}
+use Rattle.std.specs.Prelude.{◌≡◌, ◌⊎◌, ◌++◌, ◌∷◌, ◌<◌, ◌/◌, ◌%◌, [], ℕ, Bool, true, if◌then◌else◌, List, length, slice_get, get_or, bytes_eq, Option, Some, None, Box, Vec}
+use Rattle.std.specs.declared.alloc.Global.{Global}
 use Rattle.std.specs.Int.{bit_at}
 use Rattle.indexmap.specs.IndexMap.{get, hasher_of}
 use Rattle.table_keys.specs.declared.TableKey.{TableKey}
 use Rattle.ninja_text.specs.Bytes.{PathText, Name}
 use Rattle.document_values.specs.Rule.{RuleValue}
 use Rattle.document_values.specs.Info.{InfoValue, ModuleValue}
+use Rattle.module_table.specs.declared.pool.links.Picked.{Picked}
+use Rattle.module_table.specs.declared.pool.rows.Middle.{Middle}
 use Rattle.module_table.specs.declared.pool.rows.ModuleAt.{ModuleAt}
 use Rattle.module_table.specs.declared.pool.rows.Row.{Row}
-use Rattle.module_table.specs.declared.pool.rows.Shared.{Shared}
 use Rattle.module_table.specs.declared.pool.rows.Listed.{Listed}
 use Rattle.module_table.specs.declared.pool.rows.Related.{Related}
-use Rattle.module_table.specs.declared.pool.rows.Word.{Word}
+use Rattle.module_table.specs.declared.pool.sets.Word.{Word}
 use Rattle.module_table.specs.Parts.{IsAlike}
 use Rattle.module_table.specs.Indexes.{Indexes}
 
@@ -52,36 +54,59 @@ StillKeyed old new = (key : TableKey) → IsKeyed key old → IsKeyed key new
 abbrev pub module_at : ℕ → ℕ → ModuleAt
 module_at i j = record { info = i; «module» = j }
 
--- A row was found, and it lists the module: as its first module, or by an entry of `Shares` that
--- has the number of the row and the info file of the first module.
-abbrev pub InRow : (Shared → Type 0) → Option Row → ModuleAt → Type 0
-InRow Shares found at = (row : Row) × (found ≡ Some row) × ((row.first ≡ at) ⊎ ((s : Shared)
-    × Shares s × (row.number ≡ Some s.number) × (s.module ≡ at.module)
-    × (s.first ≡ row.first.info)))
+-- info file k is in the word, in one of the words, or in the set that has all its words
+abbrev pub InWord : Word → ℕ → Type 0
+InWord w k = (w.index ≡ k / 64) × (bit_at w.bits (k % 64) ≡ 1)
 
--- the row keeps its first module, and its number if it has one
-abbrev pub IsSameRow : Row → Row → Type 0
-IsSameRow old new = (new.first ≡ old.first)
-    × ((x : ℕ) → old.number ≡ Some x → new.number ≡ Some x)
+abbrev pub InWords : List Word → ℕ → Type 0
+InWords words k = (w : Word) × Has words w × InWord w k
 
--- The module was put into the row of its key. The row lists it, an earlier row stays the same, and
--- no other key changes.
+abbrev pub HasBit : List ℕ → ℕ → Type 0
+HasBit set k = bit_at (get_or set (k / 64) 0) (k % 64) ≡ 1
+
+-- info file k has a module in the row, or between its first and its last one
+abbrev pub InMiddle : Option (Box Middle Global) → ℕ → Type 0
+InMiddle middle k = (m : Box Middle Global) × (middle ≡ Some m) × InWords m.value.infos.items k
+
+abbrev pub InRow : Row → ℕ → Type 0
+InRow row k = (row.first.info ≡ k) ⊎ (row.last.info ≡ k) ⊎ InMiddle row.middle k
+
+-- a row was found, and the info file has a module in it
+abbrev pub IsFoundIn : Option Row → ℕ → Type 0
+IsFoundIn found k = (row : Row) × (found ≡ Some row) × InRow row k
+
+-- each info file of the row is in the other one
+abbrev pub StillInRow : Row → Row → Type 0
+StillInRow old new = (k : ℕ) → InRow old k → InRow new k
+
+-- A module of the info file was put into the row of its key. What was in the row stays there, and
+-- its info files are among those that share. No other key changes.
 pub record IsPut {K : Type 0} (eq : K → K → Bool) (old new : K → Option Row) (key : K)
-    (at : ModuleAt) (shared : List Shared) : Type 0 where
+    (info : ℕ) (Shares : ℕ → Type 0) : Type 0 where
   pub row : Row
   pub updates : (q : K) → new q ≡ (if eq key q then Some row else old q)
-  pub kept : (r : Row) → old key ≡ Some r → IsSameRow r row
-  pub listed : InRow (Has shared) (Some row) at
+  pub kept : (r : Row) → old key ≡ Some r → StillInRow r row
+  pub listed : InRow row info
+  pub shared : (r : Row) (k : ℕ) → old key ≡ Some r → InRow r k → Shares k
 
 -- all earlier rows are still there
 abbrev pub StillListed : Listed → Listed → Type 0
 StillListed old new = (by : By) (key : Name) (r : Row) → rows_of old by key ≡ Some r
-    → (row : Row) × (rows_of new by key ≡ Some row) × IsSameRow r row
+    → (row : Row) × (rows_of new by key ≡ Some row) × StillInRow r row
 
--- the modules of info file `number` are listed in the rows of their keys
-abbrev pub AreListed : (ModuleValue → Name) → ℕ → List ModuleValue → Rows → List Shared → Type 0
-AreListed key number modules rows shared = (j : ℕ) (m : ModuleValue) → slice_get modules j ≡ Some m
-    → InRow (Has shared) (rows (key m)) (module_at number j)
+-- info file `number` is in the rows of the keys of its modules
+abbrev pub AreListed : (ModuleValue → Name) → ℕ → List ModuleValue → Rows → Type 0
+AreListed key number modules rows = (j : ℕ) (m : ModuleValue) → slice_get modules j ≡ Some m
+    → IsFoundIn (rows (key m)) number
+
+-- The info files in the earlier rows of the keys of info file `number` share with it, and so does
+-- the info file itself if two of its modules have one key.
+pub record AreShared (key : ModuleValue → Name) (number : ℕ) (modules : List ModuleValue)
+    (rows : Rows) (Shares : ℕ → Type 0) : Type 0 where
+  pub earlier : (j k : ℕ) (m : ModuleValue) → slice_get modules j ≡ Some m
+      → IsFoundIn (rows (key m)) k → Shares k
+  pub own : (i j : ℕ) (a b : ModuleValue) → i < j → slice_get modules i ≡ Some a
+      → slice_get modules j ≡ Some b → key a ≡ key b → Shares number
 
 -- info file i is known, and m is its module j
 abbrev pub IsKnownModule : List (Option InfoValue) → ℕ → ℕ → ModuleValue → Type 0
@@ -98,45 +123,42 @@ IsSource known i pair k = (l : ℕ) × (w : ModuleValue) × IsKnownModule known 
 abbrev pub IsProvidedFor : Indexes → List (Option InfoValue) → ℕ → Name × PathText → Type 0
 IsProvidedFor linked known n pair = (k : ℕ) × Has linked k × IsSource known n pair k
 
--- info file k is in the word, or in a word of the set
-abbrev pub InWord : Word → ℕ → Type 0
-InWord w k = (w.index ≡ k / 64) × (bit_at w.bits (k % 64) ≡ 1)
+-- `words` has the linked info files, each of which is at its index, and no others
+pub record AreWords (linked indexes words : Indexes) : Type 0 where
+  pub only : (k : ℕ) → HasBit words k → slice_get linked (get_or indexes k 0) ≡ Some k
+  pub all : (k : ℕ) → Has linked k → HasBit words k
 
-abbrev pub InWords : List Word → ℕ → Type 0
-InWords words k = (w : Word) × Has words w × InWord w k
-
--- each info file whose bit is in the words, of which each has 64, is linked, at its index
-abbrev pub AreWords : Indexes → Indexes → List ℕ → Type 0
-AreWords linked indexes words = (k : ℕ) → bit_at (get_or words (k / 64) 0) (k % 64) ≡ 1
-    → slice_get linked (get_or indexes k 0) ≡ Some k
-
--- How an added info file is related to the known ones: its modules are listed, and the modules that
--- they require are in its sources.
-pub record IsRelated (known : List (Option InfoValue)) (info : InfoValue) (listed : Listed)
+-- How an added info file is related to the known ones: its modules are listed, the info files that
+-- have its names and files are in `shared`, and the modules that its own require in its sources.
+pub record IsRelated (known : List (Option InfoValue)) (info : InfoValue) (old new : Listed)
     (r : Related) : Type 0 where
-  pub are_listed : (by : By) → AreListed (key_of by) (length known) info.modules
-      (rows_of listed by) r.shared.items
+  pub are_listed : (by : By) → AreListed (key_of by) (length known) info.modules (rows_of new by)
+  pub are_shared : (by : By) → AreShared (key_of by) (length known) info.modules (rows_of old by)
+      (InWords r.shared.items)
   pub sources : (j : ℕ) (m : ModuleValue) (pair : Name × PathText)
       → slice_get info.modules j ≡ Some m → Has m.required pair
       → (k : ℕ) × InWords r.sources.items k
       × IsSource (known ++ Some info ∷ []) (length known) pair k
 
--- info file k is among the sources of info file i
+-- info file k is among the sources of info file i, or among those that share with it
 abbrev pub HasSource : List (Option Related) → ℕ → ℕ → Type 0
 HasSource related i k =
     (r : Related) × (slice_get related i ≡ Some (Some r)) × InWords r.sources.items k
 
--- info file i shares this with an earlier module
-abbrev pub HasShared : List (Option Related) → ℕ → Shared → Type 0
-HasShared related i s =
-    (r : Related) × (slice_get related i ≡ Some (Some r)) × Has r.shared.items s
+abbrev pub HasShared : List (Option Related) → ℕ → ℕ → Type 0
+HasShared related i k =
+    (r : Related) × (slice_get related i ≡ Some (Some r)) × InWords r.shared.items k
 
--- What a pool stores about the known info files. Each module is listed in the rows of its name and
--- its file. What a module requires is in a source of its info file.
+-- What a pool stores about the known info files. Each is in the rows of the names and files of its
+-- modules. If two modules have one name or file, their info files share it. What a module requires
+-- is in a source of its info file.
 pub record IsPool (known : List (Option InfoValue)) (listed : Listed)
     (related : List (Option Related)) : Type 0 where
   pub are_listed : (by : By) (i j : ℕ) (m : ModuleValue) → IsKnownModule known i j m
-      → InRow (HasShared related i) (rows_of listed by (key_of by m)) (module_at i j)
+      → IsFoundIn (rows_of listed by (key_of by m)) i
+  pub are_shared : (by : By) (i j k l : ℕ) (a b : ModuleValue) → IsKnownModule known i j a
+      → IsKnownModule known k l b → key_of by a ≡ key_of by b
+      → ((i ≡ k) × (j ≡ l)) ⊎ HasShared related i k ⊎ HasShared related k i
   pub sources : (i j : ℕ) (m : ModuleValue) (pair : Name × PathText) → IsKnownModule known i j m
       → Has m.required pair → (k : ℕ) × HasSource related i k × IsSource known i pair k
   pub many : length related ≡ length known
@@ -153,35 +175,30 @@ IsClosedAt linked known r n = ((k : ℕ) → InWords r.sources.items k → Has l
     ⊎ ((j : ℕ) (m : ModuleValue) (pair : Name × PathText) → IsKnownModule known n j m
     → Has m.required pair → IsProvidedFor linked known n pair)
 
--- Linked info files have what linked modules require. If a linked info file shares a name or file
--- with an earlier module, the info file that had it first is not linked, and the stamp of the
--- shared number is the linked module.
-pub record AreFit (linked : Indexes) (known : List (Option InfoValue))
-    (related : List (Option Related)) (stamps : List ModuleAt) : Type 0 where
-  pub closed : (n : ℕ) (r : Related) → Has linked n → slice_get related n ≡ Some (Some r)
-      → IsClosedAt linked known r n
-  pub first : (n : ℕ) (s : Shared) → Has linked n → HasShared related n s → Has linked s.first → ⊥
-  pub stamped : (n : ℕ) (s : Shared) → Has linked n → HasShared related n s
-      → slice_get stamps s.number ≡ Some (module_at n s.module)
+-- what is checked of one linked info file: linked ones have what its modules require, and none
+-- shares with it
+abbrev pub IsFitAt : Indexes → List (Option InfoValue) → List (Option Related) → ℕ → Type 0
+IsFitAt linked known related n = (r : Related) × (slice_get related n ≡ Some (Some r))
+    × IsClosedAt linked known r n
+    × ((k : ℕ) → InWords r.shared.items k → Has linked k → ⊥)
 
--- the row has no linked module: neither its first one, nor the one of the stamp
-pub record IsRowUnlinked (linked : Indexes) (stamps : List ModuleAt) (row : Row) : Type 0 where
-  pub first : Has linked row.first.info → ⊥
-  pub stamped : (x : ℕ) (at : ModuleAt) → row.number ≡ Some x → slice_get stamps x ≡ Some at
-      → Has linked at.info → ⊥
+abbrev pub AreFit : Indexes → List (Option InfoValue) → List (Option Related) → Type 0
+AreFit linked known related = (n : ℕ) → Has linked n → IsFitAt linked known related n
+
+-- no info file of the row is linked
+abbrev pub IsRowUnlinked : Indexes → Row → Type 0
+IsRowUnlinked linked row = (k : ℕ) → InRow row k → Has linked k → ⊥
 
 -- the row of the key has no linked module
-abbrev pub IsUnlinked : Indexes → List ModuleAt → Rows → Name → Type 0
-IsUnlinked linked stamps rows key =
-    (row : Row) → rows key ≡ Some row → IsRowUnlinked linked stamps row
+abbrev pub IsUnlinked : Indexes → Rows → Name → Type 0
+IsUnlinked linked rows key = (row : Row) → rows key ≡ Some row → IsRowUnlinked linked row
 
 -- no linked module has the object as its file, or has a name or file that the object provides
-pub record IsApart (linked : Indexes) (stamps : List ModuleAt) (listed : Listed)
-    (rule : RuleValue) : Type 0 where
-  pub path : IsUnlinked linked stamps (rows_of listed by_file) rule.object
+pub record IsApart (linked : Indexes) (listed : Listed) (rule : RuleValue) : Type 0 where
+  pub path : IsUnlinked linked (rows_of listed by_file) rule.object
   pub provided : (pair : Name × PathText) → Has rule.provided pair
-      → IsUnlinked linked stamps (rows_of listed by_name) pair.0
-      × IsUnlinked linked stamps (rows_of listed by_file) pair.1
+      → IsUnlinked linked (rows_of listed by_name) pair.0
+      × IsUnlinked linked (rows_of listed by_file) pair.1
 
 -- m is a copy of a module of the info file; if `keeps`, it has all that the module requires
 abbrev pub IsCopied : Type 0 → InfoValue → ModuleValue → Type 0
@@ -197,20 +214,17 @@ IsPicked keeps info part = (part.target ≡ info.target)
 abbrev pub Below : {X : Type 0} → (X → Type 0) → List X → ℕ → Type 0
 Below {X} P xs i = (k : ℕ) (x : X) → k < i → slice_get xs k ≡ Some x → P x
 
--- No other linked info file has what info file n shares: the first that had it is not linked, and
--- the stamp is the module of n.
-abbrev pub IsAlone : Indexes → List ModuleAt → ℕ → Shared → Type 0
-IsAlone linked stamps n s = (Has linked s.first → ⊥)
-    × (slice_get stamps s.number ≡ Some (module_at n s.module))
-
--- what is checked of one linked info file
-abbrev pub IsFitAt : Indexes → List (Option InfoValue) → List (Option Related) → List ModuleAt
-    → ℕ → Type 0
-IsFitAt linked known related stamps n = (r : Related) × (slice_get related n ≡ Some (Some r))
-    × IsClosedAt linked known r n
-    × ((s : Shared) → Has r.shared.items s → IsAlone linked stamps n s)
-
 -- the part has picked modules of the known info file at this index
 abbrev pub IsPickedOf : Type 0 → List (Option InfoValue) → ℕ → InfoValue → Type 0
 IsPickedOf keeps known n part = (info : InfoValue) × (get_or known n None ≡ Some info)
     × IsPicked keeps info part
+
+-- the index of the module is listed under its info file
+abbrev pub IsListedAt : List (Vec ℕ Global) → ModuleAt → ℕ → Type 0
+IsListedAt indexes at index = (row : Vec ℕ Global) × (slice_get indexes at.info ≡ Some row)
+    × (slice_get row.items at.module ≡ Some index)
+
+-- each picked module is listed with its index, so none is picked twice
+abbrev pub IsSparse : Picked → Type 0
+IsSparse picked = (index : ℕ) (at : ModuleAt) → slice_get picked.modules.items index ≡ Some at
+    → IsListedAt picked.indexes.items at index

@@ -1,14 +1,15 @@
 //! The links of a target, and whether a part of the linked info files is enough for its table.
 ghost use Rattle.std.specs.Prelude.{◌≡◌, false, IfNone, IfOk, IfSome, IsTrue, List, slice_get, ℕ};
-ghost use Rattle.module_table.specs.Prelude.{AreFit, AreIndexes, AreLinked, Has, InfoValue};
-ghost use Rattle.module_table.specs.Prelude.{AreWords, InWord, OnOk};
-ghost use Rattle.module_table.specs.Prelude.{IsAlike, IsApart, IsClosedAt, IsPartOf, IsProvidedFor};
-ghost use Rattle.module_table.specs.Prelude.{IsRowUnlinked, IsUnused, KeepsRequired, Kept};
-ghost use Rattle.module_table.specs.Prelude.{RuleValue, Some, true};
+ghost use Rattle.module_table.specs.Prelude.{AreFit, AreIndexes, AreLinked, AreWords, Has};
+ghost use Rattle.module_table.specs.Prelude.{InfoValue, InWord, IsAlike, IsApart, IsClosedAt};
+ghost use Rattle.module_table.specs.Prelude.{IsPartOf, IsProvidedFor, IsRowUnlinked, IsSparse};
+ghost use Rattle.module_table.specs.Prelude.{IsUnused};
+ghost use Rattle.module_table.specs.Prelude.{KeepsRequired, Kept, OnOk, RuleValue, true};
 
 use crate::needed::copy_pair;
 use crate::pool::requirements::Requirements;
-use crate::pool::rows::{Listed, ModuleAt, Related, Row, Word, with_bit};
+use crate::pool::rows::{Listed, ModuleAt, Related, Row};
+use crate::pool::sets::{Word, put, word_of};
 use document_values::{Info, InfoModule, Name, Rule};
 use ninja_text::Path;
 use std::alloc::{AllocError, Global};
@@ -21,24 +22,15 @@ pub(crate) struct Links<'a> {
     /// The index in `linked` of each of them, by its index in the pool. The other indexes are of
     /// earlier targets.
     pub indexes: &'a [usize],
-    /// The linked module of each shared name or file, by its number, if it is not the first of all
-    /// info files. The other modules are not linked.
-    pub stamps: &'a [ModuleAt],
-    /// The set of them, by words of 64 info files each.
+    /// The set of them.
     pub words: &'a [u64],
     ghost are: { AreIndexes linked.now indexes.now },
     ghost have: { AreWords linked.now indexes.now words.now },
 }
 
 /// Puts the index in `linked` of each linked info file into `indexes`, by the index of the info
-/// file, and the module of each of its shared names and files into `stamps`, by number. Returns
-/// false if an index is too high or if an info file is linked twice.
-pub(crate) fn put_links(
-    linked: &[usize],
-    related: &[Option<Related>],
-    indexes: &mut Vec<usize>,
-    stamps: &mut Vec<ModuleAt>,
-) -> bool
+/// file. Returns false if an index is too high or if an info file is linked twice.
+pub(crate) fn put_links(linked: &[usize], indexes: &mut Vec<usize>) -> bool
     ensures { IsTrue result → AreIndexes linked.now indexes.new.items }
 {
     for (index, info) in linked.iter().enumerate() {
@@ -50,38 +42,22 @@ pub(crate) fn put_links(
         if *info >= indexes.len() || indexes[*info] != index {
             return false;
         }
-        if let Some(Some(relations)) = related.get(*info) {
-            for shared in &relations.shared {
-                if shared.number < stamps.len() {
-                    stamps[shared.number] = ModuleAt {
-                        info: *info,
-                        module: shared.module,
-                    };
-                }
-            }
-        }
     }
     true
 }
 
-/// Puts the set of the linked info files into `words`, of which there are as many as given. An
-/// index that is too high is left out.
+/// Makes `words` the set of the linked info files.
 pub(crate) fn put_words(
     linked: &[usize],
     indexes: &[usize],
-    count: usize,
     words: &mut Vec<u64>,
 ) -> Result<(), AllocError>
     requires { AreIndexes linked.now indexes.now }
     ensures { OnOk result (AreWords linked.now indexes.now words.new.items) }
 {
     words.clear();
-    words.resize(count, 0)?;
     for info in linked {
-        let index = *info / 64;
-        if index < words.len() {
-            words[index] = with_bit(words[index], *info % 64);
-        }
+        put(words, word_of(*info))?;
     }
     Ok(())
 }
@@ -108,18 +84,43 @@ impl Links<'_> {
         }
     }
 
+    /// Returns a linked info file of the word, if there is one.
+    fn one_of(&self, word: Word) -> Option<usize>
+        ensures { IfNone result ((k : ℕ) → InWord word k → Has self.now.linked.now k → ⊥) }
+    {
+        let both = word.bits & *self.words.get(word.index)?;
+        if both == 0 {
+            return None;
+        }
+        let bit = both.trailing_zeros() as usize;
+        Some(word.index.saturating_mul(64).saturating_add(bit))
+    }
+
     /// Returns the linked module of a row, if there is one.
     pub(crate) fn module_of(&self, row: Option<&Row>) -> Option<ModuleAt>
-        ensures { IfNone result (IfSome row.entry (λ row.
-            IsRowUnlinked self.now.linked.now self.now.stamps.now row.now)) }
+        ensures { IfNone result
+            (IfSome row.entry (λ row. IsRowUnlinked self.now.linked.now row.now)) }
     {
         let row = row?;
         if self.has(row.first.info) {
             return Some(row.first);
         }
-        let number = row.number?;
-        let stamp = *self.stamps.get(number)?;
-        self.has(stamp.info).then_some(stamp)
+        if self.has(row.last.info) {
+            return Some(row.last);
+        }
+        let Some(middle) = &row.middle else {
+            return None;
+        };
+        for word in &middle.infos {
+            if let Some(info) = self.one_of(*word) {
+                let found = middle.modules.binary_search_by_key(&info, |at| at.info);
+                return Some(match found {
+                    Ok(index) => middle.modules[index],
+                    Err(_) => row.first,
+                });
+            }
+        }
+        None
     }
 
     /// Returns whether a linked module has this name and file, and this info file may require it.
@@ -185,25 +186,19 @@ impl Links<'_> {
         listed: &Listed,
         related: &[Option<Related>],
     ) -> bool
-        ensures { IsTrue result →
-            AreFit self.now.linked.now infos.now related.now self.now.stamps.now }
+        ensures { IsTrue result → AreFit self.now.linked.now infos.now related.now }
     {
         for info in self.linked {
             let Some(Some(relations)) = related.get(*info) else {
                 return false;
             };
-            if !self.is_closed(infos, listed, relations, *info) {
+            let is_fit = self.is_closed(infos, listed, relations, *info)
+                && relations
+                    .shared
+                    .iter()
+                    .all(|word| self.one_of(*word).is_none());
+            if !is_fit {
                 return false;
-            }
-            for shared in &relations.shared {
-                let own = ModuleAt {
-                    info: *info,
-                    module: shared.module,
-                };
-                let is_alone = self.stamps.get(shared.number) == Some(&own);
-                if self.has(shared.first) || !is_alone {
-                    return false;
-                }
             }
         }
         true
@@ -212,7 +207,7 @@ impl Links<'_> {
     /// Returns whether no linked module has the path, a name or a file of an object.
     pub(crate) fn are_apart(&self, listed: &Listed, objects: &[Rule]) -> bool
         ensures { IsTrue result → (o : ℕ) (rule : RuleValue) → slice_get objects.now o ≡ Some rule
-            → IsApart self.now.linked.now self.now.stamps.now listed.now rule }
+            → IsApart self.now.linked.now listed.now rule }
     {
         for rule in objects {
             if self.module_of(listed.files.get(&rule.object)).is_some() {
@@ -231,16 +226,13 @@ impl Links<'_> {
 }
 
 /// What [`crate::Pool::part`] keeps from one target to the next, so that its work for a target does
-/// not grow with the project. Indexes and stamps are never cleared. An index counts only if the
-/// entry at that index is the one that was looked up, and a stamp counts only if its info file is
-/// linked.
+/// not grow with the project. Indexes are never cleared: one counts only if the entry at that index
+/// is the one that was looked up.
 #[derive(Drop)]
 pub struct Scratch {
     /// The index of an info file in the list of links.
     pub(crate) indexes: Vec<usize>,
-    /// The linked module of each shared name or file, by its number.
-    pub(crate) stamps: Vec<ModuleAt>,
-    /// The set of linked info files. It is put anew for each target: a word for 64 info files.
+    /// The set of linked info files, which is put anew for each target.
     pub(crate) words: Vec<u64>,
     pub(crate) picked: Picked,
 }
@@ -252,7 +244,6 @@ impl Scratch {
     {
         Scratch {
             indexes: Vec::new(alloc),
-            stamps: Vec::new(alloc),
             words: Vec::new(alloc),
             picked: Picked {
                 modules: Vec::new(alloc),
@@ -262,11 +253,11 @@ impl Scratch {
     }
 }
 
-/// The modules that are picked for a target, each once.
+/// The modules that are picked for a target, each once: a sparse set.
 #[derive(Drop)]
 pub(crate) struct Picked {
     pub(crate) modules: Vec<ModuleAt>,
-    /// The index of a module in `modules`, by info file and by module.
+    /// The index of each of them in `modules`, by info file and by module.
     indexes: Vec<Vec<usize>>,
 }
 
@@ -282,7 +273,9 @@ impl Picked {
         infos: &[Option<Info>],
         related: &[Option<Related>],
         requirements: Requirements,
-    ) -> Result<(), AllocError> {
+    ) -> Result<(), AllocError>
+        ensures { OnOk result (IsSparse self.new) }
+    {
         self.modules.clear();
         self.indexes.resize_with(infos.len(), || Vec::new(alloc))?;
         for rule in objects {
@@ -321,17 +314,25 @@ impl Picked {
     }
 
     /// Adds a module of a known info file, if it is not picked.
-    fn add(&mut self, at: ModuleAt, infos: &[Option<Info>]) -> Result<(), AllocError> {
-        if let Some(Some(info)) = infos.get(at.info)
-            && at.info < self.indexes.len()
-        {
-            let indexes = &mut self.indexes[at.info];
-            indexes.resize(info.modules.len(), 0)?;
-            if at.module < indexes.len() && self.modules.get(indexes[at.module]) != Some(&at) {
-                indexes[at.module] = self.modules.len();
-                self.modules.push(at)?;
-            }
+    fn add(&mut self, at: ModuleAt, infos: &[Option<Info>]) -> Result<(), AllocError>
+        requires { IsSparse self.old }
+        ensures { OnOk result (IsSparse self.new) }
+    {
+        let Some(Some(info)) = infos.get(at.info) else {
+            return Ok(());
+        };
+        if at.info >= self.indexes.len() || at.module >= info.modules.len() {
+            return Ok(());
         }
+        let indexes = &mut self.indexes[at.info];
+        if indexes.len() < info.modules.len() {
+            indexes.resize(info.modules.len(), 0)?;
+        }
+        if self.modules.get(indexes[at.module]) == Some(&at) {
+            return Ok(());
+        }
+        indexes[at.module] = self.modules.len();
+        self.modules.push(at)?;
         Ok(())
     }
 }

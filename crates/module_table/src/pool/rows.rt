@@ -1,14 +1,14 @@
 //! The modules of all info files, by name and by file.
-ghost use Rattle.std.specs.Prelude.{◌++◌, ◌∷◌, ◌≡◌, [], IfOk, IfSome, length, OnOk, Some};
-ghost use Rattle.module_table.specs.Prelude.{AreListed, By, get, Has, hasher_of, IsKeyed, IsPut};
-ghost use Rattle.module_table.specs.Prelude.{IsRelated, IsSource, key_of, rows_of, Shared};
-ghost use Rattle.module_table.specs.Prelude.{InWords, StillKeyed, StillListed};
-ghost use Rattle.std.specs.Prelude.{◌<◌, ◌≢◌, ℕ};
-ghost use Rattle.std.specs.Int.{bit_at};
+ghost use Rattle.std.specs.Prelude.{◌++◌, ◌∷◌, ◌≡◌, [], IfOk, IfSome, length, OnOk, Some, ℕ};
+ghost use Rattle.module_table.specs.Prelude.{AreListed, AreShared, By, get, HasBit, hasher_of};
+ghost use Rattle.module_table.specs.Prelude.{InMiddle, InRow, InWords, IsKeyed, IsPut, IsRelated};
+ghost use Rattle.module_table.specs.Prelude.{IsSource, key_of, rows_of, StillKeyed, StillListed};
 
 use crate::needed::copy_pair;
+use crate::pool::sets::{Word, put, word_of, words_of};
 use document_values::{Info, InfoModule, Name};
 use indexmap::IndexMap;
+use indexmap::map::Entry;
 use ninja_text::Path;
 use std::alloc::{AllocError, Global};
 use std::hash::Hash;
@@ -22,22 +22,30 @@ pub(crate) struct ModuleAt {
 }
 
 /// The modules of one name, or of one file.
-#[derive(Clone, Copy)]
 pub(crate) struct Row {
     pub first: ModuleAt,
     pub last: ModuleAt,
-    /// The number of the name or file, if it has several modules.
-    pub number: Option<usize>,
+    /// Those between the first and the last, if there are any.
+    pub middle: Option<Box<Middle>>,
 }
 
-/// A name or a file that a module of an info file shares with an earlier module.
-#[derive(Clone, Copy)]
-pub(crate) struct Shared {
-    pub number: usize,
-    /// The index of the module in its info file.
-    pub module: usize,
-    /// The info file of the first module of that name or file.
-    pub first: usize,
+// Not derived: this saves the prover time (docs/DECISIONS.md, "Code").
+impl Drop for Row {
+    fn drop(self) {
+        let Row {
+            first: _,
+            last: _,
+            middle: _,
+        } = self;
+    }
+}
+
+/// Modules of a row, by rising index of their info files.
+#[derive(Drop)]
+pub(crate) struct Middle {
+    pub modules: Vec<ModuleAt>,
+    /// The set of their info files.
+    pub infos: Vec<Word>,
 }
 
 pub(crate) struct Listed {
@@ -45,8 +53,6 @@ pub(crate) struct Listed {
     pub files: IndexMap<Path, Row, TableKey>,
     /// The public modules that share their file with an earlier module, by name and file.
     pub sharing: IndexMap<(Name, Path), ModuleAt, TableKey>,
-    /// How many names and files have several modules.
-    pub numbers: usize,
 }
 
 // Not derived: this saves the prover time (docs/DECISIONS.md, "Code").
@@ -56,7 +62,6 @@ impl Drop for Listed {
             names: _,
             files: _,
             sharing: _,
-            numbers: _,
         } = self;
     }
 }
@@ -69,31 +74,32 @@ impl Listed {
             names: IndexMap::with_hasher(alloc, key),
             files: IndexMap::with_hasher(alloc, key),
             sharing: IndexMap::with_hasher(alloc, key),
-            numbers: 0,
         }
     }
 }
 
-/// Lists the modules of the next info file, which has this index. Adds the names and files that
-/// they share with earlier modules.
+/// Lists the modules of the next info file, which has this index. Adds to `shared` the info files
+/// that have one of their names or files, this one too if it has one twice.
 pub(crate) fn list_modules(
     alloc: Global,
     info: usize,
     modules: &[InfoModule],
     listed: &mut Listed,
-    shared: &mut Vec<Shared>,
+    shared: &mut Vec<u64>,
 ) -> Result<(), AllocError>
     ensures still { OnOk result (StillListed listed.old listed.new) }
     ensures key { OnOk result (StillKeyed listed.old listed.new) }
     ensures listed { OnOk result ((by : By) → AreListed (key_of by)
-        info modules.now (rows_of listed.new by) shared.new.items) }
+        info modules.now (rows_of listed.new by)) }
+    ensures shared { OnOk result ((by : By) → AreShared (key_of by)
+        info modules.now (rows_of listed.old by) (HasBit shared.new.items)) }
 {
     for (module, entry) in modules.iter().enumerate() {
         let at = ModuleAt { info, module };
         let name = entry.name.copy(alloc)?;
-        add(&mut listed.names, &mut listed.numbers, name, at, shared)?;
+        add(alloc, &mut listed.names, name, at, shared)?;
         let file = entry.file.copy(alloc)?;
-        let is_shared = add(&mut listed.files, &mut listed.numbers, file, at, shared)?;
+        let is_shared = add(alloc, &mut listed.files, file, at, shared)?;
         if is_shared && !entry.is_private {
             let pair = copy_pair(alloc, &entry.name, &entry.file)?;
             let _ = listed.sharing.insert(pair, at)?;
@@ -102,52 +108,97 @@ pub(crate) fn list_modules(
     Ok(())
 }
 
-/// Adds a module to the row of a key. Returns whether the row has an earlier module, which is then
-/// among the shared ones.
+/// Adds a module to the row of a key. Returns whether the row has an earlier module. The info files
+/// of these are put into `shared`.
 fn add<K: Eq + Hash + Drop>(
+    alloc: Global,
     rows: &mut IndexMap<K, Row, TableKey>,
-    numbers: &mut usize,
     key: K,
     at: ModuleAt,
-    shared: &mut Vec<Shared>,
+    shared: &mut Vec<u64>,
 ) -> Result<bool, AllocError>
-    ensures put { OnOk result
-        (IsPut K.eq (get K.eq rows.old) (get K.eq rows.new) key at shared.new.items) }
-    ensures still { OnOk result ((s : Shared) → Has shared.old.items s → Has shared.new.items s) }
+    ensures put { OnOk result (IsPut K.eq (get K.eq rows.old) (get K.eq rows.new) key at.info
+        (HasBit shared.new.items)) }
+    ensures still { OnOk result
+        ((k : ℕ) → HasBit shared.old.items k → HasBit shared.new.items k) }
     ensures key { OnOk result (hasher_of rows.new ≡ hasher_of rows.old) }
 {
-    let row = rows.entry(key)?.or_insert(Row {
+    let entry = rows.entry(key)?;
+    let is_new = match &entry {
+        Entry::Vacant(_) => true,
+        Entry::Occupied(_) => false,
+    };
+    let row = entry.or_insert(Row {
         first: at,
         last: at,
-        number: None,
+        middle: None,
     });
-    if row.first == at {
+    if is_new {
         return Ok(false);
     }
+    put_infos(row, shared)?;
+    if row.last != row.first {
+        let middle = row.middle.take();
+        row.middle = Some(with_module(alloc, middle, row.last)?);
+    }
     row.last = at;
-    let number = match row.number {
-        Some(number) => number,
-        None => {
-            let next = *numbers;
-            *numbers = next.saturating_add(1);
-            row.number = Some(next);
-            next
-        }
-    };
-    shared.push(Shared {
-        number,
-        module: at.module,
-        first: row.first.info,
-    })?;
     Ok(true)
 }
 
-/// A word of a set of info files: the bit of each, by the last six bits of its index.
-#[derive(Clone, Copy)]
-pub(crate) struct Word {
-    /// The index of each info file, without those bits.
-    pub index: usize,
-    pub bits: u64,
+/// Puts the info files of a row into a set.
+fn put_infos(row: &Row, set: &mut Vec<u64>) -> Result<(), AllocError>
+    ensures put { OnOk result ((k : ℕ) → InRow row.now k → HasBit set.new.items k) }
+    ensures kept { OnOk result ((k : ℕ) → HasBit set.old.items k → HasBit set.new.items k) }
+{
+    put(set, word_of(row.first.info))?;
+    put(set, word_of(row.last.info))?;
+    if let Some(middle) = &row.middle {
+        for word in &middle.infos {
+            put(set, *word)?;
+        }
+    }
+    Ok(())
+}
+
+/// Returns the modules between the first and the last of a row, with one more.
+fn with_module(
+    alloc: Global,
+    middle: Option<Box<Middle>>,
+    at: ModuleAt,
+) -> Result<Box<Middle>, AllocError>
+    ensures added { IfOk result (λ new. InWords new.value.infos.items at.info) }
+    ensures kept { IfOk result (λ new. (k : ℕ) → InMiddle middle k
+        → InWords new.value.infos.items k) }
+{
+    let mut middle = match middle {
+        Some(middle) => middle,
+        None => Box::new(
+            alloc,
+            Middle {
+                modules: Vec::new(alloc),
+                infos: Vec::new(alloc),
+            },
+        )?,
+    };
+    middle.modules.push(at)?;
+    add_info(&mut middle.infos, at.info)?;
+    Ok(middle)
+}
+
+/// Adds an info file to a set. If it comes after the others, the set has each word once.
+fn add_info(set: &mut Vec<Word>, info: usize) -> Result<(), AllocError>
+    ensures added { OnOk result (InWords set.new.items info) }
+    ensures kept { OnOk result ((k : ℕ) → InWords set.old.items k → InWords set.new.items k) }
+{
+    let word = word_of(info);
+    if let Some(last) = set.last_mut()
+        && last.index == word.index
+    {
+        last.bits = last.bits | word.bits;
+        return Ok(());
+    }
+    set.push(word)?;
+    Ok(())
 }
 
 /// How an info file is related to the others.
@@ -156,8 +207,8 @@ pub(crate) struct Related {
     pub required: Vec<Vec<ModuleAt>>,
     /// The info files with the modules that it requires, as bits.
     pub sources: Vec<Word>,
-    /// The names and files that it shares with earlier modules.
-    pub shared: Vec<Shared>,
+    /// The info files before it that have one of its names or files, as bits.
+    pub shared: Vec<Word>,
 }
 
 // Not derived: this saves the prover time (docs/DECISIONS.md, "Code").
@@ -183,7 +234,7 @@ impl Related {
         ensures still { OnOk result (StillListed listed.old listed.new) }
         ensures key { OnOk result (StillKeyed listed.old listed.new) }
         ensures related { IfOk result (λ found. IfSome found
-            (IsRelated infos.now info.now listed.new)) }
+            (IsRelated infos.now info.now listed.old listed.new)) }
     {
         let mut shared = Vec::new(alloc);
         list_modules(alloc, infos.len(), &info.modules, listed, &mut shared)?;
@@ -195,49 +246,17 @@ impl Related {
                 let Some(at) = source_of(infos, info, listed, pair) else {
                     return Ok(None);
                 };
-                sources.push(at.info)?;
+                put(&mut sources, word_of(at.info))?;
                 row.push(at)?;
             }
             required.push(row)?;
         }
-        sources.sort_unstable();
-        let sources = words_of(alloc, sources.as_slice())?;
         Ok(Some(Related {
             required,
-            sources,
-            shared,
+            sources: words_of(alloc, &sources)?,
+            shared: words_of(alloc, &shared)?,
         }))
     }
-}
-
-/// Returns the set of info files with these indexes. If they are in order, it has each word once.
-fn words_of(alloc: Global, infos: &[usize]) -> Result<Vec<Word>, AllocError>
-    ensures { IfOk result (λ words. (k : ℕ) → Has infos.now k → InWords words.items k) }
-{
-    let mut words = Vec::new(alloc);
-    let Some(first) = infos.first() else {
-        return Ok(words);
-    };
-    let mut index = *first / 64;
-    let mut bits = 0;
-    for info in infos {
-        if *info / 64 != index {
-            words.push(Word { index, bits })?;
-            index = *info / 64;
-            bits = 0;
-        }
-        bits = with_bit(bits, *info % 64);
-    }
-    words.push(Word { index, bits })?;
-    Ok(words)
-}
-
-pub(crate) fn with_bit(word: u64, bit: usize) -> u64
-    requires { bit < 64 }
-    ensures set { bit_at result bit ≡ 1 }
-    ensures others { (i : ℕ) → i ≢ bit → bit_at result i ≡ bit_at word i }
-{
-    word | (1 << bit)
 }
 
 /// Returns the module of this name and this file that the info file may require: it is public, or

@@ -1,4 +1,4 @@
-use Rattle.std.proofs.Common.{◌≡◌, ◌≢◌, ◌<◌, ◌++◌, ◌∙◌, ℕ, zero, suc, ap, arith, drop, get_or, get_or-set_other, get_or-set_same, inl, inr, List, [], ◌∷◌, length, refl, set, subst, sym, take, Vec, Global, eqb, Contains}
+use Rattle.std.proofs.Common.{◌≡◌, ◌≢◌, ◌<◌, ◌++◌, ◌∙◌, ℕ, suc, ap, arith, drop, get_or, get_or-set_other, get_or-set_same, inl, inr, List, [], ◌∷◌, length, refl, set, subst, sym, take, Vec, Global, eqb, Contains}
 use Rattle.std.proofs.lemmas.List.{length-set}
 use Rattle.std.proofs.lemmas.List.Filters.{dedup_is}
 use Rattle.std.proofs.lemmas.List.Kept.{Contains-dedup_nat, Contains-from_dedup}

@@ -1,4 +1,4 @@
-use Rattle.std.proofs.Common.{◌≡◌, ◌∙◌, ◌++◌, ◌+◌, ap, map, subst, sym, take, take_all}
+use Rattle.std.proofs.Common.{◌≡◌, ◌∙◌, ◌++◌, ap, map, subst, sym, take, take_all}
 use Rattle.module_table.specs.Prelude.{option_map, ModuleValue, InfoRequirement, provisions, names_of, index_in, indexes_in, looked_up, lookups_of}
 use Rattle.module_table.specs.inner.Found.{lookup_of}
 use Rattle.module_table.proofs.IndexRows.{takes_some, takes_none}

@@ -21,12 +21,12 @@ invariant_of-result c =
       | in-None v ↦ rw v.listed-is
           (λ by key r h. (r, h, same_row r))
     ] in
-    let is : (info : InfoValue) → c.if-is_some.push ≡ Some info → (r : Related) × (found ≡ Some r) × IsRelated pool.infos.items info listed r = λ info e.
+    let is : (info : InfoValue) → c.if-is_some.push ≡ Some info → (r : Related) × (found ≡ Some r) × IsRelated pool.infos.items info pool.listed listed r = λ info e.
     elim c.if-is_some.branch [
       | then-is_some w ↦ elim c.match-info.branch [
         | in-Some+in_ok-relations-in-Some v ↦
             let same : info ≡ v.in-Some.info = same_some _ _ (sym e ∙ w.push-is ∙ v.in-Some.is) in
-            there_is (IsRelated pool.infos.items info listed) found (sym c.is_some.ensures ∙ w.if-is_some.true)
+            there_is (IsRelated pool.infos.items info pool.listed listed) found (sym c.is_some.ensures ∙ w.if-is_some.true)
             (rw (v.relations-is, v.listed-is, same, sym v.deref.ensures.value) v.in_ok-relations-in-Some.ensures.related)
         | in-None v ↦ let some : is_some found ≡ true = sym c.is_some.ensures ∙ w.if-is_some.true in absurd cc
       ]

@@ -13,12 +13,12 @@ loop-pair-preserved c =
     let provided = c.deref-pair-items.result.now in
     let pair = c.pair-item.result in
     let at = slice_get_read provided _ i pair refl c.loop-pair-test.true c.pair-item.is in
-    let Unlinked = IsUnlinked c.args.self.now.linked.now c.args.self.now.stamps.now in
+    let Unlinked = IsUnlinked c.args.self.now.linked.now in
     below_next (λ (pair : Pair). Unlinked (rows_of listed by_name) pair.0 × Unlinked (rows_of listed by_file) pair.1) provided i pair at
     c.loop-pair.invariant (
-      unlinked links.linked.now links.stamps.now (rows_of listed by_name) pair.0 _ c.get-in-loop-pair.ensures.value
+      unlinked links.linked.now (rows_of listed by_name) pair.0 _ c.get-in-loop-pair.ensures.value
           (if_none _ _ (sym c.is_some-in-loop-pair.ensures ∙ c.if-is_some-2.false) c.module_of-in-loop-pair.ensures),
-      unlinked links.linked.now links.stamps.now (rows_of listed by_file) pair.1 _ c.get-else-is_some-2.ensures.value
+      unlinked links.linked.now (rows_of listed by_file) pair.1 _ c.get-else-is_some-2.ensures.value
           (if_none _ _ (sym c.is_some-else-is_some-2.ensures ∙ c.if-is_some-3.false) c.module_of-else-is_some-2.ensures),
     )
 
@@ -28,11 +28,11 @@ loop-rule-preserved c =
     let listed = c.args.listed.now in
     let i = c.loop-rule.rule-index in
     let rule = c.rule-item.result in
-    let Unlinked = IsUnlinked c.args.self.now.linked.now c.args.self.now.stamps.now in
+    let Unlinked = IsUnlinked c.args.self.now.linked.now in
     let Apart : Pair → Type 0 = λ pair. Unlinked (rows_of listed by_name) pair.0 × Unlinked (rows_of listed by_file) pair.1 in
-    below_next (IsApart links.linked.now links.stamps.now listed) c.args.objects.now i rule
+    below_next (IsApart links.linked.now listed) c.args.objects.now i rule
     (slice_get_read c.args.objects.now _ i rule refl c.loop-rule-test.true c.rule-item.is) c.loop-rule.invariant (record {
-      path = unlinked links.linked.now links.stamps.now (rows_of listed by_file) rule.object _
+      path = unlinked links.linked.now (rows_of listed by_file) rule.object _
           (rw (sym (ap (λ (r : RuleValue). r.object) c.rule.view_is)) c.get.ensures.value)
           (if_none _ _ (sym c.is_some.ensures ∙ c.if-is_some.false) c.module_of.ensures);
       provided =
@@ -42,5 +42,5 @@ loop-rule-preserved c =
     })
 
 pub returns : goal.returns
-returns c = λ is o rule at. below_all (IsApart c.args.self.now.linked.now c.args.self.now.stamps.now c.args.listed.now) c.args.objects.now
+returns c = λ is o rule at. below_all (IsApart c.args.self.now.linked.now c.args.listed.now) c.args.objects.now
     c.loop-rule.rule-index c.loop-rule-test.false c.loop-rule.invariant rule (o, at)

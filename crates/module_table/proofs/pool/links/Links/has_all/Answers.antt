@@ -14,5 +14,5 @@ returns-in-Some c = λ is k h.
     let here = get_or_from_slice_get links.words.now word.index bits 0 (slice_get_read links.words.now _ word.index bits refl at.3.0 at.1) in
     let one = in_both word.bits bits (k % 64) (eqb-true _ _ is) h.1 in (
       get_or links.indexes.now k 0,
-      links.have k (ap (λ n. bit_at (get_or links.words.now n 0) (k % 64)) (sym h.0) ∙ ap (λ n. bit_at n (k % 64)) here ∙ one),
+      links.have.only k (ap (λ n. bit_at (get_or links.words.now n 0) (k % 64)) (sym h.0) ∙ ap (λ n. bit_at n (k % 64)) here ∙ one),
     )

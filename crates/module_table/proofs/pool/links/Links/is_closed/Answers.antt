@@ -1,7 +1,7 @@
 use Rattle.std.proofs.Common.{rules, tests, ◌∙◌, ◌≡◌, ℕ, true, ap, inl, inr, List, refl, slice_get, Some, subst, sym}
 use Rattle.std.proofs.lemmas.Iterator.{YieldsList-from_slice, cases_from_all}
 use Rattle.std.proofs.lemmas.Option.{slice_get_read}
-use Rattle.module_table.specs.Prelude.{Has, InfoValue, InWord, Word, IsProvidedFor, ModuleValue}
+use Rattle.module_table.specs.Prelude.{Has, InWord, Word, IsProvidedFor, ModuleValue}
 use Rattle.module_table.proofs.PoolLemmas.{all_true, below_all, below_next, modules_of}
 use Rattle.ninja_text.proofs.ForCallers.{same_some}
 use Rattle.module_table.proofs.pool.links.Links.is_closed.Goals as goal

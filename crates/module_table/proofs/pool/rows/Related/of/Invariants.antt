@@ -1,6 +1,6 @@
 use Rattle.std.proofs.Common.{ℕ}
 use Rattle.document_values.specs.Info.{ModuleValue}
-use Rattle.module_table.specs.inner.Pools.{Has, Below}
+use Rattle.module_table.specs.inner.Pools.{Has, HasBit, Below}
 use Rattle.module_table.proofs.PoolLemmas.{IsSourced}
 use Rattle.module_table.proofs.pool.rows.Related.of.Given as goal
 use Rattle.module_table.proofs.Words.{Pair}
@@ -11,7 +11,7 @@ invariant-loop-module l =
 
 abbrev pub invariant-loop-pair : goal.invariant-loop-pair
 invariant-loop-pair l = record {
-  still : (k : ℕ) → Has l.initial.sources.items k → Has l.sources.items k;
+  still : (k : ℕ) → HasBit l.initial.sources.items k → HasBit l.sources.items k;
   all : Below (IsSourced l.infos l.info l.sources.items) l.pair-items
       l.pair-index;
 }
