@@ -382,14 +382,18 @@ class Inputs(Devices):
             os.remove("pipe")
 
     def test_a_pipe_gives_its_text_to_the_first_that_reads_it(self):
-        """So of a file that is named twice, each reading counts."""
-        lay({"t.target.json": target(b',"scans":["/dev/stdin","/dev/stdin"]')})
-        end, pipe = os.pipe()
-        os.write(pipe, targets.MAIN)
-        os.close(pipe)
-        ran = self.caller.run("collate", "t.target.json", others=[(0, end)])
-        os.close(end)
-        self.same(ran, rejected(b"scan 1: S1 NotJson document"))
+        """A list reads it once, however often it names it. Each list reads it by itself."""
+        for members, error in (
+                (b',"scans":["/dev/stdin","/dev/stdin"]', b"M1 ObjectTwice main.o"),
+                (b',"scans":["/dev/stdin"],"linked":["/dev/stdin"]', b"info 0: S1 NotJson document")):
+            with self.subTest(members):
+                lay({"t.target.json": target(members)})
+                end, pipe = os.pipe()
+                os.write(pipe, targets.MAIN)
+                os.close(pipe)
+                ran = self.caller.run("collate", "t.target.json", others=[(0, end)])
+                os.close(end)
+                self.same(ran, rejected(error))
 
 
 CALLS = [["show"], ["one", "mod", ".bmi"], ["collate"], ["order"], ["effect", "t.dd", "/dev/null"]]

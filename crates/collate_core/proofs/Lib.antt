@@ -1,4 +1,5 @@
 pub mod Documents
+pub mod ReadingLemmas
 pub mod Lists
 pub mod NeededLemmas
 pub mod Effects

@@ -1,11 +1,11 @@
 -- From what the parts of collating promise to what a target collates to, and to its rejection.
-use Rattle.std.proofs.Common.{◌≡◌, Result, Ok, Err, subst, sym, IfOk, MatchResult, IsErrAnd, ℕ, List, ◌++◌, [], ◌∷◌, map, Option, Some, None, length, refl, All, zero, suc, ◌+◌, ◌<◌, ap, ◌∙◌, inl, inr, arith, slice_get, Vec, OnOk, IfSome, flat_map, IfErr}
+use Rattle.std.proofs.Common.{◌≡◌, Result, Ok, Err, subst, sym, IfOk, MatchResult, IsErrAnd, ℕ, List, ◌++◌, [], ◌∷◌, map, Option, Some, None, length, refl, All, zero, suc, ◌+◌, ◌<◌, ap, ◌∙◌, inl, inr, arith, slice_get, Vec, OnOk, IfSome, flat_map, IfErr, append-nil}
 use Rattle.std.proofs.lemmas.List.Elements.{All-weaker, recursion_from_All, All-append, All-cons}
 use Rattle.dyndep_file.specs.declared.fault.WriteFault.TheVariants as write
 use Rattle.collate_core.specs.declared.fault.Refusal.TheVariants.{Info}
 use Rattle.ninja_text.proofs.ForCallers.{element_at, in_append, same_some}
 use Rattle.std.proofs.lemmas.List.{map_push, length-map}
-use Rattle.collate_core.specs.Prelude.{ForFault, Turns, Failure, Memory, Fault, HasReadFault, StandsForOnly, IsReadFailureIn, IsReadFaultOf, FaultStays, FirstFault, ReadFault, AtLine, Io, AllByRecursion, IsPath, path_of, StatementValue, paths_of, text_unless, text_or_fault, statement_fault, write_fault, WriteFault, HasPaths, IsMapText, Collates, AreMaps, IsSpelled, HasSpelled, IsLineRefusal, IsWriteRefusal, IsMapsRefusal, IsObjectRefusal, IsTextsRefusal, IsWrittenOf, Refusal, Scan, Table, StatementTooLong, Map, LinkedLater, Global, Text, PathText, Numbers, Modules, RuleValue, TableValue, table_with, IsFault, IsSound, PrivateAreProvided, TableFault, Written, TargetValue, CollatedValue, table_of, AreAccepted, IsResolved, statements_of, statement_of, IsRefusal, IsMapRefusal, WasRead, RefusedTarget, InfoValue, info_text, ReadsBack, SoundHasNoFault, Task, tasks_of, ArePairs, IsNeeded, PartIsSound, PartHasTasks, PartIsNeeded, IsEnough, KeepsRequired, modules_of, IsEnoughFor}
+use Rattle.collate_core.specs.Prelude.{ForFault, Turns, Failure, Memory, Fault, HasReadFault, StandsForOnly, IsReadFailureIn, IsReadFaultOf, FaultStays, FirstFault, ReadFault, AtLine, Io, AllByRecursion, IsPath, path_of, StatementValue, paths_of, text_unless, text_or_fault, statement_fault, write_fault, WriteFault, HasPaths, IsMapText, Collates, AreMaps, IsSpelled, HasSpelled, IsLineRefusal, IsWriteRefusal, IsMapsRefusal, IsObjectRefusal, IsTextsRefusal, IsWrittenOf, Refusal, Scan, Table, StatementTooLong, Map, LinkedLater, Global, Text, PathText, Numbers, Modules, RuleValue, TableValue, table_with, IsFault, IsSound, PrivateAreProvided, TableFault, Written, TargetValue, CollatedValue, table_of, AreAccepted, IsResolved, statements_of, statement_of, IsRefusal, IsMapRefusal, WasRead, RefusedTarget, InfoValue, info_text, ReadsBack, SoundHasNoFault, Task, tasks_of, ArePairs, IsNeeded, PartIsSound, PartHasTasks, PartIsNeeded, IsEnough, KeepsRequired, modules_of, IsEnoughFor, IsBeginning, IsBeginningOf}
 
 -- ---- failures and errors that are turned into others
 
@@ -33,6 +33,13 @@ pub error_turned : {T E D : Type 0} (R : E → D → Type 0) {P : E → Type 0} 
 error_turned R {P} Q step (Ok x) new same h = subst (λ r. IfErr r Q) (sym same) tt
 error_turned R {P} Q step (Err e) (Ok x) same h = absurd same
 error_turned R {P} Q step (Err e) (Err d) same h = step e d same h
+
+-- what holds of a fault by two clauses
+pub both_faults : {T F : Type 0} (P Q : F → Type 0) (result : Result T (Failure F)) → IfErr result (ForFault P) → IfErr result (ForFault Q) →
+    IfErr result (ForFault (λ fault. P fault × Q fault))
+both_faults P Q (Ok value) p q = tt
+both_faults P Q (Err Memory) p q = tt
+both_faults P Q (Err (Fault fault)) p q = (p, q)
 
 -- what holds of the value of a call holds of the value that `unless_faulty` finds in its result
 pub without_fault : {T E : Type 0} (P : T → Type 0) (result : Result T E) {found : Option T} {value : T} → found ≡ Some value →
@@ -122,12 +129,17 @@ resolved target t table documents no_fault sound kept =
       kept = subst (λ u. PrivateAreProvided u target.kept) table kept;
     }
 
-pub built_resolved : {E : Type 0} {target : TargetValue} {read : TableValue} (built : Result TableValue E) → read ≡ table_of target → AreAccepted target →
-    IfOk built (λ t. t ≡ read) →
+pub built_whole : {E : Type 0} {whole read : TableValue} (built : Result TableValue E) → (IsSound read → read ≡ whole) → IfOk built (λ t. t ≡ read) →
+    IfOk built IsSound → IfOk built (λ t. t ≡ whole)
+built_whole (Ok t) is_whole table sound = table ∙ is_whole (subst IsSound table sound)
+built_whole (Err e) is_whole table sound = tt
+
+pub built_resolved : {E : Type 0} {target : TargetValue} (built : Result TableValue E) → AreAccepted target →
+    IfOk built (λ t. t ≡ table_of target) →
     IfOk built (λ t. (fault : TableFault) → IsFault t target.kept fault → ⊥) → IfOk built IsSound → IfOk built (λ t. PrivateAreProvided t target.kept) →
     OnOk built (IsResolved target)
-built_resolved {target} {read} (Ok t) same documents table no_fault sound kept = resolved target t (table ∙ same) documents no_fault sound kept
-built_resolved {target} {read} (Err e) same documents table no_fault sound kept = tt
+built_resolved {target} (Ok t) documents table no_fault sound kept = resolved target t table documents no_fault sound kept
+built_resolved {target} (Err e) documents table no_fault sound kept = tt
 
 pub any_style : (target : TargetValue) (style : Option Written) (failure : Failure RefusedTarget) →
     ForFault (λ (refused : RefusedTarget). (s : Option Written) → IsRefusal target s refused.refusal) failure →
@@ -173,9 +185,18 @@ pub texts_refused : {target : TargetValue} (style : Option Written) {t : TableVa
 texts_refused {target} style {t} table resolved Memory h = tt
 texts_refused {target} style {t} table resolved (Fault refusal) h = h target table resolved
 
+begins_alike : {X : Type 0} (text_of : X → Text) {xs ys : List X} → xs ≡ ys → IsBeginning text_of xs ys
+begins_alike text_of {xs} same = record { rest = []; joined = append-nil xs ∙ same; is_whole = λ differ. same }
+
 -- the table of the target's documents is what was read of it, whatever the rejection
 pub was_read : (target : TargetValue) (refusal : Refusal) (read : TableValue) → read ≡ table_of target → WasRead target refusal read
-was_read target (Table fault) read same = same
+was_read target (Table fault) read same = (
+  record {
+    objects = begins_alike (λ rule. rule.object) (ap (λ (t : TableValue). t.objects) same);
+    infos = begins_alike (λ info. info.target) (ap (λ (t : TableValue). t.infos) same);
+  },
+  λ past. same,
+)
 was_read target (Map o fault) read same = same
 was_read target (Scan i fault) read same = tt
 was_read target (Info i fault) read same = tt

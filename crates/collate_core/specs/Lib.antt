@@ -1,3 +1,4 @@
+pub mod Listed
 pub mod Values
 pub mod Documents
 pub mod Statements

@@ -73,14 +73,19 @@ pub use Rattle.module_table.specs.declared.fault.RefusedTable.{RefusedTable}
 pub use Rattle.module_table.specs.declared.pool.requirements.Requirements.TheVariants.{Kept}
 pub use Rattle.dep_order.specs.declared.Sorting.{Sorting}
 pub use Rattle.dep_order.specs.declared.Sorting.TheVariants.{Cycle, Order}
+pub use Rattle.module_table.specs.Beginnings.{IsBeginning, IsBeginningOf}
+pub use Rattle.module_table.specs.Faults.{code_number}
+pub use Rattle.collate_core.specs.Listed.{first_bytes, lent_texts, listed_as, bytes_listed, bytes_of_each, texts_listed}
+pub use Rattle.collate_core.specs.declared.reading.Listed.{Listed}
+pub use Rattle.collate_core.specs.declared.reading.Listed.TheVariants.{First, Again}
 pub use Rattle.collate_core.specs.Values.{collated_of, CollatedValue, ProjectTargetValue, TargetValue}
 pub use Rattle.collate_core.specs.Headline.{with_modules, AddsExactly, HasStatements, IsCollatedText, IsDyndepOf, IsHeadline, Modules}
 pub use Rattle.collate_core.specs.Documents.{all_rules, rule_limit, table_of, AreAccepted, AreScansAccepted, IsInfoAccepted, IsResolved, IsScanAccepted}
 pub use Rattle.collate_core.specs.Collation.{AreMaps, Collates, HasPaths, IsMapText}
 pub use Rattle.collate_core.specs.Refusals.{HasReadOf, IsInfoRefusal, IsMapFault, IsMapRefusal, IsMapWritten, IsRefusal, IsScanFault, IsScanRefusal, WasRead}
-pub use Rattle.collate_core.specs.inner.Parts.{lent_files, CollatesLinked, ForEffect, ForInfo, ForScan, HasSpelled, IsLineRefusal, IsMapsRefusal, IsObjectRefusal, IsOfTable, IsSpelled, IsTableText, IsTextsRefusal, IsWriteRefusal, IsWrittenOf}
+pub use Rattle.collate_core.specs.inner.Parts.{lent_files, CollatesLinked, ForEffect, ForInfo, ForScan, HasSpelled, IsLineRefusal, IsMapsRefusal, IsObjectRefusal, IsOfTable, IsSpelled, IsTableText, IsTextsRefusal, IsTooLarge, IsWriteRefusal, IsWrittenOf}
 pub use Rattle.collate_core.specs.Infos.{info_of_table, is_private_name, module_of, modules_of}
-pub use Rattle.collate_core.specs.inner.ReadInfos.{AreKnown, AreLinkedInfos, AreReadAs, CollatesAndReads, IsReadAs}
+pub use Rattle.collate_core.specs.inner.ReadInfos.{AreInfosRead, AreKnown, AreLinkedInfos, AreReadAs, CollatesAndReads, IsReadAs}
 pub use Rattle.collate_core.specs.Projects.{linked_infos, project_tables, target_of, CollatesProject, IsLinkedRefusal, IsProjectRefusal, WasReadAt}
 pub use Rattle.collate_core.specs.inner.PartTables.{IsEnoughFor}
 pub use Rattle.collate_core.specs.inner.ReadTargets.{project_entries, target_entries, AreHeld, AreInfosHeld, AreRulesOf, AreRulesOfEach, CoversLinked}

@@ -12,7 +12,8 @@ use Rattle.scan_docs.specs.declared.fault.DocFault.{DocFault}
 use Rattle.scan_docs.specs.declared.fault.DocFault.TheVariants.{TooLarge}
 use Rattle.scan_docs.specs.declared.fault.Place.TheVariants.{Document}
 use Rattle.module_table.specs.TableValue.{TableValue, table_with}
-use Rattle.module_table.specs.Faults.{IsReported}
+use Rattle.module_table.specs.Beginnings.{IsBeginningOf}
+use Rattle.module_table.specs.Faults.{IsReported, code_number}
 use Rattle.module_maps.specs.Values.{ModuleMapValue}
 use Rattle.module_maps.specs.Maps.{Written, map_fault}
 use Rattle.module_maps.specs.declared.fault.UnwritableMap.{UnwritableMap}
@@ -94,9 +95,10 @@ IsRefusal target (Some written) (Map o fault) =
 IsRefusal target style LinkedLater = ⊥
 
 -- what was read of a rejected target: if the error is one of the table or of a map, it is the
--- target's table
+-- target's table, of which M1 and M2 may leave out what follows a repetition
 abbrev pub WasRead : TargetValue → Refusal → TableValue → Type 0
-WasRead target (Table fault) read = read ≡ table_of target
+WasRead target (Table fault) read =
+    IsBeginningOf read (table_of target) × (2 < code_number fault → read ≡ table_of target)
 WasRead target (Map o fault) read = read ≡ table_of target
 WasRead target other read = Unit {0}
 

@@ -1,19 +1,19 @@
 //! Collating a target: its documents make a table, and the objects of the table what is written.
 ghost use Rattle.std.specs.Prelude.{◌≡◌, map, option_copied, option_map, IfErr, IfOk, None, Option};
-ghost use Rattle.collate_core.specs.Prelude.{all_rules, table_of, All, AreReadAs, AreScansAccepted};
-ghost use Rattle.collate_core.specs.Prelude.{Collates, ForFault, ForInfo, ForScan, HasReadOf};
-ghost use Rattle.collate_core.specs.Prelude.{HasStatements, IsDyndepOf, IsHeadline, IsInfoRefusal};
-ghost use Rattle.collate_core.specs.Prelude.{IsOfTable, IsRefusal, IsResolved, IsRuleText};
-ghost use Rattle.collate_core.specs.Prelude.{IsScanRefusal, IsSound, IsTableText, IsTextsRefusal};
-ghost use Rattle.collate_core.specs.Prelude.{IsWrittenOf, Ok, OnOk, TargetValue, Turns, Written};
+ghost use Rattle.collate_core.specs.Prelude.{lent_texts, table_of, Collates, ForFault, HasReadOf};
+ghost use Rattle.collate_core.specs.Prelude.{HasStatements, IsDyndepOf, IsHeadline, IsOfTable};
+ghost use Rattle.collate_core.specs.Prelude.{IsRefusal, IsResolved, IsSound, IsTableText};
+ghost use Rattle.collate_core.specs.Prelude.{IsTextsRefusal, IsWrittenOf, Ok, OnOk, TargetValue};
+ghost use Rattle.collate_core.specs.Prelude.{Turns, Written};
 
 use crate::fault::{Refusal, RefusedTarget, nothing_read, refusal_alone};
+use crate::reading::{Listed, infos_of_all, rules_of_all};
 use crate::texts::{dyndep_text, lent_info, maps_of};
-use document_values::{Info, Name, Rule, TargetName};
+use document_values::{Name, TargetName};
 use module_maps::MapStyle;
 use module_table::{RefusedTable, Table};
 use ninja_text::{Failure, Path};
-use scan_docs::{DocFault, Place, ReducedSetting, Setting, info_read, lent_info_write, scan_with};
+use scan_docs::{Setting, lent_info_write};
 use std::alloc::{AllocError, Global};
 use std::marker::Model;
 
@@ -24,9 +24,9 @@ pub struct Target<'a> {
     pub name: &'a TargetName,
     pub setting: &'a Setting,
     /// The scan documents of its sources.
-    pub scans: &'a [&'a [u8]],
+    pub scans: &'a [Listed<&'a [u8]>],
     /// The info files of the targets that it links.
-    pub infos: &'a [&'a [u8]],
+    pub infos: &'a [Listed<&'a [u8]>],
     /// The names of the modules that it keeps to itself. A name may be listed twice.
     pub kept: &'a [Name],
 }
@@ -37,8 +37,8 @@ impl<'a> Model for Target<'a> {
     ghost view = { λ t. record {
       name = t.name.now;
       setting = t.setting.now;
-      scans = map (λ s. s.now) t.scans.now;
-      infos = map (λ s. s.now) t.infos.now;
+      scans = lent_texts t.scans.now;
+      infos = lent_texts t.infos.now;
       kept = t.kept.now;
     } };
 }
@@ -243,9 +243,6 @@ impl Collated {
     }
 }
 
-/// The maximum number of rules of a target.
-pub const RULE_LIMIT: usize = 65536;
-
 /// Returns the table of the target's documents, or the fault of the first document that has one, or
 /// of the table.
 pub(crate) fn table_of(alloc: Global, target: &Target<'_>) -> Result<Table, Failure<RefusedTarget>>
@@ -257,15 +254,16 @@ pub(crate) fn table_of(alloc: Global, target: &Target<'_>) -> Result<Table, Fail
         (style : Option Written) → IsRefusal target.now style refused.refusal)) }
     ensures read { IfErr result (ForFault (HasReadOf target.now)) }
 {
-    let objects = match rules_of_all(alloc, target.setting, target.scans) {
-        Ok(objects) => objects,
+    module_table::laws::a_repetition_is_reported();
+    let read = match rules_of_all(alloc, target.setting, target.scans) {
+        Ok(read) => read,
         Err(failure) => return Err(nothing_read(alloc, failure)),
     };
     let infos = match infos_of_all(alloc, target.infos) {
         Ok(infos) => infos,
         Err(failure) => return Err(nothing_read(alloc, failure)),
     };
-    Table::build_or_refused(alloc, objects, infos, target.kept, None).map_err(of_table)
+    Table::build_or_refused(alloc, read.rules, infos, target.kept, None).map_err(of_table)
 }
 
 /// Returns the failure of a target whose table has a fault.
@@ -279,59 +277,4 @@ fn of_table(failure: Failure<RefusedTable>) -> Failure<RefusedTarget>
         objects: refused.objects,
         infos: refused.infos,
     })
-}
-
-/// Returns the rules of all scan documents, one document after another.
-pub(crate) fn rules_of_all(
-    alloc: Global,
-    setting: &Setting,
-    scans: &[&[u8]],
-) -> Result<Vec<Rule>, Failure<Refusal>>
-    ensures accepted { OnOk result
-        (AreScansAccepted setting.now (map (λ scan. scan.now) scans.now)) }
-    ensures rules { IfOk result (λ rules.
-        rules.items ≡ all_rules setting.now (map (λ scan. scan.now) scans.now)) }
-    ensures text { IfOk result (λ rules. All IsRuleText rules.items) }
-    ensures refused { IfErr result (ForFault (ForScan
-        (IsScanRefusal setting.now (map (λ scan. scan.now) scans.now)))) }
-{
-    let reduced = ReducedSetting::of(alloc, setting)?;
-    let mut rules = Vec::new(alloc);
-    for (index, document) in scans.iter().enumerate() {
-        match scan_with(alloc, document, &reduced) {
-            Ok(mut more) => {
-                if more.len() > RULE_LIMIT - rules.len() {
-                    let place = Place::Document;
-                    let fault = DocFault::TooLarge { place };
-                    return Err(Failure::Fault(Refusal::Scan { index, fault }));
-                }
-                rules.append(&mut more)?;
-            }
-            Err(Failure::Memory) => return Err(Failure::Memory),
-            Err(Failure::Fault(fault)) => {
-                return Err(Failure::Fault(Refusal::Scan { index, fault }));
-            }
-        }
-    }
-    Ok(rules)
-}
-
-/// Returns the info files of all info documents.
-fn infos_of_all(alloc: Global, documents: &[&[u8]]) -> Result<Vec<Info>, Failure<Refusal>>
-    ensures read { IfOk result
-        (λ infos. AreReadAs (map (λ info. info.now) documents.now) infos.items) }
-    ensures refused { IfErr result
-        (ForFault (ForInfo (IsInfoRefusal (map (λ info. info.now) documents.now)))) }
-{
-    let mut infos = Vec::new(alloc);
-    for (index, document) in documents.iter().enumerate() {
-        match info_read(alloc, document) {
-            Ok(info) => infos.push(info)?,
-            Err(Failure::Memory) => return Err(Failure::Memory),
-            Err(Failure::Fault(fault)) => {
-                return Err(Failure::Fault(Refusal::Info { index, fault }));
-            }
-        }
-    }
-    Ok(infos)
 }

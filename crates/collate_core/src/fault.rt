@@ -37,6 +37,7 @@ pub enum Refusal {
 }
 
 /// Why a target does not collate, and what was read of it. A rejection has indexes of these lists.
+/// If documents are listed again, which is M1 or M2, the lists may end after a repetition.
 #[derive(Drop)]
 pub struct RefusedTarget {
     pub refusal: Refusal,

@@ -39,14 +39,16 @@ mod collating;
 mod fault;
 pub mod laws;
 mod projects;
+mod reading;
 mod rehearsal;
 mod texts;
 
 pub use collating::{
-    Collated, CollatedParts, RULE_LIMIT, Target, collate, collate_dyndep,
-    collate_dyndep_or_refused, collate_or_refused,
+    Collated, CollatedParts, Target, collate, collate_dyndep, collate_dyndep_or_refused,
+    collate_or_refused,
 };
 pub use fault::{Refusal, RefusedTarget, RehearseFault};
 pub use module_maps::{Clang, Gcc, MapEntry, MapFault, MapStyle, ModuleMap, UnwritableMap};
 pub use projects::{ProjectOut, ProjectTarget, project, project_or_refused};
+pub use reading::{Listed, RULE_LIMIT};
 pub use rehearsal::{check_edges, rehearse};

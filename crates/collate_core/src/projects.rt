@@ -1,14 +1,15 @@
 //! Projects: targets that link earlier ones.
 ghost use Rattle.std.specs.Prelude.{◌<◌, ◌≡◌, length, option_copied, option_map, take, MatchOption};
-ghost use Rattle.collate_core.specs.Prelude.{linked_infos, map, project_entries, table_with};
-ghost use Rattle.collate_core.specs.Prelude.{target_of, All, AreKnown, AreLinkedInfos, AreRulesOf};
+ghost use Rattle.collate_core.specs.Prelude.{lent_texts, linked_infos, project_entries, target_of};
+ghost use Rattle.collate_core.specs.Prelude.{table_with, All, AreKnown, AreLinkedInfos, AreRulesOf};
 ghost use Rattle.collate_core.specs.Prelude.{AreRulesOfEach, CollatesAndReads, CollatesLinked};
 ghost use Rattle.collate_core.specs.Prelude.{CoversLinked, ForFault, HasReadOf, IfErr, IfOk};
 ghost use Rattle.collate_core.specs.Prelude.{IfSome, IsKeyOf, IsLinkedRefusal, IsProjectOutcome};
 ghost use Rattle.collate_core.specs.Prelude.{IsReadAs, IsTrue, ProjectTargetValue, WasReadAt};
 
-use crate::collating::{Collated, Target, collate_or_refused, rules_of_all, written_of};
+use crate::collating::{Collated, Target, collate_or_refused, written_of};
 use crate::fault::{Refusal, RefusedTarget, unless_faulty, without_table};
+use crate::reading::{Listed, rules_of_all};
 use crate::texts::info_again;
 use document_values::{Info, Name, Rule, TargetName};
 use module_maps::MapStyle;
@@ -26,7 +27,7 @@ pub struct ProjectTarget<'a> {
     pub name: &'a TargetName,
     pub setting: &'a Setting,
     /// The scan documents of its sources.
-    pub scans: &'a [&'a [u8]],
+    pub scans: &'a [Listed<&'a [u8]>],
     /// The indexes of the targets that it links, all of which are to be earlier.
     pub linked: &'a [usize],
     /// The names of the modules that it keeps to itself. A name may be listed twice.
@@ -39,7 +40,7 @@ impl<'a> Model for ProjectTarget<'a> {
     ghost view = { λ t. record {
       name = t.name.now;
       setting = t.setting.now;
-      scans = map (λ s. s.now) t.scans.now;
+      scans = lent_texts t.scans.now;
       linked = t.linked.now;
       kept = t.kept.now;
     } };
@@ -122,13 +123,14 @@ fn linked_targets(alloc: Global, targets: &[ProjectTarget<'_>]) -> Result<Vec<bo
 /// The rules of the targets of a project, and the key of all their tables.
 #[derive(Drop)]
 pub(crate) struct ReadTargets {
-    /// The rules of each target before the first whose scan documents are rejected.
+    /// The rules of each target before the first whose scan documents are rejected or repeat rules.
     pub rules: Vec<Vec<Rule>>,
     /// Made of all that their tables hold, so that whoever chooses names cannot choose the key.
     pub key: TableKey,
 }
 
-/// Reads the scan documents of the targets, up to the first target that has a faulty one.
+/// Reads the scan documents of the targets, up to the first target whose documents are faulty or
+/// repeat rules.
 pub(crate) fn read_targets(
     alloc: Global,
     targets: &[ProjectTarget<'_>],
@@ -141,12 +143,15 @@ pub(crate) fn read_targets(
     let mut all = Vec::new(alloc);
     for target in targets {
         let read = rules_of_all(alloc, target.setting, target.scans);
-        let Some(rules) = unless_faulty(read)? else {
+        let Some(read) = unless_faulty(read)? else {
             break;
         };
+        if read.is_cut {
+            break;
+        }
         digest.add(target.name.text().as_bytes());
-        add_objects(&mut digest, &rules);
-        all.push(rules)?;
+        add_objects(&mut digest, &read.rules);
+        all.push(read.rules)?;
     }
     Ok(ReadTargets {
         rules: all,
@@ -209,18 +214,18 @@ fn infos_of<'a>(
     alloc: Global,
     linked: &[usize],
     outs: &'a [Collated],
-) -> Result<Option<Vec<&'a [u8]>>, AllocError>
+) -> Result<Option<Vec<Listed<&'a [u8]>>>, AllocError>
     ensures { IfOk result (λ found. MatchOption found
         (All (λ k. k < length outs.now) linked.now → ⊥)
         (λ infos. All (λ k. k < length outs.now) linked.now
-        × (map (λ s. s.now) infos.items ≡ linked_infos outs.now linked.now))) }
+        × (lent_texts infos.items ≡ linked_infos outs.now linked.now))) }
 {
     let mut infos = Vec::new(alloc);
     for target in linked {
         let Some(out) = outs.get(*target) else {
             return Ok(None);
         };
-        infos.push(out.info())?;
+        infos.push(Listed::First(out.info()))?;
     }
     Ok(Some(infos))
 }

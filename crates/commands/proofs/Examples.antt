@@ -4,7 +4,7 @@ use Rattle.commands.specs.Prelude.{Error, error_kind, FilesOf, TargetFilesValue,
 use Rattle.scan_docs.specs.Target as document
 use Rattle.std.specs.declared.io.ErrorKind.TheVariants.{OutOfMemory}
 use Rattle.ninja_text.specs.declared.failure.Failure.TheVariants.{Fault}
-use Rattle.commands.proofs.Outcomes.{document_call, read_more}
+use Rattle.commands.proofs.Outcomes.{document_call, read_more, read_again}
 
 -- a target document that names a scan document, an info file and a listing of edges
 abbrev named : document.TargetDocumentValue
@@ -24,7 +24,14 @@ named = record {
 
 -- one document
 one_read : (name file : List ℕ) → ReadsAll (name ∷ []) (document_call name file ∷ []) (Ok (file ∷ []))
-one_read name file = goes_on (file ∷ []) (document_call name file ∷ []) [] refl (read_more [] name file) (refl, refl)
+one_read name file = goes_on (file ∷ []) (document_call name file ∷ []) [] refl (read_more (name ∷ []) [] name file refl) (refl, refl)
+
+-- one document that is listed twice is read once
+read_once : (file : List ℕ) → ReadsAll (codes "a" ∷ codes "a" ∷ []) (document_call (codes "a") file ∷ []) (Ok (file ∷ file ∷ []))
+read_once file =
+    let names : List (List ℕ) = codes "a" ∷ codes "a" ∷ [] in
+    goes_on (file ∷ []) (document_call (codes "a") file ∷ []) [] refl (read_more names [] (codes "a") file refl)
+    (goes_on (file ∷ file ∷ []) [] [] refl (read_again names (file ∷ []) (codes "a") file refl) (refl, refl))
 
 -- what is read of the edge list
 abbrev edges_read : FileRead

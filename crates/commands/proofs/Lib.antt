@@ -3,3 +3,4 @@ pub mod ForCallers
 pub mod Listings
 pub mod Outcomes
 pub mod Targets
+pub mod ReadOnce

@@ -1,6 +1,6 @@
 -- What the parts of a run have led to, the calls that they make, and what their loops make.
-use Rattle.std.proofs.Common.{◌-◌, arith, codes, length-drop, ◌≡◌, ◌∙◌, ℕ, ◌+◌, ◌<◌, List, [], ◌∷◌, ◌++◌, drop, length, get_or, suc, Option, Some, None, Result, Ok, Err, refl, ap, ap₂, sym, append_assoc, append-nil, add-one, drop-cons, ◌≤◌, map, take, slice_get, option_map, Vec, IfOk, IfErr, IsErr, IsErrAnd, Global}
-use Rattle.commands.specs.Prelude.{FileCall, Adds, MakesCalls, reading, up_to, AllocError, flat_map, Bytes, Text, ForFault, Gives, Failure, LineValue, Outcome, Part, InTurn, goes_on, stops, Done, Each, Returns, ReadsNext, Reports, Runs, ValueOf, document_most, failed, refusal, seen, IsStoppedWith, OrStops, ReportsPrinted}
+use Rattle.std.proofs.Common.{◌-◌, arith, codes, length-drop, zip, ◌≡◌, ◌∙◌, ℕ, ◌+◌, ◌<◌, List, [], ◌∷◌, ◌++◌, drop, length, get_or, suc, Option, Some, None, Result, Ok, Err, refl, ap, ap₂, sym, append_assoc, append-nil, add-one, drop-cons, ◌≤◌, map, take, slice_get, option_map, Vec, IfOk, IfErr, IsErr, IsErrAnd, Global}
+use Rattle.commands.specs.Prelude.{FileCall, Adds, MakesCalls, reading, up_to, AllocError, flat_map, Bytes, Text, ForFault, Gives, Failure, LineValue, Outcome, Part, InTurn, goes_on, stops, Done, Each, Returns, ReadsDocument, ReadsNext, read_before, Reports, Runs, ValueOf, document_most, failed, refusal, seen, IsStoppedWith, OrStops, ReportsPrinted}
 use Rattle.std.proofs.lemmas.List.{drop_all, flat_map_more, map_push, take_all, take_more}
 use Rattle.std.proofs.lemmas.Option.{slice_get_within, get_or_from_slice_get, slice_get-get_or, slice_get-map}
 use Rattle.ninja_text.proofs.ForCallers.{take_next}
@@ -248,5 +248,27 @@ abbrev pub document_call : Text → Bytes → FileCall
 document_call name file = reading name (Ok (up_to document_most file))
 
 -- a document that was read, after these
-pub read_more : (before : List Bytes) (name : Text) (file : Bytes) → ReadsNext before name (document_call name file ∷ []) (Ok (before ++ file ∷ []))
-read_more before name file = goes_on file (document_call name file ∷ []) [] refl refl (refl, refl)
+pub read_more : (names : List Text) (before : List Bytes) (name : Text) (file : Bytes) → read_before (zip names before) name ≡ None →
+    ReadsNext names before name (document_call name file ∷ []) (Ok (before ++ file ∷ []))
+read_more names before name file none = rw none (goes_on file (document_call name file ∷ []) [] refl refl (refl, refl))
+
+-- what comes of one that is read
+pub reads_first : (old new : Known) (names : List Text) (before : List Bytes) (name : Text) (file : Bytes) (s : Outcome (List Bytes)) →
+    read_before (zip names before) name ≡ None → Runs old new (ReadsDocument name) (Ok file) → Done (before ++ file ∷ []) [] s →
+    Runs old new (ReadsNext names before name) s
+reads_first old new names before name file s none read done = rw none (run_once old file read done)
+
+-- it can't be read
+pub reads_none : (old new : Known) (names : List Text) (before : List Bytes) (name : Text) (stop : Stop) →
+    read_before (zip names before) name ≡ None → Runs old new (ReadsDocument name) (Err stop) → Runs old new (ReadsNext names before name) (Err stop)
+reads_none old new names before name stop none (calls, made, unread) = (calls, made, rw none (stops stop unread refl))
+
+-- memory ran out after one that was listed before
+pub again_stops : (names : List Text) (before : List Bytes) (name : Text) (file : Bytes) → read_before (zip names before) name ≡ Some file →
+    ReadsNext names before name [] (Err Memory)
+again_stops names before name file known = rw known (goes_on file [] [] refl (refl, refl) refl)
+
+-- one that was listed before
+pub read_again : (names : List Text) (before : List Bytes) (name : Text) (file : Bytes) → read_before (zip names before) name ≡ Some file →
+    ReadsNext names before name [] (Ok (before ++ file ∷ []))
+read_again names before name file known = rw known (goes_on file [] [] refl (refl, refl) (refl, refl))

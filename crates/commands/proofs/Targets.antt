@@ -9,6 +9,8 @@ use Rattle.std.proofs.lemmas.List.Elements.{All-nil, All-cons, All-append, All-m
 use Rattle.commands.specs.declared.stop.OutputFile.{OutputFile}
 use Rattle.ninja_text.specs.declared.failure.Failure.TheVariants.{Memory, Fault}
 use Rattle.collate_core.specs.declared.fault.Refusal.TheVariants.{Scan, Info, Table, StatementTooLong, Map, LinkedLater}
+use Rattle.module_table.specs.declared.fault.TableFault.TheVariants.{ObjectTwice, InfoTwice}
+use Rattle.commands.specs.TableFaults.{fault_text}
 use Rattle.ninja_text.proofs.ForCallers.{element_at, from_map, from_push, in_first, take_next}
 use Rattle.commands.specs.Outcomes as outcomes
 use Rattle.std.proofs.lemmas.Option.{get_or_from_slice_get, same_Some, slice_get_within, slice_get-get_or, slice_get-map}
@@ -71,7 +73,9 @@ pub names_line : (target : TargetValue) (refusal : Refusal) (read : TableValue) 
     refusal_line read.objects names refusal ≡ refusal_by_names target.setting target.scans names refusal
 names_line target (Scan i f) read names h = refl
 names_line target (Info i f) read names h = refl
-names_line target (Table f) read names h = rw h refl
+names_line target (Table (ObjectTwice path first second)) read names h = refl
+names_line target (Table (InfoTwice name)) read names h = refl
+names_line target (Table f) read names h = ap (λ (t : TableValue). fault_text t.objects names f) (h.1 (omega arith))
 names_line target (StatementTooLong k) read names h = refl
 names_line target (Map o f) read names h = rw h refl
 names_line target LinkedLater read names h = refl
@@ -81,7 +85,11 @@ infos_line : (target : TargetValue) (refusal : Refusal) (read : TableValue) → 
     refusal_line read.objects (map (λ (i : InfoValue). i.target) read.infos) refusal ≡ refusal_text target refusal
 infos_line target (Scan i f) read h = refl
 infos_line target (Info i f) read h = refl
-infos_line target (Table f) read h = rw (h, map-map (λ (i : InfoValue). i.target) info_of target.infos) refl
+infos_line target (Table (ObjectTwice path first second)) read h = refl
+infos_line target (Table (InfoTwice name)) read h = refl
+infos_line target (Table f) read h =
+    ap (λ (t : TableValue). fault_text t.objects (map (λ (i : InfoValue). i.target) t.infos) f) (h.1 (omega arith))
+    ∙ ap (λ (names : List (List ℕ)). fault_text (table_of target).objects names f) (map-map (λ (i : InfoValue). i.target) info_of target.infos)
 infos_line target (StatementTooLong k) read h = refl
 infos_line target (Map o f) read h = rw h refl
 infos_line target LinkedLater read h = refl

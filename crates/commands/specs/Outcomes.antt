@@ -1,6 +1,6 @@
 -- How the parts of a run follow one another: each continues with the value of the one before it,
 -- and the first that stops ends the run.
-use Rattle.std.specs.Prelude.{◌≡◌, ◌⊎◌, ⊤, ℕ, List, [], ◌∷◌, ◌++◌, Bool, true, Option, Some, None, Result, Ok, Err, codes}
+use Rattle.std.specs.Prelude.{◌≡◌, ◌⊎◌, ⊤, ℕ, List, [], ◌∷◌, ◌++◌, Bool, true, Option, Some, None, option_map, find, zip, bytes_eq, Result, Ok, Err, codes}
 use Rattle.std.specs.IoError.{error_kind}
 use Rattle.std.specs.declared.io.Error.{Error}
 use Rattle.std.specs.declared.io.ErrorKind.TheVariants.{OutOfMemory}
@@ -146,15 +146,25 @@ IsResultOf Means IsFaultIn IsFaultOf file (Err (Fault fault)) =
 abbrev pub ValueOf : {V F : Type 0} → (F → Text) → Result V (Failure F) → Part V
 ValueOf text read = Returns (λ value. read ≡ Ok value) (λ fault. read ≡ Err (Fault fault)) text
 
--- a part that reads one document more
-abbrev pub ReadsNext : List Bytes → PathText → Part (List Bytes)
-ReadsNext before name = do
-  bytes ← ReadsDocument name
+-- a value that is known already, or a part that reads it
+abbrev pub UnlessKnown : {V : Type 0} → Option V → Part V → Part V
+UnlessKnown (Some value) Reads = Done value
+UnlessKnown None Reads = Reads
+
+-- the bytes of the first of these files that has the name
+abbrev pub read_before : List (PathText × Bytes) → PathText → Option Bytes
+read_before files name = option_map (λ file. file.1) (find (λ file. bytes_eq name file.0) files)
+
+-- a part that reads one document more, after the first of these names were read: a document that
+-- was listed before is not read again
+abbrev pub ReadsNext : List PathText → List Bytes → PathText → Part (List Bytes)
+ReadsNext names before name = do
+  bytes ← UnlessKnown (read_before (zip names before) name) (ReadsDocument name)
   Done (before ++ bytes ∷ [])
 
--- a part that reads the documents of these names, one after another
+-- a part that reads the documents of these names, one after another and each once
 abbrev pub ReadsAll : List PathText → Part (List Bytes)
-ReadsAll = Each ReadsNext []
+ReadsAll names = Each (ReadsNext names) [] names
 
 -- a part that reads the file of a name, if there is one
 abbrev pub ReadsIfNamed : {V : Type 0} → (PathText → Part V) → Option PathText → Part (Option V)

@@ -23,7 +23,7 @@ use Rattle.collate_core.specs.declared.fault.Refusal.{Refusal}
 use Rattle.commands.specs.CollateCommand.{SpecOf, style_of, files_of, spec_text}
 use Rattle.commands.specs.EdgeChecks.{EdgesPass}
 use Rattle.commands.specs.Listings.{ListingRead, ReadsListing}
-use Rattle.commands.specs.Outcomes.{Part, Outcome, OutputValue, LineValue, FileValue, Each, Returns, Done, ReadsDocument, ReadsAll, ReadsIfNamed, Writes, failed, ◌>>=◌}
+use Rattle.commands.specs.Outcomes.{Part, Outcome, OutputValue, LineValue, FileValue, Each, Returns, Done, ReadsDocument, ReadsAll, ReadsIfNamed, UnlessKnown, Writes, failed, ◌>>=◌}
 use Rattle.commands.specs.RefusalTexts.{refusal_by_names}
 
 -- ---- a part of a run about one target
@@ -110,11 +110,6 @@ abbrev pub LinksOf : List ReadTargetValue → List PathText → Part Numbers
 LinksOf earlier infos =
     Returns (LinksTo earlier infos) (λ (fault : Unit {0}). LinksLater earlier infos)
     (λ fault. codes "K3 LinkedLater")
-
--- a value that is known already, or a part that reads it
-abbrev pub UnlessKnown : {V : Type 0} → Option V → Part V → Part V
-UnlessKnown (Some value) Reads = Done value
-UnlessKnown None Reads = Reads
 
 -- The edge list of this name, after earlier targets: it is read once, for all that name it.
 abbrev pub ListAfter : List ReadTargetValue → PathText → Part ListingRead

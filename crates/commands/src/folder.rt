@@ -5,13 +5,15 @@ ghost use Rattle.std.specs.Prelude.{◌∷◌, ◌++◌, List, Option, map, stri
 ghost use Rattle.commands.specs.Prelude.{[], cow_slice_items, Bytes, FileCall, FileRead, reading};
 ghost use Rattle.commands.specs.Prelude.{comparing, writing, answer_of, Adds, ReadsOn, WasGiven};
 ghost use Rattle.commands.specs.Prelude.{GivesPieces, Runs, ReadsDocument, ReadsAs, ReadsAll};
-ghost use Rattle.commands.specs.Prelude.{seen, contents};
+ghost use Rattle.commands.specs.Prelude.{seen, listed_texts};
 
 use crate::lists::pushed;
 use crate::stop::{self, Stop};
+use collate_core::Listed;
 use scan_docs::DOCUMENT_LIMIT;
 use std::alloc::Global;
 use std::borrow::CowSlice;
+use std::collections::BTreeMap;
 use std::io;
 
 /// What has files that can be read and written by name. Bytes that it has in memory are borrowed.
@@ -112,19 +114,27 @@ pub(crate) fn read<'f, F: Folder<'f>>(
     }
 }
 
-/// Reads the documents of these names, one after another.
+/// Reads the documents of these names, one after another. A name that is listed again is not read
+/// again.
 pub(crate) fn read_all<'f, F: Folder<'f>>(
     alloc: Global,
     names: &[String],
     folder: &mut F,
-) -> Result<Vec<CowSlice<'f, u8>>, Stop>
+) -> Result<Vec<Listed<CowSlice<'f, u8>>>, Stop>
     ensures { Runs (F.calls folder.old) (F.calls folder.new)
-        (ReadsAll (map string_bytes names.now)) (seen (contents cow_slice_items) result) }
+        (ReadsAll (map string_bytes names.now)) (seen (listed_texts cow_slice_items) result) }
 {
     let mut files = Vec::new(alloc);
-    for name in names {
-        let file = read(alloc, name.as_str(), folder)?;
-        files = pushed(files, file)?;
+    let mut known = BTreeMap::new(alloc);
+    for (index, name) in names.iter().enumerate() {
+        let name = name.as_str();
+        if let Some(first) = known.get(name) {
+            files = pushed(files, Listed::Again(*first))?;
+            continue;
+        }
+        let file = read(alloc, name, folder)?;
+        known.insert(name, index)?;
+        files = pushed(files, Listed::First(file))?;
     }
     Ok(files)
 }

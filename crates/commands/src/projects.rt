@@ -3,7 +3,7 @@
 ghost use Rattle.std.specs.Prelude.{◌≡◌, [], All, length, map, zip, IfOk, IsUtf8};
 ghost use Rattle.commands.specs.Prelude.{project_target, AllEdgesPass, LinkEarlier, IsReportable};
 ghost use Rattle.commands.specs.Prelude.{ProjectOf, all_files, ProjectRun, ReportsAt, Runs};
-ghost use Rattle.commands.specs.Prelude.{Writes, seen, ListsAgree};
+ghost use Rattle.commands.specs.Prelude.{Writes, seen, lent_texts, ListsAgree};
 
 use crate::edges::pass_list;
 use crate::folder::Folder;
@@ -13,7 +13,7 @@ use crate::refusal::refusal_line;
 use crate::shared_lists::passed_together;
 use crate::stop::{self, Output, Stop};
 use crate::target::{append_files, slices};
-use collate_core::{Collated, ProjectTarget, RefusedTarget, project_or_refused};
+use collate_core::{Collated, Listed, ProjectTarget, RefusedTarget, project_or_refused};
 use module_maps::{Clang, Gcc};
 use ninja_text::Failure;
 use scan_docs::{MapForm, project_read};
@@ -68,8 +68,11 @@ fn all_collated(alloc: Global, targets: &[ReadTarget]) -> Result<Vec<Collated>, 
 }
 
 /// Borrows the scan documents of each target.
-fn scans_of<'t>(alloc: Global, targets: &'t [ReadTarget]) -> Result<Vec<Vec<&'t [u8]>>, AllocError>
-    ensures { IfOk result (λ scans. map (λ lent. map (λ s. s.now) lent.items) scans.items
+fn scans_of<'t>(
+    alloc: Global,
+    targets: &'t [ReadTarget],
+) -> Result<Vec<Vec<Listed<&'t [u8]>>>, AllocError>
+    ensures { IfOk result (λ scans. map (λ lent. lent_texts lent.items) scans.items
         ≡ map (λ target. target.scans) targets.now) }
 {
     let mut scans = Vec::with_capacity(alloc, targets.len())?;
@@ -83,9 +86,9 @@ fn scans_of<'t>(alloc: Global, targets: &'t [ReadTarget]) -> Result<Vec<Vec<&'t 
 fn in_project<'t>(
     alloc: Global,
     targets: &'t [ReadTarget],
-    scans: &'t [Vec<&[u8]>],
+    scans: &'t [Vec<Listed<&[u8]>>],
 ) -> Result<Vec<ProjectTarget<'t>>, AllocError>
-    requires { map (λ lent. map (λ s. s.now) lent.items) scans.now
+    requires { map (λ lent. lent_texts lent.items) scans.now
         ≡ map (λ target. target.scans) targets.now }
     ensures { IfOk result (λ parts. parts.items ≡ map project_target targets.now) }
 {

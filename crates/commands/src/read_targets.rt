@@ -13,6 +13,7 @@ use crate::lists::pushed;
 use crate::stop::{self, Stop};
 use crate::target::read_spec;
 use build_effect::ListingReader;
+use collate_core::Listed;
 use ninja_text::Failure;
 use scan_docs::{DocFault, MapForm, Member, Place, TargetSpec};
 use std::alloc::{AllocError, Global};
@@ -52,7 +53,7 @@ pub(crate) struct ReadTarget<'f> {
     /// The indexes of the targets that it links.
     pub links: Vec<usize>,
     /// The bytes of its scan documents.
-    pub scans: Vec<CowSlice<'f, u8>>,
+    pub scans: Vec<Listed<CowSlice<'f, u8>>>,
     /// The result of reading its edge list, if its document names one.
     pub listing: Option<Rc<ListingRead>>,
 }
@@ -60,7 +61,7 @@ pub(crate) struct ReadTarget<'f> {
 impl<'f> Model for ReadTarget<'f> {
     ghost use Rattle.std.specs.Cow.{cow_slice_items};
     ghost use Rattle.commands.specs.ProjectCommand.{ReadTargetValue};
-    ghost use Rattle.commands.specs.inner.Parts.{contents};
+    ghost use Rattle.commands.specs.inner.Parts.{listed_texts};
     ghost use Rattle.commands.specs.inner.ProjectTargets.{list_value};
 
     ghost Value = { ReadTargetValue };
@@ -68,7 +69,7 @@ impl<'f> Model for ReadTarget<'f> {
     ghost view = { λ t. record {
       spec = t.spec;
       linked = t.links.items;
-      scans = contents cow_slice_items t.scans;
+      scans = listed_texts cow_slice_items t.scans;
       listing = list_value t.listing;
     } };
 }

@@ -4,14 +4,14 @@
 ghost use Rattle.std.specs.Prelude.{◌≡◌, ◌++◌, [], map, All, IsUtf8, IfOk, OnOk, string_bytes};
 ghost use Rattle.commands.specs.Prelude.{cow_slice_items, Runs, file_value, FilesOf, TargetOf};
 ghost use Rattle.commands.specs.Prelude.{SpecOf, style_of, target_with, map_files, files_of};
-ghost use Rattle.commands.specs.Prelude.{CollateRun, OneRun};
+ghost use Rattle.commands.specs.Prelude.{CollateRun, OneRun, listed_as};
 
 use crate::edges::{ListingRead, pass_list};
 use crate::folder::{Folder, read_all, read_file};
 use crate::lists::{add, pushed};
 use crate::stop::{self, Output, OutputFile, Stop};
 use build_effect::ListingReader;
-use collate_core::{Collated, Target, collate_dyndep_or_refused, collate_or_refused};
+use collate_core::{Collated, Listed, Target, collate_dyndep_or_refused, collate_or_refused};
 use document_values::TargetName;
 use module_maps::{Clang, Gcc};
 use ninja_text::Path;
@@ -46,9 +46,9 @@ pub fn collate<'f, F: Folder<'f>>(
 /// The files of a target.
 pub(crate) struct TargetFiles<'f> {
     /// The bytes of the scan documents.
-    pub scans: Vec<CowSlice<'f, u8>>,
+    pub scans: Vec<Listed<CowSlice<'f, u8>>>,
     /// The bytes of the info files of targets that it links.
-    pub infos: Vec<CowSlice<'f, u8>>,
+    pub infos: Vec<Listed<CowSlice<'f, u8>>>,
     /// The result of reading the edge list, if its document names one.
     pub listing: Option<ListingRead>,
 }
@@ -66,14 +66,14 @@ impl<'f> Drop for TargetFiles<'f> {
 
 impl<'f> Model for TargetFiles<'f> {
     ghost use Rattle.commands.specs.Files.{TargetFilesValue};
-    ghost use Rattle.commands.specs.inner.Parts.{contents};
+    ghost use Rattle.commands.specs.inner.Parts.{listed_texts};
     ghost use Rattle.std.specs.Cow.{cow_slice_items};
 
     ghost Value = { TargetFilesValue };
 
     ghost view = { λ f. record {
-      scans = contents cow_slice_items f.scans;
-      infos = contents cow_slice_items f.infos;
+      scans = listed_texts cow_slice_items f.scans;
+      infos = listed_texts cow_slice_items f.infos;
       listing = f.listing;
     } };
 }
@@ -107,14 +107,18 @@ impl<'f> TargetFiles<'f> {
 /// Borrows the bytes of files.
 pub(crate) fn slices<'t>(
     alloc: Global,
-    files: &'t [CowSlice<u8>],
-) -> Result<Vec<&'t [u8]>, AllocError>
-    ensures { IfOk result (λ slices. map (λ s. s.now) slices.items
-        ≡ map cow_slice_items files.now) }
+    files: &'t [Listed<CowSlice<u8>>],
+) -> Result<Vec<Listed<&'t [u8]>>, AllocError>
+    ensures { IfOk result (λ slices. map (listed_as (λ s. s.now)) slices.items
+        ≡ map (listed_as cow_slice_items) files.now) }
 {
     let mut slices = Vec::with_capacity(alloc, files.len())?;
     for file in files {
-        slices = pushed(slices, file.as_slice())?;
+        let file = match file {
+            Listed::First(bytes) => Listed::First(bytes.as_slice()),
+            Listed::Again(index) => Listed::Again(*index),
+        };
+        slices = pushed(slices, file)?;
     }
     Ok(slices)
 }
@@ -213,7 +217,7 @@ pub fn one(alloc: Global, scan: &[u8], dir: &str, ext: &str) -> Result<Output, S
     let target = Target {
         name: &name,
         setting: &setting,
-        scans: &[scan],
+        scans: &[Listed::First(scan)],
         infos: &[],
         kept: &[],
     };

@@ -6,11 +6,11 @@ use Rattle.ninja_text.specs.declared.failure.Failure.TheVariants.{Memory, Fault}
 use Rattle.command_line.specs.Tasks.{TaskValue, one, collate, show, effect, order, project}
 use Rattle.scan_docs.specs.Target as document
 use Rattle.commands.specs.Folder.{FileCall, FileRead, reading, comparing, writing}
-use Rattle.commands.specs.Outcomes.{Part, Outcome, LineValue, InTurn, goes_on, stops, Returns, Comes, Each, IsUnread, ReadsDocument, ReadsAs, ReadsNext, ReadsAll, ReadsIfNamed}
+use Rattle.commands.specs.Outcomes.{Part, Outcome, LineValue, InTurn, goes_on, stops, Returns, Comes, Each, IsUnread, ReadsDocument, ReadsAs, ReadsNext, ReadsAll, ReadsIfNamed, UnlessKnown, read_before}
 use Rattle.commands.specs.EdgeChecks.{EdgesPass}
 use Rattle.commands.specs.Files.{FilesOf}
 use Rattle.commands.specs.Listings.{ListingRead, ReadsListing}
-use Rattle.commands.specs.ProjectCommand.{At, ReadTargetValue, ReadsTarget, AllEdgesPass, UnlessKnown, ListAfter, list_with}
+use Rattle.commands.specs.ProjectCommand.{At, ReadTargetValue, ReadsTarget, AllEdgesPass, ListAfter, list_with}
 use Rattle.commands.specs.Runs.{TaskRun}
 use Rattle.collate_core.specs.Values.{CollatedValue}
 use Rattle.disk_folder.specs.Killed.{AllRead}
@@ -61,6 +61,10 @@ document_read name calls (Err stop) h = unread name calls stop h
 document_reads : (name : PathText) → OnlyReads (λ calls outcome. ReadsDocument name calls outcome)
 document_reads name = record { reads = document_read name }
 
+once_reads : (known : Option (List ℕ)) (name : PathText) → OnlyReads (λ calls outcome. UnlessKnown known (ReadsDocument name) calls outcome)
+once_reads (Some bytes) name = returns _ _ _
+once_reads None name = document_reads name
+
 as_read : {V : Type 0} (Follows : FileRead → V → Type 0) (name : PathText) (calls : List FileCall) (outcome : Outcome V) → ReadsAs Follows name calls outcome →
     AllRead calls
 as_read Follows name calls (Ok value) h = rw h.1 tt
@@ -75,7 +79,8 @@ each Next next value [] = comes (λ last. last ≡ value)
 each Next next value (x ∷ xs) = in_turn (next value x) (λ after. each Next next after xs)
 
 all_reads : (names : List PathText) → OnlyReads (λ calls outcome. ReadsAll names calls outcome)
-all_reads names = each ReadsNext (λ before name. in_turn (document_reads name) (λ bytes. returns _ _ _)) [] names
+all_reads names =
+    each (ReadsNext names) (λ before name. in_turn (once_reads (read_before (zip names before) name) name) (λ bytes. returns _ _ _)) [] names
 
 named_reads : (name : Option PathText) → OnlyReads (λ calls outcome. ReadsIfNamed ReadsListing name calls outcome)
 named_reads None = returns _ _ _

@@ -1,7 +1,8 @@
 -- The message of each run that fails is that of an error.
 use Rattle.std.proofs.Common.{◌≡◌, ◌∙◌, ℕ, ◌+◌, List, [], ◌∷◌, ◌++◌, length, zip, Option, Some, None, Ok, Err, ap, refl, codes}
 use Rattle.in_memory.specs.Prelude.{Bytes, Name, PathText, Text, StatementValue, SettingValue, Written, EdgeValue, all_rules, CollatedValue, TargetValue, Refusal, CollateRun, SpecOf, style_of, target_with, DyndepOf, DyndepRead, EdgesPass, OrderableOf, TextEffectOf, EffectOf, EffectRun, ListingTextOf, NameOf, FilesOf, FileCall, FileRead, IsListingRead, ListingOf, ListingRead, ReadsListing, OneRun, one_setting, one_target, OrderOf, OrderRun, Each, LineValue, Part, ReadsAll, ReadsAs, ReadsDocument, ReadsIfNamed, ReadsNext, goes_on, stops, ◌>>=◌, AllEdgesPass, At, FormOf, LinksOf, ProjectDocumentOf, ProjectOf, ProjectRun, ReadTargetValue, ReadsTarget, TargetAfter, names_at, target_text, refusal_by_names, DyndepTextOf, ShowRun, TargetOf, CommandError, in_target, in_project, in_scan, in_info, of_modules, of_statement, of_map, of_link, of_name, in_dyndep, in_edges, of_effect, of_listing, of_cycle, of_file, error_text, EachMessageIsOfAnError, IsErrorMessage}
-use Rattle.commands.specs.ProjectCommand.{ListAfter, UnlessKnown, list_with}
+use Rattle.commands.specs.Outcomes.{UnlessKnown, read_before}
+use Rattle.commands.specs.ProjectCommand.{ListAfter, list_with}
 use Rattle.ninja_text.specs.declared.failure.Failure.TheVariants.{Fault, Memory}
 use Rattle.dyndep_file.specs.declared.fault.WriteFault.TheVariants as write
 use Rattle.scan_docs.specs.Target as document
@@ -108,11 +109,15 @@ edges_pass : (listing : Option ListingRead) (name : PathText) (dyndep : Text) �
 edges_pass None name dyndep = λ calls stop is. absurd is.1.0
 edges_pass (Some listing) name dyndep = in_turn (listing_of listing) λ old. in_turn (text_effect_of dyndep name old) (orderable_of old)
 
-reads_next : (before : List Bytes) (name : PathText) → Plain (ReadsNext before name)
-reads_next before name = in_turn (reads name) λ bytes calls stop is. absurd is.1.0
+document_after : (known : Option Bytes) (name : PathText) → Plain (UnlessKnown known (ReadsDocument name))
+document_after (Some bytes) name = λ calls stop is. absurd is.1.0
+document_after None name = reads name
+
+reads_next : (names : List PathText) (before : List Bytes) (name : PathText) → Plain (ReadsNext names before name)
+reads_next names before name = in_turn (document_after (read_before (zip names before) name) name) λ bytes calls stop is. absurd is.1.0
 
 reads_all : (names : List PathText) → Plain (ReadsAll names)
-reads_all names = each ReadsNext reads_next [] names
+reads_all names = each (ReadsNext names) (reads_next names) [] names
 
 reads_if_named : (name : Option PathText) → Plain (ReadsIfNamed ReadsListing name)
 reads_if_named None = λ calls stop is. absurd is.1.0

@@ -6,7 +6,9 @@ mod rehearsals;
 
 use crate::common::{push_line, setting, target_name, value};
 use crate::module_maps_tests::Bare;
-use collate_core::{Collated, ProjectOut, ProjectTarget, Target, collate, collate_dyndep, project};
+use collate_core::{
+    Collated, Listed, ProjectOut, ProjectTarget, Target, collate, collate_dyndep, project,
+};
 use module_maps::{Gcc, MapStyle};
 use std::alloc::{AllocError, Global};
 use std::test::Fail;
@@ -42,7 +44,7 @@ fn push_collated(out: &mut Vec<u8>, collated: &Collated) -> Result<(), AllocErro
 fn collated<M: MapStyle>(
     alloc: Global,
     scan: &[u8],
-    infos: &[&[u8]],
+    infos: &[Listed<&[u8]>],
     style: Option<&M>,
 ) -> Result<Collated, Fail> {
     let name = target_name(alloc, "t")?;
@@ -50,7 +52,7 @@ fn collated<M: MapStyle>(
     let target = Target {
         name: &name,
         setting: &setting,
-        scans: &[scan],
+        scans: &[Listed::First(scan)],
         infos,
         kept: &[],
     };
@@ -59,7 +61,7 @@ fn collated<M: MapStyle>(
 
 /// The texts of a target with maps of the caller's own style.
 pub(crate) fn texts_in_own_style(alloc: Global) -> Result<Vec<u8>, Fail> {
-    let collated = collated(alloc, NEEDS_B, &[INFO_L], Some(&Bare))?;
+    let collated = collated(alloc, NEEDS_B, &[Listed::First(INFO_L)], Some(&Bare))?;
     let mut out = Vec::new(alloc);
     push_collated(&mut out, &collated)?;
     Ok(out)
@@ -72,8 +74,8 @@ pub(crate) fn dyndep_alone(alloc: Global) -> Result<Vec<u8>, Fail> {
     let target = Target {
         name: &name,
         setting: &setting,
-        scans: &[NEEDS_B],
-        infos: &[INFO_L],
+        scans: &[Listed::First(NEEDS_B)],
+        infos: &[Listed::First(INFO_L)],
         kept: &[],
     };
     value(collate_dyndep(alloc, &target))
@@ -88,14 +90,14 @@ fn both_of_a_project(alloc: Global) -> Result<ProjectOut, Fail> {
         ProjectTarget {
             name: &first,
             setting: &setting,
-            scans: &[PROVIDES_B],
+            scans: &[Listed::First(PROVIDES_B)],
             linked: &[],
             kept: &[],
         },
         ProjectTarget {
             name: &second,
             setting: &setting,
-            scans: &[NEEDS_B],
+            scans: &[Listed::First(NEEDS_B)],
             linked: &[0],
             kept: &[],
         },

@@ -3,6 +3,8 @@ use Rattle.std.specs.Prelude.{◌≡◌, ℕ, List, length, map, slice_get, Opti
 use Rattle.std.specs.Borrow.{Bor}
 use Rattle.ninja_text.specs.Paths.{IsPath}
 use Rattle.ninja_text.specs.Escapes.{IsWritable}
+use Rattle.ninja_text.specs.declared.failure.Failure.{Failure}
+use Rattle.ninja_text.specs.declared.failure.Failure.TheVariants.{Fault}
 use Rattle.dyndep_file.specs.StatementValue.{StatementValue}
 use Rattle.dyndep_file.specs.WriteFaults.{write_fault, statement_fault, text_or_fault, paths_of}
 use Rattle.dyndep_file.specs.Reading.{StandsForOnly}
@@ -11,6 +13,8 @@ use Rattle.scan_docs.specs.Scan.{IsRuleText}
 use Rattle.document_values.specs.Rule.{RuleValue}
 use Rattle.scan_docs.specs.InfoText.{IsInfoText, info_text, ReadsBack}
 use Rattle.scan_docs.specs.declared.fault.DocFault.{DocFault}
+use Rattle.scan_docs.specs.declared.fault.DocFault.TheVariants.{TooLarge}
+use Rattle.scan_docs.specs.declared.fault.Place.TheVariants.{Document}
 use Rattle.module_table.specs.TableValue.{TableValue}
 use Rattle.module_table.specs.declared.fault.RefusedTable.{RefusedTable}
 use Rattle.module_maps.specs.Maps.{Written}
@@ -55,6 +59,10 @@ ForScan P other = ⊥
 abbrev pub ForInfo : (ℕ → DocFault → Type 0) → Refusal → Type 0
 ForInfo P (Info index fault) = P index fault
 ForInfo P other = ⊥
+
+-- the scan document at this index takes the number of rules past the limit
+abbrev pub IsTooLarge : ℕ → Failure Refusal → Type 0
+IsTooLarge index failure = failure ≡ Fault (Scan index (TooLarge Document))
 
 -- the error is one of the effect, and P holds of it
 abbrev pub ForEffect : (EffectFault → Type 0) → RehearseFault → Type 0

@@ -5,6 +5,7 @@ use Rattle.dep_order.specs.Numbers.{Numbers}
 use Rattle.document_values.specs.Info.{InfoValue}
 use Rattle.scan_docs.specs.InfoText.{IsInfoText}
 use Rattle.scan_docs.specs.Values.{info_of}
+use Rattle.module_table.specs.Beginnings.{IsBeginning}
 use Rattle.module_maps.specs.Maps.{Written}
 use Rattle.collate_core.specs.Values.{TargetValue, CollatedValue}
 use Rattle.collate_core.specs.Documents.{IsInfoAccepted}
@@ -21,6 +22,13 @@ pub record IsReadAs (document : Text) (info : InfoValue) : Type 0 where
 pub record AreReadAs (documents : List Text) (infos : List InfoValue) : Type 0 where
   pub accepted : All IsInfoAccepted documents
   pub values : infos ≡ map info_of documents
+  pub text : All IsInfoText infos
+
+-- The documents are accepted. These are what they are read as, or a beginning in which a target name
+-- is repeated.
+pub record AreInfosRead (documents : List Text) (infos : List InfoValue) : Type 0 where
+  pub accepted : All IsInfoAccepted documents
+  pub values : IsBeginning (λ info. info.target) infos (map info_of documents)
   pub text : All IsInfoText infos
 
 -- For each target that collated, `known` has what its info file is read as, or None.

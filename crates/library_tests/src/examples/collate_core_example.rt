@@ -1,5 +1,5 @@
 //! The dyndep text of a target, and the maps of its objects.
-use collate_core::{Collated, Gcc, MapStyle, Target, collate};
+use collate_core::{Collated, Gcc, Listed, MapStyle, Target, collate};
 use scan_docs::{Setting, TargetName};
 use std::alloc::Global;
 use std::test::Fail;
@@ -14,7 +14,7 @@ fn collated(alloc: Global, name: &TargetName, document: &[u8]) -> Result<Collate
     let target = Target {
         name,
         setting: &setting,
-        scans: &[document],
+        scans: &[Listed::First(document)],
         infos: &[],
         kept: &[],
     };

@@ -1,10 +1,10 @@
 use Rattle.ninja_text.proofs.ForCallers.{take_next}
-use Rattle.std.proofs.Common.{ℕ, ◌<◌, [], All, length, take, get_or, Option, Some, refl, ap, subst, sym, ◌∙◌, slice_get}
-use Rattle.std.proofs.lemmas.List.{map-append, take_all}
+use Rattle.std.proofs.Common.{ℕ, ◌<◌, ◌++◌, ◌∷◌, [], All, length, take, get_or, Option, refl, ap, subst, sym, ◌∙◌, slice_get}
+use Rattle.std.proofs.lemmas.List.{map_push, take_all}
 use Rattle.std.proofs.lemmas.List.Elements.{All-push}
 use Rattle.std.proofs.lemmas.Option.{slice_get-get_or, slice_get_read}
-use Rattle.collate_core.specs.Prelude.{option_map_or, CollatedValue, linked_infos}
-use Rattle.collate_core.proofs.Outcomes.{map_push}
+use Rattle.collate_core.specs.Prelude.{option_map_or, CollatedValue, First, linked_infos}
+use Rattle.collate_core.proofs.ReadingLemmas.{HaveTexts, first_more, have_all}
 use Rattle.collate_core.proofs.projects.infos_of.Goals as goal
 
 pub loop-target-preserved : goal.loop-target-preserved
@@ -20,13 +20,13 @@ loop-target-preserved c =
     ap (λ (z : Option CollatedValue). option_map_or (λ (x : CollatedValue). x.info) z []) (sym out) in
     record {
       earlier = rw next (All-push (λ k. k < length outs) (take i linked) k c.loop-target.invariant.earlier found.3.0);
-      infos = rw (c.in_ok-push.ensures.items, next, map-append)
-          (map_push (λ (x : ℕ). option_map_or (λ (y : CollatedValue). y.info) (slice_get outs x) []) (take i linked)
-          c.loop-target.invariant.infos value);
+      infos = rw c.in_ok-push.ensures.items (subst (HaveTexts (c.loop-target.infos.items ++ First c.info.result ∷ []))
+          (sym (map_push (λ (x : ℕ). option_map_or (λ (y : CollatedValue). y.info) (slice_get outs x) []) (take i linked) k) ∙ ap (linked_infos outs) (sym next))
+          (first_more c.loop-target.infos.items c.info.result c.loop-target.invariant.infos value));
     }
 
 -- said here, so that a loop over something else is rejected soon
 pub returns : goal.returns
 returns c =
     let all = take_all c.loop-target.target-index c.args.linked.now c.loop-target-test.false in
-    (subst (All (λ k. k < length c.args.outs.now)) all c.loop-target.invariant.earlier, c.loop-target.invariant.infos ∙ ap (linked_infos c.args.outs.now) all)
+    (subst (All (λ k. k < length c.args.outs.now)) all c.loop-target.invariant.earlier, have_all c.loop-target.infos.items c.loop-target.invariant.infos ∙ ap (linked_infos c.args.outs.now) all)

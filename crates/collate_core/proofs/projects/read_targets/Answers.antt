@@ -1,6 +1,7 @@
-use Rattle.std.proofs.Common.{◌≡◌, ◌∙◌, ◌+◌, List, ℕ, All, Some, ap, refl, subst, sym, length, length-append, take, [], ◌∷◌, ◌++◌}
+use Rattle.std.proofs.Common.{◌≡◌, ◌∙◌, ◌+◌, List, ℕ, All, ap, refl, subst, sym, length, length-append, take, [], ◌∷◌, ◌++◌, false}
 use Rattle.std.proofs.lemmas.Option.{slice_get_read}
 use Rattle.collate_core.specs.Prelude.{flat_map, object_entries, RuleValue, IsRuleText, HasAdded, ProjectTargetValue, all_rules, AreRulesOf, AreRulesOfEach, project_entries}
+use Rattle.collate_core.specs.declared.reading.ReadRules.{ReadRules}
 use Rattle.collate_core.proofs.Parts.{without_fault}
 use Rattle.collate_core.proofs.ReadTargetLemmas.{one_more_target, rules_of_one_more}
 use Rattle.collate_core.proofs.projects.read_targets.Goals as goal
@@ -12,11 +13,12 @@ loop-target-preserved c =
     let p = c.target-item.result in
     let here = slice_get_read targets _ n _ refl c.loop-target-test.true c.target-item.is in
     let read = c.rules_of_all-read.ensures in
-    let rules = c.in-Some.rules in
+    let rules = c.in-Some.read.rules in
     let is = subst (λ (q : ProjectTargetValue). AreRulesOf q.setting q.scans rules.items) c.target.view_is (record {
-      accepted = without_fault _ _ c.in-Some.is c.in_ok-rules.ensures read.accepted;
-      same = without_fault (λ rules. rules.items ≡ all_rules c.target.inside.setting.now _) _ c.in-Some.is c.in_ok-rules.ensures read.rules;
-      text = without_fault (λ rules. All IsRuleText rules.items) _ c.in-Some.is c.in_ok-rules.ensures read.text;
+      accepted = without_fault _ _ c.in-Some.is c.in_ok-read.ensures read.accepted;
+      same = without_fault (λ (found : ReadRules). found.is_cut ≡ false → found.rules.items ≡ all_rules c.target.inside.setting.now _) _ c.in-Some.is
+          c.in_ok-read.ensures read.whole c.if-read.false;
+      text = without_fault (λ (found : ReadRules). All IsRuleText found.rules.items) _ c.in-Some.is c.in_ok-read.ensures read.text;
     }) in
     let count = ap length c.in_ok-push.ensures.items ∙ length-append c.loop-target.all.items (rules ∷ []) ∙
     ap (λ m. m + 1) c.loop-target.invariant.count in

@@ -1,10 +1,19 @@
-use Rattle.std.proofs.Common.{drop, map, string_bytes}
-use Rattle.commands.specs.Prelude.{Each, ReadsNext, ReadsAll, contents, cow_slice_items}
+use Rattle.std.proofs.Common.{◌≡◌, drop, length, map, string_bytes}
+use Rattle.std.specs.BTreeMap.{get_by}
+use Rattle.std.specs.Cmp.Lexicographic.{slice_cmp}
+use Rattle.std.specs.Ordering.{nat_cmp}
+use Rattle.commands.specs.Prelude.{Each, ReadsNext, ReadsAll, listed_as, listed_texts, cow_slice_items}
 use Rattle.commands.proofs.Outcomes.{Leads}
+use Rattle.commands.proofs.ReadOnce.{ReadSoFar}
 use Rattle.commands.proofs.folder.read_all.Given as goal
 
 -- with the files that are left after those so far, all are read
-abbrev pub invariant-loop-name : goal.invariant-loop-name
-invariant-loop-name g l =
-    Leads (g.F.Folder.calls l.fn.folder) (g.F.Folder.calls l.folder)
-    (Each ReadsNext (contents cow_slice_items l.files) (drop l.name-index (map string_bytes l.names))) (ReadsAll (map string_bytes l.names))
+abbrev pub invariant-loop-index : goal.invariant-loop-index
+invariant-loop-index g l =
+    record {
+      count : length l.files.items ≡ l.index;
+      files : ReadSoFar (map string_bytes l.names) (map (listed_as cow_slice_items) l.files.items) (λ q. get_by (λ k. slice_cmp nat_cmp q k.now) l.known);
+      leads : Leads (g.F.Folder.calls l.fn.folder) (g.F.Folder.calls l.folder)
+          (Each (ReadsNext (map string_bytes l.names)) (listed_texts cow_slice_items l.files) (drop l.index (map string_bytes l.names)))
+          (ReadsAll (map string_bytes l.names));
+    }

@@ -1,11 +1,11 @@
 use Rattle.std.proofs.Common.{rules, ◌≡◌, ◌∙◌, ◌<◌, ℕ, List, ◌∷◌, [], ◌++◌, length, map, ap, ap₂, sym, arith, take_all, Vec, Global, Bor}
-use Rattle.commands.specs.Prelude.{ProjectTargetValue, ReadTargetValue, project_target}
+use Rattle.commands.specs.Prelude.{lent_texts, Listed, ProjectTargetValue, ReadTargetValue, project_target}
 use Rattle.commands.proofs.Targets.{same_at, same_length}
 use Rattle.commands.proofs.Outcomes.{at_index, mapped_next}
 use Rattle.commands.proofs.projects.in_project.Goals as goal
 
-abbrev texts : Vec (Bor (List ℕ)) Global → List (List ℕ)
-texts lent = map (λ (text : Bor (List ℕ)). text.now) lent.items
+abbrev texts : Vec (Listed (Bor (List ℕ))) Global → List (List ℕ)
+texts lent = lent_texts lent.items
 
 -- what a target is for the project
 its_part : (part : ProjectTargetValue) (t : ReadTargetValue) → part.name ≡ t.spec.target → part.setting ≡ t.spec.setting → part.scans ≡ t.scans →
@@ -22,7 +22,7 @@ loop-index-preserved c =
     let i : ℕ = c.loop-index.index in
     let within : i < length targets = c.loop-index-test.true in
     let same : length scans ≡ length targets = same_length texts (λ (t : ReadTargetValue). t.scans) scans targets c.requires in
-    let own = ap (map (λ (text : Bor (List ℕ)). text.now)) c.deref.ensures.value
+    let own = ap lent_texts c.deref.ensures.value
     ∙ same_at texts (λ (t : ReadTargetValue). t.scans) scans targets i c.index-scans-index.result c.index-targets-index.result c.requires
     (at_index scans i c.index-scans-index.result (omega (arith, within, same)) c.index-scans-index.is)
     (at_index targets i c.index-targets-index.result within c.index-targets-index.is) in

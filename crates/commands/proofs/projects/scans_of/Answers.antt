@@ -1,11 +1,11 @@
 use Rattle.std.proofs.Common.{◌≡◌, ◌∙◌, ◌+◌, ℕ, List, ◌∷◌, [], ◌++◌, take, map, ap, ap₂, subst, sym, Vec, Global, Bor}
 use Rattle.std.proofs.lemmas.List.{map_push}
-use Rattle.commands.specs.Prelude.{cow_slice_items, ReadTargetValue}
+use Rattle.commands.specs.Prelude.{cow_slice_items, bytes_of_each, lent_texts, texts_listed, Listed, ReadTargetValue}
 use Rattle.commands.proofs.Outcomes.{mapped_next}
 use Rattle.commands.proofs.projects.scans_of.Goals as goal
 
-abbrev texts : Vec (Bor (List ℕ)) Global → List (List ℕ)
-texts lent = map (λ (text : Bor (List ℕ)). text.now) lent.items
+abbrev texts : Vec (Listed (Bor (List ℕ))) Global → List (List ℕ)
+texts lent = lent_texts lent.items
 
 -- one target more
 pub loop-target-preserved : goal.loop-target-preserved
@@ -14,8 +14,8 @@ loop-target-preserved c =
     let i : ℕ = c.loop-target.target-index in
     let lent = c.in_ok-slices.field-0 in
     let here : texts lent ≡ c.target-item.result.scans =
-    c.in_ok-slices.ensures ∙ ap (map cow_slice_items) c.deref.ensures.value ∙ ap (λ (t : ReadTargetValue). t.scans) c.target.view_is in
-    subst (λ (all : List (Vec (Bor (List ℕ)) Global)). map texts all ≡ map (λ (t : ReadTargetValue). t.scans) (take (i + 1) targets))
+    ap bytes_of_each c.in_ok-slices.ensures ∙ ap (texts_listed cow_slice_items) c.deref.ensures.value ∙ ap (λ (t : ReadTargetValue). t.scans) c.target.view_is in
+    subst (λ (all : List (Vec (Listed (Bor (List ℕ))) Global)). map texts all ≡ map (λ (t : ReadTargetValue). t.scans) (take (i + 1) targets))
     (sym c.in_ok-scans-2.ensures)
     (map_push texts c.loop-target.scans.items lent
     ∙ ap₂ (λ a b. a ++ b ∷ []) c.loop-target.invariant here

@@ -1,5 +1,5 @@
 use Rattle.std.proofs.Common.{rules, ◌≡◌, ◌∙◌, [], length, map, option_map, string_bytes, refl, ap, Ok, Err}
-use Rattle.commands.specs.Prelude.{ReadTargetValue, list_value, TargetDocumentValue, Outcome, FormOf, IsTargetOutcome, LinksOf, SpecOf, bytes_of, cow_slice_items, seen, At}
+use Rattle.commands.specs.Prelude.{ReadTargetValue, list_value, TargetDocumentValue, Outcome, FormOf, IsTargetOutcome, LinksOf, SpecOf, bytes_of, cow_slice_items, listed_texts, seen, At}
 use Rattle.commands.proofs.Outcomes.{pure_last, pure_next, run_next, run_once, run_last}
 use Rattle.commands.proofs.Targets.{edges_of_named, list_of_named, links_within, at_target, at_target_seen, at_value}
 use Rattle.commands.proofs.read_targets.read_target.Given as given
@@ -88,7 +88,7 @@ returns-clause-list g c = λ name known own with_it is.
     let t : ReadTargetValue = record {
       spec = c.in_ok-spec.spec;
       linked = c.in_ok-links.links.items;
-      scans = map cow_slice_items c.in_ok-scans.scans.items;
+      scans = listed_texts cow_slice_items c.in_ok-scans.scans;
       listing = list_value c.in_ok-listing.listing;
     } in
     c.in_ok-listing.ensures.known name known own (edges ∙ edges_of_named name t own is) with_it (list_of_named name t own is)

@@ -1,5 +1,5 @@
-use Rattle.std.proofs.Common.{rules, ◌≡◌, ◌∙◌, ℕ, List, [], Some, Ok, Err, Option, Result, IfOk, IfErr, map, refl, ap, Bor}
-use Rattle.commands.specs.Prelude.{SettingValue, TargetValue, CollatedValue, Collates, IsRefusal, WasRead, RefusedTarget, Failure, ForFault, Written, table_with, style_of, target_with, TargetFilesValue, Outcome, TargetOf, cow_slice_items}
+use Rattle.std.proofs.Common.{rules, ◌≡◌, ◌∙◌, ℕ, List, [], Some, Ok, Err, Option, Result, IfOk, IfErr, refl, ap}
+use Rattle.commands.specs.Prelude.{SettingValue, TargetValue, CollatedValue, Collates, IsRefusal, WasRead, RefusedTarget, Failure, ForFault, Written, table_with, style_of, target_with, TargetFilesValue, Outcome, TargetOf, cow_slice_items, lent_texts, texts_listed, bytes_of_each}
 use Rattle.scan_docs.specs.Target as document
 use Rattle.scan_docs.specs.declared.map_form.MapForm.TheVariants.{Gcc, Clang}
 use Rattle.commands.proofs.Targets.{target_rejected}
@@ -25,24 +25,21 @@ GivesTarget target style result =
     × IfErr result (ForFault (λ r. IsRefusal target style r.refusal))
     × IfErr result (ForFault (λ r. WasRead target r.refusal (table_with r.objects.items r.infos.items)))
 
-abbrev texts : List (Bor (List ℕ)) → List (List ℕ)
-texts lent = map (λ text. text.now) lent
-
 -- the target that was collated is the document's
 its_target : (c : Joined-spec) (s : Outcome CollatedValue) →
-    TargetOf (target_of c.spec.inside.target c.spec.inside.setting (texts c.deref-3.result.now) (texts c.deref-4.result.now) c.deref-5.result.now)
+    TargetOf (target_of c.spec.inside.target c.spec.inside.setting (lent_texts c.deref-3.result.now) (lent_texts c.deref-4.result.now) c.deref-5.result.now)
     (style_of c.spec.inside.map) [] s →
     TargetOf (target_with c.args.spec.now c.args.files.now) (style_of c.args.spec.now.map_form) [] s
 its_target c s =
     of_document c.args.spec.now _ c.args.files.now _ _ _ s c.spec.view_is
-    (ap texts c.deref-3.ensures.value ∙ c.in_ok-scans.ensures ∙ ap (map cow_slice_items) c.deref.ensures.value
+    (ap lent_texts c.deref-3.ensures.value ∙ ap bytes_of_each c.in_ok-scans.ensures ∙ ap (texts_listed cow_slice_items) c.deref.ensures.value
     ∙ ap (λ (f : TargetFilesValue). f.scans) c.files.view_is)
-    (ap texts c.deref-4.ensures.value ∙ c.in_ok-infos.ensures ∙ ap (map cow_slice_items) c.deref-2.ensures.value
+    (ap lent_texts c.deref-4.ensures.value ∙ ap bytes_of_each c.in_ok-infos.ensures ∙ ap (texts_listed cow_slice_items) c.deref-2.ensures.value
     ∙ ap (λ (f : TargetFilesValue). f.infos) c.files.view_is)
     c.deref-5.ensures.value
 
 -- and its outcome has maps of the document's form
-gives : (c : Joined-spec) → GivesTarget (target_of c.spec.inside.target c.spec.inside.setting (texts c.deref-3.result.now) (texts c.deref-4.result.now)
+gives : (c : Joined-spec) → GivesTarget (target_of c.spec.inside.target c.spec.inside.setting (lent_texts c.deref-3.result.now) (lent_texts c.deref-4.result.now)
     c.deref-5.result.now) (style_of c.spec.inside.map) c.match-spec.outcome
 gives c = elim c.match-spec.branch [
   | in-None w ↦
