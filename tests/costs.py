@@ -27,11 +27,11 @@ LIMIT = 1.2  # how many times as much a byte of the input may cost if there are 
 
 # Small, but so large that the cost of a shape would be seen: if a table searches all its entries,
 # say, this is most of what a run does. (That links times sources grow with the words of a set, and
-# not with the sources, shows from a thousand targets on: in `bench/run hostile`.) The shape `names`
-# is not here: it still costs more than an ordinary input of its size.
+# not with the sources, shows from a thousand targets on: in `bench/run hostile`.)
 SIZES = {"edges": 1 << 18, "dyndep": 1 << 18, "modules": 600, "targets": 400, "keyless": 400,
          "work-dir": 400, "ext": 400, "paths": 300, "requires": 1600, "info": 3200, "plugins": 40,
-         "services": 40, "providers": 100, "links": 60, "diamonds": 12, "shared": 40}
+         "names": 1600, "services": 40, "providers": 100, "links": 60, "diamonds": 12, "shared": 40,
+         "again": 5000, "rules": 5000, "linked": 5000}
 
 
 @functools.lru_cache(None)
@@ -52,8 +52,8 @@ def size_of(directory):
     return sum(it.stat().st_size for it in Path(directory).rglob("*") if it.is_file())
 
 
-def costs_of(*words, program=PROGRAM):
-    """What a run in this directory costs, in the order of COSTS. The run has to succeed."""
+def costs_of(*words, program=PROGRAM, ends=0):
+    """What a run in this directory costs, in the order of COSTS. It has to end with this status."""
     counts = os.memfd_create("counts")
     options = "--tool=callgrind", "--callgrind-out-file=/dev/null"
     valgrind = caller(shutil.which("valgrind"))
@@ -63,7 +63,7 @@ def costs_of(*words, program=PROGRAM):
     found = re.search(rb"Collected : (\d+)\n", err)
     counted = emptied(counts).split()
     os.close(counts)
-    if status or not found or len(counted) != len(COSTS) - 1:
+    if status != ends or not found or len(counted) != len(COSTS) - 1:
         raise AssertionError(f"{words} ended with status {status}: {err[-1000:]!r}")
     return [int(it) for it in (found[1], *counted)]
 
@@ -99,7 +99,8 @@ class Shapes(Costs):
         sizes = SIZES[label], 2 * SIZES[label]
         for size in sizes:
             words = shape(self.room / f"made{size}", self.room / f"ordinary{size}", size)
-        small, large = (self.at(f"made{size}", words) for size in sizes)
+        ends = int(label in shapes().REJECTED)
+        small, large = (self.at(f"made{size}", words, ends=ends) for size in sizes)
         ordinary = self.at(f"ordinary{sizes[1]}", words)
         self.grows(small, large)
         for name, made, usual in zip(COSTS, large[1], ordinary[1]):

@@ -18,13 +18,13 @@ TOP = Path(__file__).resolve().parents[2]
 LIBRARY = Path(os.environ.get("LIBRARY", TOP / "crates/c_library/out"), "libdyncollate.so.1").resolve()
 FORM = "{:10} {:>10} {:>10} {:>10} {:>10} {:>6} {:>6}  {}"
 PROGRAM, os.environ["COLLIDE"] = os.path.abspath(sys.argv[1]), os.path.abspath(sys.argv[2])
-from shapes import SHAPES, size_of, target  # noqa: E402, the environment comes first
+from shapes import REJECTED, SHAPES, size_of, target  # noqa: E402, the environment comes first
 
 
 # ---- measuring
 
-def milliseconds(directory, words, limit=None):
-    """The processor time of a run, or None if it took more than that many seconds."""
+def milliseconds(directory, words, limit=None, ends=0):
+    """The processor time of a run that ends with this status, or None if it took more than that many seconds."""
     def set_limit():
         if limit:
             resource.setrlimit(resource.RLIMIT_CPU, (limit, limit + 1))
@@ -32,12 +32,12 @@ def milliseconds(directory, words, limit=None):
     run = subprocess.Popen([PROGRAM, *words], cwd=directory, stdout=subprocess.DEVNULL, preexec_fn=set_limit)
     _, status, used = os.wait4(run.pid, 0)
     run.returncode = os.waitstatus_to_exitcode(status)
-    if run.returncode and not (limit and run.returncode < 0):
+    if run.returncode != ends and not (limit and run.returncode < 0):
         sys.exit(f"{' '.join(words)} ended with status {run.returncode} in {directory}")
-    return None if run.returncode else (used.ru_utime + used.ru_stime) * 1e3
+    return None if run.returncode < 0 else (used.ru_utime + used.ru_stime) * 1e3
 
 
-def measured(shape, size, rounds):
+def measured(shape, size, rounds, ends):
     """The bytes of both inputs, and the least times of both."""
     with tempfile.TemporaryDirectory(prefix="dyncollate-", dir="/dev/shm" if os.path.isdir("/dev/shm") else None) as room:
         directories = made, ordinary = Path(room, "made"), Path(room, "ordinary")
@@ -45,7 +45,7 @@ def measured(shape, size, rounds):
         sizes, times = [size_of(it) for it in directories], []
         for _ in range(rounds):
             second = milliseconds(ordinary, words)
-            times.append((milliseconds(made, words, 2 + int(second / 100)), second))
+            times.append((milliseconds(made, words, 2 + int(second / 100), ends), second))
             if times[-1][0] is None:
                 break
         return sizes, [None if None in each else min(each) for each in zip(*times)]
@@ -77,7 +77,7 @@ def library_measured(rounds):
 
 def main(rounds, labels):
     print(FORM.format("", "bytes", "ordinary", "best ms", "ordinary", "ratio", "limit", "over"), flush=True)
-    rows = [(label, limit, lambda shape=shape, size=size: measured(shape, size, rounds)) for label, shape, size, limit in SHAPES]
+    rows = [(label, limit, lambda shape=shape, size=size, ends=int(label in REJECTED): measured(shape, size, rounds, ends)) for label, shape, size, limit in SHAPES]
     if LIBRARY.exists():
         rows.append(("files", 2, lambda: library_measured(rounds)))
     else:

@@ -275,7 +275,7 @@ def shared_names(made, ordinary, size):
         project = Project(directory)
         for library, name in zip("ab", names):
             project.add(library, [([f"{name}{number}" for number in range(size)], [])], [])
-        for number in range(size // 8):
+        for number in range(size // 2):
             library, name = "ab"[number % 2], names[number % 2]
             project.add(f"u{number}", [([], [f"{name}0"])], [library])
         words = project.written()
@@ -331,8 +331,28 @@ def shared_edges(made, ordinary, size):
     return words
 
 
+def listed_again(member, document):
+    """A large document that a target lists a hundred times, or once, with the other names in a
+    member that nothing reads."""
+    def shape(made, ordinary, size):
+        for directory in made, ordinary:
+            write(directory / "large", {**document, "version": 1, "ignored": [{"a": 1}] * size})
+        names = ["large"] * 100
+        write_target(made, **{"scans": [], member: names})
+        write_target(ordinary, **{"scans": [], member: names[:1], "ignored": names[1:]})
+        return "collate", "target"
+    return shape
+
+
+again = listed_again("scans", {"rules": []})
+again_with_rules = listed_again("scans", {"rules": [rule("a.o", [])]})
+again_linked = listed_again("linked", {"target": "l", "modules": []})
+
+# The shapes that have an error, and end with status 1: M1 and M2.
+REJECTED = "rules", "linked"
+
 # The label, the inputs, the size that bench/run hostile takes, and how many times as long as the
-# ordinary input it may take. `names` still takes more.
+# ordinary input it may take.
 SHAPES = [
     ("edges", edges, 1 << 22, 2), ("dyndep", dyndep, 1 << 22, 2), ("modules", modules, 20_000, 2),
     ("targets", targets, 6000, 2), ("keyless", keyless_targets, 6000, 2),
@@ -340,6 +360,7 @@ SHAPES = [
     ("paths", reduced_paths, 20_000, 3), ("requires", requires, 40_000, 2),
     ("info", info_requires, 80_000, 2), ("plugins", plugins, 400, 1.5),
     ("services", services, 400, 2), ("providers", providers, 4000, 2),
-    ("names", shared_names, 20_000, 2), ("links", links, 1000, 2), ("diamonds", diamonds, 40, 2),
-    ("shared", shared_edges, 800, 2),
+    ("names", shared_names, 20_000, 1.1), ("links", links, 1000, 2), ("diamonds", diamonds, 40, 2),
+    ("shared", shared_edges, 800, 2), ("again", again, 1_900_000, 2),
+    ("rules", again_with_rules, 1_900_000, 2), ("linked", again_linked, 1_900_000, 2),
 ]
