@@ -20,8 +20,8 @@ class Wrong(Exception):
 
 
 def read(name):
-    with open(name, encoding="utf-8", errors="surrogateescape", newline="") as file:
-        return file.read()
+    with open(name, "rb") as file:
+        return file.read().decode("utf-8", "surrogateescape")
 
 
 def replace(texts, before=None):
@@ -31,15 +31,17 @@ def replace(texts, before=None):
     new, current = {}, None
     try:
         for current, text in texts.items():
-            os.makedirs(os.path.dirname(current) or ".", exist_ok=True)
+            folder = os.path.dirname(current) or "."
+            if not os.path.exists(folder):
+                os.makedirs(folder, exist_ok=True)
             new[current] = f"{current}.{os.urandom(6).hex()}.new"
-            with open(new[current], "x", encoding="utf-8", errors="surrogateescape",
-                      newline="") as file:
-                file.write(text)
-        for current, its_new in new.items():
+            with open(new[current], "xb") as file:
+                file.write(text.encode("utf-8", "surrogateescape"))
+        for current in texts:
             if before and read(current) != before[current]:
                 return False
-            os.replace(its_new, current)
+            os.replace(new[current], current)
+            del new[current]
         return True
     except OSError as error:
         raise Wrong(f"{current}: {error.strerror}", 3) from None
@@ -54,8 +56,12 @@ def write(name, text):
 
 def write_if_changed(name, text):
     """Leaves a file alone that already has this text, so that Ninja sees no change."""
-    if not os.path.exists(name) or read(name) != text:
-        write(name, text)
+    try:
+        if read(name) == text:
+            return
+    except FileNotFoundError:
+        pass
+    write(name, text)
 
 
 def document(name):

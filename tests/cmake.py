@@ -115,12 +115,16 @@ def entries(module_map):
 
 # ---- what CMake recorded
 
-# What the program reports of the targets that CMake's step rejects.
+# What is said of the targets that CMake's step rejects: by the program, and in CMake's words.
 REJECTED = {
-    "private-clang": "M9 ModulePrivate lib.priv of CMakeFiles/lib.dir in object CMakeFiles/exe.dir/main.cxx.o",
-    "private-gcc": "M9 ModulePrivate lib.priv of CMakeFiles/lib.dir in object CMakeFiles/exe.dir/main.cxx.o",
-    "ring-clang": "M8 ImportCycle CMakeFiles/circular.dir/circular-a.cppm.o -> CMakeFiles/circular.dir/circular-b.cppm.o",
-    "ring-gcc": "M8 ImportCycle CMakeFiles/circular.dir/circular-a.cppm.o -> CMakeFiles/circular.dir/circular-b.cppm.o",
+    "private": ("M9 ModulePrivate lib.priv of CMakeFiles/lib.dir in object "
+                "CMakeFiles/exe.dir/main.cxx.o",
+                "Unable to use module 'lib.priv' as it is 'PRIVATE' and therefore not accessible "
+                "outside of its owning target."),
+    "ring": ("M8 ImportCycle CMakeFiles/circular.dir/circular-a.cppm.o -> "
+             "CMakeFiles/circular.dir/circular-b.cppm.o",
+             "Circular dependency detected in the C++ module import graph. "
+             'See modules named: "a", "b"'),
 }
 # The directory of CMake for the modules of a target if it has a space, and the one that the adapter uses.
 WITH_SPACE = "with space/CMakeFiles/simple.dir", r"CMakeFiles/dyncollate/[0-9a-f]{16}"
@@ -137,7 +141,7 @@ class Recorded(Case):
         for name, content in self.files.items():
             if name.endswith((".ddi", "CXXDependInfo.json")):
                 put(name, content)
-        rejected, style = [], path.stem.rpartition("-")[2]
+        rejected, (kind, _, style) = [], path.stem.rpartition("-")
         targets = self.targets()
         write_ninja_files({it: style for it in targets}, {it: self.scans(it) for it in targets},
                           {it: self.files[f"{it}/CXXDependInfo.json"]["linked-target-dirs"] for it in targets})
@@ -148,7 +152,8 @@ class Recorded(Case):
                 rejected.append(said)
             else:
                 self.is_cmakes(folder, style)
-        self.assertEqual(rejected, [f"dyncollate: {REJECTED[path.stem]}\n"] if path.stem in REJECTED else [])
+        lines = "dyncollate: {}\ndyncollate-cmake: CMake Error: {}\n"
+        self.assertEqual(rejected, [lines.format(*REJECTED[kind])] if kind in REJECTED else [])
 
     def targets(self):
         """The directories of all targets, each after those that it links."""
@@ -526,7 +531,7 @@ class NinjaFiles(Case):
                 put(f"prefix/{'share/dyncollate' if name.suffix else 'bin'}/{name.name}", name.read_text())
         before = sorted(Path("prefix").rglob("*"))
         put_target("a $dir", f"{os.getcwd()}/b", {"a.cpp": {"visibility": "PRIVATE"}, "b c.cpp": {}})
-        for command in "adopt", "restore", "adopt":
+        for command in "adopt", "restore", "--generated":
             self.assertEqual(run(sys.executable, "prefix/bin/dyncollate-cmake", command, "b", env=environment())[0], 0)
         os.chdir("b")
         said = "dyncollate: scan 0: S2 BadVersion document\ndyncollate-cmake: scan 0 is a $dir/a.cpp.o.ddi\n"
@@ -535,7 +540,7 @@ class NinjaFiles(Case):
                 rule = {"primary-output": f"a $dir/{name}.cpp.o", "provides": [{"logical-name": name[0]}]}
                 put(f"a $dir/{name}.cpp.o.ddi", {"version": version, "rules": [rule]})
             self.assertEqual(step("a $dir"), (int(bool(printed)), printed))
-        self.assertEqual(len(list(Path("CMakeFiles/dyncollate/python").rglob("*.pyc"))), 4)
+        self.assertEqual(len(list(Path("CMakeFiles/dyncollate/python").rglob("*.pyc"))), 6)
         os.chdir("..")
         self.assertEqual(sorted(Path("prefix").rglob("*")), before)
 
@@ -665,7 +670,7 @@ class Steps(Case):
                          "-fmodule-file=b=base/b.pcm\n-fmodule-file=m=mid/m.pcm\n-fmodule-file=p=package/p.cppm.o\n")
         self.assertEqual(statements(Path("package/CXX.dd").read_text()), {"package/p.cppm.o": (frozenset(), {"mid/m.pcm"}, True)})
 
-    # What CMake's step rejects and the program does not. Each is said by both kinds of steps.
+    # What CMake's step rejects and the program does not. Both kinds of steps say it as CMake does.
 
     def test_a_module_in_no_file_set(self):
         for entries in {}, {"own.cppm": PRIVATE, "pub.cppm": {}}:
@@ -674,7 +679,8 @@ class Steps(Case):
                 self.scan("t", name, [name[:3]])
             self.scan("t", "a.cpp", ["a"])
             self.assertEqual(self.with_python("t"), bool(entries))
-            self.fails("dyncollate-cmake: t/a.cpp.o.ddi: provides a, and its source is in no file set of C++ modules")
+            self.fails("dyncollate-cmake: CMake Error: Output t/a.cpp.o provides the `a` module "
+                       "but it is not found in a `FILE_SET` of type `CXX_MODULES`")
 
     def test_a_file_set_with_a_source_that_provides_no_module(self):
         for entries in {"a.cppm": {}}, {"a.cppm": {}, "own.cppm": PRIVATE}:
@@ -682,14 +688,16 @@ class Steps(Case):
             self.scan("t", "a.cppm")
             self.scan("t", "own.cppm", ["own"] if len(entries) > 1 else [])
             self.assertEqual(self.with_python("t"), len(entries) > 1)
-            self.fails("dyncollate-cmake: t/a.cppm.o.ddi: provides no module, and its source /src/a.cppm is in a file set of C++ modules")
+            self.fails("dyncollate-cmake: CMake Error: Output t/a.cppm.o is of type `CXX_MODULES` "
+                       "but does not provide a module interface unit or partition")
 
     def test_a_public_module_that_requires_a_private_one(self):
         self.target("t", {"a.cppm": {}, "b.cppm": PRIVATE})
         self.scan("t", "a.cppm", ["a"], ["b"])
         self.scan("t", "b.cppm", ["b"])
         self.scan("t", "c.cpp", [], ["b"])
-        self.fails("dyncollate-cmake: t/a.cppm.o.ddi: requires b, which its target keeps private, and its source /src/a.cppm is public")
+        self.fails("dyncollate-cmake: CMake Error: Public C++ module source `/src/a.cppm` requires "
+                   "the `b` C++ module which is provided by a private source")
         self.target("t", {"a.cppm": PRIVATE, "b.cppm": PRIVATE})
         self.collates("t")
 
@@ -711,6 +719,27 @@ class Steps(Case):
             put("t/b.cpp.o.ddi", {"version": 7, "rules": [{"primary-output": "t/b.cpp.o"}]})
             self.fails("dyncollate: scan 1: S2 BadVersion document", "dyncollate-cmake: scan 1 is t/b.cpp.o.ddi")
 
+    def test_errors_of_modules_in_the_words_of_cmake_and_clang(self):
+        self.target("l", {"l.cppm": {}, "p.cppm": PRIVATE})
+        self.scan("l", "l.cppm", ["l"])
+        self.scan("l", "p.cppm", ["l.priv"])
+        self.collates("l")
+        for _ in self.both_kinds("a.cppm", "b.cppm", linked=["l"]):
+            self.scan("t", "a.cppm", ["a"])
+            self.scan("t", "b.cppm", ["b:part"], ["std"])
+            self.fails("dyncollate: M5 ModuleUnknown std in t/b.cppm.o",
+                       "dyncollate-cmake: module 'std' not found")
+            self.scan("t", "a.cppm", ["b"], ["a:part"])
+            self.scan("t", "b.cppm", ["a:part"], ["b"])
+            self.fails("dyncollate: M8 ImportCycle t/a.cppm.o -> t/b.cppm.o",
+                       "dyncollate-cmake: CMake Error: Circular dependency detected in the C++ "
+                       'module import graph. See modules named: "a:part", "b"')
+            self.scan("t", "a.cppm", ["b"])
+            self.scan("t", "b.cppm", ["b:part"], ["l.priv"])
+            self.fails("dyncollate: M9 ModulePrivate l.priv of l in object t/b.cppm.o",
+                       "dyncollate-cmake: CMake Error: Unable to use module 'l.priv' as it is "
+                       "'PRIVATE' and therefore not accessible outside of its owning target.")
+
     def test_the_explainer(self):
         """If dyncollate-explain is there, it is called with the target document and with the line of the program."""
         put("bin/dyncollate-explain", "#!/bin/sh\necho \"explained $@: $(cat)\"\n")
@@ -723,7 +752,8 @@ class Steps(Case):
             rules.write_text(rules.read_text().replace(program.PROGRAM, f"{os.getcwd()}/bin/dyncollate"))
             kind = "step" if " --step " in rules.read_text() else "target"
             line = "dyncollate: M5 ModuleUnknown none in t/b.cpp.o"
-            self.assertEqual(step("t"), (1, f"{line}\nexplained t/CXX.{kind}.json -: {line}\n"))
+            self.assertEqual(step("t"), (1, f"{line}\ndyncollate-cmake: module 'none' not found\n"
+                                            f"explained t/CXX.{kind}.json -: {line}\n"))
 
     def test_documents_that_are_no_scans(self):
         for text, said in (("", "Expecting value: line 1 column 1 (char 0)"), ("{}", "not the scan of one source: KeyError('rules')")):
@@ -830,7 +860,8 @@ class Steps(Case):
         self.target("t", {"a.cppm": {}})
         self.scan("t", "a.cppm", ["a"])
         self.scan("t", "b.cpp", ["b"])
-        said = "dyncollate-cmake: t/b.cpp.o.ddi: provides b, and its source is in no file set of C++ modules\n"
+        said = ("dyncollate-cmake: CMake Error: Output t/b.cpp.o provides the `b` module but it is "
+                "not found in a `FILE_SET` of type `CXX_MODULES`\n")
         self.fails(said[:-1])
         self.assertIn(" t/CXX.statements t/CXX.target.json\n", Path("build.ninja").read_text())
         rules, statements_file = Path("CMakeFiles/rules.ninja"), Path("t/CXX.statements")
@@ -863,7 +894,8 @@ class Steps(Case):
             self.assertEqual(Path("t/a.cpp.o.modmap").read_text(), "-fmodule-file=x=x/x.pcm\n-fmodule-file=y=y/y.pcm\n")
             self.assertEqual(statements(Path("t/CXX.dd").read_text())["t/a.cpp.o"][1], {"x/x.pcm", "y/y.pcm"})
             self.scan("t", "a.cpp", [], ["none"])
-            self.fails("dyncollate: M5 ModuleUnknown none in t/a.cpp.o")
+            self.fails("dyncollate: M5 ModuleUnknown none in t/a.cpp.o",
+                       "dyncollate-cmake: module 'none' not found")
 
     def test_imports_that_lead_to_two_modules_of_one_name(self):
         for name in "x", "y":

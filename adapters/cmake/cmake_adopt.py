@@ -7,13 +7,12 @@ in a comment below the new one. What the step reads besides CMake's inputs is in
 which continues the build statement.
 """
 import collections
-import contextlib
 import json
 import os
 import re
 
 from adapter_files import EXTENSIONS, Alone, Wrong, escaped, read, replace, write_if_changed
-from cmake_ninja import AFTER_CMAKE, Lines, as_cmake_wrote, ninja_files, program_of, shell
+from cmake_ninja import AFTER_CMAKE, Files, as_cmake_wrote, ninja_files, program_of, shell
 
 # Adoption begins again this often if CMake writes its Ninja files at the same time.
 ATTEMPTS = 9
@@ -68,12 +67,14 @@ def hidden_steps(steps):
     linked = {it.path: it.target["linked-target-dirs"] for it in steps}
     direct = {path: sum(map(bits.get, {*paths})) for path, paths in linked.items()}
     reached, before = dict(direct), None
+    # in both orders, because CMake may write a target before or after those that it links
+    order = [*linked.items()]
     while reached != before:
         before = dict(reached)
-        # in both orders, because CMake may write a target before or after those that it links
-        for path, paths in [*linked.items(), *reversed(linked.items())]:
+        for path, paths in order:
             for it in paths:
                 reached[path] |= reached[it]
+        order.reverse()
     hidden = {path: bits_of & ~direct[path] & ~bits[path] for path, bits_of in reached.items()}
     return {path: [it for it in steps if found & bits[it.path]] if found else []
             for path, found in hidden.items()}
@@ -134,8 +135,8 @@ class Adoption:
     def __init__(self, build, program, this, texts):
         self.build, self.program = build, program
         self.this = shell([*this, f"--program={program}"])
-        self.lines = Lines(texts, build)
-        self.steps = self.lines.steps
+        self.files = Files(texts, build)
+        self.steps = self.files.steps
         check(self.steps, build)
         users = {path for it in self.steps for path in it.target["linked-target-dirs"]}
         self.with_python = {it.rule: why_python(it, users) for it in self.steps}
@@ -152,7 +153,7 @@ class Adoption:
             infos = [it.info for it in visible + hidden[step.path] if it.info not in step.inputs]
             statements[step.statement] = step.with_inputs(infos + files)
         again = f"{self.this} {AFTER_CMAKE} {shell([os.path.abspath(self.build)])}"
-        return self.lines.adopted(statements, commands, again if stays else None)
+        return self.files.adopted(statements, commands, again if stays else None)
 
     def write_documents(self, step, visible, hidden):
         """Returns the names of what the step reads besides CMake's files, the target document
@@ -188,29 +189,22 @@ class Adoption:
 
     def report(self):
         print(f"dyncollate-cmake: {self.summary()}")
-        if self.lines.other_languages:
+        if self.files.other_languages:
             print("dyncollate-cmake: languages other than C++ keep CMake's step")
-
-
-@contextlib.contextmanager
-def alone(build):
-    """Waits until no other run adopts or restores the build."""
-    ninja_files(build)
-    os.makedirs(f"{build}/CMakeFiles/dyncollate", exist_ok=True)
-    with Alone(f"{build}/CMakeFiles/dyncollate"):
-        yield
 
 
 def change(build, changed):
     """Replaces the Ninja files by what `changed` makes of their texts, as CMake wrote them. If
-    CMake writes them at the same time, this begins again."""
-    with alone(build):
+    CMake writes them at the same time, this begins again. Other runs wait."""
+    before = ninja_files(build)
+    os.makedirs(f"{build}/CMakeFiles/dyncollate", exist_ok=True)
+    with Alone(f"{build}/CMakeFiles/dyncollate"):
         for _ in range(ATTEMPTS):
-            before = ninja_files(build)
             texts = {name: as_cmake_wrote(text) for name, text in before.items()}
             after = {name: text for name, text in changed(texts).items() if text != before[name]}
             if replace(after, before):
                 return
+            before = ninja_files(build)
     raise Wrong(f"{build} is configured at the same time: call this again when `cmake` has ended")
 
 

@@ -1,4 +1,4 @@
-"""The Ninja files of a CMake build, line by line: CMake's steps in them, and what replaces them.
+"""The Ninja files of a CMake build: CMake's steps in them, and what replaces them.
 
 Each line of CMake that is replaced stays in a comment, or is continued by a line of its own, so
 `as_cmake_wrote` finds it again.
@@ -19,9 +19,13 @@ OLD_COMMAND, OLD_BINDING = "  # CMake: ", "  # CMake's "
 MORE_INPUTS, DOCUMENT = " " * 8, "/CXX.target.json"
 
 STEP = " -E cmake_ninja_dyndep "
-BUILD = re.compile(r"build ([^$:]*(?:\$.[^$:]*)*): (\S+) (.*)")
-RUN_OF_CMAKE = re.compile(r"  command = .* --regenerate-during-build ", re.I)
-OUR_RUN_OF_CMAKE = re.compile(rf"(.*) && .* {AFTER_CMAKE} .*")
+# Each begins with the end of the line before, which is quicker to find than the begin of a line.
+BUILD = re.compile(r"\nbuild ([^$:\n]*(?:\$.[^$:\n]*)*): (\S+) (.*)")
+RULE = re.compile(r"\nrule (.*)(?:\n  .*)*")
+COMMAND = re.compile(rf"\n  command = (.*{STEP}.*)")
+DYNDEP = re.compile(r"\n  dyndep = (.*)")
+RUN_OF_CMAKE = re.compile(r"\n  (?:command|COMMAND) = .* --regenerate-during-build .*")
+OUR_RUN_OF_CMAKE = re.compile(rf"(.* --regenerate-during-build .*) && .* {AFTER_CMAKE} .*")
 
 
 class Step:
@@ -102,7 +106,7 @@ def as_cmake_wrote(text):
         elif line.startswith(MORE_INPUTS) and DOCUMENT in line and found[-1].endswith(" $"):
             found[-1] = found[-1][:-len(" $")] + line.partition(DOCUMENT)[2]
         else:
-            ours = RUN_OF_CMAKE.match(line) and OUR_RUN_OF_CMAKE.match(line)
+            ours = OUR_RUN_OF_CMAKE.match(line)
             found.append(ours[1] if ours else line)
     return "\n".join(found)
 
@@ -117,39 +121,42 @@ def program_of(texts):
     return None
 
 
-class Lines:
-    """The lines of all Ninja files, as CMake wrote them, and the steps in them."""
+def replaced(pattern, change, text):
+    """Replaces each match of a pattern, if `restore` can undo that."""
+    def checked(found):
+        new = change(found)
+        if new != found[0] and as_cmake_wrote(new) != found[0]:
+            raise Wrong(f"`restore` could not undo what is written for: {found[0].strip()}")
+        return new
+    return pattern.sub(checked, text)
+
+
+class Files:
+    """The Ninja files, as CMake wrote them, and the steps in them. Patterns find what is read and
+    what is changed, because a loop over all lines takes several times as long."""
 
     def __init__(self, texts, build):
-        self.build = build
-        self.files = {name: text.split("\n") for name, text in texts.items()}
+        self.texts, self.build = texts, build
         # of the commands of steps, by the names of their rules
         self.options = {}
-        for name, text in texts.items():
-            if STEP in text:
-                self.find_rules(self.files[name])
+        for text in texts.values():
+            for found in RULE.finditer(text) if STEP in text else ():
+                if STEP in found[0]:
+                    self.options[found[1]] = self.options_of(found)
         self.other_languages = any(it["lang"] != "CXX" for it in self.options.values())
         self.steps = []
         self.find_steps()
 
-    def find_rules(self, lines):
-        rule = None
-        for line in lines:
-            if line.startswith("rule "):
-                rule = line[len("rule "):]
-            elif line.startswith("  command = ") and STEP in line:
-                self.options[rule] = self.options_of(line, rule)
-
-    def options_of(self, line, rule):
+    def options_of(self, rule):
         """Returns the options of CMake's step by their names."""
         try:
-            words = words_of_shell(line)
-        except ValueError:
+            words = words_of_shell(COMMAND.search(rule[0])[1])
+        except (TypeError, ValueError):
             words = []
         words = (it[len("--"):].partition("=") for it in words if it.startswith("--"))
         found = {name: value for name, equals, value in words if equals}
         if not {"lang", "tdi"} <= found.keys():
-            raise Wrong(f"{self.build}: the command of {rule} is not what {MAKERS} writes")
+            raise Wrong(f"{self.build}: the command of {rule[1]} is not what {MAKERS} writes")
         return found
 
     def find_steps(self):
@@ -159,15 +166,13 @@ class Lines:
         scanned = {rule for rule, it in self.options.items()
                    if it["lang"] == "CXX" and os.path.exists(os.path.join(self.build, it["tdi"]))}
         known, needed = set(), set()
-        for line in (line for lines in self.files.values() for line in lines):
-            if line.startswith("build "):
-                found = BUILD.match(line)
-                if found and found[2] in self.options:
+        for text in self.texts.values():
+            for found in BUILD.finditer(text):
+                if found[2] in self.options:
                     known.add(found[1].partition(" |")[0].replace("$", ""))
                     if found[2] in scanned:
                         self.steps.append(Step(found, self.options[found[2]], self.build))
-            elif line.startswith("  dyndep = "):
-                needed.add(line[len("  dyndep = "):].replace("$", ""))
+            needed.update(it.replace("$", "") for it in DYNDEP.findall(text))
         for name in sorted(needed - known):
             raise Wrong(f"{self.build} is not adopted because of {name}: its step is not one that "
                         f"{MAKERS} writes")
@@ -175,23 +180,19 @@ class Lines:
     def adopted(self, statements, commands, after_cmake):
         """Returns the texts with these statements, these commands of rules, and this command after
         each run of CMake, if there is one."""
-        return {name: "\n".join(self.changed(lines, statements, commands, after_cmake))
-                for name, lines in self.files.items()}
+        def rule(found):
+            if found[1] not in commands:
+                return found[0]
+            text = found[0].replace("\n  rspfile", f"\n{OLD_BINDING}rspfile")
+            new = f"\n  command = {commands[found[1]]}\n{OLD_COMMAND}"
+            return text.replace("\n  command = ", new, 1)
 
-    @staticmethod
-    def changed(lines, statements, commands, after_cmake):
-        command = None
-        for line in lines:
-            new = line
-            if not line.startswith("  "):
-                command = commands.get(line[len("rule "):]) if line.startswith("rule ") else None
-                new = statements.get(line, line)
-            elif command and line.startswith("  command = "):
-                new = f"  command = {command}\n{OLD_COMMAND}{line[len('  command = '):]}"
-            elif command and line.startswith("  rspfile"):
-                new = f"{OLD_BINDING}{line.lstrip()}"
-            elif after_cmake and "--regenerate-during-build " in line and RUN_OF_CMAKE.match(line):
-                new = f"{line} && {after_cmake}"
-            if new is not line and as_cmake_wrote(new) != line:
-                raise Wrong(f"`restore` could not undo what is written for: {line}")
-            yield new
+        def changed(text):
+            text = replaced(BUILD, lambda it: statements.get(it[0], it[0]), text)
+            if STEP in text:
+                text = replaced(RULE, rule, text)
+            if after_cmake:
+                text = replaced(RUN_OF_CMAKE, lambda it: f"{it[0]} && {after_cmake}", text)
+            return text
+
+        return {name: changed(text) for name, text in self.texts.items()}

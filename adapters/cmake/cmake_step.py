@@ -56,16 +56,23 @@ def objects_of(target_document):
 
 
 def check_file_sets(objects):
-    """Reports what CMake's step rejects and dyncollate does not."""
+    """Reports what CMake's step rejects and dyncollate does not, in CMake's words."""
     private = {name for it in objects if it.is_private for name, _ in it.provides}
     for it in objects:
         hidden = sorted(private.intersection(it.requires))
         if it.provides and not it.entry:
-            raise Wrong(f"{it.scan}: provides {it.provides[0][0]}, and its source is in no file set of C++ modules")
+            raise of_cmake(f"Output {it.path} provides the `{it.provides[0][0]}` module but it is "
+                           "not found in a `FILE_SET` of type `CXX_MODULES`")
         if it.entry and not it.provides:
-            raise Wrong(f"{it.scan}: provides no module, and its source {it.entry['source']} is in a file set of C++ modules")
+            raise of_cmake(f"Output {it.path} is of type `CXX_MODULES` but does not provide a "
+                           "module interface unit or partition")
         if it.provides and not it.is_private and hidden:
-            raise Wrong(f"{it.scan}: requires {hidden[0]}, which its target keeps private, and its source {it.entry['source']} is public")
+            raise of_cmake(f"Public C++ module source `{it.entry['source']}` requires the "
+                           f"`{hidden[0]}` C++ module which is provided by a private source")
+
+
+def of_cmake(text):
+    return Wrong(f"CMake Error: {text}")
 
 
 def hidden_modules(target, target_document, objects):
@@ -208,12 +215,14 @@ def explained(program, status, said, name):
     from error_line import named_by
     if status > SIGNAL:
         raise Wrong(f"{program} was killed by signal {status - SIGNAL}", 3)
+    error, given = error_in(said), document(name)
+    if error and (words := words_of_cmake(error, given["scans"])):
+        say(words)
     explainer = program_beside(program, "dyncollate-explain")
     if explainer:
         line = said.encode(errors="surrogateescape")
         subprocess.run([explainer, name, "-"], input=line, check=False)
-    error = error_in(said)
-    named = error and named_by(error, document(name))
+    named = error and named_by(error, given)
     if named and error.document == "info":
         # Ninja makes a file again that is not there, but does not know that this one is damaged
         try:
@@ -224,6 +233,25 @@ def explained(program, status, said, name):
     elif named and not explainer:
         say(f"{error.document} {error.index} is {named}")
     return status
+
+
+def words_of_cmake(error, scans):
+    """Returns what CMake's step says of an error, or Clang if the step leaves it to the compiler:
+    the words that pages about CMake have. Other errors have none."""
+    name = error.rest.partition(" ")[0]
+    if error.code == "M5":
+        return f"module '{name}' not found"
+    if error.code == "M8":
+        rules = (rule for it in scans for rule in document(it)["rules"])
+        cycle = error.rest.split(" -> ")
+        names = '", "'.join(sorted(it["logical-name"] for rule in rules
+                                   if rule["primary-output"] in cycle for it in rule["provides"]))
+        return ("CMake Error: Circular dependency detected in the C++ module import graph. "
+                f'See modules named: "{names}"')
+    if error.code == "M9":
+        return (f"CMake Error: Unable to use module '{name}' as it is 'PRIVATE' and therefore not "
+                "accessible outside of its owning target.")
+    return None
 
 
 def pass_on(said):
