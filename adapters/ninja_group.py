@@ -114,10 +114,10 @@ def collate(program, member, linked):
 
 
 def is_current(outputs, inputs):
-    """Whether the outputs are there and the last one, which is written last, is newer than the
-    inputs."""
+    """Whether the outputs are there and the last one, which is written last, is not older than the
+    inputs. Equal times are enough, as in Ninja: files of a few milliseconds may have one time."""
     try:
         newest = max(os.stat(it).st_mtime_ns for it in inputs)
-        return all(map(os.path.exists, outputs)) and os.stat(outputs[-1]).st_mtime_ns > newest
+        return all(map(os.path.exists, outputs)) and os.stat(outputs[-1]).st_mtime_ns >= newest
     except FileNotFoundError:
         return False

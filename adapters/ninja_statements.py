@@ -5,7 +5,7 @@ import re
 
 from adapter_files import Wrong
 from compilers import compile_flags, filtered, scan_command
-from ninja_files import escaped, paths, shell, value
+from ninja_files import VARIABLE, escaped, paths, shell, value
 
 FIRST_STATEMENT = re.compile(r"^build ", re.M)
 # Words of a compilation that are no flags of a scan. Those of the second list have their value in
@@ -43,8 +43,8 @@ class Statements:
     def __init__(self, generator, file, steps, program, this):
         self.generator, self.file, self.steps, self.program, self.this = (
             generator, file, steps, program, this)
-        # the names of the rules that scan, by their commands
-        self.scans = {}
+        # the names of the rules that scan, by their commands, and of the variables that have flags
+        self.scans, self.flags = {}, {}
 
     def texts(self):
         """Returns the texts by their names. What the generator wrote into files that build.ninja
@@ -69,20 +69,29 @@ class Statements:
 
     def rules(self):
         this = shell([*self.this, f"--program={self.program}"])
-        text = "".join(SCAN.format(name=name, command=it) for it, name in self.scans.items())
+        text = "".join(f"{name} = {it}\n" for it, name in self.flags.items()) + "\n"
+        text += "".join(SCAN.format(name=name, command=it) for it, name in self.scans.items())
         text += RULES.format(collate=shell([self.program, "collate"]), this=this)
         own = {it.rule: (target, it) for step in self.steps for target in step.targets
-               if has_own_rule(target) for it in target.compiles}
+               for it in target.compiles}
         for name, (target, build) in own.items():
-            rule = dict(build.file.rule(name))
-            if target.is_cached:
-                # a cache does not know the module files that an object depends on
-                rule["command"] = rule["command"].partition(" ")[2]
-            if target.style == "gcc":
-                rule["command"] += f" && {filtered(self.generator.DEPFILE)}"
+            rule = self.compile_rule(target, build.file.rule(name))
             lines = [f"rule {own_rule(name)}", *(f" {key} = {raw}" for key, raw in rule.items())]
             text += "\n".join([*lines, "\n"])
         return text
+
+    def compile_rule(self, target, rule):
+        """Returns the bindings of the rule that compiles with a map, by those of the generator."""
+        flags = f"${{{self.generator.FLAGS}}} {' '.join(compile_flags(target.style, '$out'))}"
+        known = {**dict.fromkeys(self.generator.DEPFILES, "$out.d"), self.generator.FLAGS: flags}
+        rule = {key: VARIABLE.sub(lambda it: known.get(it[1] or it[2], it[0]), raw)
+                for key, raw in rule.items()}
+        if target.is_cached:
+            # a cache does not know the module files that an object depends on
+            rule["command"] = rule["command"].partition(" ")[2]
+        if target.style == "gcc":
+            rule["command"] += f" && {filtered('$out.d')}"
+        return rule
 
     def collated(self, step):
         objects = [it for target in step.targets for it in target.objects]
@@ -99,13 +108,14 @@ class Statements:
 
     def compiled(self, step, target, build):
         name = self.generator.FLAGS
-        flags = [it for it in build.variable(name).split(" ")
-                 if it not in self.generator.MODULE_FLAGS]
-        added = shell(compile_flags(target.style, build.outputs[0]))
-        raw = {**build.raw, name: f"{value(' '.join(flags))} {added}",
-               "dyndep": value(step.dyndep)}
-        return build.text(own_rule(build.rule) if has_own_rule(target) else build.rule, raw=raw,
-                          implicit=build.implicit + step.waits,
+        raw = {key: it for key, it in build.raw.items() if key not in self.generator.DEPFILES}
+        if name in raw:
+            flags = " ".join(it for it in raw[name].split(" ")
+                             if it not in self.generator.MODULE_FLAGS)
+            # so that Ninja reads them once
+            raw[name] = "$" + self.flags.setdefault(flags, f"dyncollate_flags{len(self.flags)}")
+        raw["dyndep"] = value(step.dyndep)
+        return build.text(own_rule(build.rule), raw=raw, implicit=build.implicit + step.waits,
                           order_only=waits(build) + [step.dyndep, f"{build.outputs[0]}.modmap"])
 
     def scanned(self, target, build):
@@ -127,10 +137,6 @@ class Statements:
 def waits(build):
     """Returns what a compilation waits for, except the dyndep file of Meson's own scan."""
     return [it for it in build.order_only if it != build.variable("dyndep")]
-
-
-def has_own_rule(target):
-    return target.style == "gcc" or target.is_cached
 
 
 def own_rule(name):

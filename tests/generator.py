@@ -11,7 +11,7 @@ from unittest import mock
 from tests import program
 from tests.builds import TOP, Directory, edit, touch
 from tests.run import output_of, run, run_apart, run_at_once
-from tests.tools import of_versions, tool, version
+from tests.tools import WithoutClang, of_versions, tool, version
 
 GENERATE = TOP / "examples/generate"
 
@@ -222,6 +222,10 @@ class OutOfSourceInAProject(OutOfSource, Directory):
 
 class OutOfSourceWithGcc(OutOfSource, Directory):
     form, tools = "gcc", ["ninja", "clang", "scanner", "gcc"]
+
+
+class OutOfSourceWithoutClang(WithoutClang, OutOfSource, Directory):
+    form, tools = "gcc", ["ninja", "gcc"]
 
 
 class OutOfSourceWithNewerGcc(OutOfSource, Directory):

@@ -15,7 +15,7 @@ from tests.case import tree
 from tests.cmake import NINJA, TOP
 from tests.meson import KILLED, Builds, Tree, environment
 from tests.run import output_of, run, run_at_once
-from tests.tools import tool
+from tests.tools import WithoutClang, tool
 
 ADAPTER = str(TOP / "adapters/gn/dyncollate-gn")
 DATA = TOP / "tests/data/gn"
@@ -31,6 +31,7 @@ def adapter(*words, **more):
 
 class GnTree(Tree):
     COMPILED = re.compile(r"^\[\d+/\d+\] CXX (.*)$", re.M)
+    generator, package = staticmethod(lambda: shutil.which("gn")), "generate-ninja"
 
     def setup(self, flags=("-std=c++20",), adopts=True, **more):
         """Runs GN, and dyncollate-gn if it `adopts` the build."""
@@ -46,7 +47,6 @@ class GnTree(Tree):
 
 
 class GnBuilds(Builds):
-    generator, its_package = staticmethod(lambda: shutil.which("gn")), "generate-ninja"
     tree_class = GnTree
 
     def prints(self, text):
@@ -298,3 +298,12 @@ class EditsWithClang(Edits, GnBuilds):
 
 class EditsWithGcc(Edits, GnBuilds):
     compiler, package = staticmethod(lambda: tool("gcc")), "g++-12"
+
+
+class WithoutAnyClang(WithoutClang, GnBuilds):
+    compiler = staticmethod(lambda: tool("gcc"))
+
+    def test_a_project(self):
+        self.lay({})
+        self.builds()
+        self.prints("303 12 9\n")

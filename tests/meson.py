@@ -1,7 +1,7 @@
 """How dyncollate-meson and dyncollate-ninja adopt a build that Meson configured, and restore it.
 
 MESON names the Meson, otherwise it is the first one in the PATH. The tests whose tools are missing
-are skipped.
+are skipped. `meson_newer` repeats them with another Meson.
 """
 import functools
 import json
@@ -15,7 +15,7 @@ from tests import program
 from tests.case import tree
 from tests.cmake import NINJA, TOP, put
 from tests.run import InRoom, run, run_at_once
-from tests.tools import tool
+from tests.tools import scans_by_itself, tool
 
 ADAPTER = str(TOP / "adapters/meson/dyncollate-meson")
 DATA = TOP / "tests/data/meson"
@@ -67,10 +67,10 @@ USAGE = "usage: dyncollate-meson adopt|restore BUILD_DIR, or dyncollate-meson --
 
 
 @functools.lru_cache(None)
-def meson():
+def meson(variable="MESON", usual="meson"):
     """Returns the command of Meson, or None."""
-    command = shlex.split(os.environ.get("MESON", "meson"))
-    return command if shutil.which(command[0]) else None
+    command = shlex.split(os.environ.get(variable, usual))
+    return command if command and shutil.which(command[0]) else None
 
 
 def environment(**more):
@@ -92,6 +92,8 @@ def adapter(*words, **more):
 class Tree:
     """A project and its build directory. A run leaves in `status` and `log` how it ended."""
     COMPILED = re.compile(r"^\[\d+/\d+\] Compiling C\+\+ object .*/(.*)$", re.M)
+    # a function that returns the command of the generator or None, and its package
+    generator, package = staticmethod(meson), "meson"
 
     def __init__(self, top, files, compiler, *options, build="build", **more):
         self.top, self.build, self.compiler = top, top / build, compiler
@@ -103,7 +105,7 @@ class Tree:
         """Runs Meson with dyncollate-ninja, if `more` does not say otherwise."""
         c = self.compiler.replace("clang++", "clang").replace("g++", "gcc")
         variables = {"CC": c, "CXX": self.compiler, "NINJA": NINJA, **more}
-        status, self.log = run(*meson(), "setup", self.build, self.top, *options,
+        status, self.log = run(*self.generator(), "setup", self.build, self.top, *options,
                                env=environment(**variables))
         assert not status, self.log
 
@@ -126,14 +128,14 @@ class Tree:
 class Builds(InRoom):
     # a function that returns the compiler or None, and its package
     compiler, package = staticmethod(lambda: tool("clang")), "clang-19"
-    # likewise the generator
-    generator, its_package = staticmethod(meson), "meson"
     tree_class = Tree
     seconds = 60
 
     def setUp(self):
-        for found, name in ((self.generator(), self.its_package), (tool("ninja"), "ninja-build"),
-                            (self.compiler(), self.package), (tool("scanner"), "clang-tools-19")):
+        compiler, tree_class = self.compiler(), self.tree_class
+        for found, name in ((tree_class.generator(), tree_class.package),
+                            (tool("ninja"), "ninja-build"), (compiler, self.package),
+                            (scans_by_itself(compiler) or tool("scanner"), "clang-tools-19")):
             if not found:
                 self.skipTest(f"{name}: not there")
         super().setUp()

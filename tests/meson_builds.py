@@ -6,9 +6,9 @@ import re
 import shutil
 
 from tests.cmake import NINJA, put
-from tests.meson import DATA, SMALL, TWO, Builds, environment, meson
+from tests.meson import DATA, SMALL, TWO, Builds, environment
 from tests.run import run
-from tests.tools import tool
+from tests.tools import WithoutClang, tool, version
 
 CYCLE = "dyncollate-meson: libraries import each other's modules in a cycle: "
 RECONFIGURE = ("dyncollate-meson: for a first `import std`, and for the first module of a library "
@@ -58,7 +58,7 @@ class Projects:
     def installed(self, text):
         """What Meson installs are the program and its library, and the program runs."""
         home = self.room / "installed"
-        status, said = run(*meson(), "install", "-C", self.tree.build,
+        status, said = run(*self.tree.generator(), "install", "-C", self.tree.build,
                            env=environment(DESTDIR=str(home), NINJA=NINJA))
         self.assertEqual(status, 0, said)
         found = {it.name: it for it in home.rglob("*") if it.is_file()}
@@ -76,6 +76,15 @@ class Projects:
         self.assertIn(": cpp_COMPILER_RSP", self.tree.text())
         self.builds()
         self.prints("1 5 6 4 5\n")
+
+    def test_scans_of_meson(self):
+        """Those of targets with a flag for modules are not run. Clang does not know the flag."""
+        lists = SMALL["meson.build"]
+        for it in "lib.cpp", "main.cpp":
+            lists = lists.replace(f"'{it}'", f"'{it}', cpp_args: '-fmodules-ts'")
+        self.lay({**SMALL, "meson.build": lists})
+        self.builds("lib.cpp", "main.cpp")
+        self.assertEqual([*self.tree.build.glob("*.p/*.dd")], [])
 
     def test_edits(self):
         """What is compiled after an import, a module and a source are added or removed."""
@@ -109,6 +118,9 @@ class Projects:
         self.builds()
         self.edit("a.cpp", "return 0", "return 1")
         self.assertEqual(self.collated(), ([], []))
+        # the document was written within the same milliseconds as what was made from it
+        made = self.tree.build / "meson-dyncollate/liba.a.p/modules.dd"
+        os.utime(made.with_name("target.json"), ns=(made.stat().st_mtime_ns,) * 2)
         self.edit("b.cpp", "module b;\n", "module b;\nimport a;\n")
         self.assertEqual(self.collated(), (["app.p/target.json", "liba.a.p/group.json"],
                                            ["app.p/modules.dd", "libb.a.p/modules.dd"]))
@@ -192,6 +204,8 @@ class Projects:
 class ProjectsWithClang(Projects, Builds):
     def test_import_std(self):
         self.lay_data("std")
+        link, = re.findall("^build app: .*", self.tree.text(), re.M)
+        self.assertIn(" meson-dyncollate/std/std.cppm.o", link)
         self.builds()
         self.prints("3 2\n")
 
@@ -228,9 +242,27 @@ class ProjectsWithGcc(Projects, Builds):
             words = ["qemu-aarch64-static", "-L", "/usr/aarch64-linux-gnu", self.tree.build / "app"]
             self.assertEqual(run(*words), (3, ""))
 
+    def test_import_std(self):
+        """GCC has it from version 15 on."""
+        if version("gcc") < (15,):
+            self.skipTest("g++-15: not there")
+        self.lay({**SMALL, "meson.build": SMALL["meson.build"].replace("c++20", "c++23"),
+                  "main.cpp": "import std;\nimport lib;\n"
+                              "int main() { std::puts(\"3\"); return lib(); }\n"})
+        self.builds()
+        self.prints("3\n")
+
     def test_a_precompiled_header(self):
         put(self.room / "a project/pch/all.h", "#include <cstdio>\n")
         lists = SMALL["meson.build"].replace("'main.cpp',", "'main.cpp', cpp_pch: 'pch/all.h',")
         self.lay({**SMALL, "meson.build": lists})
         self.fails("dyncollate-meson: app.p uses modules and a precompiled header, which GCC "
                    "rejects together with modules: configure with -Db_pch=false")
+
+
+class WithoutAnyClang(WithoutClang, Builds):
+    compiler = staticmethod(lambda: tool("gcc"))
+
+    def test_a_module(self):
+        self.lay(SMALL)
+        self.builds("lib.cpp", "main.cpp")

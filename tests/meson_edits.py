@@ -12,7 +12,7 @@ import random
 import sys
 
 from tests import cmake_edits
-from tests.meson import Builds, Tree
+from tests.meson import Builds
 from tests.tools import tool
 
 LIBRARIES = ["base", "mid", "top"]
@@ -106,7 +106,7 @@ class RandomEdits(cmake_edits.RandomEdits):
         self.seed, self.choice = seed, random.Random(seed)
         self.project = Project(self.choice)
         self.written = self.project.files()
-        self.tree = Tree(self.room / "a project", self.written, self.compiler())
+        self.lay(self.written)
         self.assertTrue(self.tree.adopted(), self.tree.log)
         self.is_right("from scratch", [it.file for it in self.project.units] + ["main.cpp"])
 

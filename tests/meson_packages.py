@@ -58,8 +58,8 @@ class Package:
         self.top, = self.room.iterdir()
 
     def set_up(self, **more):
-        options = ["--default-library=static", "-Dcpp_std=c++20", *self.options]
-        self.tree = Tree(self.top, {}, self.compiler(), *options, **more)
+        options = ["--default-library=static", "-Dcpp_std=c++20", "-Dbuildtype=plain"]
+        self.tree = Tree(self.top, {}, self.compiler(), *options, *self.options, **more)
 
     def test_as_it_is(self):
         """The Ninja file differs from Meson's only in the line in which Meson names its Ninja."""
@@ -92,6 +92,22 @@ class TinyXml(Package, Builds):
 
 
 class HttpLib(Package, Builds):
-    """Its header is made by the build."""
+    """Its header is made by the build. GCC 15 rejects inline functions of OpenSSL in a module."""
     name, user = "cpp-httplib", "use.cpp"
-    options = ["-Dcpp-httplib_compile=true", "-Db_lto=false"]
+    options = ["-Dcpp-httplib_compile=true", "-Db_lto=false", "-Dcpp-httplib_openssl=disabled"]
+
+
+class WithGcc:
+    compiler, package = staticmethod(lambda: tool("gcc")), "g++-12"
+
+
+class JsonCppWithGcc(WithGcc, JsonCpp):
+    pass
+
+
+class TinyXmlWithGcc(WithGcc, TinyXml):
+    pass
+
+
+class HttpLibWithGcc(WithGcc, HttpLib):
+    pass

@@ -5,6 +5,7 @@ import re
 import shutil
 import tempfile
 from pathlib import Path
+from unittest import mock
 
 from tests.run import run
 
@@ -59,3 +60,28 @@ def version(name):
     """The version of a tool, as numbers that can be compared."""
     text = run(tool(name), "-dumpfullversion" if name == "gcc" else "--version")[1]
     return tuple(map(int, re.search(r"\d+(\.\d+)+", text)[0].split(".")))
+
+
+def scans_by_itself(compiler):
+    """Whether this is GCC 14 or newer, which needs no Clang."""
+    return compiler == tool("gcc") and version("gcc") >= (14,)
+
+
+class WithoutClang:
+    """A test in whose PATH is no Clang, for a GCC that scans by itself."""
+
+    def setUp(self):
+        # these are found before the PATH changes, because later tests get the same paths
+        if not all(map(tool, ("gcc", "ninja"))) or not scans_by_itself(tool("gcc")):
+            self.skipTest("g++-14 and ninja-build: not there")
+        folder = tempfile.TemporaryDirectory(prefix="dyncollate-")
+        self.addCleanup(folder.cleanup)
+        for it in (it for top in os.environ["PATH"].split(":") for it in Path(top).glob("*")):
+            link = Path(folder.name, it.name)
+            if "clang" not in it.name and not os.path.lexists(link):
+                link.symlink_to(it)
+        kept = {name: text for name, text in os.environ.items() if name not in ("CLANG", "SCANNER")}
+        hidden = mock.patch.dict(os.environ, {**kept, "PATH": folder.name}, clear=True)
+        hidden.start()
+        self.addCleanup(hidden.stop)
+        super().setUp()

@@ -28,8 +28,8 @@ FOR_EDITORS = re.compile(r"(\w+_)?(cc|cxx|objc|objcxx)(_dyncollate)?$")
 # only our compile_commands.json has this, because in strings quotes are escaped
 OURS = '\n  "output": '
 MODULE_FLAGS = frozenset()
-# The variable of a compilation that has its flags, and its depfile in a command.
-FLAGS, DEPFILE = "cflags_cc", "$out.d"
+# The variables of a compilation that have its flags, and its depfile, which is `$out.d`.
+FLAGS, DEPFILES = "cflags_cc", ()
 REGENERATE = re.compile(r"^(rule gn\n  command = .*)", re.M)
 
 

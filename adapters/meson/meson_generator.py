@@ -25,8 +25,8 @@ LINK = re.compile(r"[a-z]+_LINKER")
 THROUGH = re.compile(r"STATIC_LINKER|[a-z]+_LINKER|SHSYM|phony$")
 # Flags for which Meson scans a target by itself.
 MODULE_FLAGS = {"-fmodules-ts", "-fmodules"}
-# The variable of a compilation that has its flags, and its depfile in a command.
-FLAGS, DEPFILE = "ARGS", "$DEPFILE"
+# The variables of a compilation that have its flags, and its depfile, which is `$out.d`.
+FLAGS, DEPFILES = "ARGS", ("DEPFILE", "DEPFILE_UNQUOTED")
 REGENERATE = re.compile(r"^(rule REGENERATE_BUILD\n command = )", re.M)
 
 

@@ -1,4 +1,5 @@
-"""Prints the processor time, in milliseconds, of runs of Meson and Ninja and all that they start.
+"""Prints the processor time, in milliseconds, of runs of Meson and Ninja and all that they start,
+and the instructions of Ninja with nothing to do.
 
     measure.py [SOURCES]
 
@@ -8,11 +9,16 @@ one before, and a program. It is measured without modules and with one in each s
     setup      Meson, with Ninja and with dyncollate-ninja
     adopt      dyncollate-meson alone, of the build with modules
     build      Ninja, from scratch
-    idle       Ninja, with nothing to do, the median of 9 runs
+    idle       Ninja, with nothing to do: the median of 9 runs, and its instructions
+    collated   how many targets are collated after a module's body or its imports have changed
 
-This needs Meson, Ninja, Clang 19 and its scanner.
+`generated` is plain Ninja with a manifest of `examples/generate` for the same sources and modules.
+It has none of Meson's own targets.
+
+This needs Meson, Ninja, Clang 19 and its scanner, and Valgrind.
 """
 import os
+import re
 import resource
 import statistics
 import subprocess
@@ -22,21 +28,28 @@ from pathlib import Path
 
 TOP = Path(__file__).resolve().parents[2]
 PER_LIBRARY = 25
-CLANG = {"CXX": "clang++-19"}
+VARIABLES = {**os.environ, "CXX": "clang++-19", "CLANG": "clang++-19",
+             "SCANNER": "clang-scan-deps-19"}
+
+
+def printed(*words, **given):
+    """What a command prints, which has to succeed."""
+    return subprocess.run(words, check=True, stdout=subprocess.PIPE, stderr=subprocess.STDOUT,
+                          text=True, env=VARIABLES, **given).stdout
 
 
 def milliseconds(*words, **variables):
     before = resource.getrusage(resource.RUSAGE_CHILDREN)
     subprocess.run(words, check=True, stdout=subprocess.DEVNULL, stderr=subprocess.DEVNULL,
-                   env={**os.environ, **CLANG, **variables})
+                   env={**VARIABLES, **variables})
     after = resource.getrusage(resource.RUSAGE_CHILDREN)
     return 1000 * (after.ru_utime + after.ru_stime - before.ru_utime - before.ru_stime)
 
 
 def write_project(folder, count, modules):
-    """Each source uses the one before it."""
+    """Each source uses the one before it. `targets` is the list of `generate`."""
     folder.mkdir()
-    lists, libraries = "project('p', 'cpp', default_options: ['cpp_std=c++20'])\n", ""
+    lists, libraries, targets = "project('p', 'cpp', default_options: ['cpp_std=c++20'])\n", "", ""
     for number in range(count):
         used = f"f{number - 1}()" if number else "0"
         if modules:
@@ -48,12 +61,14 @@ def write_project(folder, count, modules):
     for first in range(0, count, PER_LIBRARY):
         numbers = range(first, min(count, first + PER_LIBRARY))
         words = [f"'l{first}'", *(f"'s{it}.cpp'" for it in numbers), f"link_with: [{libraries}]"]
+        targets += f"library l{first} {' '.join(f's{it}.cpp' for it in numbers)} -- {libraries}\n"
         lists += f"l{first} = static_library({', '.join(words)})\n"
         libraries = f"l{first}"
     head = f"import m{count - 1};\n" if modules else f"int f{count - 1}();\n"
     (folder / "main.cpp").write_text(head + f"int main() {{ return f{count - 1}(); }}\n")
     lists += f"executable('app', 'main.cpp', link_with: [{libraries}])\n"
     (folder / "meson.build").write_text(lists)
+    (folder / "targets").write_text(f"{targets}program app main.cpp -- {libraries}\n")
 
 
 def measure(folder, count, modules):
@@ -67,8 +82,34 @@ def measure(folder, count, modules):
         adapter = str(TOP / "adapters/meson/dyncollate-meson")
         print(f"adopt {milliseconds(sys.executable, adapter, 'adopt', str(folder / 'ninja')):.0f}")
     print(f"build.{what} {milliseconds('ninja', '-C', built):.0f}", flush=True)
+    measure_idle(what, built)
+    if modules:
+        measure_edits(folder, built, count // 2)
+        generated = folder / "generated"
+        generated.mkdir()
+        printed(TOP / "examples/generate", "clang", "../targets", cwd=generated)
+        printed("ninja", "-C", generated)
+        measure_idle("generated", str(generated))
+
+
+def measure_idle(what, built):
     idle = statistics.median(milliseconds("ninja", "-C", built) for _ in range(9))
-    print(f"idle.{what} {idle:.1f}")
+    valgrind = ["valgrind", "--tool=callgrind", "--callgrind-out-file=/dev/null"]
+    said = printed(*valgrind, "ninja", "-C", built)
+    assert "no work to do" in said, said
+    instructions = re.search(r"Collected : (\d+)", said)[1]
+    print(f"idle.{what} {idle:.1f}\nidle.{what}.instructions {instructions}", flush=True)
+
+
+def measure_edits(folder, built, number):
+    name = folder / f"s{number}.cpp"
+    for what, old, new in ("body", "return", "return 1 +"), ("import", ";\n", ";\nimport m0;\n"):
+        name.write_text(name.read_text().replace(old, new, 1))
+        files = [*Path(built).glob("meson-dyncollate/*/info.json")]
+        times = [it.stat().st_mtime_ns for it in files]
+        steps = printed("ninja", "-C", built).count("] Collating ")
+        targets = sum(it.stat().st_mtime_ns != time for it, time in zip(files, times))
+        print(f"collated.{what}.steps {steps}\ncollated.{what}.targets {targets}", flush=True)
 
 
 def main(count=200):
