@@ -1,6 +1,7 @@
 """Browsers without a window: Chromium, by the DevTools protocol over two pipes, and Firefox, by Marionette, which is
 how geckodriver speaks WebDriver to it."""
 import base64
+import bisect
 import fcntl
 import itertools
 import json
@@ -10,6 +11,7 @@ import shutil
 import socket
 import subprocess
 import tempfile
+import threading
 import time
 from pathlib import Path
 
@@ -17,21 +19,52 @@ CHROMIUM = next(filter(None, map(shutil.which, ("chromium", "chromium-browser", 
 FIREFOX = next(filter(None, map(shutil.which, ("firefox-esr", "firefox"))), None)
 SECONDS = 300
 QUIET = {"stdin": subprocess.DEVNULL, "stdout": subprocess.DEVNULL, "stderr": subprocess.DEVNULL}
-# The longest of the tasks of a page of Firefox after files were chosen, by a profile. Firefox marks tasks of 50 ms.
-LONGEST = """(whole) => {
+# The tasks of a page of Firefox after files were chosen, by a profile: when each begins and ends, by the system's clock, and for how long it
+# has the processor. Firefox marks tasks of 50 ms, and says at each sample how long the thread had the processor since the last one.
+TASKS = """(whole) => {
   const all = (it) => [it, ...it.processes.flatMap(all)], { osPid } = gBrowser.selectedBrowser.frameLoader.remoteTab;
-  const { markers, samples, stringTable } = all(whole).flatMap((it) => it.threads).find((it) => it.pid === osPid);
+  const process = all(whole).find((it) => it.threads.some((thread) => thread.pid === osPid));
+  const { markers, samples, stringTable } = process.threads.find((it) => it.pid === osPid);
   const { startTime, endTime, name, data } = markers.schema, { time, threadCPUDelta } = samples.schema;
+  const zero = process.meta.startTimeAsClockMonotonicNanosecondsSinceBoot / 1e6;
   const begin = markers.data.findLast((it) => it[data]?.name === "chosen")[startTime];
   const tasks = markers.data.filter((it) => stringTable[it[name]] === "LongTask" && it[endTime] > begin);
-  return Math.max(0, ...tasks.map((it) => {
+  return tasks.map((it) => {
     const start = Math.max(begin, it[startTime]), last = samples.data.findIndex((each) => each[time] >= it[endTime]);
     const within = samples.data.slice(0, last < 0 ? undefined : last + 1).filter((each) => each[time] > start);
-    return Math.min(it[endTime] - start, within.reduce((sum, each) => sum + (each[threadCPUDelta] ?? 0) / 1e6, 0));
-  }));
+    const busy = within.reduce((sum, each) => sum + (each[threadCPUDelta] ?? 0) / 1e6, 0);
+    return [zero + start, zero + it[endTime], busy];
+  });
 }"""
 KEYS = {"Tab": 9, "Enter": 13, "End": 35, "Home": 36, "ArrowLeft": 37, "ArrowUp": 38, "ArrowRight": 39, "ArrowDown": 40,
         "Delete": 46, "/": 191}
+
+
+class States(threading.Thread):
+    """Looks each millisecond whether the first threads of some processes could run."""
+
+    def __init__(self, processes):
+        super().__init__(daemon=True)
+        self.processes, self.seen, self.is_done = processes, [], False
+        self.start()
+
+    def run(self):
+        while not self.is_done:
+            states = {it: Path(f"/proc/{it}/task/{it}/stat").read_text().rpartition(")")[2].split()[0] for it in self.processes}
+            self.seen.append((time.monotonic() * 1000, states))
+            time.sleep(0.001)
+
+    def end(self):
+        self.is_done = True
+        self.join()
+
+    def block(self, process, start, end, busy):
+        """For how long a task blocked the thread that had the processor for `busy`: by the clock, but without the time in which it could run
+        and others had the processors. If it waited, a look that comes more than 2 late shows how long others had them. All are milliseconds."""
+        first, last = (bisect.bisect(self.seen, (it,)) for it in (start, end))
+        looks = itertools.pairwise((min(end, max(start, at)), states[process]) for at, states in self.seen[max(0, first - 1):last + 1])
+        others = sum(later - at if state == state_then == "R" else max(0, later - at - 2) for (at, state), (later, state_then) in looks)
+        return end - start - max(0, others - busy)
 
 
 class Page:
@@ -147,16 +180,22 @@ class Browser(Page):
         self.settle()
 
     def longest_block(self, does):
-        """The milliseconds of the processor that the longest task of the page takes while `does` is called."""
+        """For how many milliseconds a task of the page blocks it at most while `does` is called (see States)."""
+        session, self.session = self.session, None
+        renderers = [it["id"] for it in self.call("SystemInfo.getProcessInfo")["processInfo"] if it["type"] == "renderer"]
+        self.session = session
         kinds = {"includedCategories": ["disabled-by-default-devtools.timeline"], "excludedCategories": ["*"]}
         self.call("Tracing.start", transferMode="ReportEvents", traceConfig=kinds)
+        states = States(renderers)
         does()
+        states.end()
         self.call("Tracing.end")
         while self.events[-1].get("method") != "Tracing.tracingComplete":
             self.events.append(self.message())
         found = [it for event in self.events if event.get("method") == "Tracing.dataCollected" for it in event["params"]["value"]]
         names = {it["tid"]: it["args"]["name"] for it in found if it["name"] == "thread_name"}
-        return max(it.get("tdur", 0) for it in found if names.get(it["tid"]) == "CrRendererMain" and it["name"] == "RunTask") / 1000
+        tasks = [it for it in found if names.get(it["tid"]) == "CrRendererMain" and it["name"] == "RunTask"]
+        return max(states.block(it["pid"], it["ts"] / 1000, (it["ts"] + it.get("dur", 0)) / 1000, it.get("tdur", 0) / 1000) for it in tasks)
 
     def errors(self):
         """What the page wrote to the console as an error, and the addresses that it asked for."""
@@ -261,13 +300,16 @@ class Firefox(Page):
         self.settle()
 
     def longest_block(self, does):
-        """The milliseconds of the processor that the longest task of the page takes after files were chosen, as `does` is called.
-        Firefox says at each sample how long the thread had the processor since the last one."""
+        """For how many milliseconds a task of the page blocks it at most after files were chosen, as `does` is called (see States). What is
+        shorter than 50 counts as none."""
+        process = self.of_browser("gBrowser.selectedBrowser.frameLoader.remoteTab.osPid")
         self.of_browser("Services.profiler.StartProfiler(1 << 23, 1, ['cpu', 'nostacksampling', 'nomarkerstacks'], ['GeckoMain'])")
+        states = States([process])
         does()
-        found = self.of_browser(f"Services.profiler.getProfileDataAsync().then({LONGEST})")
+        states.end()
+        found = self.of_browser(f"Services.profiler.getProfileDataAsync().then({TASKS})")
         self.of_browser("Services.profiler.StopProfiler()")
-        return found
+        return max((states.block(process, *it) for it in found), default=0)
 
     def of_browser(self, expression):
         """The value of an expression of the browser itself."""

@@ -320,6 +320,17 @@ class Page(Shown):
             setTimeout(() => done(count), 50); }})""") for name in ("SecurityError", "AbortError")]
         self.assertEqual(clicks, [1, 0])
 
+    def test_a_directory_that_cannot_be_read(self):
+        """It is said why, and what comes next is read."""
+        self.page.open(PAGE.as_uri())
+        self.page.evaluate("(window.showDirectoryPicker = async () => ({ kind: 'directory' }), document.querySelector('#directories').click())")
+        self.page.wait("document.querySelector('#taken').textContent")
+        self.page.settle()
+        self.assertEqual(self.text("#taken"), "This browser cannot read all of it (it.values is not a function). Choose it with the buttons. "
+                                              "None of 0 files is a document that dyncollate reads.")
+        self.page.drop(str(self.lay(CYCLE)))
+        self.assertEqual((self.text("#taken"), self.text("#count")), ("", "5 files"))
+
     def test_an_edit(self):
         """The result follows the text, and a change of the maps or of the command."""
         self.page.open(PAGE.as_uri() + "#one-module")

@@ -11,7 +11,7 @@ from tests.run import run_apart
 
 WEB, TABLE = Path(program.TOP) / "web", Path(program.TOP) / "explain/meanings.json"
 SCRIPTS = [f"{it}.mjs" for it in (
-    "documents finding steps graph boxes questions layout meanings suspects exports replies session").split()]
+    "documents finding steps graph boxes questions layout meanings suspects exports reading replies session").split()]
 SCAN = """const scan = (path, provides, ...requires) => JSON.stringify({ version: 1, rules: [{
   "primary-output": path, provides: provides ? [{ "logical-name": provides }] : [],
   requires: requires.map((it) => ({ "logical-name": it })) }] });
@@ -74,6 +74,8 @@ class Functions(unittest.TestCase):
 
     def test_absolute_names_below_the_build_directory(self):
         self.assertEqual(self.found(["lib/i.json"], ["/b/lib/i.json", "/c/i.json"], **{"build-dir": "/b/"}), ["lib/i.json", None])
+        # (another file of this name is not there)
+        self.assertEqual(self.found(["i.json"], ["/b/i.json", "/c/d/i.json"], **{"build-dir": "/b"}), ["i.json", None])
 
     def test_absolute_names_without_a_build_directory(self):
         """The directory that is not there is found by the names. A file of the same name in another directory is not taken."""
@@ -91,6 +93,33 @@ class Functions(unittest.TestCase):
         self.assertEqual(self.found(["a.json", "b.json"], ["x/a.json", "x/b.json", "y/b.json"]), ["a.json", "b.json", None])
         self.assertEqual(self.found(["b.json"], ["x/b.json", "y/b.json"]), [None, None])
 
+    def test_files_are_read_while_others_are_found(self):
+        """A hundred at once. A directory's own name is no part of theirs, and what is no document is left out."""
+        said, names, contents = self.value("[said, read.map((it) => it.name), read.map((it) => it.content)]", """
+            const said = [], reading = new Reading((...it) => said.push(it));
+            const pairs = [...Array(250).keys()].map((it) => [`top/${it}.ddi`, new Blob([`{"rules":[]}${" ".repeat(it % 7)}`])]);
+            reading.take([["top/x.o", null], ["top/x.json", new Blob(["[]"])], ...pairs.slice(0, 148)]);
+            reading.take(pairs.slice(148));
+            const { read } = await reading.end();""")
+        self.assertEqual(said, [["Reading", 0, 149], ["Reading", 100, 251], ["Reading", 200, 251]])
+        self.assertEqual(names, [f"{it}.ddi" for it in range(250)])
+        self.assertEqual(contents, ['{"rules":[]}' + " " * (it % 7) for it in range(250)])
+
+    def test_files_that_cannot_be_read(self):
+        """They are named, and the others are read, also one that is not UTF-8."""
+        said, read = self.value("[said, read.map((it) => [it.name, typeof it.content === 'string' ? it.content : [...it.content]])]", """
+            const gone = { size: 1, toString() { throw new Error("gone"); } }, bytes = new Blob([new Uint8Array([34, 255, 34])]);
+            const reading = new Reading(() => 0);
+            reading.take([["a.ddi", new Blob(["[]"])], ["b.ddi", gone], ["c.ddi", bytes], ["e.ddi", "not there"], ["\ufffd.ddi", gone]]);
+            const { said, read } = await reading.end();""")
+        self.assertEqual(read, [["a.ddi", "[]"], ["c.ddi", [34, 255, 34]]])
+        self.assertEqual(said, "e.ddi is left out: not there \ufffd.ddi is left out: its name is not UTF-8, so no document can name it. "
+                               "b.ddi is left out: gone")
+        read = self.value("read.map((it) => it.content)", """const reading = new Reading(() => 0), blob = new Blob(["[]"]);
+            reading.take([["a.ddi", blob], ["b.ddi", { size: 9, toString: () => "{}" }], ["c.ddi", blob]]);
+            const { read } = await reading.end();""")
+        self.assertEqual(read, ["[]", "{}", "[]"], "the size of one is not the one that was said")
+
     def order(self, **contents):
         made = ", ".join(f"{json.dumps(name + '.target.json')}: target({json.dumps(name)}, {json.dumps(more)})"
                          for name, more in contents.items())
@@ -106,32 +135,33 @@ class Functions(unittest.TestCase):
         self.assertEqual(self.order(a={"linked": ["b.json"]}, b={"linked": ["a.json"]}), [["b", [None]], ["a", ["b"]]])
 
     def test_steps(self):
-        """A step gets the info files of those before it. One that links a wrong one is not run."""
+        """A step gets the info files of those that it links, and waits for no other. One that links a wrong one is not run."""
         runs = self.value("""[...runs].map(([{ name }, it]) => [name, it.state, it.line]).concat([saidOf(runs)], given)""", """
             const files = filesOf({ "base.target.json": target("base"), "bad.target.json": target("bad"),
               "app.target.json": target("app", { linked: ["base.json"] }), "top.target.json": target("top", { linked: ["bad.json", "base.json"] }) });
             const given = [], { targets } = requestOf({ command: "steps" }, files, {});
-            const runs = runSteps(targets, ([command, , read], { name }) => {
+            const runs = await runSteps(targets, async ([command, , read], { name }) => {
               given.push([command, name, [...read]]);
               return name === "bad" ? { line: "no", files: new Map() } : { line: "", files: new Map([[`${name}.json`, `info of ${name}`]]) };
             });""")
         self.assertEqual(runs, [
             ["base", "right", ""], ["app", "right", ""], ["bad", "wrong", "no"], ["top", "waits", "it links bad"],
             "2 of 4 targets accepted, 1 not run because what they link is wrong",
-            ["collate", "base", []], ["collate", "app", [["base.json", "info of base"]]], ["collate", "bad", []]])
+            ["collate", "base", []], ["collate", "bad", []], ["collate", "app", [["base.json", "info of base"]]]])
 
     def test_what_runs_again(self):
         """A step runs again if a file that it reads has changed. What is shown of the runs, or asked about them, runs nothing."""
-        called = self.value("calls", """
-            const calls = [], run = (command, document) => (calls.push(JSON.parse(document).target), { status: 0, out: "", err: "", files: new Map() });
+        called, took = self.value("[calls, took]", """
+            const calls = [], run = (command, document) => (calls.push(JSON.parse(document).target), { status: 0, out: "", err: "", files: new Map(), took: 3 });
             const session = new Session({ run }, {}, () => 0), steps = () => session.run({ command: "steps", name: "" }, {});
             session.put(Object.entries({ "a.target.json": target("a", { scans: ["a.ddi"] }), "b.target.json": target("b", { scans: ["b.ddi"] }),
               "a.ddi": scan("a.o", "a"), "b.ddi": scan("b.o", "b") }));
-            steps();
+            await steps();
             for (const it of ["dyndep", "info", "map", "output"]) session.outputs(it);
             session.ask({ question: "most" }, []), session.table(), session.list();
-            steps(), session.edit("b.ddi", scan("b.o", "b", "a")), steps();""")
-        self.assertEqual(called, ["a", "b", "b"])
+            await steps(), session.edit("b.ddi", scan("b.o", "b", "a"));
+            const { took } = await steps();""")
+        self.assertEqual((called, took), (["a", "b", "b"], 6))
 
     def test_the_document_that_a_step_of_cmake_writes(self):
         """It stands for the target, in place of the document that CMake's build has."""
@@ -227,6 +257,17 @@ class Functions(unittest.TestCase):
         """No two boxes overlap, and each is to the right of what it imports."""
         self.assertEqual(self.value("""[edges.every(({ from, to }) => from.x + SIZE.width < to.x), boxes.every((one) => boxes.every((other) => one === other ||
             one.x !== other.x || Math.abs(one.y - other.y) >= SIZE.height))]""", "const { boxes } = drawnGraph(chain), { edges } = layout(boxes);"), [True, True])
+
+    def test_graphs_that_are_not_joined(self):
+        """No band of the drawing is empty."""
+        edges = {"b0": ["p"], "b1": ["b0"], "m0": ["b1"], "h0": ["b1"], "u1": ["m0"], "far": ["h0"], "base": ["b2", "own"], "u2": ["m1"]}
+        names = sorted({*edges, *sum(edges.values(), []), "main"})
+        scans = ", ".join(f'"{it}.ddi": scan("{it}.o", {json.dumps(it)}, ...{json.dumps(edges.get(it, []))})' for it in names)
+        rows = self.value("[boxes.map((it) => it.y).sort((one, other) => one - other), SIZE]",
+                          f'const {{ boxes }} = drawnGraph(graphFor({{ {scans} }}, {{ command: "all" }})); layout(boxes);')
+        ys, size = rows
+        self.assertEqual(ys[0], size["margin"] + (size["row"] - size["height"]) / 2)
+        self.assertLessEqual(max(after - before for before, after in zip(ys, ys[1:])), size["row"])
 
     def test_a_long_cycle(self):
         """It is said by modules, and shortened; a short one by each import."""

@@ -7,21 +7,27 @@ import { near } from "./questions.mjs";
 // From this number of objects on, each target is a box that can be opened. More boxes or edges
 // than these are not drawn.
 const FOLDED_FROM = 40;
-const MOST = { boxes: 400, edges: 900, near: 60 };
+const MOST = { boxes: 400, edges: 900, near: 60, cycle: 8 };
+// What is opened if the objects in the middle of a long cycle are drawn.
+export const REST = "rest";
 
 /**
  * The boxes that are drawn for the nodes in `only`, or for all: targets that are not `opened`, and
  * objects.
  */
-export function drawnGraph({ nodes, targets }, { only = null, opened = new Set() } = {}) {
+export function drawnGraph({ nodes, targets }, given = {}) {
+  const { only = null, opened = new Set(), starts = [] } = given;
   const shown = only ? nodes.filter((node) => only.has(node)) : nodes;
   const objects = shown.filter((node) => node.kind === "object");
   const isFolded = targets.length > 1 && objects.length >= FOLDED_FROM;
-  const boxes = new Map(), boxOf = new Map();
+  const boxes = new Map(), boxOf = new Map(), rest = restOfCycle(shown, opened, starts);
   for (const node of shown) {
     const isInTarget = isFolded && node.target !== null && !opened.has(node.target);
-    const key = isInTarget ? targets[node.target] : node;
-    if (!boxes.has(key)) boxes.set(key, isInTarget ? boxOfTarget(key) : boxOfNode(node, targets));
+    const key = isInTarget ? targets[node.target] : rest.has(node) ? rest : node;
+    if (!boxes.has(key)) {
+      boxes.set(key, isInTarget ? boxOfTarget(key) : key === rest ? boxOfRest(rest)
+        : boxOfNode(node, targets));
+    }
     const box = boxes.get(key);
     box.count++;
     box.isBad ||= node.isBad && node.kind !== "missing";
@@ -48,6 +54,19 @@ function joinUsers(node, boxOf) {
   }
 }
 
+/** The objects of a long cycle without the first two and the last, if they are not to be drawn. */
+function restOfCycle(nodes, opened, starts) {
+  const cycle = [], first = nodes.find((it) => it.badFrom?.length);
+  for (let at = first; at && !cycle.includes(at); [at] = at.badFrom) cycle.push(at);
+  const rest = cycle.slice(2, -1);
+  const isDrawn = opened.has(REST) || starts.some((it) => rest.includes(it));
+  return new Set(isDrawn || cycle.length <= MOST.cycle ? [] : rest);
+}
+
+const boxOfRest = ({ size }) => ({
+  kind: REST, path: "of the cycle", target: null, name: `${size} more`, provides: [`${size} more`],
+  requires: [], isBad: true, count: 0, ...noUsers() });
+
 const boxOfTarget = (target) => ({
   kind: "target", path: target.file, file: target.file, target: target.index, name: target.name,
   provides: [target.name], requires: [], isBad: target.isBad, count: 0, ...noUsers() });
@@ -64,6 +83,7 @@ function labelOf(box, targets) {
   const imports = box.requires.slice(0, 30).join(", ") + more;
   if (box.kind === "missing") return `missing module ${name}: ${box.path}`;
   if (box.kind === "linked") return `module ${name} of ${box.path}`;
+  if (box.kind === REST) return `${name} objects of the cycle`;
   if (box.kind === "target") {
     return `target ${name}, ${plural(box.count, "object")}` + (box.isBad ? ", with the error" : "");
   }
@@ -100,7 +120,8 @@ function limited(boxes) {
  */
 export function drawingOf(graph, reply, opened) {
   const only = reply.found && reply.question !== "most" ? new Set(reply.found) : null;
-  const { boxes, centre, left, isFolded } = drawnGraph(graph, { only, opened: new Set(opened) });
+  const { boxes, centre, left, isFolded } = drawnGraph(graph, { only, opened: new Set(opened),
+    starts: reply.starts });
   const { edges, width, height } = layout(boxes);
   const hasCycle = graph.nodes.some((it) => it.badFrom?.length);
   const indexes = new Map(boxes.map((box, index) => [box, index])), [start] = reply.starts;

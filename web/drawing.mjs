@@ -1,11 +1,11 @@
 // Draws a graph as SVG. Each box is an element that can have the focus; the arrow keys move from
 // box to box.
+import { REST } from "./boxes.mjs";
 import { plural } from "./documents.mjs";
+import { fill } from "./elements.mjs";
 import { SIZE } from "./layout.mjs";
 
 const SVG = "http://www.w3.org/2000/svg";
-// How many elements are made before the browser may do something else.
-const SLICE = 40;
 
 export function element(tag, attributes, ...inside) {
   const made = document.createElementNS(SVG, tag);
@@ -14,21 +14,9 @@ export function element(tag, attributes, ...inside) {
   return made;
 }
 
-const pause = () => new Promise((resolve) => setTimeout(resolve));
-
-/** Makes elements and puts them into a layer that is shown already, some at a time. */
-async function fillLayer(layer, all, make, made) {
-  for (let at = 0; at < all.length && layer.isConnected; at += SLICE) {
-    const some = all.slice(at, at + SLICE).map(make);
-    made.push(...some);
-    layer.append(...some);
-    if (at + SLICE < all.length) await pause();
-  }
-}
-
 /**
  * The drawing of boxes and edges, with what an error is about in red. `opens` is called with a box
- * that is chosen. `fill` draws it.
+ * that is chosen. `draw` draws them.
  */
 export function drawing(graph, opens) {
   const { boxes, edges, width, height } = graph, isColoured = graph.targets.length > 1;
@@ -43,12 +31,12 @@ export function drawing(graph, opens) {
   frame.className = "frame";
   frame.append(svg);
   const focus = react(frame, graph, groups, lines, opens);
-  const fill = async () => {
-    await fillLayer(layers[1], boxes, (box) => drawnBox(box, isColoured), groups);
+  const draw = async () => {
+    await fill(layers[1], boxes, (box) => drawnBox(box, isColoured), groups);
     focus();
-    await fillLayer(layers[0], edges, (edge) => drawnEdge(edge, boxes), lines);
+    await fill(layers[0], edges, (edge) => drawnEdge(edge, boxes), lines);
   };
-  return { frame, svg, fill };
+  return { frame, svg, draw };
 }
 
 function titleOf({ boxes, edges }) {
@@ -66,7 +54,9 @@ function drawnEdge(edge, boxes) {
   const group = element("g", { class: edge.isBad ? "edge bad" : "edge" });
   const user = to.kind === "object" ? to.path : to.name;
   const isOfTargets = [from, to].some((box) => box.kind === "target");
-  const text = isOfTargets ? `${user} imports ${from.name}, ${plural(edge.count, "time")}`
+  const isOfRest = [from, to].some((box) => box.kind === REST);
+  const text = isOfRest ? "imports of the cycle"
+    : isOfTargets ? `${user} imports ${from.name}, ${plural(edge.count, "time")}`
     : `${user} imports ${from.provides.join(", ") || from.path}`;
   group.append(element("path", { d: wayOf(edge, from, to), class: "way" }),
     element("path", { d: `M${to.x},${middleOf(to)}l-9,-4.5v9z`, class: "head" }),

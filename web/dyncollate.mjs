@@ -44,9 +44,10 @@ export class DyncollateError extends Error {
   }
 }
 
-/** Returns the functions of a module, which is given by its bytes. */
-export async function load(bytes) {
-  const module = await WebAssembly.compile(bytes);
+/** Returns the functions of a module, which is given by its bytes or compiled. */
+export async function load(given) {
+  const isCompiled = given instanceof WebAssembly.Module;
+  const module = isCompiled ? given : await WebAssembly.compile(given);
   let instance = null;
 
   const exports = () => (instance ??= new WebAssembly.Instance(module).exports);

@@ -1,9 +1,10 @@
 // The tabs, the graph, and questions about it. An address is
 // #EXAMPLE&name=NAME&question=QUESTION&other=NAME.
 import { ask, busily } from "./asking.mjs";
+import { REST } from "./boxes.mjs";
 import { boxesOf, fileOf, plural } from "./documents.mjs";
 import { drawing, hueOf } from "./drawing.mjs";
-import { $, keep, make, state } from "./elements.mjs";
+import { $, fill, keep, make, state } from "./elements.mjs";
 import { openFile } from "./filing.mjs";
 
 const TABS = { graph: "Graph", table: "Table", output: "Output", dyndep: "Dyndep files",
@@ -54,8 +55,8 @@ async function selectTab(name) {
 async function showTab() {
   if (state.tab === "graph") return showGraph();
   state.look.clear();
-  const shown = state.tab === "table" ? await shownTable() : await shownOutputs();
-  return $("view").replaceChildren(...shown);
+  if (state.tab === "table") return showTable();
+  return $("view").replaceChildren(...await shownOutputs());
 }
 
 async function shownOutputs() {
@@ -72,15 +73,15 @@ function indented(text) {
   return file.value === null ? text : JSON.stringify(file.value, null, 1);
 }
 
-async function shownTable() {
+async function showTable() {
   const { head, rows, left } = await ask("table");
   const keeps = make("button", { onclick: () => busily(keepTable) }, "Keep all rows");
   const cells = (tag, row) => make("tr", {}, ...row.map((it) => make(tag, {}, String(it))));
   const more = left > 0 ? ` ${plural(left, "more row")} not shown.` : "";
-  return [make("p", { class: "note" }, keeps, more),
-    make("table", { "aria-label": $("reply").textContent || "All objects" },
-      make("thead", {}, cells("th", head)),
-      make("tbody", {}, ...rows.map((row) => cells("td", row))))];
+  const body = make("tbody"), label = $("reply").textContent || "All objects";
+  const table = make("table", { "aria-label": label }, make("thead", {}, cells("th", head)), body);
+  $("view").replaceChildren(make("p", { class: "note" }, keeps, more), table);
+  await fill(body, rows, (row) => cells("td", row));
 }
 
 async function keepTable() {
@@ -107,10 +108,10 @@ async function showGraph() {
     const text = state.summary ? "These documents have no object to draw." : "";
     return $("view").replaceChildren(make("p", { class: "note" }, text));
   }
-  const { frame, svg, fill } = drawing(drawn, (box) => busily(choose, box));
+  const { frame, svg, draw } = drawing(drawn, (box) => busily(choose, box));
   $("view").replaceChildren(frame);
   state.look.show(svg, drawn.boxes, drawn.boxes[drawn.chosen < 0 ? drawn.centre : drawn.chosen]);
-  return fill();
+  return draw();
 }
 
 /** A target opens, or closes; the file of an object opens. */
@@ -118,6 +119,7 @@ async function choose(box) {
   address({ ...asksOfAddress(), name: box.name });
   $("name").value = box.name;
   if (box.kind === "target") return toggle(box.target);
+  if (box.kind === REST) return toggle(REST);
   if (box.file) await openFile(box.file);
   return null;
 }
@@ -136,7 +138,8 @@ const LEGEND = [
   ["plain", "an object without a module", (box) => box.kind === "object" && !box.provides.length],
   ["linked", "from an info file", (box) => box.kind === "linked"],
   ["missing", "missing", (box) => box.kind === "missing"],
-  ["bad", "the error", (box) => box.isBad && box.kind !== "missing"],
+  ["bad", "the error", (box) => box.isBad && !["missing", REST].includes(box.kind)],
+  ["bad rest", "more of the cycle, which open", (box) => box.kind === REST],
 ];
 const MOST_COLOURS = 12;
 

@@ -37,7 +37,9 @@ export function finderOf(files) {
   const all = new Map();
   for (const document of documents) {
     for (const path of namesIn(document).map((it) => canonicalPath(it, "", buildOf(document)))) {
-      if (!all.has(path) && !direct(path, document, files)) all.set(path, cutOf(path));
+      const name = direct(path, document, files);
+      if (name !== undefined) owners.set(name, { path, count: Infinity });
+      else if (!all.has(path)) all.set(path, cutOf(path));
     }
   }
   for (const { lost } of [...all.values()].filter(Boolean)) {

@@ -132,10 +132,21 @@ function place(columns) {
   for (let round = 0; round < 12; round++) {
     for (const column of round % 2 ? columns.slice().reverse() : columns) relax(column, round % 2 ? "after" : "before");
   }
-  const all = columns.flat(), top = Math.min(...all.map((node) => node.middle - rowOf(node) / 2));
-  for (const node of all) node.middle += SIZE.margin - top;
+  const all = columns.flat();
+  closeGaps(all);
   for (const node of all) node.y = node.middle - SIZE.height / 2;
   return Math.max(...all.map((node) => node.middle + rowOf(node) / 2)) + SIZE.margin;
+}
+
+/** Takes out bands in which no column has a node, so that the first node is at the margin. */
+function closeGaps(nodes) {
+  const topOf = (node) => node.middle - rowOf(node) / 2;
+  let end = SIZE.margin, shift = Infinity;
+  for (const node of nodes.sort((one, other) => topOf(one) - topOf(other))) {
+    shift = Math.min(shift, end - topOf(node));
+    node.middle += shift;
+    end = Math.max(end, topOf(node) + rowOf(node));
+  }
 }
 
 /** An edge that leads back runs below the columns between its ends, in a lane of its own. Returns the height with the lanes. */

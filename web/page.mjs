@@ -2,7 +2,6 @@
 // the browser. A worker, which runs the same script, does all work.
 import { ask, busily, soon, startWorker } from "./asking.mjs";
 import { chosenFiles, droppedFiles } from "./dropping.mjs";
-import { load } from "./dyncollate.mjs";
 import { $, keep, make, state } from "./elements.mjs";
 import * as exploring from "./exploring.mjs";
 import { listFiles, moveInFiles, showFile } from "./filing.mjs";
@@ -36,13 +35,15 @@ async function removeFile(name) {
 
 let taken = Promise.resolve();
 
-/** Takes the files of a drop or of a choice, which `pass` passes on, after those of the one before. */
+/** Takes the files of a drop or of a choice, which `pass` passes on, after those before. */
 const takeNext = (pass) => (taken = taken.then(() => takeFiles(pass)));
 
 async function takeFiles(pass) {
-  await pass();
+  const cannot = ({ message }) => `This browser cannot read all of it (${message}). `
+    + "Choose it with the buttons. ";
+  const failed = (await pass().catch(cannot)) ?? "";
   const { count, said } = await ask("read", !state.isExample);
-  $("taken").textContent = said;
+  $("taken").textContent = failed + said;
   if (!count) return;
   $("example").value = "";
   state.isExample = false;
@@ -174,10 +175,7 @@ function listenToDrops() {
   addEventListener("drop", (event) => {
     event.preventDefault();
     over(Boolean((depth = 0)));
-    busily(takeNext, droppedFiles(event.dataTransfer)).catch((error) => {
-      const why = `This browser cannot read what was dropped (${error.message}).`;
-      $("taken").textContent = `${why} Choose it with the buttons.`;
-    });
+    busily(takeNext, droppedFiles(event.dataTransfer));
   });
 }
 
@@ -196,7 +194,7 @@ export async function begin(unpacked, scriptAddress) {
   const parts = JSON.parse(new TextDecoder().decode(await unpacked("parts")));
   state.examples = parts.examples;
   startWorker(scriptAddress);
-  await ask("begin", await unpacked("wasm"), parts.advice);
+  await ask("begin", await unpacked("wasm"), await unpacked("script"), parts.advice);
   state.look = lookingAt($("view"), $("overview"));
   state.removes = removeFile;
   $("example").append(...Object.keys(state.examples).map((name) => make("option", {}, name)));
@@ -211,4 +209,4 @@ export async function begin(unpacked, scriptAddress) {
   return putFiles(chosen);
 }
 
-if (!globalThis.document) serve(globalThis, load);
+if (!globalThis.document) serve(globalThis);

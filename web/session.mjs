@@ -7,7 +7,7 @@ import { dotOf, tableOf } from "./exports.mjs";
 import { graphOf, mark, nameOf } from "./graph.mjs";
 import { meaningOf, shortLine } from "./meanings.mjs";
 import { searched } from "./questions.mjs";
-import { filesBelow, readFiles } from "./reading.mjs";
+import { Reading, passFiles } from "./reading.mjs";
 import { commandsFor, givenFor, requestOf, runSteps, saidOf } from "./steps.mjs";
 
 // More files, outputs or rows than these are not sent to the page, and of a longer text its
@@ -19,8 +19,8 @@ const WRITING = ["collate", "project", "steps", "all"];
 
 export class Session {
   constructor(dyncollate, advice, report) {
-    Object.assign(this, { dyncollate, advice, report, files: new Map(), found: [], chosen: null,
-      cache: new Map() });
+    Object.assign(this, { dyncollate, advice, report, files: new Map(), chosen: null,
+      reading: new Reading(report), cache: new Map() });
     this.forget();
   }
 
@@ -31,13 +31,13 @@ export class Session {
 
   // ---- files
 
-  /** Takes note of some files of a drop or of a choice: pairs of a path and a File. */
+  /** Begins to read some files of a drop or of a choice: pairs of a path and a File. */
   find(some) {
-    for (const it of some) this.found.push(it);
+    this.reading.take(some);
   }
 
   async findBelow(handles) {
-    this.find(await filesBelow(handles));
+    await passFiles(handles, (some) => this.find(some));
   }
 
   /**
@@ -45,7 +45,8 @@ export class Session {
    * those are not kept. Returns how many documents there are, and what is said about the others.
    */
   async read(isKeeping) {
-    const { read, isDirectory, said } = await readFiles(this.found.splice(0), this.report);
+    const { read, isDirectory, said } = await this.reading.end();
+    this.reading = new Reading(this.report);
     if (read.length && (isDirectory || !isKeeping)) this.files = new Map();
     for (const file of read) this.files.set(file.name, file);
     return { count: read.length, said };
@@ -99,42 +100,41 @@ export class Session {
   }
 
   /** Runs a command, and returns what comes of it. */
-  run(command, settings) {
+  async run(command, settings) {
     if (JSON.stringify(command) !== JSON.stringify(this.chosen)) this.cache = new Map();
     this.forget();
     this.chosen = command;
     if (!command) return null;
     this.request = requestOf(command, this.files, settings);
-    this.runs = this.runAll();
+    this.runs = await this.runAll();
     const logs = named(this.files, "log").flatMap((name) =>
       [...secondsOf(textOf(this.files.get(name).content))]);
     this.graph = graphOf(this.request, new Map(logs));
     return this.summary();
   }
 
-  runAll() {
+  async runAll() {
     const { command, targets, given } = this.request;
     const progress = (done, of) => this.report("Collating", done, of);
     if (command === "steps") return runSteps(targets, (it, target) => this.call(it, target.file),
       progress);
-    return new Map([[targets[0], this.call(given ?? givenFor(targets[0]), command)]]);
+    return new Map([[targets[0], await this.call(given ?? givenFor(targets[0]), command)]]);
   }
 
   /** Calls dyncollate, unless it was called with the same before. */
-  call([command, ...given], key) {
+  async call([command, ...given], key) {
     const flat = [command, ...given.flatMap((it) => (it instanceof Map ? [...it].flat() : [it]))];
     const before = this.cache.get(key), isSame = (it, index) => it === before.flat[index];
     if (before?.flat.length === flat.length && flat.every(isSame)) return before.done;
-    const began = performance.now(), done = this.called(command, given);
-    done.took = performance.now() - began;
+    const done = await this.called(command, given);
     this.cache.set(key, { flat, done });
     return done;
   }
 
-  called(command, given) {
+  async called(command, given) {
     try {
-      const { status, out, err, files } = this.dyncollate.run(command, ...given);
-      return { line: textOf(err).trimEnd(), status, out: textOf(out), files };
+      const { out, err, ...done } = await this.dyncollate.run(command, ...given);
+      return { ...done, line: textOf(err).trimEnd(), out: textOf(out) };
     } catch (error) {
       return { line: `dyncollate: ${error.message}`, status: 4, out: "", files: new Map() };
     }

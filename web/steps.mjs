@@ -130,23 +130,31 @@ export function givenFor(target, infoOf) {
   return ["collate", target.content, new Map(read.filter(([, content]) => content !== undefined))];
 }
 
-/** Runs a step for each target, and leaves out those that link one whose step failed. */
-export function runSteps(targets, run, progress) {
-  const runs = new Map();
-  for (const [index, target] of targets.entries()) {
-    const failed = target.linked.find((it) => it.target
-      && runs.get(it.target)?.state !== "right")?.target;
-    if (failed) {
-      runs.set(target, { state: "waits", line: `it links ${failed.name}`, status: 0, out: "",
-        files: new Map() });
-      continue;
-    }
-    const infoOf = (maker) => infoIn(runs.get(maker).files, String(maker.document.info));
-    const done = run(givenFor(target, infoOf), target);
-    runs.set(target, { ...done, state: done.line ? "wrong" : "right" });
-    progress?.(index + 1, targets.length);
-  }
+/**
+ * Runs a step for each target as soon as those that it links are done, and leaves out those that
+ * link one whose step failed.
+ */
+export async function runSteps(targets, run, progress) {
+  const runs = new Map(targets.map((target) => [target, null])), begun = new Map();
+  let count = 0;
+  const step = async (target) => {
+    const linked = target.linked.map((it) => it.target).filter(Boolean);
+    await Promise.all(linked.map((it) => begun.get(it)));
+    runs.set(target, await stepOf(target, linked, runs, run));
+    progress?.(++count, targets.length);
+  };
+  for (const target of targets) begun.set(target, step(target));
+  await Promise.all(begun.values());
   return runs;
+}
+
+async function stepOf(target, linked, runs, run) {
+  const failed = linked.find((it) => runs.get(it).state !== "right");
+  if (failed) return { state: "waits", line: `it links ${failed.name}`, status: 0, out: "",
+    files: new Map() };
+  const infoOf = (maker) => infoIn(runs.get(maker).files, String(maker.document.info));
+  const done = await run(givenFor(target, infoOf), target);
+  return { ...done, state: done.line ? "wrong" : "right" };
 }
 
 const infoIn = (files, name) => files.get(name) ?? files.get(canonicalPath(name));
