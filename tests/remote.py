@@ -91,13 +91,17 @@ class Just(Casd):
 
 
 class Elsewhere(Casd):
-    """buildbox-casd in another network and with another root, as on another machine. It has this system's /usr."""
-    programs = [*Casd.programs, "ip"]
+    """buildbox-casd in another network and with another root, as on another machine. It has this system's /usr, in which some files
+    may be `changed`."""
+    programs, changed = [*Casd.programs, "ip"], ()
+
     def start(self, room):
         self.room, number = room, os.getpid()
         self.name, net = f"server{number}", f"10.{number // 256 % 256}.{number % 256}"
         self.address = f"{net}.2", 50051
+        # those of the test before, which disappear later otherwise
         run("ip", "netns", "delete", self.name)
+        run("ip", "link", "delete", f"v{number}")
         for words in (f"netns add {self.name}", f"link add v{number} type veth peer name eth0 netns {self.name}", f"addr add {net}.1/30 dev v{number}",
                       f"link set v{number} up", f"-n {self.name} addr add {net}.2/30 dev eth0", f"-n {self.name} link set eth0 up", f"-n {self.name} link set lo up"):
             output_of("ip", *words.split())
@@ -107,7 +111,7 @@ class Elsewhere(Casd):
 
     def command(self):
         links = [word for it in ("bin", "lib", "lib64") for word in ("--symlink", f"usr/{it}", f"/{it}")]
-        return ["ip", "netns", "exec", self.name, "bwrap", "--die-with-parent", "--cap-add", "ALL", "--ro-bind", "/usr", "/usr", *links,
+        return ["ip", "netns", "exec", self.name, "bwrap", "--die-with-parent", "--cap-add", "ALL", "--ro-bind", "/usr", "/usr", *self.changed, *links,
                 "--bind", "/proc", "/proc", "--dev", "/dev", "--tmpfs", "/tmp", "--bind", self.room / "casd", self.room / "casd", *super().command()]
 
 
@@ -246,7 +250,8 @@ class Examples(Remote):
             self.skipTest("the sandbox is a server")
         self.remote["RECC_CACHE_ONLY"] = "1"
         self.both("libs")
-        for hits in 0, 6:
+        # justbuild takes no results from clients
+        for hits in 0, 0 if self.server is Just else 6:
             objects = self.built("there", self.remote)[1]
             self.assertNotIn(SAID, self.log)
             self.clean()
@@ -265,6 +270,21 @@ class Examples(Remote):
         self.edit(S, "minus\\(", "plus(")
         self.counts()
         self.builds(0, 1)
+
+    def test_a_header(self):
+        """Its edit is seen after an execution, and after a hit."""
+        self.both("libs")
+        for it in "here", "there":
+            put(self.room / it / "src/base/value.h", "#define VALUE 0\n")
+        self.edit(B, "^module number;", 'module;\n#include "value.h"\nmodule number;')
+        self.edit(B, "left.value", "VALUE + left.value")
+        self.builds(6, 0)
+        self.edit("src/base/value.h", "VALUE 0", "VALUE 1")
+        self.builds(1, 0)
+        self.clean()
+        self.builds(0, 6, here=False)
+        self.edit("src/base/value.h", "VALUE 1", "VALUE 2")
+        self.builds(1, 0)
 
     def test_a_comment_in_an_interface(self):
         """GCC writes the same module file, which stays as old as it was, so that nothing else is compiled."""
@@ -290,6 +310,27 @@ class Examples(Remote):
         self.environment = self.local
         self.generate(self.form)
         self.assertEqual(objects, self.built("there", self.local)[1])
+
+    def test_another_standard_library(self):
+        """Nothing is sent to a server whose /usr has another one."""
+        if self.server is not Elsewhere:
+            self.skipTest("the server has this system's /usr")
+        self.lay("libs", "there", self.remote)
+        listed = output_of(self.compiler, "-x", "c++", "-M", "-include", "cstddef", "/dev/null")
+        header = next(it for it in listed.split() if it.endswith("/c++config.h"))
+        text, count = re.subn(r"(define __GLIBCXX__) \d+", r"\1 20200101", Path(header).read_text())
+        self.assertEqual(count, 1)
+        put(self.room / "config.h", text)
+        name = os.path.basename(self.compiler)
+        for changed, lines, counts in (["--ro-bind", self.room / "config.h", header], [f"the server's {name} or its standard library is not the one here"],
+                                       (1, 0)), ((), [], (7, 0)):
+            self.serves.stop()
+            self.serves.changed = changed
+            self.serves.again()
+            self.clean()
+            self.assertEqual(self.ninja()[0], 0, self.log)
+            found = [it.partition("here: ")[2].replace(self.compiler, name) for it in self.log.splitlines() if SAID in it]
+            self.assertEqual((found, self.counts()), (lines, counts), self.log)
 
     def test_a_warning_that_quotes_a_module(self):
         self.lay("libs", "there", self.remote)
@@ -391,6 +432,41 @@ class Failures(Remote):
         self.assertEqual(self.ninja()[0], 0, self.log)
         self.assertEqual(self.counts(), (1, 6))
 
+    def compiled(self, *words, **more):
+        """Compiles a.cpp on the server. Returns the object, how many commands ran there, and the hits."""
+        shutil.rmtree(".dyncollate-remote", ignore_errors=True)
+        status, printed = run(LAUNCHER, *words, "-c", "a.cpp", "-o", "a.o", env={**self.remote, "DYNCOLLATE_REMOTE": "only", **more})
+        self.assertEqual((status, printed), (0, ""))
+        return Path("a.o").read_bytes(), *self.counts()
+
+    def test_a_compiler_with_the_same_macros(self):
+        """Its bytes are others, as after a mended bug."""
+        if self.server is not Sandbox:
+            self.skipTest("recc sends the path that a compiler has here")
+        put("a.cpp", "int main() {}\n")
+        (self.room / "tools").mkdir()
+        name, made = os.path.basename(self.compiler), []
+        for text in ("# 1", "# 2") * 2:
+            put(self.room / "tools" / name, f'#!/bin/sh\n{text}\nexec {self.compiler} "$@"\n')
+            (self.room / "tools" / name).chmod(0o755)
+            made.append(self.compiled(name, PATH=f"{self.room}/tools:{self.remote['PATH']}")[1:])
+        self.assertEqual(made, [(2, 0), (2, 0), (1, 1), (1, 1)])
+
+    def test_a_header_that_is_not_sent(self):
+        """A package brings another one, with another size, or of another time."""
+        header = Path(f"/usr/local/include/dyncollate-{os.getpid()}.h")
+        if not os.access(header.parent, os.W_OK):
+            self.skipTest("no directory for a header that the server has")
+        self.addCleanup(header.unlink)
+        put("a.cpp", f"#include <{header.name}>\nint value = VALUE;\n")
+        made = []
+        for text, at in ("#define VALUE 10\n", 1), ("#define VALUE 9\n", 1), ("#define VALUE 11\n", 2), ("#define VALUE 10\n", 1):
+            header.write_text(text)
+            os.utime(header, (at, at))
+            made.append(self.compiled(self.compiler))
+        self.assertEqual([it[1:] for it in made], [(2, 0), (2, 0), (2, 0), (1, 1)])
+        self.assertEqual((made[0][0], len({it[0] for it in made})), (made[3][0], 3))
+
     def test_a_name_of_another_compiler(self):
         """A name is first one compiler, and then another one, here and on the server."""
         if self.server is Sandbox or not os.access("/usr/local/bin", os.W_OK):
@@ -402,12 +478,9 @@ class Failures(Remote):
         for it in ["clang", "gcc"] * 2:
             os.remove(name)
             os.symlink(tool(it), name)
-            status, printed = run(LAUNCHER, name, "-c", "a.cpp", "-o", "a.o", env={**self.remote, "DYNCOLLATE_REMOTE": "only"})
-            self.assertEqual(status, 0, printed)
-            shutil.rmtree(".dyncollate-remote")
-            made.append((Path("a.o").read_bytes(), self.counts()))
-        self.assertEqual([it for _, it in made], [(2, 0), (2, 0), (1, 1), (1, 1)])
-        objects = [it for it, _ in made]
+            made.append(self.compiled(name))
+        self.assertEqual([it[1:] for it in made], [(2, 0), (2, 0), (1, 1), (1, 1)])
+        objects = [it[0] for it in made]
         self.assertEqual((objects[:2], objects[0] == objects[1]), (objects[2:], False))
 
     def exchange(self, client, server):
@@ -443,10 +516,45 @@ class CompiledHere(Remote):
     def test_options(self):
         put("x", "-DX=1")
         options = ["@x", "-gsplit-dwarf", "-save-temps", "-march=native", "-fprofile-generate"]
-        options += ["-ftime-trace", "-fplugin-arg-x"] if self.form == "clang" else ["-fstack-usage", "-fdump-tree-original"]
-        for option in options[:6]:
-            self.stays(f"the option {option}", option)
+        options += {"clang": ["-ftime-trace", "-fsave-optimization-record", "-fmodule-output=x.pcm"],
+                    "gcc": ["-fstack-usage", "-fdump-tree-original", "-fmodules-ts", "-Wp,-MD,x.d"]}[self.form]
+        for option in options:
+            self.stays(f"the option {option}", option, *["-Wno-unused-command-line-argument"] * (self.form == "clang"))
         self.stays("the variable CPATH", CPATH="/tmp")
+
+    def test_commands(self):
+        self.stays("no -MF names the depfile", "-MD")
+        put("a.cpp", "int main() {}\n")
+        for words in ["-c", "a.cpp"], ["a.cpp", "-o", "a.o", "-c"]:
+            status, printed = run(LAUNCHER, self.compiler, *words, env={**self.remote, "DYNCOLLATE_REMOTE": "only"})
+            self.assertEqual((status, printed.partition(": ")[2].partition(": ")[2]), (1, "the command does not make one object of one source\n"))
+        put("a.o.modmap", "")
+        words = {"clang": ["-std=c++20", "@a.o.modmap"], "gcc": ["-std=c++20", "-fmodules-ts", "-fmodule-mapper=a.o.modmap"]}[self.form]
+        if self.form == "gcc":
+            self.stays("[Errno 2] No such file or directory: 'a.o.ddi'", *words)
+        put("a.o.ddi", "{}")
+        put("a.o.ddi.d", "")
+        self.stays("no depfile lists what it reads", *words)
+
+    def test_an_installed_launcher(self):
+        """Its module is in another directory, and its compiled form next to what the build has found out."""
+        (self.room / "prefix/bin").mkdir(parents=True)
+        shutil.copy(LAUNCHER, self.room / "prefix/bin")
+        shutil.copytree(TOP / "adapters/remote", self.room / "prefix/share/dyncollate", ignore=lambda _, names: [it for it in names if not it.endswith(".py")])
+        before = sorted((self.room / "prefix").rglob("*"))
+        put("a.cpp", "int main() {}\n")
+        for counts in (2, 0), (0, 1):
+            status, printed = run("prefix/bin/dyncollate-remote", self.compiler, "-c", "a.cpp", "-o", "a.o", env={**self.remote, "DYNCOLLATE_REMOTE": "only"})
+            self.assertEqual((status, printed, self.counts()), (0, "", counts))
+        self.assertEqual(sorted((self.room / "prefix").rglob("*")), before)
+        self.assertEqual(len([*Path(".dyncollate-remote/python").rglob("*.pyc")]), 1)
+
+    def test_a_compiler_that_fails_there(self):
+        put(self.room / "server/option", "-no-such-option")
+        put("a.cpp", "int main() {}\n")
+        status, printed = run(LAUNCHER, self.compiler, "-c", "a.cpp", "-o", "a.o", env={**self.remote, "DYNCOLLATE_REMOTE": "only"})
+        self.assertEqual(status, 1)
+        self.assertRegex(printed, rf"^{SAID}a.o: {re.escape(self.compiler)} fails on the server: .*no-such-option")
 
     def test_names(self):
         self.stays("a,b.cpp is not below RECC_PROJECT_ROOT, or it has a comma", source="a,b.cpp")
@@ -530,7 +638,7 @@ class Maps(Remote):
 # ---- other builds
 
 class Others(Remote):
-    """Builds of CMake and of Meson."""
+    """Builds of CMake, of GN and of Meson."""
     seconds = 120
 
     def from_scratch(self, prints, configure, compiling, variables):
@@ -570,6 +678,15 @@ class Others(Remote):
         self.from_scratch("", lambda remote: [cmake(), "-G", "Ninja", "-B", "build", f"-DCMAKE_CXX_COMPILER={self.compiler}", f"-DCMAKE_MAKE_PROGRAM={NINJA}",
                                           *[f"-DCMAKE_CXX_COMPILER_LAUNCHER={LAUNCHER}"] * remote], "Building CXX object", {})
 
+    def test_gn(self):
+        from tests.gn import ADAPTER, DATA
+        if not shutil.which("gn"):
+            self.skipTest("generate-ninja: not there")
+        for name in "here", "there":
+            shutil.copytree(DATA, self.room / name)
+        self.from_scratch("303 12 9\n", lambda remote: ["sh", "-ec", f"""gn gen -q build --args='cxx="{(LAUNCHER + ' ') * remote}{self.compiler}"'
+                          {sys.executable} {ADAPTER} adopt build"""], r"\] CXX ", {"DYNCOLLATE_NINJA": tool("ninja")})
+
     def test_meson(self):
         from tests.meson import DATA, meson
         if not meson():
@@ -580,27 +697,45 @@ class Others(Remote):
                           r"Compiling C\+\+ object", {"NINJA": NINJA, "DYNCOLLATE_NINJA": tool("ninja")})
 
 
-@unittest.skipUnless(shutil.which("buildbox-casd") and shutil.which("clang++-21"), "buildbox or clang-21: not there")
+@unittest.skipUnless(shutil.which("buildbox-casd") and shutil.which("clang++-21") and shutil.which("g++-15"), "buildbox, clang-21 or g++-15: not there")
 class Guide(Directory):
-    """The commands of docs/GUIDE.md, without the first one, which installs packages."""
-    tools = ["ninja"]
+    """The commands of docs/GUIDE.md with what is installed, except for the first one, which installs packages."""
 
-    def test_the_commands(self):
+    def setUp(self):
+        super().setUp()
+        for name in "bin", "share":
+            os.mkdir(name)
+        os.symlink(program.PROGRAM, "bin/dyncollate")
+        shutil.copy(LAUNCHER, "bin")
+        shutil.copytree(TOP / "examples", "share/dyncollate/examples")
+        for it in (TOP / "adapters").rglob("*.py"):
+            shutil.copy(it, "share/dyncollate")
+        named = {"CLANG", "GCC", "SCANNER", "DYNCOLLATE"}
+        self.environment = {name: text for name, text in self.environment.items() if name not in named}
+        self.environment["PATH"] = f"{os.getcwd()}/bin:{self.environment['PATH']}"
+
+    def commands(self, *changes):
         section = (TOP / "docs/GUIDE.md").read_text().partition("\n## Builds on more than one machine, and caches\n")[2]
         install, _, commands = re.search(r"^```sh\n(.*?)^```$", section, re.M | re.S)[1].partition("\n")
         self.assertIn("apt-get install", install)
-        os.mkdir("bin")
-        os.symlink(LAUNCHER, "bin/dyncollate-remote")
-        shutil.copytree(TOP / "examples", "examples")
-        path = f"{os.getcwd()}/bin:{os.environ['PATH']}"
-        commands = commands.replace("/var/tmp/casd", f"{os.getcwd()}/casd")
-        status, log = run("bash", "-ec", f"{commands}kill %1", env={**self.environment, "PATH": path})
+        ready = "until (: > /dev/tcp/127.0.0.1/50051); do sleep 0.1; done 2> /dev/null\n"
+        for old, new in ("/var/tmp/casd", f"{os.getcwd()}/casd"), ("casd.log &\n", f"casd.log &\n{ready}"), *changes:
+            self.assertIn(old, commands)
+            commands = commands.replace(old, new)
+        status, log = run("bash", "-ec", f"trap 'kill %1' EXIT\n{commands}", env=self.environment, cwd="share/dyncollate")
         self.assertEqual((status, log.splitlines()[-1]), (0, re.search(r"The last line prints (\d+)", section)[1]), log)
+        self.assertNotIn(SAID, log)
+
+    def test_the_commands(self):
+        """They have one address, so Clang's and GCC's come one after the other."""
+        self.commands()
+        shutil.rmtree("share/dyncollate/examples/libs/build")
+        self.commands(("CLANG=clang++-21 SCANNER=clang-scan-deps-21", "GCC=g++-15"), ("generate clang", "generate gcc"))
 
 
 for name_, server_ in SERVERS.items():
     for kind in Examples, Failures, CompiledHere, Maps, Others:
-        if server_ is Sandbox or kind is Examples or server_ is Casd and kind in (Failures, Others):
+        if server_ is Sandbox or kind in (Examples, Others) or server_ is Casd and kind is Failures:
             for form_ in "clang", "gcc":
                 title = f"{kind.__name__}{name_}With{form_.title()}"
                 globals()[title] = type(title, (kind,), {"form": form_, "server": server_})

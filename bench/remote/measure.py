@@ -1,19 +1,23 @@
 """Prints how many milliseconds a compilation takes here, on a server, and from its cache.
 
-    measure.py [RUNS]
+    measure.py [RUNS [LAUNCHER..]]
 
 The compiler is Clang 21. The server is buildbox-casd, on this machine, so times of executions
-compare only with each other. Each line has the medians of that many runs, 15 by default, of
+compare only with each other. The rows are
 
     here       the compiler
     executed   dyncollate-remote, with another comment each time
-    hit        dyncollate-remote
-    recc       recc alone, as the launcher calls it, for the same hit
+    recc       recc alone, as the launcher calls it, for a result that the cache has
+    hit        dyncollate-remote, for the same result
 
-for an interface of 4 lines, and for a source that imports std. In each build, the launcher
-also asks the server once for its compiler, which takes about as long as an execution.
+for an interface of 4 lines, and for a source that imports std. A launcher that is named has a row
+of its own, after that of this directory. Each row has the median and the mean of that many runs,
+40 by default, which take turns, then the same of the processor's time, and how many times that of
+recc the two medians are. In each build, the launcher also asks the server once for its compiler,
+which takes about as long as an execution.
 """
 import os
+import shlex
 import shutil
 import statistics
 import subprocess
@@ -26,45 +30,54 @@ TOP = Path(__file__).resolve().parents[2]
 LAUNCHER = str(TOP / "adapters/remote/dyncollate-remote")
 MOUNTS = ["/usr:/usr", "/usr/bin:/bin", "/usr/lib:/lib", "/usr/lib64:/lib64"]
 ADDRESS = "127.0.0.1:50052"
-# Writes a script that calls recc in the same way.
-RECC = """#!/bin/sh
-export -p | grep '^export RECC_' > called
-echo "exec RECC $*" >> called
-"""
+# Writes the environment and the words with which the launcher calls recc.
+RECC = "#!/bin/sh\nenv -0 > called.env\nprintf '%s\\0' \"$@\" > called.words\nexit 100\n"
 
 
-def milliseconds(command):
+def milliseconds(words, env):
+    """Returns the time by the clock, and the processor's time."""
+    null = [(os.POSIX_SPAWN_OPEN, it, os.devnull, os.O_WRONLY, 0) for it in (1, 2)]
     before = time.monotonic()
-    subprocess.run(command, shell=True, check=True, stderr=subprocess.DEVNULL)
-    return 1000 * (time.monotonic() - before)
+    child = os.posix_spawnp(words[0], words, env, file_actions=null)
+    _, status, used = os.wait4(child, 0)
+    if status:
+        sys.exit(f"{' '.join(words)}: {status}")
+    return 1000 * (time.monotonic() - before), 1000 * (used.ru_utime + used.ru_stime)
 
 
-def median(runs, measured):
-    return statistics.median(measured() for _ in range(runs))
-
-
-def measure(runs, target, source):
-    command = next(it for it in subprocess.run(
-        ["ninja", "-t", "commands", f"obj/{target}.o"], stdout=subprocess.PIPE, text=True,
-        check=True).stdout.splitlines() if f" -o obj/{target}.o" in it and LAUNCHER in it)
-    here = median(runs, lambda: milliseconds(command.replace(LAUNCHER, "")))
-    text = Path(source).read_text(encoding="utf-8")
-
-    def executed():
-        executed.count += 1
-        Path(source).write_text(f"{text}// {executed.count}\n", encoding="utf-8")
-        return milliseconds(command)
-    executed.count = time.time_ns()
-    remote = median(runs, executed)
-    hit = median(runs, lambda: milliseconds(command))
+def recc_of(words):
+    """Returns the command of recc that a launcher makes of another one, and its environment."""
     Path("bin").mkdir(exist_ok=True)
-    Path("bin/recc").write_text(RECC.replace("RECC $", f"{shutil.which('recc')} $"),
-                                encoding="utf-8")
+    Path("bin/recc").write_text(RECC, encoding="utf-8")
     os.chmod("bin/recc", 0o755)
-    subprocess.run(command, shell=True, env={**os.environ, "PATH": f"bin:{os.environ['PATH']}"},
+    subprocess.run(words, env={**os.environ, "PATH": f"bin:{os.environ['PATH']}"},
                    stderr=subprocess.DEVNULL, check=False)
-    alone = median(runs, lambda: milliseconds("sh called"))
-    print(f"{target:20} {here:8.0f} {remote:8.0f} {hit:8.0f} {alone:8.0f}")
+    called, env = (Path(f"called.{it}").read_text(encoding="utf-8").split("\0")[:-1]
+                   for it in ("words", "env"))
+    return ["recc", *called], {**dict(it.split("=", 1) for it in env), "PATH": os.environ["PATH"]}
+
+
+def measure(runs, launchers, target, source):
+    lines = subprocess.run(["ninja", "-t", "commands", f"obj/{target}.o"], stdout=subprocess.PIPE,
+                           text=True, check=True).stdout.splitlines()
+    words = shlex.split(next(it for it in lines if f" -o obj/{target}.o" in it and LAUNCHER in it))
+    text, env = Path(source).read_text(encoding="utf-8"), dict(os.environ)
+    milliseconds(words, env)  # asks for the compiler
+    rows = {"here": (words[1:], env), "executed": (words, env), "recc": recc_of(words)}
+    rows |= {it: ([it, *words[1:]], env) for it in launchers}
+    found = {it: [] for it in rows}
+    for number in range(runs + 1):
+        for name, row in rows.items():
+            comment = f"// {time.time_ns()}\n" if name == "executed" else ""
+            Path(source).write_text(text + comment, encoding="utf-8")
+            times = milliseconds(*row)
+            found[name] += [times] if number else []  # the first ones fill the cache
+    clock, processor = (statistics.median(it) for it in zip(*found["recc"]))
+    for name, times in found.items():
+        both = [(statistics.median(it), statistics.mean(it)) for it in zip(*times)]
+        print(f"{'hit' if name == LAUNCHER else name[-40:]:10}",
+              *(f"{it:9.1f}" for pair in both for it in pair),
+              f"{both[0][0] / clock:9.2f} {both[1][0] / processor:9.2f}")
 
 
 def build(example):
@@ -74,10 +87,10 @@ def build(example):
     subprocess.run(["ninja"], check=True, stdout=subprocess.DEVNULL)
 
 
-def main(runs="15"):
+def main(runs="40", *launchers):
     room = tempfile.mkdtemp()
     os.chdir(room)
-    os.environ.update(RECC_SERVER=f"http://{ADDRESS}", LAUNCHER=LAUNCHER,
+    os.environ.update(RECC_SERVER=f"http://{ADDRESS}", LAUNCHER=LAUNCHER, DYNCOLLATE_REMOTE="only",
                       CLANG=os.environ.get("CLANG", "clang++-21"),
                       SCANNER=os.environ.get("SCANNER", "clang-scan-deps-21"))
     server = subprocess.Popen(
@@ -87,11 +100,12 @@ def main(runs="15"):
          "--runner-arg=--disable-localcas", f"{room}/casd"], stderr=subprocess.DEVNULL)
     time.sleep(2)
     try:
-        print(f"{'':20} {'here':>8} {'executed':>8} {'hit':>8} {'recc':>8}")
         for example, target, source in (("libs", "base", "src/base/number.cppm"),
                                         ("std", "app", "src/main.cpp")):
             build(example)
-            measure(int(runs), f"{target}/{source}", source)
+            print(f"\n{source}, load {os.getloadavg()[0]:.1f}\n{'':10}",
+                  *(f"{it:>9}" for it in ("median", "mean", "processor", "mean", "times", "times")))
+            measure(int(runs), [LAUNCHER, *launchers], f"{target}/{source}", source)
             os.chdir(room)
     finally:
         server.kill()
