@@ -7,6 +7,8 @@ An arrow leads from a crate to one that it uses. Left out are the kit's librarie
 another.
 """
 import re
+import shutil
+import subprocess
 import sys
 import unittest
 from pathlib import Path
@@ -85,6 +87,13 @@ class Crates(unittest.TestCase):
             for path in sorted((TOP / "crates" / crate / "src").rglob("*.rt")):
                 with self.subTest(f"{crate}/{path.name}"):
                     self.assertEqual([line for line in path.read_text().splitlines() if len(line) > 100], [])
+
+    def test_layout(self):
+        """`rt fmt` changes no file of a crate: the gate proves none that it would change."""
+        files = sorted(path for kind in ("rt", "antt") for path in TOP.glob(f"crates/*/*/**/*.{kind}") if "out" not in path.parts)
+        checked = subprocess.run([Path(shutil.which("rt")).resolve().with_name("rattle"), "fmt", "--check", *files],
+                                 stdout=subprocess.PIPE, stderr=subprocess.STDOUT, text=True, check=False)
+        self.assertEqual((checked.stdout, checked.returncode), ("", 0))
 
 
 if __name__ == "__main__":

@@ -47,10 +47,25 @@ returns c =
       | else-len w ↦ subst (λ (v : Vec ℕ Global). At v.items j index) (sym w.indexes-is) here
     ] in
     let inside : at.module < length longer.items = elim c.if-len.branch [
-      | then-len+in_ok-resize w ↦ omega (arith, ap (λ v. v.len) w.indexes-is, w.in_ok-resize.ensures.len, longer.ok.0, c.if-at-len-2.false,
-          c.len-else-at-len.ensures, w.len-then-len.ensures)
-      | else-len w ↦ omega (arith, ap (λ v. v.len) w.indexes-is, w.if-len.false, c.len-2.ensures, c.len-3.ensures, longer.ok.0, c.if-at-len-2.false,
-          c.len-else-at-len.ensures)
+      | then-len+in_ok-resize w ↦ omega (
+        arith,
+        ap (λ v. v.len) w.indexes-is,
+        w.in_ok-resize.ensures.len,
+        longer.ok.0,
+        c.if-at-len-2.false,
+        c.len-else-at-len.ensures,
+        w.len-then-len.ensures,
+      )
+      | else-len w ↦ omega (
+        arith,
+        ap (λ v. v.len) w.indexes-is,
+        w.if-len.false,
+        c.len-2.ensures,
+        c.len-3.ensures,
+        longer.ok.0,
+        c.if-at-len-2.false,
+        c.len-else-at-len.ensures,
+      )
     ] in
     let listed = slice_get_read longer.items _ at.module place refl inside c.index.ensures in
     let absent : At modules place at → ⊥ = λ found. other_at same_module_test same_module c.deref.result.now place _ _ c.get-2.ensures.lookup.3
