@@ -5,7 +5,7 @@ use Rattle.dyndep_file.specs.declared.fault.WriteFault.TheVariants as write
 use Rattle.collate_core.specs.declared.fault.Refusal.TheVariants.{Info}
 use Rattle.ninja_text.proofs.ForCallers.{element_at, in_append, same_some}
 use Rattle.std.proofs.lemmas.List.{map_push, length-map}
-use Rattle.collate_core.specs.Prelude.{ForFault, Turns, Failure, Memory, Fault, HasReadFault, StandsForOnly, IsReadFailureIn, IsReadFaultOf, FaultStays, FirstFault, ReadFault, AtLine, Io, AllByRecursion, IsPath, path_of, StatementValue, paths_of, text_unless, text_or_fault, statement_fault, write_fault, WriteFault, HasPaths, IsMapText, Collates, AreMaps, IsSpelled, HasSpelled, IsLineRefusal, IsWriteRefusal, IsMapsRefusal, IsObjectRefusal, IsTextsRefusal, IsWrittenOf, Refusal, Scan, Table, StatementTooLong, Map, LinkedLater, Global, Text, PathText, Numbers, Modules, RuleValue, TableValue, table_with, IsFault, IsSound, PrivateAreProvided, TableFault, Written, TargetValue, CollatedValue, table_of, AreAccepted, IsResolved, statements_of, statement_of, IsRefusal, IsMapRefusal, WasRead, RefusedTarget, InfoValue, info_text, ReadsBack, SoundHasNoFault, Task, tasks_of, ArePairs, IsNeeded, PartIsSound, PartHasTasks, PartIsNeeded, IsEnough, KeepsRequired, modules_of, IsEnoughFor, IsBeginning, IsBeginningOf}
+use Rattle.collate_core.specs.Prelude.{ForFault, Turns, Failure, Memory, Fault, HasReadFault, StandsForOnly, IsReadFailureIn, IsReadFaultOf, FaultStays, FirstFault, ReadFault, AtLine, Io, AllByRecursion, IsPath, path_of, StatementValue, paths_of, text_unless, text_or_fault, statement_fault, write_fault, WriteFault, HasPaths, IsMapText, Collates, AreMaps, IsSpelled, HasSpelled, IsLineRefusal, IsWriteRefusal, IsMapsRefusal, IsObjectRefusal, IsTextsRefusal, IsWrittenOf, Refusal, Scan, Table, StatementTooLong, Map, LinkedLater, Global, Text, PathText, Numbers, Modules, RuleValue, TableValue, table_with, IsFault, IsSound, PrivateAreProvided, TableFault, Written, TargetValue, CollatedValue, table_of, AreAccepted, IsResolved, statements_of, statement_of, IsRefusal, IsMapRefusal, WasRead, RefusedTarget, InfoValue, info_text, ReadsBack, SoundHasNoFault, Task, tasks_of, ArePairs, IsNeeded, PartIsSound, PartHasTasks, PartIsNeeded, IsEnough, KeepsRequired, modules_of, IsEnoughFor, IsBeginning}
 
 -- ---- failures and errors that are turned into others
 

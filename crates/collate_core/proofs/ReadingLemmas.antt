@@ -10,7 +10,7 @@ use Rattle.collate_core.proofs.Lists.{all_at, flat_map_last}
 
 -- ---- listed documents
 
-abbrev lent : Listed (Bor Text) → Listed Text
+abbrev pub lent : Listed (Bor Text) → Listed Text
 lent document = listed_as (λ (bytes : Bor Text). bytes.now) document
 
 -- the bytes of a listed document
@@ -35,6 +35,17 @@ first_more ds {texts} bytes {text} have same more =
     ∙ map_push (bytes_listed ((map lent ds ++ first ∷ []) ++ more)) (map lent ds) first
     ∙ ap₂ (λ (xs : List Text) (x : Text). xs ++ x ∷ [])
     (ap (λ vs. map (bytes_listed vs) (map lent ds)) (append_assoc (map lent ds) (first ∷ []) more) ∙ have (first ∷ more)) same
+
+-- one that is listed again, and the bytes of the one that is listed first
+pub again_more : (ds : List (Listed (Bor Text))) {texts : List Text} (k : ℕ) (text : Text) → HaveTexts ds texts →
+    slice_get (map lent ds) k ≡ Some (First text) → HaveTexts (ds ++ Again k ∷ []) (texts ++ text ∷ [])
+again_more ds {texts} k text have at more =
+    let again : Listed Text = Again k in
+    ap (λ vs. map (bytes_listed (vs ++ more)) vs) (map_push lent ds (Again k))
+    ∙ map_push (bytes_listed ((map lent ds ++ again ∷ []) ++ more)) (map lent ds) again
+    ∙ ap₂ (λ (xs : List Text) (x : Text). xs ++ x ∷ [])
+    (ap (λ vs. map (bytes_listed vs) (map lent ds)) (append_assoc (map lent ds) (again ∷ []) more) ∙ have (again ∷ more))
+    (ap first_bytes (ap (λ vs. slice_get vs k) (append_assoc (map lent ds) (again ∷ []) more) ∙ in_first (map lent ds) (again ∷ more) k (First text) at))
 
 pub have_all : (ds : List (Listed (Bor Text))) {texts : List Text} → HaveTexts ds texts → lent_texts ds ≡ texts
 have_all ds have = ap (λ vs. map (bytes_listed vs) (map lent ds)) (sym (append-nil (map lent ds))) ∙ have []

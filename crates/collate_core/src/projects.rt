@@ -17,6 +17,7 @@ use module_table::{Pool, Requirements, Scratch, Table, add_objects, laws};
 use ninja_text::Failure;
 use scan_docs::{Setting, info_read};
 use std::alloc::{AllocError, Global};
+use std::collections::BTreeMap;
 use std::marker::Model;
 use table_keys::{KeyDigest, TableKey};
 
@@ -200,6 +201,11 @@ pub(crate) fn collate_linked<M: MapStyle>(
     if let Some(found) = found {
         return Ok(found);
     }
+    let infos = infos_once(alloc, linked, outs)?;
+    let whole = Target {
+        infos: &infos,
+        ..whole
+    };
     let out = collate_or_refused(alloc, &whole, style)?;
     if !is_read {
         return Ok((out, None));
@@ -228,6 +234,31 @@ fn infos_of<'a>(
         infos.push(Listed::First(out.info()))?;
     }
     Ok(Some(infos))
+}
+
+/// Returns the info files that the targets of these indexes wrote. One that is linked again is
+/// listed again, and so is parsed once.
+fn infos_once<'a>(
+    alloc: Global,
+    linked: &[usize],
+    outs: &'a [Collated],
+) -> Result<Vec<Listed<&'a [u8]>>, AllocError>
+    requires { All (λ k. k < length outs.now) linked.now }
+    ensures { IfOk result (λ infos. lent_texts infos.items ≡ linked_infos outs.now linked.now) }
+{
+    let mut infos = Vec::new(alloc);
+    let mut known = BTreeMap::new(alloc);
+    for (index, target) in linked.iter().enumerate() {
+        let info = match known.insert(*target, index)? {
+            None => Listed::First(outs[*target].info()),
+            Some(first) => {
+                known.insert(*target, first)?;
+                Listed::Again(first)
+            }
+        };
+        infos.push(info)?;
+    }
+    Ok(infos)
 }
 
 /// Collates a target, which has these rules, by a table of few of the modules that it links.

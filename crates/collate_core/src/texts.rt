@@ -1,11 +1,11 @@
 //! What is written of a table: the dyndep text of its objects, the info file, and the module maps.
-ghost use Rattle.std.specs.Prelude.{◌++◌, ◌<◌, ◌∷◌, ◌≡◌, ◌≢◌, length, option_copied, option_map};
-ghost use Rattle.collate_core.specs.Prelude.{[], ℕ, All, IfErr, IfOk, IsTrue, List, Ok, OnOk, Some};
-ghost use Rattle.collate_core.specs.Prelude.{hasher_of, modules_of, BadMapLine, HasSpelled, IfSome};
+ghost use Rattle.std.specs.Prelude.{◌++◌, ◌<◌, ◌∷◌, ◌≡◌, length, option_copied, option_map};
+ghost use Rattle.collate_core.specs.Prelude.{[], All, IfErr, IfOk, IsTrue, List, Ok, OnOk, Some};
+ghost use Rattle.collate_core.specs.Prelude.{hasher_of, modules_of, HasSpelled, IfSome};
 ghost use Rattle.collate_core.specs.Prelude.{info_of_table, statements_of, AreMaps, StatementValue};
 ghost use Rattle.collate_core.specs.Prelude.{is_private_name, map, IsObjectRefusal, IsWriteRefusal};
 ghost use Rattle.collate_core.specs.Prelude.{lent_files, module_files, IsTableText, StandsForOnly};
-ghost use Rattle.collate_core.specs.Prelude.{map_fault, IsMapText, IsSpelled, ReadsBack, RuleValue};
+ghost use Rattle.collate_core.specs.Prelude.{IsMapText, IsSpelled, ReadsBack, RuleValue};
 ghost use Rattle.collate_core.specs.Prelude.{slice_get, IsKeyOf, IsMapOf, IsReadAs, IsTextOf, Name};
 ghost use Rattle.collate_core.specs.Prelude.{text_or_fault, ForFault, IsLineRefusal, IsMapsRefusal};
 
@@ -202,14 +202,15 @@ fn map_text<'t, M: MapStyle>(
         (ForFault (IsObjectRefusal table.now (M.written style.now) object)) }
 {
     let map = map_of(alloc, table, needs, object)?;
-    match style.write(alloc, &map) {
-        Ok(text) => Ok(text),
-        Err(Failure::Memory) => Err(Failure::Memory),
-        Err(Failure::Fault(fault)) => {
-            let fault = unwritable(fault);
-            Err(Failure::Fault(Refusal::Map { object, fault }))
-        }
-    }
+    let fault = match style.write(alloc, &map) {
+        Ok(text) => return Ok(text),
+        Err(Failure::Memory) => return Err(Failure::Memory),
+        Err(Failure::Fault(MapFault::MapPath { path })) => UnwritableMap::MapPath { path },
+        Err(Failure::Fault(MapFault::TwoProvided)) => UnwritableMap::TwoProvided,
+        // (K4 is what only reading a map finds)
+        Err(Failure::Fault(MapFault::BadMapLine { .. })) => unreachable!(),
+    };
+    Err(Failure::Fault(Refusal::Map { object, fault }))
 }
 
 /// Returns the map of an object: the modules that it provides, and all that it needs.
@@ -230,16 +231,4 @@ fn map_of<'t>(
     let provided = provided.map(|pair| (&pair.0, &pair.1)).collect(alloc)?;
     let needed = needs.of(alloc, object)?;
     Ok(ModuleMap::of_rising(provided, needed))
-}
-
-/// Returns why a map is not written. That is not a bad line (K4), which only reading a map finds.
-fn unwritable(fault: MapFault) -> UnwritableMap
-    requires { (line : ℕ) → fault ≢ BadMapLine line }
-    ensures { map_fault result ≡ fault }
-{
-    match fault {
-        MapFault::MapPath { path } => UnwritableMap::MapPath { path },
-        MapFault::TwoProvided => UnwritableMap::TwoProvided,
-        MapFault::BadMapLine { .. } => unreachable!(),
-    }
 }

@@ -1,4 +1,4 @@
-use Rattle.std.proofs.Common.{◌≡◌, ◌∙◌, List, ℕ, Option, Vec, Global, None, Some, subst, sym, IfSome, IsTrue, option_copied, option_map}
+use Rattle.std.proofs.Common.{◌≡◌, ◌∙◌, List, ℕ, Option, Vec, Global, Some, subst, sym, IfSome, IsTrue, option_copied, option_map}
 use Rattle.collate_core.specs.Prelude.{RuleValue, InfoValue, ReadsBack, AreLinked, Kept, IsEnough, KeepsRequired, IsSound, PrivateAreProvided, table_with, table_entries, Covers, TableKey, TargetValue, info_of_table, IsWrittenOf, IsEnoughFor, IsReadAs, AreRulesOf, CoversLinked}
 use Rattle.ninja_text.proofs.ForCallers.{same_some}
 use Rattle.collate_core.proofs.Linked.{enough_for_target, keeps_for_style}

@@ -1,4 +1,4 @@
-use Rattle.std.proofs.Common.{◌≡◌, ◌∙◌, ◌⊎◌, List, ℕ, map, ap, subst, inl, inr, Option, Some, None, IfSome, IsTrue, MatchOption, Result, Ok, IfOk}
+use Rattle.std.proofs.Common.{◌≡◌, ◌∙◌, ◌⊎◌, List, ℕ, ap, subst, inl, inr, Option, Some, None, IfSome, IsTrue, MatchOption, Result, Ok, IfOk}
 use Rattle.std.proofs.lemmas.Result.{err_from_is_err_and}
 use Rattle.collate_core.specs.Prelude.{ForFault, Failure, Memory, Fault, IsAccepted, IsInfo, info_checks, IsInfoText, info_of, lent_texts, InfoValue, IsReadAs}
 use Rattle.collate_core.proofs.Lists.{of_none}
@@ -38,6 +38,9 @@ collate_by_part-requires-clause-infos g c =
     ap lent_texts c.deref.ensures.value ∙ wrote.1 in
     (c.args.outs.now, c.requires.known, wrote.0, infos)
 
+pub infos_once-requires : goal.infos_once-requires
+infos_once-requires g c = (of_some _ _ c.in-Some.is c.in_ok-infos.ensures).0
+
 pub returns-in-Some-found-clause-collated : goal.returns-in-Some-found-clause-collated
 returns-in-Some-found-clause-collated g c =
     let wrote = of_some _ _ c.in-Some.is c.in_ok-infos.ensures in
@@ -52,31 +55,27 @@ returns-in-Some-found-clause-known g c =
 pub returns-in_err-out-clause-refused : goal.returns-in_err-out-clause-refused
 returns-in_err-out-clause-refused g c =
     let wrote = of_some _ _ c.in-Some.is c.in_ok-infos.ensures in
-    let infos =
-    ap lent_texts c.deref.ensures.value ∙ wrote.1 in
+    let infos = ap lent_texts c.deref-2.ensures.value ∙ c.in_ok-infos-2.ensures in
     let p = err_from_is_err_and c.from_residual-in_err-out.result c.from_residual-in_err-out.ensures.1 in
     rw (p.1, p.2, ← c.target.view_is, ← infos) (refused_linked _ _ wrote.0 _ c.in_err-out.ensures.refused)
 
 pub returns-in_err-out-clause-read : goal.returns-in_err-out-clause-read
 returns-in_err-out-clause-read g c =
     let wrote = of_some _ _ c.in-Some.is c.in_ok-infos.ensures in
-    let infos =
-    ap lent_texts c.deref.ensures.value ∙ wrote.1 in
+    let infos = ap lent_texts c.deref-2.ensures.value ∙ c.in_ok-infos-2.ensures in
     let p = err_from_is_err_and c.from_residual-in_err-out.result c.from_residual-in_err-out.ensures.1 in
     rw (p.1, p.2, ← c.target.view_is, ← infos) c.in_err-out.ensures.read
 
 pub returns-then-not-is_read-clause-collated : goal.returns-then-not-is_read-clause-collated
 returns-then-not-is_read-clause-collated g c =
     let wrote = of_some _ _ c.in-Some.is c.in_ok-infos.ensures in
-    let infos =
-    ap lent_texts c.deref.ensures.value ∙ wrote.1 in
+    let infos = ap lent_texts c.deref-2.ensures.value ∙ c.in_ok-infos-2.ensures in
     rw (← c.target.view_is, ← infos) (wrote.0, c.in_ok-out.ensures.collated)
 
 pub returns-clause-collated : goal.returns-clause-collated
 returns-clause-collated g c =
     let wrote = of_some _ _ c.in-Some.is c.in_ok-infos.ensures in
-    let infos =
-    ap lent_texts c.deref.ensures.value ∙ wrote.1 in
+    let infos = ap lent_texts c.deref-2.ensures.value ∙ c.in_ok-infos-2.ensures in
     rw (← c.target.view_is, ← infos) (wrote.0, c.in_ok-out.ensures.collated)
 
 pub returns-clause-known : goal.returns-clause-known
