@@ -92,16 +92,17 @@ module _ {names : List Text} {all : List (Listed Text)} {known : Text → Option
       before d bytes is q ∙ ap₂ (λ o (b : Bool). option_or o (cond b (Some bytes) None)) none other
 
   -- one that was listed before
-  pub again : (k : ℕ) (bytes : Bytes) → known name ≡ Some k → slice_get all k ≡ Some (First bytes) → ReadSoFar names (all ++ Again k ∷ []) known
-  again k bytes is at =
+  pub again : (k : ℕ) (bytes : Bytes) (new : Text → Option ℕ) → known name ≡ Some k → slice_get all k ≡ Some (First bytes) →
+      ((q : Text) → new q ≡ known q) → ReadSoFar names (all ++ Again k ∷ []) new
+  again k bytes new is at same =
       let d : Listed Text = Again k in
       let its : (more : List (Listed Text)) → bytes_listed (all ++ d ∷ more) d ≡ bytes = λ more. ap first_bytes (in_first all (d ∷ more) k (First bytes) at) in
       record {
         settled = still d bytes its;
-        found = λ q j there. let old = so.found q j there in (old.0, in_first all (d ∷ []) j (First old.0) old.1, kept q d bytes its old.2);
+        found = λ q j there. let old = so.found q j (sym (same q) ∙ there) in (old.0, in_first all (d ∷ []) j (First old.0) old.1, kept q d bytes its old.2);
         missed = λ q none.
-            still_missed q d bytes its (differs (λ same. none-some k (sym none ∙ ap known same ∙ is)))
-            (so.missed q none);
+            still_missed q d bytes its (differs (λ is_q. none-some k (sym none ∙ same q ∙ ap known is_q ∙ is)))
+            (so.missed q (sym (same q) ∙ none));
       }
 
   pub is_first : (bytes : Bytes) (new : Text → Option ℕ) → known name ≡ None →
@@ -138,6 +139,16 @@ module _ {names : List Text} {all : List (Listed Text)} {known : Text → Option
       is_missed q true equal is = absurd (none-some (length all) (sym is))
       is_missed q false other is =
           still_missed q (First bytes) bytes its (differs (λ same. true≢false (sym ((bytes_eq-Decides name q).1 (sym same)) ∙ other))) (so.missed q is)
+
+-- an index that was replaced is put back
+pub put_back : (name : Text) (n first : ℕ) (old mid new : Text → Option ℕ) → old name ≡ Some first →
+    ((q : Text) → mid q ≡ cond (bytes_eq name q) (Some n) (old q)) → ((q : Text) → new q ≡ cond (bytes_eq name q) (Some first) (mid q)) →
+    (q : Text) → new q ≡ old q
+put_back name n first old mid new is put back q = by (bytes_eq name q) refl (put q) (back q)
+  where
+    by : (b : Bool) → bytes_eq name q ≡ b → mid q ≡ cond b (Some n) (old q) → new q ≡ cond b (Some first) (mid q) → new q ≡ old q
+    by true own _ set = set ∙ sym is ∙ ap old ((bytes_eq-Decides name q).0 own)
+    by false other same set = set ∙ same
 
 -- the bytes of one that was listed before, and of one that is listed first
 pub again_texts : {names : List Text} {all : List (Listed Text)} {known : Text → Option ℕ} (so : ReadSoFar names all known) (k : ℕ) (bytes : Bytes) →

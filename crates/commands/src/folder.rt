@@ -128,13 +128,14 @@ pub(crate) fn read_all<'f, F: Folder<'f>>(
     let mut known = BTreeMap::new(alloc);
     for (index, name) in names.iter().enumerate() {
         let name = name.as_str();
-        if let Some(first) = known.get(name) {
-            files = pushed(files, Listed::Again(*first))?;
-            continue;
-        }
-        let file = read(alloc, name, folder)?;
-        known.insert(name, index)?;
-        files = pushed(files, Listed::First(file))?;
+        let listed = match known.insert(name, index)? {
+            None => Listed::First(read(alloc, name, folder)?),
+            Some(first) => {
+                known.insert(name, first)?;
+                Listed::Again(first)
+            }
+        };
+        files = pushed(files, listed)?;
     }
     Ok(files)
 }
