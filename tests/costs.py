@@ -31,7 +31,8 @@ LIMIT = 1.2  # how many times as much a byte of the input may cost if there are 
 SIZES = {"edges": 1 << 18, "dyndep": 1 << 18, "modules": 600, "targets": 400, "keyless": 400,
          "work-dir": 400, "ext": 400, "paths": 300, "requires": 1600, "info": 3200, "plugins": 40,
          "names": 1600, "services": 40, "providers": 100, "links": 60, "diamonds": 12, "shared": 40,
-         "again": 5000, "rules": 5000, "linked": 5000}
+         "again": 5000, "rules": 5000, "linked": 5000,
+         "relinked": 400}
 
 
 @functools.lru_cache(None)

@@ -348,8 +348,21 @@ again = listed_again("scans", {"rules": []})
 again_with_rules = listed_again("scans", {"rules": [rule("a.o", [])]})
 again_linked = listed_again("linked", {"target": "l", "modules": []})
 
+
+def relinked(made, ordinary, size):
+    """A project whose last target links the one before a hundred times, or once, with the other
+    names in a member that nothing reads."""
+    for directory, count in (made, 100), (ordinary, 1):
+        project = Project(directory)
+        project.add("l", [([f"m{number}"], []) for number in range(size)], [])
+        ignored = ["out/l.json"] * (100 - count)
+        project.add("u", [], ["l"] * count, ignored=ignored)
+        words = project.written()
+    return words
+
+
 # The shapes that have an error, and end with status 1: M1 and M2.
-REJECTED = "rules", "linked"
+REJECTED = "rules", "linked", "relinked"
 
 # The label, the inputs, the size that bench/run hostile takes, and how many times as long as the
 # ordinary input it may take.
@@ -363,4 +376,5 @@ SHAPES = [
     ("names", shared_names, 20_000, 1.1), ("links", links, 1000, 2), ("diamonds", diamonds, 40, 2),
     ("shared", shared_edges, 800, 2), ("again", again, 1_900_000, 2),
     ("rules", again_with_rules, 1_900_000, 2), ("linked", again_linked, 1_900_000, 2),
+    ("relinked", relinked, 20_000, 2),
 ]
