@@ -122,12 +122,6 @@ public:
         return hash.finish(bytes);
     }
 
-    // The hash of a text: the bytes, then 255.
-    std::uint64_t of_text(const std::string& text) const {
-        SipHash hash = *this;
-        return hash.finish(text + '\xff');
-    }
-
 private:
     std::uint64_t v0_ = 0x736f6d6570736575, v1_ = 0x646f72616e646f6d, v2_ = 0x6c7967656e657261, v3_ = 0x7465646279746573;
     std::uint64_t length_ = 0;
@@ -197,7 +191,7 @@ void print_cut(const SipHash& key, std::uint64_t mask, std::uint64_t window) {
 void print_names(const SipHash& key, std::uint64_t mask, std::size_t count) {
     for (unsigned long number = 0; count > 0; ++number) {
         const std::string name = "x" + std::to_string(number);
-        if ((key.of_text(name) & mask) == 0) {
+        if ((key.of_list(name) & mask) == 0) {
             std::puts(name.c_str());
             --count;
         }

@@ -26,13 +26,21 @@ COSTS = "instructions", "allocations", "bytes asked for", "bytes held"
 LIMIT = 1.2  # how many times as much a byte of the input may cost if there are twice as many
 
 # Small, but so large that the cost of a shape would be seen: if a table searches all its entries,
-# say, this is most of what a run does. (That links times sources grow with the words of a set, and
-# not with the sources, shows from a thousand targets on: in `bench/run hostile`.)
-SIZES = {"edges": 1 << 18, "dyndep": 1 << 18, "modules": 600, "targets": 400, "keyless": 400,
-         "work-dir": 400, "ext": 400, "paths": 300, "requires": 1600, "info": 3200, "plugins": 40,
-         "names": 1600, "services": 40, "providers": 100, "links": 60, "diamonds": 12, "shared": 40,
-         "again": 5000, "rules": 5000, "linked": 5000,
-         "relinked": 400}
+# say, this is more than a tenth of what a run does.
+SIZES = {"edges": 1 << 18, "dyndep": 1 << 18, "outputs": 2000, "modules": 1000, "targets": 2500,
+         "keyless": 1000, "work-dir": 400, "ext": 400, "paths": 100, "requires": 1600, "info": 3200,
+         "plugins": 40, "names": 1600, "services": 40, "providers": 100, "links": 60,
+         "diamonds": 10, "shared": 40, "again": 5000, "rules": 5000, "linked": 5000,
+         "relinked": 100}
+
+# What costs no more than an ordinary input, by shape. All but the last differ by their names only.
+ALIKE = {it: COSTS for it in ("edges", "dyndep", "outputs", "modules", "targets", "keyless")}
+ALIKE["paths"] = ["bytes held"]
+ALIKE_LIMIT = 1.1
+
+# The functions whose instructions are counted in place of all, by shape: reading the links of a
+# project takes many times what it takes to look them up.
+PARTS = {"links": "*::Pool::part"}
 
 
 @functools.lru_cache(None)
@@ -53,15 +61,17 @@ def size_of(directory):
     return sum(it.stat().st_size for it in Path(directory).rglob("*") if it.is_file())
 
 
-def costs_of(*words, program=PROGRAM, ends=0):
-    """What a run in this directory costs, in the order of COSTS. It has to end with this status."""
+def costs_of(*words, program=PROGRAM, ends=0, part=None):
+    """What a run in this directory costs, in the order of COSTS. It has to end with this status.
+    If there is a part, only the instructions of the function of this name are counted."""
     counts = os.memfd_create("counts")
-    options = "--tool=callgrind", "--callgrind-out-file=/dev/null"
+    options = ["--tool=callgrind", "--callgrind-out-file=/dev/null"]
+    options += [f"--toggle-collect={part}"] if part else []
     valgrind = caller(shutil.which("valgrind"))
     begun = valgrind.begin(*options, program, *words, others=[(3, counts)],
                            LD_PRELOAD=library("count_allocations.c"))
     status, _, err = valgrind.end(begun, seconds=300)
-    found = re.search(rb"Collected : (\d+)\n", err)
+    found = re.search(rb"Collected : ([1-9]\d*)\n", err)
     counted = emptied(counts).split()
     os.close(counts)
     if status != ends or not found or len(counted) != len(COSTS) - 1:
@@ -100,12 +110,33 @@ class Shapes(Costs):
         sizes = SIZES[label], 2 * SIZES[label]
         for size in sizes:
             words = shape(self.room / f"made{size}", self.room / f"ordinary{size}", size)
-        ends = int(label in shapes().REJECTED)
-        small, large = (self.at(f"made{size}", words, ends=ends) for size in sizes)
-        ordinary = self.at(f"ordinary{sizes[1]}", words)
+        part, ends = PARTS.get(label), int(label in shapes().REJECTED)
+        small, large = (self.at(f"made{size}", words, part=part, ends=ends) for size in sizes)
+        ordinary = self.at(f"ordinary{sizes[1]}", words, part=part)
         self.grows(small, large)
         for name, made, usual in zip(COSTS, large[1], ordinary[1]):
-            self.assertLessEqual(made, limit * usual, f"{name}: {made}, and {usual} if ordinary")
+            most = ALIKE_LIMIT if name in ALIKE.get(label, ()) else limit
+            self.assertLessEqual(made, most * usual, f"{name}: {made}, and {usual} if ordinary")
+
+
+# A member that is nearly all of a document, and how many times the bytes of the document a run asks
+# for at most, and holds at once.
+DOCUMENTS = {"string": ("a" * 200_000, 5, 4), "values": ([{"a": 1}] * 25_000, 150, 150)}
+
+
+@each(DOCUMENTS)
+class Documents(Costs):
+    """Scan documents and info files are held once, and so are their trees."""
+
+    def check(self, kind):
+        member, *limits = DOCUMENTS[kind]
+        for name, other in ("scans", {"rules": []}), ("linked", {"target": "l", "modules": []}):
+            directory = self.room / name
+            shapes().write(directory / "file", {**other, "version": 1, "ignored": member})
+            shapes().write_target(directory, **{"scans": [], name: ["file"]})
+            size, (_, _, *counts) = self.at(name, ["collate", "target"])
+            for what, limit, count in zip(COSTS[2:], limits, counts):
+                self.assertLessEqual(count, limit * size, f"{name} {what}: {count}, for {size}")
 
 
 @each(["one", "collate", "project", "order", "effect", "show"])

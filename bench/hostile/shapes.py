@@ -69,35 +69,49 @@ def dyndep(made, ordinary, size):
     return "effect", "d", "edges", "d"
 
 
-def like(names):
-    """As many other names of the same lengths."""
-    return [f"y{number:0{len(name) - 1}}" for number, name in enumerate(names)]
+def names_for(size):
+    """Names that share a group of a table if its key is that of no entries, and as many others of
+    the same lengths."""
+    names = collided("names", digest(""), 12, size)
+    return names, [f"y{number:0{len(name) - 1}}" for number, name in enumerate(names)]
 
 
 def modules(made, ordinary, size):
-    """Modules whose names share a group of a table if its key is that of an empty table."""
-    names = collided("names", digest(""), 10, size)
-    for directory, listed in (made, names), (ordinary, like(names)):
-        write_scan(directory, [rule(f"{number}.o", [name], listed[number - 1:number])
-                               for number, name in enumerate(listed)])
-    return "one", "scan", "mod", ".bmi"
+    """An object whose modules are private. Their names share a group of a table, and so do their
+    files. Another object requires the last one often."""
+    for directory, names in zip((made, ordinary), names_for(2 * size)):
+        provider = rule("o", zip(names[:size], names[size:]))
+        write_scan(directory, [provider, rule("u", [], names[size - 1:size] * size)])
+        write_target(directory, private=names[:size])
+    return "collate", "target"
 
 
-def targets(made, ordinary, size, members="m\n.x\n"):
-    """A project whose last targets link all others. The names of these share a group of a table if
-    its key is the digest of the members `module-dir` and `module-ext`."""
-    users = size // 30
-    names = collided("names", digest(members * (size + users)), 10, size)
-    for directory, listed in (made, names), (ordinary, like(names)):
-        infos = [f"out/{name}.json" for name in listed]
-        last = [target(f"u{user}", linked=infos) for user in range(users)]
-        write_project(directory, [target(name) for name in listed] + last)
-    return "project", "project"
+def targets(made, ordinary, size):
+    """A target that links many targets, whose names share a group of a table."""
+    for directory, names in zip((made, ordinary), names_for(size)):
+        for name in names:
+            write(directory / f"i/{name}", {"version": 2, "target": name, "modules": []})
+        write_target(directory, scans=[], linked=[f"i/{name}" for name in names])
+    return "collate", "target"
 
 
-def keyless_targets(made, ordinary, size):
-    """The same if the key is that of an empty table."""
-    return targets(made, ordinary, size, members="")
+def keyless(made, ordinary, size):
+    """A project with a library whose modules have such names and files, and a library and a program
+    that require the last one often."""
+    for directory, names in zip((made, ordinary), names_for(2 * size)):
+        project, last = Project(directory), names[size - 1:size]
+        project.add("a", [(zip(names[:size], names[size:]), [])], [])
+        project.add("b", [([f"b{number}"], last) for number in range(size)], ["a"])
+        project.add("c", [([], last * size)], ["a"])
+        words = project.written()
+    return words
+
+
+def outputs(made, ordinary, size):
+    """Edges that produce files that share a group of a table."""
+    for directory, names in zip((made, ordinary), names_for(size)):
+        write(directory / "edges", "".join(f"build {name}: r\n" for name in names))
+    return "order", "edges"
 
 
 # ---- strings that are reduced
@@ -126,12 +140,14 @@ def module_ext(made, ordinary, size):
 
 def reduced_paths(made, ordinary, size):
     """Objects whose paths are short once they are reduced, or short paths next to members that are
-    ignored."""
-    long = "a/../" * 100
+    ignored. Each is in a document of its own, so that the paths take most of the memory."""
+    long = "a/../" * 800
+    names = [f"s/{number}" for number in range(size)]
     for directory, ignored, used in (made, "", long), (ordinary, long, ""):
-        write_scan(directory, [{**rule(f"{used}{number}", []), "ignored": ignored}
-                               for number in range(size)])
-    return "one", "scan", "mod", ".bmi"
+        for number, name in enumerate(names):
+            write_scan(directory, [{**rule(f"{used}{number}", []), "ignored": ignored}], name)
+        write_target(directory, scans=names)
+    return "collate", "target"
 
 
 # ---- names that are repeated
@@ -171,7 +187,10 @@ def write_scan(directory, rules, name="scan"):
 
 
 def rule(output, provided, required=()):
-    return {"primary-output": output, "provides": [{"logical-name": it} for it in provided],
+    """A rule of an object, which provides modules by their names or by names and files."""
+    pairs = [it if isinstance(it, tuple) else (it,) for it in provided]
+    return {"primary-output": output,
+            "provides": [dict(zip(("logical-name", "compiled-module-path"), it)) for it in pairs],
             "requires": [{"logical-name": it} for it in required]}
 
 
@@ -253,17 +272,20 @@ def services(made, ordinary, size):
 
 
 def providers(made, ordinary, size):
-    """Two targets provide one name in one file, a library links the first, and programs link that
-    and a large library. Or the second one provides another name."""
-    for directory, name in (made, "m"), (ordinary, "m2"):
+    """Two targets that provide one name in one file, and three that provide different names in one
+    file. For each file a library links one of its targets, and programs link both libraries and a
+    large one. Or each target has a file of its own."""
+    for directory, is_shared in (made, True), (ordinary, False):
         project = Project(directory)
-        project.add("lib", [([f"l{number}"], []) for number in range(size)], [])
-        for own, provided in ("a1", "m"), ("a2", name):
-            project.add(own, [([provided], [])], [], **{"module-dir": "m/a"})
-        project.add("b", [([], [name])], ["a2"])
-        project.add("c", [(["c"], ["m"])], ["a1"])
+        project.add("large", [([f"l{number}"], []) for number in range(size)], [])
+        for own, name in ("p0", "p"), ("p1", "p"), ("q0", "q0"), ("q1", "q1"), ("q2", "q2"):
+            file = f"m/{own[0] if is_shared else own}"
+            project.add(own, [([(name, file)], [])], [])
+            project.add(f"{own}.user", [([], [name])], [own])
+        project.add("a", [(["a"], ["p"])], ["p0"])
+        project.add("b", [(["b"], ["q1"])], ["q1"])
         for number in range(size // 8):
-            project.add(f"u{number}", [([], ["l0", "c"])], ["lib", "a1", "c"])
+            project.add(f"u{number}", [([], ["l0", "a", "b"])], ["large", "p0", "q1", "a", "b"])
         words = project.written()
     return words
 
@@ -283,14 +305,21 @@ def shared_names(made, ordinary, size):
 
 
 def links(made, ordinary, size):
-    """Targets that link all earlier ones, and require the modules of all of them, or of the last
-    one as often."""
-    for directory, is_last in (made, False), (ordinary, True):
+    """Libraries that link the same targets and require a module of each, or as many modules of the
+    first one, and programs that link the targets and the libraries."""
+    low, high = [f"t{it}" for it in range(size)], [f"l{it}" for it in range(size)]
+    names = [f"m{it:05}" for it in range(size)]
+    for directory, is_first in (made, False), (ordinary, True):
         project = Project(directory)
-        for number in range(size):
-            names = [f"m{number - 1 if is_last else it:05}" for it in range(number)]
-            objects = [([f"m{number:05}"], names)]
-            project.add(f"t{number}", objects, [f"t{it}" for it in range(number)])
+        for number, name in enumerate(low):
+            own = names[number:number + 1]
+            if is_first:
+                own = [] if number else names
+            project.add(name, [([it], []) for it in own], [])
+        for name in high:
+            project.add(name, [([name], names)], low)
+        for number, name in enumerate(high):
+            project.add(f"u{number}", [([], [name])], low + high)
         words = project.written()
     return words
 
@@ -321,7 +350,8 @@ def shared_edges(made, ordinary, size):
         for number in range(size):
             name, own = f"t{number}", [f"t{number}.m{it}" for it in range(20)]
             dyndep = f"out/{name}.dd"
-            lines = [f"build o/{name}/{it}: cxx s || {dyndep}\n  dyndep = {dyndep}\n" for it in range(20)]
+            end = f": cxx s || {dyndep}\n  dyndep = {dyndep}\n"
+            lines = [f"build o/{name}/{it}{end}" for it in range(20)]
             lists.append("".join(lines))
             listed = "edges" if is_shared else f"e/{number}"
             project.add(name, [([it], []) for it in own], [], edges=listed)
@@ -367,14 +397,14 @@ REJECTED = "rules", "linked", "relinked"
 # The label, the inputs, the size that bench/run hostile takes, and how many times as long as the
 # ordinary input it may take.
 SHAPES = [
-    ("edges", edges, 1 << 22, 2), ("dyndep", dyndep, 1 << 22, 2), ("modules", modules, 20_000, 2),
-    ("targets", targets, 6000, 2), ("keyless", keyless_targets, 6000, 2),
-    ("work-dir", work_directory, 65_536, 2), ("ext", module_ext, 65_536, 2),
-    ("paths", reduced_paths, 20_000, 3), ("requires", requires, 40_000, 2),
-    ("info", info_requires, 80_000, 2), ("plugins", plugins, 400, 1.5),
-    ("services", services, 400, 2), ("providers", providers, 4000, 2),
-    ("names", shared_names, 20_000, 1.1), ("links", links, 1000, 2), ("diamonds", diamonds, 40, 2),
-    ("shared", shared_edges, 800, 2), ("again", again, 1_900_000, 2),
-    ("rules", again_with_rules, 1_900_000, 2), ("linked", again_linked, 1_900_000, 2),
-    ("relinked", relinked, 20_000, 2),
+    ("edges", edges, 1 << 22, 2), ("dyndep", dyndep, 1 << 22, 2), ("outputs", outputs, 40_000, 2),
+    ("modules", modules, 20_000, 2), ("targets", targets, 20_000, 2),
+    ("keyless", keyless, 20_000, 2), ("work-dir", work_directory, 65_536, 2),
+    ("ext", module_ext, 65_536, 2), ("paths", reduced_paths, 4000, 3),
+    ("requires", requires, 40_000, 2), ("info", info_requires, 80_000, 2),
+    ("plugins", plugins, 400, 1.5), ("services", services, 400, 2),
+    ("providers", providers, 4000, 2), ("names", shared_names, 20_000, 1.1),
+    ("links", links, 400, 2), ("diamonds", diamonds, 40, 2), ("shared", shared_edges, 800, 2),
+    ("again", again, 1_900_000, 2), ("rules", again_with_rules, 1_900_000, 2),
+    ("linked", again_linked, 1_900_000, 2), ("relinked", relinked, 20_000, 2),
 ]
