@@ -3,7 +3,6 @@
 The steps of builds import this, so it needs only modules that are quick to import.
 """
 import fcntl
-import json
 import os
 import sys
 
@@ -65,6 +64,7 @@ def write_if_changed(name, text):
 
 
 def document(name):
+    import json  # it takes as long to import as Python to start
     try:
         return json.loads(read(name))
     except (RecursionError, ValueError) as error:

@@ -440,17 +440,19 @@ class Failures(Remote):
         return Path("a.o").read_bytes(), *self.counts()
 
     def test_a_compiler_with_the_same_macros(self):
-        """Its bytes are others, as after a mended bug."""
+        """Its bytes are others, as after a mended bug, or those of the program that GCC calls."""
         if self.server is not Sandbox:
             self.skipTest("recc sends the path that a compiler has here")
         put("a.cpp", "int main() {}\n")
-        (self.room / "tools").mkdir()
         name, made = os.path.basename(self.compiler), []
-        for text in ("# 1", "# 2") * 2:
-            put(self.room / "tools" / name, f'#!/bin/sh\n{text}\nexec {self.compiler} "$@"\n')
+        for text, proper in ("1", "1"), ("2", "1"), ("2", "2"), ("1", "1"):
+            put(self.room / "proper", proper)
+            put(self.room / "tools" / name, f"""#!/bin/sh
+                # {text}
+                if [ "$1" = -print-prog-name=cc1plus ]; then echo {self.room}/proper; else exec {self.compiler} "$@"; fi""")
             (self.room / "tools" / name).chmod(0o755)
             made.append(self.compiled(name, PATH=f"{self.room}/tools:{self.remote['PATH']}")[1:])
-        self.assertEqual(made, [(2, 0), (2, 0), (1, 1), (1, 1)])
+        self.assertEqual(made, [(2, 0), (2, 0), (2, 0), (1, 1)])
 
     def test_a_header_that_is_not_sent(self):
         """A package brings another one, with another size, or of another time."""
@@ -519,54 +521,78 @@ class CompiledHere(Remote):
         options += {"clang": ["-ftime-trace", "-fsave-optimization-record", "-fmodule-output=x.pcm"],
                     "gcc": ["-fstack-usage", "-fdump-tree-original", "-fmodules-ts", "-Wp,-MD,x.d"]}[self.form]
         for option in options:
-            self.stays(f"the option {option}", option, *["-Wno-unused-command-line-argument"] * (self.form == "clang"))
-        self.stays("the variable CPATH", CPATH="/tmp")
+            self.stays(f"{option} may concern other files", option, *["-Wno-unused-command-line-argument"] * (self.form == "clang"))
+        self.stays("CPATH may concern other files", CPATH="/tmp")
 
     def test_commands(self):
-        self.stays("no -MF names the depfile", "-MD")
         put("a.cpp", "int main() {}\n")
-        for words in ["-c", "a.cpp"], ["a.cpp", "-o", "a.o", "-c"]:
+        unlisted = "-o names no object, or no depfile lists what it reads"
+        for words, why in (["-c", "a.cpp"], f"{SAID}a.cpp: {unlisted}\n"), (["-o", "a.o", "-c"], f"{SAID}a.o: {unlisted}\n"), (["a.cpp", "-o", "a.o", "-c"], ""):
             status, printed = run(LAUNCHER, self.compiler, *words, env={**self.remote, "DYNCOLLATE_REMOTE": "only"})
-            self.assertEqual((status, printed.partition(": ")[2].partition(": ")[2]), (1, "the command does not make one object of one source\n"))
+            self.assertEqual((status, printed), (bool(why), why))
         put("a.o.modmap", "")
         words = {"clang": ["-std=c++20", "@a.o.modmap"], "gcc": ["-std=c++20", "-fmodules-ts", "-fmodule-mapper=a.o.modmap"]}[self.form]
         if self.form == "gcc":
             self.stays("[Errno 2] No such file or directory: 'a.o.ddi'", *words)
         put("a.o.ddi", "{}")
         put("a.o.ddi.d", "")
-        self.stays("no depfile lists what it reads", *words)
+        self.stays(unlisted, *words)
+
+    def test_a_depfile_without_a_name(self):
+        """It is next to the object, as compilers have it."""
+        put("in/value.h", "")
+        put("a.cpp", '#include "in/value.h"\nint main() {}\n')
+        for option in "-MD", "-MMD":
+            command = self.compiler, option, "-c", "a.cpp", "-o", "in/a.cpp.o"
+            found = []
+            for words, more in (command, {}), ((LAUNCHER, *command), {"DYNCOLLATE_REMOTE": "only"}):
+                self.assertEqual(run(*words, env={**self.remote, **more}), (0, ""))
+                target, names = Path("in/a.cpp.d").read_text().replace("\\\n", "").split(":")
+                found.append((target, {it for it in names.split() if not it.startswith("/usr/")}))
+                os.remove("in/a.cpp.d")
+            self.assertEqual(found, [("in/a.cpp.o", {"a.cpp", "in/value.h"})] * 2)
 
     def test_an_installed_launcher(self):
-        """Its module is in another directory, and its compiled form next to what the build has found out."""
+        """Its modules are in another directory, and their compiled forms next to what the build has found out."""
         (self.room / "prefix/bin").mkdir(parents=True)
         shutil.copy(LAUNCHER, self.room / "prefix/bin")
-        shutil.copytree(TOP / "adapters/remote", self.room / "prefix/share/dyncollate", ignore=lambda _, names: [it for it in names if not it.endswith(".py")])
+        (self.room / "prefix/share/dyncollate").mkdir(parents=True)
+        for it in "adapter_files.py", "remote/remote_compile.py":
+            shutil.copy(TOP / "adapters" / it, self.room / "prefix/share/dyncollate")
         before = sorted((self.room / "prefix").rglob("*"))
         put("a.cpp", "int main() {}\n")
         for counts in (2, 0), (0, 1):
             status, printed = run("prefix/bin/dyncollate-remote", self.compiler, "-c", "a.cpp", "-o", "a.o", env={**self.remote, "DYNCOLLATE_REMOTE": "only"})
             self.assertEqual((status, printed, self.counts()), (0, "", counts))
         self.assertEqual(sorted((self.room / "prefix").rglob("*")), before)
-        self.assertEqual(len([*Path(".dyncollate-remote/python").rglob("*.pyc")]), 1)
+        self.assertEqual(len([*Path(".dyncollate-remote/python").rglob("*.pyc")]), 2)
 
     def test_a_compiler_that_fails_there(self):
-        put(self.room / "server/option", "-no-such-option")
+        """The line has its message, also if it is not UTF-8."""
         put("a.cpp", "int main() {}\n")
-        status, printed = run(LAUNCHER, self.compiler, "-c", "a.cpp", "-o", "a.o", env={**self.remote, "DYNCOLLATE_REMOTE": "only"})
-        self.assertEqual(status, 1)
-        self.assertRegex(printed, rf"^{SAID}a.o: {re.escape(self.compiler)} fails on the server: .*no-such-option")
+        put(self.room / "server/option", "-no-such-option")
+        name = os.fsdecode(b"\xff/") + os.path.basename(self.compiler)
+        os.mkdir(os.path.dirname(name))
+        os.symlink(self.compiler, name)
+        for compiler, message in (self.compiler, "no-such-option"), (name, "No such file"):
+            said = rf"{re.escape(os.fsencode(compiler).decode(errors='replace'))} fails on the server: .*{message}.*\n"
+            for only in "", "only", "only":
+                status, printed = run(LAUNCHER, compiler, "-c", "a.cpp", "-o", "a.o", env={**self.remote, "DYNCOLLATE_REMOTE": only})
+                self.assertEqual(status, bool(only))
+                self.assertRegex(printed, rf"\A{SAID}a.o{'' if only else ' is compiled here'}: {said}\Z")
 
     def test_names(self):
-        self.stays("a,b.cpp is not below RECC_PROJECT_ROOT, or it has a comma", source="a,b.cpp")
+        unfit = "is not below RECC_PROJECT_ROOT, or recc cannot have its name"
+        self.stays(f"a,b.cpp {unfit}", source="a,b.cpp")
+        self.stays(f"a\ufffd.cpp {unfit}", source=os.fsdecode(b"a\xff.cpp"))
         os.symlink(self.compiler, "other-name")
         self.stays("recc does not know the compiler ./other-name", compiler="./other-name")
         (self.room / "in").mkdir()
         os.chdir("in")
         source = str(self.room / "a.cpp")
-        self.stays(f"{source} is not below RECC_PROJECT_ROOT, or it has a comma", source=source)
+        self.stays(f"{source} {unfit}", source=source)
 
     def test_what_a_source_has(self):
-        del self.remote["SOURCE_DATE_EPOCH"]
         self.stays("__DATE__ in a.cpp", text="const char *date = __DATE__;\n")
         self.stays("__TIMESTAMP__ in a.cpp", text="const char *date = __TIMESTAMP__;\n")
         self.stays(".incbin in a.cpp", text='asm(".incbin \\"a.cpp\\"");\n')
@@ -574,16 +600,18 @@ class CompiledHere(Remote):
             self.stays("__has_include in a.cpp", text="#if __has_include(<none>)\n#endif\n")
 
     def test_long_lists(self):
-        """More than a variable takes is in a file, unless the environment names such a file."""
-        names = [f"{number:03}{'a' * 240}.h" for number in range(450)]
-        for name in names:
-            put(self.room / name, "")
-        text = "".join(f'#include "{it}"\n' for it in names) + "int main() {}\n"
-        put(self.room / "b.cpp", text)
-        for count in (2, 0), (0, 1):
-            status, printed = run(LAUNCHER, self.compiler, "-c", "b.cpp", "-o", "b.o", env={**self.remote, "DYNCOLLATE_REMOTE": "only"})
-            self.assertEqual((status, printed, self.counts()), (0, "", count))
-        self.stays("more inputs than a variable takes, and RECC_CONFIG_DIRECTORY is set", text=text, RECC_CONFIG_DIRECTORY="/etc")
+        """The kernel takes 131,071 bytes for a variable."""
+        for count in 400, 600:
+            names = [f"{number:03}{'a' * 240}.h" for number in range(count)]
+            for name in names:
+                put(self.room / name, "")
+            text = "".join(f'#include "{it}"\n' for it in names) + "int main() {}\n"
+            if count == 400:
+                put(self.room / "b.cpp", text)
+                for counts in (2, 0), (0, 1):
+                    status, printed = run(LAUNCHER, self.compiler, "-c", "b.cpp", "-o", "b.o", env={**self.remote, "DYNCOLLATE_REMOTE": "only"})
+                    self.assertEqual((status, printed, self.counts()), (0, "", counts))
+        self.stays("[Errno 7] Argument list too long: 'recc'", text=text)
 
     def test_once_in_a_build(self):
         os.symlink(self.compiler, "other-name")
