@@ -600,18 +600,16 @@ class CompiledHere(Remote):
             self.stays("__has_include in a.cpp", text="#if __has_include(<none>)\n#endif\n")
 
     def test_long_lists(self):
-        """The kernel takes 131,071 bytes for a variable."""
-        for count in 400, 600:
-            names = [f"{number:03}{'a' * 240}.h" for number in range(count)]
-            for name in names:
-                put(self.room / name, "")
-            text = "".join(f'#include "{it}"\n' for it in names) + "int main() {}\n"
-            if count == 400:
-                put(self.room / "b.cpp", text)
-                for counts in (2, 0), (0, 1):
-                    status, printed = run(LAUNCHER, self.compiler, "-c", "b.cpp", "-o", "b.o", env={**self.remote, "DYNCOLLATE_REMOTE": "only"})
-                    self.assertEqual((status, printed, self.counts()), (0, "", counts))
-        self.stays("[Errno 7] Argument list too long: 'recc'", text=text)
+        """More than a variable takes is in a file, unless the environment names such a file."""
+        names = [f"{number:03}{'a' * 240}.h" for number in range(450)]
+        for name in names:
+            put(self.room / name, "")
+        text = "".join(f'#include "{it}"\n' for it in names) + "int main() {}\n"
+        put(self.room / "b.cpp", text)
+        for count in (2, 0), (0, 1):
+            status, printed = run(LAUNCHER, self.compiler, "-c", "b.cpp", "-o", "b.o", env={**self.remote, "DYNCOLLATE_REMOTE": "only"})
+            self.assertEqual((status, printed, self.counts()), (0, "", count))
+        self.stays("more inputs than a variable takes, and RECC_CONFIG_DIRECTORY is set", text=text, RECC_CONFIG_DIRECTORY="/etc")
 
     def test_once_in_a_build(self):
         os.symlink(self.compiler, "other-name")

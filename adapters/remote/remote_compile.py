@@ -167,8 +167,16 @@ def recc(words, inputs, outputs, **more):
            "RECC_REMOTE_ENV_PATH": "/usr/local/bin:/usr/bin:/bin",
            "RECC_CACHE_UPLOAD_LOCAL_BUILD": "1", "RECC_IGNORE_FAILURE_RESULT": "1", **ENV,
            "RECC_ENV_TO_READ": "SOURCE_DATE_EPOCH", "RECC_FORCE_REMOTE": "1",
-           "RECC_DEPS_OVERRIDE": ",".join(sorted(inputs)),
            "RECC_OUTPUT_FILES_OVERRIDE": ",".join(outputs), **more}
+    files = ",".join(sorted(inputs))
+    if len(os.fsencode(files)) < 100_000:  # the kernel takes at most 131,071 bytes for a variable
+        env["RECC_DEPS_OVERRIDE"] = files
+    elif "RECC_CONFIG_DIRECTORY" in ENV:
+        raise Wrong("more inputs than a variable takes, and RECC_CONFIG_DIRECTORY is set")
+    else:
+        env["RECC_CONFIG_DIRECTORY"] = folder = f"{outputs[0]}.recc"
+        os.makedirs(folder, exist_ok=True)
+        write(f"{folder}/recc.conf", f"deps_override={files}\n")
     status, text = run(["recc", *words], 2, env)
     # lower ones are the compiler's. With a cache alone recc compiles itself, after some errors
     if status > 99 or "RECC_CACHE_ONLY" in ENV and "[ERROR]" in text:
