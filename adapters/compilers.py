@@ -63,32 +63,33 @@ def compile_flags(style, name):
     return ["-fmodules-ts", f"-fmodule-mapper={name}.modmap", "-Mno-modules", "-x", "c++"]
 
 
-def scan_lines(command, scanner_command="", keeps_depfile=False):
-    """Returns the command of a rule that scans `$in`, the source of `$object`, in parts that `&&`
-    joins. `command` compiles it. Without another scanner, GCC scans. A scan that fails leaves
-    nothing, and one that finds the same document leaves it alone. Ninja removes a depfile of which
-    no copy is kept."""
+def scan_lines(command, scanner_command="", keeps_depfile=False, name="$object"):
+    """Returns the command of a rule that scans `$in`, the source of the object with this name, in
+    parts that `&&` joins. `command` compiles it. Without another scanner, GCC scans. A scan that
+    fails leaves nothing, and one that finds the same document leaves it alone. Ninja removes a
+    depfile of which no copy is kept."""
     depfile = "-MD -MF $out.d -MQ $out"
     if scanner_command:
-        scan = (f"{scanner_command} -format=p1689 -- {command} -x c++ -c $in -o $object {depfile} "
+        scan = (f"{scanner_command} -format=p1689 -- {command} -x c++ -c $in -o {name} {depfile} "
                 '> "$$t"')
     else:
         scan = (f"{command} -fmodules-ts -Mno-modules -E -x c++ $in {depfile} -fdeps-format=p1689r5"
-                ' -fdeps-target=$object -o /dev/null -fdeps-file="$$t"')
+                f' -fdeps-target={name} -o /dev/null -fdeps-file="$$t"')
     return ["""t=$out.$$$$ && trap 'rm -f "$$t"' EXIT""", scan,
             *["cp $out.d $out.deps"] * keeps_depfile,
             """{ cmp -s "$$t" $out || mv "$$t" $out; }"""]
 
 
 def scan_command(compiler, flags, keeps_depfile=False):
-    """Returns the command of a rule that scans what this compiler compiles with these flags."""
+    """Returns the command of a rule that scans what this compiler compiles with these flags.
+    `$out` is the name of the object and `.ddi`."""
     style, version = kind(compiler)
-    if style == "gcc" and version >= GCC_SCANS:
-        lines = scan_lines(shell([compiler, *flags]), keeps_depfile=keeps_depfile)
-    else:
+    more = ""
+    if style != "gcc" or version < GCC_SCANS:
         flags = flags if style == "clang" else known_to_clang(flags)
-        lines = scan_lines(shell([compiler, *flags]), shell(scanner(compiler)), keeps_depfile)
-    return " && ".join(lines)
+        more = shell(scanner(compiler))
+    return " && ".join(scan_lines(shell([compiler, *flags]), more, keeps_depfile,
+                                  '"$${t%.ddi.*}"'))
 
 
 def filtered(depfile):

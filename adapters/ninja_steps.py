@@ -38,7 +38,7 @@ class Step:
     @property
     def waits(self):
         """What its compilations wait for, so that Ninja has read the dyndep files below."""
-        return [f"{self.folder}/below"] if self.below else []
+        return [f"{self.folder}/below"] if len(self.below) > 1 else [it.loaded for it in self.below]
 
 
 def steps_of(targets):

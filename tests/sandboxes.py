@@ -259,9 +259,10 @@ class InMesonsBuild(Sandbox, meson.Builds):
         return [it["document"] for it in members] if members else [name]
 
     def test_each_step(self):
-        rules = {"scan": sorted(set(re.findall("^rule (dyncollate_scan.*)", self.tree.text(), re.M))),
+        names = re.findall("^rule (.*)", self.tree.text(), re.M)
+        rules = {"scan": [it for it in names if it.startswith("dyncollate_scan")],
                  "collate": ["dyncollate_group", "dyncollate_collate"], "link": ["cpp_LINKER"],
-                 "compile": ["cpp_COMPILER", "cpp_COMPILER_dyncollate"], "archive": ["STATIC_LINKER"]}
+                 "compile": [it for it in names if it.startswith("cpp_COMPILER")], "archive": ["STATIC_LINKER"]}
         kinds = [(step.kind, self.same(step)) for step in self.steps(**rules)]
         self.assertEqual([kind for kind, _ in kinds], ["scan"] * 3 + ["group", "collate"] + ["compile"] * 3 + ["archive"] * 2 + ["link"])
 

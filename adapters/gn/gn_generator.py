@@ -24,7 +24,7 @@ LINK = re.compile(r"(\w+_)?(link|solink|solink_module)$")
 # statements whose inputs are linked by what names their outputs
 THROUGH = re.compile(r"(\w+_)?(alink|solink|solink_module|stamp|phony)$")
 # statements that compilation databases have
-FOR_EDITORS = re.compile(r"(\w+_)?(cc|cxx|objc|objcxx)(_dyncollate)?$")
+FOR_EDITORS = re.compile(r"(\w+_)?(cc|cxx|objc|objcxx)(_dyncollate\d*)?$")
 # only our compile_commands.json has this, because in strings quotes are escaped
 OURS = '\n  "output": '
 MODULE_FLAGS = frozenset()

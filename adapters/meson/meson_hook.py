@@ -1,12 +1,13 @@
 """What Meson calls in place of Ninja after it wrote the Ninja file: the calls adopt the build."""
 import contextlib
 import os
+import re
 
 import meson_generator
 import ninja_adopt
 from adapter_files import read, say
 from ninja_files import NinjaFile
-from ninja_statements import own_rule
+from ninja_statements import OWN
 
 
 def called(ninja, words, *adoption):
@@ -21,7 +22,8 @@ def called(ninja, words, *adoption):
         clean_dead(NinjaFile(read))
         return 0
     if is_adopted and words[:2] == ["-t", "compdb"]:
-        words += [own_rule(it) for it in words if meson_generator.COMPILE.match(it)]
+        rules = re.findall(r"^rule (.*)", read("build.ninja"), re.M)
+        words += [it for it in rules if it.rpartition(OWN)[0] in words]
     return os.execv(ninja, [ninja, *words])
 
 

@@ -1,10 +1,11 @@
 """Prints the processor time, in milliseconds, of runs of Meson and Ninja and all that they start,
 and the instructions of Ninja with nothing to do.
 
-    measure.py [SOURCES]
+    measure.py [SOURCES..]
 
-The project has that many sources, 200 by default, in static libraries of 25, each linked with the
-one before, and a program. It is measured without modules and with one in each source:
+A project has that many sources, 50, 200 and 1,000 by default, in static libraries of 25, each
+linked with the one before, and a program. It is measured without modules and with one in each
+source:
 
     setup      Meson, with Ninja and with dyncollate-ninja
     adopt      dyncollate-meson alone, of the build with modules
@@ -13,7 +14,9 @@ one before, and a program. It is measured without modules and with one in each s
     collated   how many targets are collated after a module's body or its imports have changed
 
 `generated` is plain Ninja with a manifest of `examples/generate` for the same sources and modules.
-It has none of Meson's own targets.
+`baseline` is the same manifest and all that Meson wrote of its own: each rule and statement that
+compiles, archives or links nothing, also the one that calls Meson, in place of the one that calls
+`generate`. `added` is how many percent more instructions the adopted build takes than that.
 
 This needs Meson, Ninja, Clang 19 and its scanner, and Valgrind.
 """
@@ -28,6 +31,10 @@ from pathlib import Path
 
 TOP = Path(__file__).resolve().parents[2]
 PER_LIBRARY = 25
+# what Meson writes to compile, archive and link
+BUILDING = re.compile(r"(rule|build .*:) (cpp_COMPILER|STATIC_LINKER|cpp_LINKER)\b")
+# what `generate` writes to call itself
+GENERATING = re.compile(r"rule generate\n|build build\.ninja ")
 VARIABLES = {**os.environ, "CXX": "clang++-19", "CLANG": "clang++-19",
              "SCANNER": "clang-scan-deps-19"}
 
@@ -82,14 +89,29 @@ def measure(folder, count, modules):
         adapter = str(TOP / "adapters/meson/dyncollate-meson")
         print(f"adopt {milliseconds(sys.executable, adapter, 'adopt', str(folder / 'ninja')):.0f}")
     print(f"build.{what} {milliseconds('ninja', '-C', built):.0f}", flush=True)
-    measure_idle(what, built)
+    instructions = measure_idle(what, built)
     if modules:
-        measure_edits(folder, built, count // 2)
         generated = folder / "generated"
         generated.mkdir()
         printed(TOP / "examples/generate", "clang", "../targets", cwd=generated)
         printed("ninja", "-C", generated)
         measure_idle("generated", str(generated))
+        add_statements(generated, folder / "ninja/meson-dyncollate/meson.ninja")
+        baseline = measure_idle("baseline", str(generated))
+        print(f"idle.added {100 * (instructions / baseline - 1):+.1f}", flush=True)
+        measure_edits(folder, built, count // 2)
+
+
+def add_statements(generated, meson):
+    """Adds what Meson wrote of its own."""
+    def parts(name, dropped):
+        found = re.split("^(?=rule |build |default )", name.read_text(), flags=re.M)
+        return [it for it in found if not dropped.match(it)]
+
+    (generated / "meson-private").mkdir()
+    (generated / "meson-private/coredata.dat").touch()
+    name = generated / "build.ninja"
+    name.write_text("".join(parts(name, GENERATING) + parts(meson, BUILDING)))
 
 
 def measure_idle(what, built):
@@ -97,8 +119,9 @@ def measure_idle(what, built):
     valgrind = ["valgrind", "--tool=callgrind", "--callgrind-out-file=/dev/null"]
     said = printed(*valgrind, "ninja", "-C", built)
     assert "no work to do" in said, said
-    instructions = re.search(r"Collected : (\d+)", said)[1]
+    instructions = int(re.search(r"Collected : (\d+)", said)[1])
     print(f"idle.{what} {idle:.1f}\nidle.{what}.instructions {instructions}", flush=True)
+    return instructions
 
 
 def measure_edits(folder, built, number):
@@ -112,10 +135,12 @@ def measure_edits(folder, built, number):
         print(f"collated.{what}.steps {steps}\ncollated.{what}.targets {targets}", flush=True)
 
 
-def main(count=200):
-    with tempfile.TemporaryDirectory() as room:
-        for modules in False, True:
-            measure(Path(room) / f"modules-{modules}", int(count), modules)
+def main(*counts):
+    for count in map(int, counts or (50, 200, 1000)):
+        print(f"sources {count}", flush=True)
+        with tempfile.TemporaryDirectory() as room:
+            for modules in False, True:
+                measure(Path(room) / f"modules-{modules}", count, modules)
 
 
 main(*sys.argv[1:])

@@ -1,5 +1,5 @@
 #!/usr/bin/env bash
-# Measures what dyncollate-ninja adds to a Meson build: measure.sh [SOURCES]. measure.py says what is
+# Measures what dyncollate-ninja adds to a Meson build: measure.sh [SOURCES..]. measure.py says what is
 # measured and what it needs. DYNCOLLATE names the program; otherwise it is proved and built.
 set -euo pipefail
 here=$(cd "$(dirname "$0")" && pwd)
