@@ -107,6 +107,9 @@ def adopt(generator, folder, program, this, wrapper, again=True):
             return f"{folder} has no target whose sources have C++ modules"
         for name in targets.with_header_units():
             say(f"{name} imports a header unit, which is not handled: include the header")
+        for name, module, other, flags in targets.with_other_flags():
+            say(f"{name} imports {module} of {other}, which the compiler rejects, because these "
+                f"flags differ: {' '.join(flags)}")
         steps = steps_of(targets.scanned)
         texts = documents_of(steps, targets.scanned, os.path.abspath(folder))
         texts.update(Statements(generator, targets.file, steps, program(), this).texts())

@@ -14,9 +14,17 @@ MODERN = re.compile(r"-std=(c|gnu)\+\+2[0-9a-z]$")
 # A line that begins a module or imports one.
 MODULE = re.compile(rb"^(?:\xef\xbb\xbf)?[ \t]*(?:export\s+)?(?:module|import)"
                     rb"(?:\s*[;:<\"]|\s+[A-Za-z_\x80-\xff])", re.M)
+# The names of modules that a source begins or imports.
+NAMES = re.compile(rb"^(?:\xef\xbb\xbf)?[ \t]*(?:export\s+)?(module|import)\s+([\w.]+)", re.M)
 HEADER_UNIT = re.compile(rb"^[ \t]*(?:export\s+)?import\s*[<\"]", re.M)
 UNITY = re.compile(r"-unity\d+\.cpp(\.o)?$")
 HEADERS = (".gch", ".pch")
+# Flags that an importer of a module has to share with its source: the first part says what for, and
+# the last flag for it counts.
+BOTH = r"-(?:(std)=.*|(m)(?:32|64)|f(?:no-)?(exceptions|rtti|char8_t"
+SHARED = {"clang": re.compile(BOTH + r"|(?:un)?signed-char|openmp|fast-math|math-errno|freestanding"
+                                     r"|builtin|wrapv|stack-protector(?:-strong|-all)?))$"),
+          "gcc": re.compile(BOTH + "))$")}
 INCLUDED = re.compile(rb"^#include ?<(.*)>", re.M)
 
 
@@ -73,6 +81,10 @@ class Target:
         standard = [it for it in self.words if it.startswith("-std=")][-1:]
         return bool(standard) and bool(MODERN.match(standard[0])) and self.style != ""
 
+    def shared_flags(self):
+        found = filter(None, map(SHARED[self.style].match, self.words))
+        return frozenset({it[it.lastindex]: it[0] for it in found}.values())
+
     def document(self, build, linked):
         return {"version": 1, "target": self.name, "build-dir": build,
                 "module-dir": f"{self.folder}/bmi", "module-ext": EXTENSIONS[self.style],
@@ -115,6 +127,7 @@ class Targets:
                 self.scanned[name].candidates.discard(library)
             users |= {name for name, it in self.scanned.items() if self.is_to_come(it)}
         self.keep(users)
+        self.share_threads()
 
     def is_compilation(self, build):
         """Whether this compiles a C++ source, and not a header."""
@@ -166,6 +179,33 @@ class Targets:
         """Returns the names of the targets that import header units."""
         return [name for name, it in self.scanned.items() if not self.is_ours(name)
                 and any(map(HEADER_UNIT.search, self.sources(it)))]
+
+    def with_other_flags(self):
+        """Yields for a target that imports a module of another one: its name, the module, the name
+        of the other one, and the flags in which they differ."""
+        flags = {name: it.shared_flags() for name, it in self.scanned.items()}
+        if len({*flags.values()}) < 2:
+            return
+        names = {name: {*NAMES.findall(b"\n".join(self.sources(it)))}
+                 for name, it in self.scanned.items()}
+        for name, it in self.scanned.items():
+            imported = {(b"module", module) for what, module in names[name] if what == b"import"}
+            for other in sorted(it.imports_from):
+                modules = imported & names[other]
+                if modules and flags[name] != flags[other]:
+                    module = min(modules)[1].decode("utf-8", "replace")
+                    yield name, module, other, sorted(flags[name] ^ flags[other])
+
+    def share_threads(self):
+        """Gives all targets `-pthread` if one has it. Clang rejects the modules of a target that
+        differs in this, and it changes nothing else."""
+        clang = [it for it in self.scanned.values() if it.style == "clang"]
+        missing = [it for it in clang if "-pthread" not in it.words]
+        name = self.generator.FLAGS
+        for target in missing if len(missing) < len(clang) else []:
+            target.words.append("-pthread")
+            for it in target.compiles:
+                it.raw[name] = f"{it.raw.get(name, f'${{{name}}}')} -pthread"
 
     def is_to_come(self, target):
         """Whether a source is not there yet, and may have a module."""

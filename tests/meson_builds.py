@@ -103,6 +103,34 @@ class Projects:
         objects = [it.name for it in self.tree.build.glob("liblib.a.p/*.o")]
         self.assertEqual(objects, ["lib.cpp.o"])
 
+    def test_threads(self):
+        """One target has `-pthread`. Clang would reject an import from it, or by it."""
+        for name in "lib.cpp", "main.cpp":
+            lists = SMALL["meson.build"].replace(
+                f"'{name}'", f"'{name}', dependencies: dependency('threads')")
+            self.lay({**SMALL, "meson.build": lists}, folder=name)
+            commands = (self.tree.build / "compile_commands.json").read_text()
+            self.assertIn(" -pthread ", commands)
+            self.builds("lib.cpp", "main.cpp")
+
+    def test_other_flags(self):
+        """Adoption names the import, before the compiler rejects it."""
+        lists = SMALL["meson.build"].replace(
+            "'main.cpp'", "'main.cpp', cpp_args: ['-fno-rtti', '-fPIC']")
+        self.lay({**SMALL, "meson.build": lists})
+        said = ("dyncollate-meson: app.p imports lib of liblib.a.p, which the compiler rejects, "
+                "because these flags differ: -fno-rtti")
+        self.assertIn(said, self.tree.log.splitlines())
+        self.tree.ninja()
+        self.assertNotEqual(self.tree.status, 0)
+        self.assertIn("Compiling C++ object app.p/main.cpp.o", self.tree.log)
+        self.edit("meson.build", "'-fno-rtti', ", "")
+        self.builds("main.cpp")
+        self.edit("main.cpp", "import lib;\n", "int lib();\n")
+        self.edit("meson.build", "'-fPIC'", "'-fno-rtti'")
+        self.tree.ninja("build.ninja")
+        self.assertNotIn("differ", self.tree.log)
+
     def test_an_import_that_is_new(self):
         """A library takes part if it may import from another one, so no new adoption is needed."""
         self.lay({**TWO, "b.cpp": "int b() { return 0; }\n",
