@@ -13,7 +13,7 @@ from pathlib import Path
 from tests import program
 from tests.case import tree
 from tests.cmake import NINJA, TOP
-from tests.meson import KILLED, Builds, Tree, environment
+from tests.meson import KILLED, Builds, Tree, any_compiler, environment
 from tests.run import output_of, run, run_at_once
 from tests.tools import WithoutClang, tool
 
@@ -58,6 +58,8 @@ class GnBuilds(Builds):
 
 
 class Adoption(GnBuilds):
+    compiler = staticmethod(any_compiler)
+
     def plain(self):
         """A build that is as GN wrote it. Returns its files."""
         self.lay({}, adopts=False)
@@ -173,7 +175,7 @@ class Adoption(GnBuilds):
         name = self.tree.build / "compile_commands.json"
         self.adopt()
         for it in json.loads(name.read_text()):
-            self.assertIn(f"@{it['output']}.modmap", it["command"])
+            self.assertIn(f"{it['output']}.modmap", it["command"])
             self.assertTrue((self.tree.build / it["directory"] / it["file"]).exists()
                             or it["file"] == "gen/made.cc")
         adapter("restore", self.tree.build)
@@ -188,9 +190,9 @@ class Adoption(GnBuilds):
 
     def test_clangd(self):
         """It finds the modules."""
-        clangd = tool("clang").replace("clang++", "clangd")
+        clangd = (tool("clang") or "").replace("clang++", "clangd")
         if not shutil.which(clangd):
-            self.skipTest(f"{clangd}: not there")
+            self.skipTest("clangd-19: not there")
         self.lay({})
         self.builds()
         status, said = run(clangd, f"--compile-commands-dir={self.tree.build}",
@@ -278,6 +280,15 @@ class Edits:
         self.fails("dyncollate: M5 ModuleUnknown more in obj/src/libmath.math.o", AGAIN)
         self.edit("src/math.cc", "import more;\n", "")
         self.builds("obj/src/libmath.math", *MAIN)
+
+    def test_threads(self):
+        """One target has `-pthread`. Clang would reject an import from it."""
+        self.lay({}, adopts=False)
+        self.edit("BUILD.gn", '"src/math.cc" ]', '"src/math.cc" ]\n  cflags_cc = [ "-pthread" ]')
+        self.tree.gn()
+        self.adopt()
+        self.builds()
+        self.prints("303 12 9\n")
 
     def test_what_is_not_linked(self):
         """A target imports only from what its `deps` lead to."""
