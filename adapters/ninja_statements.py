@@ -7,7 +7,8 @@ from adapter_files import Wrong
 from compilers import compile_flags, filtered, scan_command
 from ninja_files import VARIABLE, escaped, paths, shell, value
 
-FIRST_STATEMENT = re.compile(r"^build ", re.M)
+# What comes before this is kept by `gn clean`, so that Ninja calls GN.
+FIRST_STATEMENT = re.compile(r"^(subninja |build (?!build\.ninja))", re.M)
 # Words of a compilation that are no flags of a scan. Those of the second list have their value in
 # the next word.
 NO_FLAGS = {"-MD", "-MMD", "-MP", "-c"}

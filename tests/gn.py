@@ -120,6 +120,26 @@ class Adoption(GnBuilds):
         self.tree.ninja("build.ninja")
         self.assertTrue(self.tree.adopted())
 
+    def test_a_clean_build(self):
+        """After `gn clean`, Ninja calls GN."""
+        self.lay({}, build="out")
+        self.builds()
+        output_of("gn", "clean", self.tree.build, cwd=self.tree.top)
+        self.assertFalse((self.tree.build / "app").exists())
+        self.builds()
+        self.prints("303 12 9\n")
+        self.assertTrue(self.tree.adopted())
+
+    def test_a_warning(self):
+        """If dyncollate-ninja builds what GN wrote without it, it says how to adopt it."""
+        self.lay({})
+        said = (f"dyncollate-ninja: warning: GN wrote {self.tree.build}/build.ninja without "
+                f"dyncollate-ninja: run `dyncollate-gn adopt {self.tree.build}`\n")
+        for is_adopted in True, False:
+            _, printed = run(NINJA, "-C", self.tree.build, "build.ninja", env=environment())
+            self.assertEqual(said in printed, not is_adopted, printed)
+            self.tree.gn()
+
     def test_a_failure(self):
         """The build fails with its line. When it is mended, the next run of Ninja adopts it."""
         tools = self.room / "tools"
