@@ -25,6 +25,8 @@ BOTH = r"-(?:(std)=.*|(m)(?:32|64)|f(?:no-)?(exceptions|rtti|char8_t"
 SHARED = {"clang": re.compile(BOTH + r"|(?:un)?signed-char|openmp|fast-math|math-errno|freestanding"
                                      r"|builtin|wrapv|stack-protector(?:-strong|-all)?))$"),
           "gcc": re.compile(BOTH + "))$")}
+# A standard by the name that it had before it was published.
+DRAFT = re.compile(r"2([abc])$")
 INCLUDED = re.compile(rb"^#include ?<(.*)>", re.M)
 
 
@@ -82,7 +84,9 @@ class Target:
         return bool(standard) and bool(MODERN.match(standard[0])) and self.style != ""
 
     def shared_flags(self):
-        found = filter(None, map(SHARED[self.style].match, self.words))
+        words = (DRAFT.sub(lambda it: {"a": "20", "b": "23", "c": "26"}[it[1]], word)
+                 for word in self.words)
+        found = filter(None, map(SHARED[self.style].match, words))
         return frozenset({it[it.lastindex]: it[0] for it in found}.values())
 
     def document(self, build, linked):

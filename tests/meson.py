@@ -14,7 +14,7 @@ import sys
 from tests import program
 from tests.case import tree
 from tests.cmake import NINJA, TOP, put
-from tests.run import InRoom, run, run_at_once
+from tests.run import InRoom, output_of, run, run_at_once
 from tests.tools import scans_by_itself, tool
 
 ADAPTER = str(TOP / "adapters/meson/dyncollate-meson")
@@ -336,9 +336,15 @@ class Adoption(Builds):
         self.assertEqual(json.loads(document)["linked"], ["meson-dyncollate/liba.a.p/info.json"])
 
     def test_a_unity_build(self):
-        self.lay(SMALL, "--unity=on")
-        self.fails("dyncollate-meson: liblib.a.p uses modules and a unity build, "
-                   "in which a module can't begin: configure with -Dunity=off")
+        said = ("dyncollate-meson: liblib.a.p uses modules and a unity build, "
+                "in which a module can't begin: configure with -Dunity=off")
+        self.lay(SMALL)
+        self.builds()
+        output_of(*self.tree.generator(), "configure", self.tree.build, "-Dunity=on")
+        self.fails(said)
+        # by Meson, which calls Ninja three times, and by Ninja
+        self.assertEqual(self.tree.log.splitlines().count(said), 2)
+        self.fails(said)
         self.lay(PLAIN, "--unity=on", folder="plain")
         self.builds()
 

@@ -131,6 +131,12 @@ class Projects:
         self.tree.ninja("build.ninja")
         self.assertNotIn("differ", self.tree.log)
 
+    def test_two_names_of_a_standard(self):
+        lists = SMALL["meson.build"].replace("'main.cpp'", "'main.cpp', cpp_args: '-std=c++2a'")
+        self.lay({**SMALL, "meson.build": lists})
+        self.assertNotIn("differ", self.tree.log)
+        self.builds("lib.cpp", "main.cpp")
+
     def test_an_import_that_is_new(self):
         """A library takes part if it may import from another one, so no new adoption is needed."""
         self.lay({**TWO, "b.cpp": "int b() { return 0; }\n",

@@ -5,7 +5,7 @@ import re
 
 import meson_generator
 import ninja_adopt
-from adapter_files import read, say
+from adapter_files import Wrong, read, say
 from ninja_files import NinjaFile
 from ninja_statements import OWN
 
@@ -13,7 +13,13 @@ from ninja_statements import OWN
 def called(ninja, words, *adoption):
     """Adopts the build in the current directory, and then calls Ninja with these words, or does
     what it would do."""
-    said = ninja_adopt.adopt(meson_generator, ".", *adoption, again=False)
+    is_last = words[:2] == ["-t", "compdb"]
+    try:
+        said = ninja_adopt.adopt(meson_generator, ".", *adoption, again=False)
+    except Wrong as wrong:
+        if is_last:
+            raise
+        return wrong.status  # the last call says why
     if said:
         say(said)
     with ninja_adopt.alone(meson_generator, ".") as build:
@@ -21,7 +27,7 @@ def called(ninja, words, *adoption):
     if is_adopted and words[:2] == ["-t", "cleandead"]:
         clean_dead(NinjaFile(read))
         return 0
-    if is_adopted and words[:2] == ["-t", "compdb"]:
+    if is_adopted and is_last:
         rules = re.findall(r"^rule (.*)", read("build.ninja"), re.M)
         words += [it for it in rules if it.rpartition(OWN)[0] in words]
     return os.execv(ninja, [ninja, *words])
