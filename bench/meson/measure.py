@@ -11,14 +11,15 @@ source:
     adopt      dyncollate-meson alone, of the build with modules
     build      Ninja, from scratch
     idle       Ninja, with nothing to do: the median of 9 runs, and its instructions
-    collated   how many targets are collated after a module's body or its imports have changed
+    collated   how many targets are collated after an edit of the last module's body, or imports
 
 `generated` is plain Ninja with a manifest of `examples/generate` for the same sources and modules.
 `baseline` is the same manifest and all that Meson wrote of its own: each rule and statement that
 compiles, archives or links nothing, also the one that calls Meson, in place of the one that calls
 `generate`. `added` is how many percent more instructions the adopted build takes than that.
 
-This needs Meson, Ninja, Clang 19 and its scanner, and Valgrind.
+This needs Meson, Ninja, Clang 19 and its scanner, and Valgrind. It takes a quarter of an hour of
+processor time, mostly for compilations.
 """
 import os
 import re
@@ -99,7 +100,7 @@ def measure(folder, count, modules):
         add_statements(generated, folder / "ninja/meson-dyncollate/meson.ninja")
         baseline = measure_idle("baseline", str(generated))
         print(f"idle.added {100 * (instructions / baseline - 1):+.1f}", flush=True)
-        measure_edits(folder, built, count // 2)
+        measure_edits(folder, built, count - 1)
 
 
 def add_statements(generated, meson):
