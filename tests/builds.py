@@ -16,7 +16,7 @@ from pathlib import Path
 
 from tests import program
 from tests.run import output_of, run
-from tests.tools import TOOLS, of_versions, tool, version
+from tests.tools import TOOLS, of_versions, tool, tools_of, version
 
 TOP = Path(program.TOP)
 JOBS = 8
@@ -147,7 +147,7 @@ class Built:
     example = form = ""
 
     def setUp(self):
-        self.tools = ["ninja", "clang", "scanner"] + (["gcc"] if self.form == "gcc" else [])
+        self.tools = tools_of(self.form)
         super().setUp()
         self.copy(self.example, self.form)
         self.makes(EXAMPLES[self.example].prints)
@@ -414,7 +414,7 @@ class StdWithClang(ImportsStd, Directory):
 
 
 class StdWithGcc(ImportsStd, Directory):
-    form, tools = "gcc", ["ninja", "clang", "scanner"]
+    form = "gcc"
 
     def setUp(self):
         super().setUp()

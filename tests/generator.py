@@ -11,7 +11,7 @@ from unittest import mock
 from tests import program
 from tests.builds import TOP, Directory, edit, touch
 from tests.run import output_of, run, run_apart, run_at_once
-from tests.tools import WithoutClang, of_versions, tool, version
+from tests.tools import WithoutClang, of_versions, tool, tools_of, version
 
 GENERATE = TOP / "examples/generate"
 
@@ -143,7 +143,11 @@ class Lists(Directory):
 
 class OutOfSource:
     """What each form of manifest is tested for in a directory below the project's."""
-    form, tools = "clang", ["ninja", "clang", "scanner"]
+    form = "clang"
+
+    @property
+    def tools(self):
+        return tools_of(self.form)
 
     def begin(self, example="libs"):
         self.copy(example)
@@ -221,7 +225,7 @@ class OutOfSourceInAProject(OutOfSource, Directory):
 
 
 class OutOfSourceWithGcc(OutOfSource, Directory):
-    form, tools = "gcc", ["ninja", "clang", "scanner", "gcc"]
+    form = "gcc"
 
 
 class OutOfSourceWithoutClang(WithoutClang, OutOfSource, Directory):
@@ -267,8 +271,11 @@ class ScansOfGcc(Directory):
 # ---- projects that need more than the examples do
 
 class WithClang(Directory):
-    tools = ["ninja", "clang", "scanner"]
     form = "clang"
+
+    @property
+    def tools(self):
+        return tools_of(self.form)
 
     def test_an_info_that_stays_the_same(self):
         """The targets that link it are not collated. The step is done, and has nothing to do in the next run."""
@@ -384,7 +391,7 @@ def version_text(name):
 
 
 class WithGcc(WithClang):
-    form, tools = "gcc", ["ninja", "clang", "scanner", "gcc"]
+    form = "gcc"
 
     def test_clangd_finds_modules(self):
         """It cannot read GCC's module files."""

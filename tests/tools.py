@@ -67,6 +67,12 @@ def scans_by_itself(compiler):
     return compiler == tool("gcc") and version("gcc") >= (14,)
 
 
+def tools_of(form):
+    """The tools of a build in this form of `generate`."""
+    scanning = [] if form == "gcc" and tool("gcc") and scans_by_itself(tool("gcc")) else ["clang", "scanner"]
+    return ["ninja", *["gcc"] * (form == "gcc"), *scanning]
+
+
 class WithoutClang:
     """A test in whose PATH is no Clang, for a GCC that scans by itself."""
 
