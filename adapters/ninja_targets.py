@@ -19,12 +19,12 @@ NAMES = re.compile(rb"^(?:\xef\xbb\xbf)?[ \t]*(?:export\s+)?(module|import)\s+([
 HEADER_UNIT = re.compile(rb"^[ \t]*(?:export\s+)?import\s*[<\"]", re.M)
 UNITY = re.compile(r"-unity\d+\.cpp(\.o)?$")
 HEADERS = (".gch", ".pch")
-# Flags that an importer of a module has to share with its source: the first part says what for, and
-# the last flag for it counts.
+# Flags that a compiler compares between the source of a module and an importer. A group has what a
+# flag is for, and the last flag for it counts.
 BOTH = r"-(?:(std)=.*|(m)(?:32|64)|f(?:no-)?(exceptions|rtti|char8_t"
-SHARED = {"clang": re.compile(BOTH + r"|(?:un)?signed-char|openmp|fast-math|math-errno|freestanding"
-                                     r"|builtin|wrapv|stack-protector(?:-strong|-all)?))$"),
-          "gcc": re.compile(BOTH + "))$")}
+COMPARED = {"clang": re.compile(BOTH + r"|(?:un)?signed-char|openmp|fast-math|math-errno|builtin"
+                                       r"|freestanding|wrapv|stack-protector(?:-strong|-all)?))$"),
+            "gcc": re.compile(BOTH + "))$")}
 # A standard by the name that it had before it was published.
 DRAFT = re.compile(r"2([abc])$")
 INCLUDED = re.compile(rb"^#include ?<(.*)>", re.M)
@@ -83,10 +83,12 @@ class Target:
         standard = [it for it in self.words if it.startswith("-std=")][-1:]
         return bool(standard) and bool(MODERN.match(standard[0])) and self.style != ""
 
-    def shared_flags(self):
-        words = (DRAFT.sub(lambda it: {"a": "20", "b": "23", "c": "26"}[it[1]], word)
-                 for word in self.words)
-        found = filter(None, map(SHARED[self.style].match, words))
+    def compared_flags(self):
+        # GCC does not compare whether there are its extensions
+        extended = "gnu++" if self.style == "gcc" else "c++"
+        words = [it.replace(extended, "c++") for it in self.words]
+        words = [DRAFT.sub(lambda it: {"a": "20", "b": "23", "c": "26"}[it[1]], it) for it in words]
+        found = filter(None, map(COMPARED[self.style].match, words))
         return frozenset({it[it.lastindex]: it[0] for it in found}.values())
 
     def document(self, build, linked):
@@ -187,7 +189,7 @@ class Targets:
     def with_other_flags(self):
         """Yields for a target that imports a module of another one: its name, the module, the name
         of the other one, and the flags in which they differ."""
-        flags = {name: it.shared_flags() for name, it in self.scanned.items()}
+        flags = {name: it.compared_flags() for name, it in self.scanned.items()}
         if len({*flags.values()}) < 2:
             return
         names = {name: {*NAMES.findall(b"\n".join(self.sources(it)))}

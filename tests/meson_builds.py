@@ -113,6 +113,15 @@ class Projects:
             self.assertIn(" -pthread ", commands)
             self.builds("lib.cpp", "main.cpp")
 
+    def test_flags_that_are_quoted(self):
+        lists = SMALL["meson.build"].replace(
+            "'main.cpp'", """'main.cpp', cpp_args: ['-DTEXT="a  $in \\'b\\'"', '-DNUMBER=7']""")
+        self.lay({**SMALL, "meson.build": lists,
+                  "main.cpp": 'extern "C" int puts(const char *);\nimport lib;\n'
+                              "int main() { puts(TEXT); return lib() + NUMBER; }\n"})
+        self.builds("lib.cpp", "main.cpp")
+        self.prints("a  $in 'b'\n", 7)
+
     def test_other_flags(self):
         """Adoption names the import, before the compiler rejects it."""
         lists = SMALL["meson.build"].replace(
@@ -132,10 +141,13 @@ class Projects:
         self.assertNotIn("differ", self.tree.log)
 
     def test_two_names_of_a_standard(self):
-        lists = SMALL["meson.build"].replace("'main.cpp'", "'main.cpp', cpp_args: '-std=c++2a'")
-        self.lay({**SMALL, "meson.build": lists})
-        self.assertNotIn("differ", self.tree.log)
-        self.builds("lib.cpp", "main.cpp")
+        """Clang compares whether there are GNU's extensions, and GCC does not."""
+        flags = ["-std=c++2a"] + ["-std=gnu++20"] * (self.compiler() == tool("gcc"))
+        for number, flag in enumerate(flags):
+            lists = SMALL["meson.build"].replace("'main.cpp'", f"'main.cpp', cpp_args: '{flag}'")
+            self.lay({**SMALL, "meson.build": lists}, folder=f"project {number}")
+            self.assertNotIn("differ", self.tree.log)
+            self.builds("lib.cpp", "main.cpp")
 
     def test_an_import_that_is_new(self):
         """A library takes part if it may import from another one, so no new adoption is needed."""

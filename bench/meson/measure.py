@@ -16,7 +16,8 @@ source:
 `generated` is plain Ninja with a manifest of `examples/generate` for the same sources and modules.
 `baseline` is the same manifest and all that Meson wrote of its own: each rule and statement that
 compiles, archives or links nothing, also the one that calls Meson, in place of the one that calls
-`generate`. `added` is how many percent more instructions the adopted build takes than that.
+`generate`. `added` is how many percent more instructions the adopted build takes than that. It has
+rules for each target, and fewer statements name linked libraries: GUIDE, "In a Meson project".
 
 This needs Meson, Ninja, Clang 19 and its scanner, and Valgrind. It takes a quarter of an hour of
 processor time, mostly for compilations.
