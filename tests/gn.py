@@ -307,6 +307,9 @@ class Edits:
         self.edit("BUILD.gn", '"src/math.cc" ]', '"src/math.cc" ]\n  cflags_cc = [ "-pthread" ]')
         self.tree.gn()
         self.adopt()
+        entries = json.loads((self.tree.build / "compile_commands.json").read_text())
+        objects = {it["output"] for it in entries}
+        self.assertLess({"obj/src/app.main.o", "obj/src/libmath.math.o"}, objects)
         self.builds()
         self.prints("303 12 9\n")
 
