@@ -27,10 +27,10 @@ LIMIT = 1.2  # how many times as much a byte of the input may cost if there are 
 
 # Small, but so large that the cost of a shape would be seen: if a table searches all its entries,
 # say, this is more than a tenth of what a run does.
-SIZES = {"edges": 1 << 18, "dyndep": 1 << 18, "outputs": 2000, "modules": 1000, "targets": 2500,
-         "keyless": 1000, "work-dir": 400, "ext": 400, "paths": 100, "requires": 1600, "info": 3200,
-         "plugins": 40, "names": 1600, "services": 40, "providers": 100, "links": 60,
-         "diamonds": 10, "shared": 40, "again": 5000, "rules": 5000, "linked": 5000,
+SIZES = {"edges": 1 << 18, "dyndep": 1 << 18, "outputs": 2000, "modules": 1500, "targets": 2500,
+         "keyless": 1500, "work-dir": 400, "ext": 400, "paths": 100, "requires": 1600, "info": 3200,
+         "plugins": 40, "names": 1200, "services": 40, "providers": 100, "links": 60,
+         "diamonds": 10, "shared": 40, "again": 2000, "rules": 2000, "linked": 2000,
          "relinked": 100}
 
 # What costs no more than an ordinary input, by shape. All but the last differ by their names only.
@@ -75,7 +75,7 @@ def costs_of(*words, program=PROGRAM, ends=0, part=None):
     counted = emptied(counts).split()
     os.close(counts)
     if status != ends or not found or len(counted) != len(COSTS) - 1:
-        raise AssertionError(f"{words} ended with status {status}: {err[-1000:]!r}")
+        raise AssertionError(f"{words[:2]} ended with status {status}: {err[-1000:]!r}")
     return [int(it) for it in (found[1], *counted)]
 
 
@@ -193,18 +193,22 @@ class Ordinary(Costs):
 
 @embedded.needs_library
 class Files(Costs):
-    """A call of the library with many files. (The program that calls it asks for more and more.)"""
+    """A call of the library with many files, most of which nothing names. (The program that calls
+    it asks for more and more.)"""
 
     def test_files(self):
         program = f"{self.room}/collate"
         output_of("gcc", "-O1", "-o", program, f"{embedded.EXAMPLES}/collate.c",
                   f"-I{TOP}/include", embedded.STATIC)
         made = []
-        for size in 1500, 3000:
+        for size in 600, 1200:
             directory = self.room / str(size)
             names = [f"{number}.ddi" for number in range(size)]
             for number, name in enumerate(names):
                 shapes().write_scan(directory, [{"primary-output": f"o/{number}"}], name)
+            others = [f"other{number}" for number in range(10 * size)]
+            for name in others:
+                shapes().write(directory / name, "")
             shapes().write(directory / "target", shapes().target("t", scans=names))
-            made.append(self.at(directory, ["target", *names], program=program))
+            made.append(self.at(directory, ["target", *others, *names], program=program))
         self.grows(*made, costs=COSTS[:1])
