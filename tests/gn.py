@@ -317,7 +317,10 @@ class Edits:
         """A target imports only from what its `deps` lead to."""
         self.lay({})
         self.edit("src/base_impl.cc", "#include", "import math;\n#include")
-        self.fails("dyncollate: M5 ModuleUnknown math in obj/src/libbase.base_impl.o", AGAIN)
+        self.tree.ninja("-k0")  # two toolchains compile it, and either fails first
+        self.assertNotEqual(self.tree.status, 0)
+        self.assertLess({"dyncollate: M5 ModuleUnknown math in obj/src/libbase.base_impl.o", AGAIN},
+                        {*self.tree.log.splitlines()}, self.tree.log)
 
 
 class EditsWithClang(Edits, GnBuilds):
