@@ -1,4 +1,5 @@
 pub mod Examples
+pub mod FirstIndexes
 pub mod ForCallers
 pub mod Listings
 pub mod Outcomes

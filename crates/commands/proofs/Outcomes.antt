@@ -1,5 +1,5 @@
 -- What the parts of a run have led to, the calls that they make, and what their loops make.
-use Rattle.std.proofs.Common.{◌-◌, arith, codes, length-drop, zip, ◌≡◌, ◌∙◌, ℕ, ◌+◌, ◌<◌, List, [], ◌∷◌, ◌++◌, drop, length, get_or, suc, Option, Some, None, Result, Ok, Err, refl, ap, ap₂, sym, append_assoc, append-nil, add-one, drop-cons, ◌≤◌, map, take, slice_get, option_map, Vec, IfOk, IfErr, IsErr, IsErrAnd, Global}
+use Rattle.std.proofs.Common.{inl, ◌-◌, arith, codes, length-drop, zip, ◌≡◌, ◌∙◌, ℕ, ◌+◌, ◌<◌, List, [], ◌∷◌, ◌++◌, drop, length, get_or, suc, Option, Some, None, Result, Ok, Err, refl, ap, ap₂, sym, append_assoc, append-nil, add-one, drop-cons, ◌≤◌, map, take, slice_get, option_map, Vec, IfOk, IfErr, IsErr, IsErrAnd, Global}
 use Rattle.commands.specs.Prelude.{FileCall, Adds, MakesCalls, reading, up_to, AllocError, flat_map, Bytes, Text, ForFault, Gives, Failure, LineValue, Outcome, Part, InTurn, goes_on, stops, Done, Each, Returns, ReadsDocument, ReadsNext, read_before, Reports, Runs, ValueOf, document_most, failed, refusal, seen, IsStoppedWith, OrStops, ReportsPrinted}
 use Rattle.std.proofs.lemmas.List.{drop_all, flat_map_more, map_push, take_all, take_more}
 use Rattle.std.proofs.lemmas.Option.{slice_get_within, get_or_from_slice_get, slice_get-get_or, slice_get-map}
@@ -267,6 +267,12 @@ reads_none old new names before name stop none (calls, made, unread) = (calls, m
 pub again_stops : (names : List Text) (before : List Bytes) (name : Text) (file : Bytes) → read_before (zip names before) name ≡ Some file →
     ReadsNext names before name [] (Err Memory)
 again_stops names before name file known = rw known (goes_on file [] [] refl (refl, refl) refl)
+
+-- memory ran out before it is known whether it was listed
+pub out_of_memory : (known : Known) (names : List Text) (before : List Bytes) (name : Text) (file : Option Text) →
+    read_before (zip names before) name ≡ file → Runs known known (ReadsNext names before name) (Err Memory)
+out_of_memory known names before name None none = reads_none known known names before name Memory none (at_once known (ReadsDocument name) (Err Memory) (inl refl))
+out_of_memory known names before name (Some file) is = at_once known (ReadsNext names before name) (Err Memory) (again_stops names before name file is)
 
 -- one that was listed before
 pub read_again : (names : List Text) (before : List Bytes) (name : Text) (file : Bytes) → read_before (zip names before) name ≡ Some file →

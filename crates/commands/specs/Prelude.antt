@@ -79,6 +79,7 @@ pub use Rattle.commands.specs.One.{OneRun, PrintsDyndep, one_setting, one_target
 pub use Rattle.commands.specs.ProjectCommand.{target_text, IsTargetOutcome, FormOf, LinksOf, TargetAfter, ReadsTargets, project_target, form_of, ProjectOf, AllEdgesPass, all_files, ProjectRun, ReadTargetValue, index_or_head, last_with, LinksTo, At, IsTargetStop, names_at, RejectedAt, IsRejectedAt, rejected_text, LinksLater, HasFormOf, HasProject, ProjectDocumentOf, project_text, ReadsTarget, list_named, list_with, ListAfter}
 pub use Rattle.commands.specs.Runs.{TaskRun}
 pub use Rattle.commands.specs.Program.{words_of, ArgumentsRun, IsProgramRun, AreTask, ArgumentsOf, Words}
+pub use Rattle.commands.specs.inner.FirstIndexes.{Keeps, Taken, slot_of, at_slot, own_index, in_map, index_by, index_of, AreTaken}
 pub use Rattle.commands.specs.inner.Parts.{bytes_of, listed_texts}
 pub use Rattle.collate_core.specs.Listed.{lent_texts, listed_as, texts_listed, bytes_of_each, bytes_listed, first_bytes}
 pub use Rattle.collate_core.specs.declared.reading.Listed.{Listed}

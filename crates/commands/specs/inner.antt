@@ -1,3 +1,4 @@
+pub mod FirstIndexes
 pub mod Parts
 pub mod ProjectTargets
 pub mod Refusals

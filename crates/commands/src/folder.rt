@@ -7,6 +7,7 @@ ghost use Rattle.commands.specs.Prelude.{comparing, writing, answer_of, Adds, Re
 ghost use Rattle.commands.specs.Prelude.{GivesPieces, Runs, ReadsDocument, ReadsAs, ReadsAll};
 ghost use Rattle.commands.specs.Prelude.{seen, listed_texts};
 
+use crate::first_indexes::FirstIndexes;
 use crate::lists::pushed;
 use crate::stop::{self, Stop};
 use collate_core::Listed;
@@ -125,15 +126,15 @@ pub(crate) fn read_all<'f, F: Folder<'f>>(
         (ReadsAll (map string_bytes names.now)) (seen (listed_texts cow_slice_items) result) }
 {
     let mut files = Vec::new(alloc);
-    let mut known = BTreeMap::new(alloc);
+    let mut known = FirstIndexes {
+        slots: Vec::new(alloc),
+        others: BTreeMap::new(alloc),
+    };
     for (index, name) in names.iter().enumerate() {
         let name = name.as_str();
-        let listed = match known.insert(name, index)? {
+        let listed = match known.first_of(alloc, names, index)? {
             None => Listed::First(read(alloc, name, folder)?),
-            Some(first) => {
-                known.insert(name, first)?;
-                Listed::Again(first)
-            }
+            Some(first) => Listed::Again(first),
         };
         files = pushed(files, listed)?;
     }

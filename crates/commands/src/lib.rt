@@ -27,6 +27,7 @@
 
 mod answer;
 mod edges;
+mod first_indexes;
 mod folder;
 mod lists;
 mod projects;
