@@ -10,7 +10,7 @@ use std::alloc::Global;
 use std::borrow::CowSlice;
 use std::io;
 use std::io::ErrorKind;
-use system_files::{Disk, has_bytes, read, write};
+use system_files::{Disk, has_bytes, has_kind, read, write};
 
 /// The files of a disk on which no other calls were made.
 #[derive(Drop)]
@@ -94,17 +94,18 @@ fn feed_file<D: Disk, R: PieceReader>(
         Ok(file) => file,
         Err(error) => return Err(error),
     };
-    let mut piece = [0; 65536];
+    let mut buffer = [0; 65536];
     for _ in 0..u64::MAX {
-        match disk.read(&mut file, &mut piece) {
+        match disk.read(&mut file, &mut buffer) {
             Ok(0) => return Ok(true),
             Ok(count) => {
-                *history = history.then(&Call::Piece(&piece[..count]));
-                if !reader.feed(&piece[..count]) {
+                let piece = &buffer[..count];
+                *history = history.then(&Call::Piece(piece));
+                if !reader.feed(piece) {
                     return Ok(false);
                 }
             }
-            Err(error) if error.kind() == ErrorKind::Interrupted => {}
+            Err(error) if has_kind(&error, ErrorKind::Interrupted) => {}
             Err(error) => return Err(error),
         }
     }

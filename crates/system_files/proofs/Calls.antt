@@ -1,5 +1,5 @@
 -- Calls that append to a file, that compare one, and that draw the mark of a run.
-use Rattle.std.proofs.Common.{arith, ◌≡◌, ◌∙◌, ◌≤◌, ℕ, ◌+◌, ◌-◌, List, [], ◌∷◌, ◌++◌, take, drop, length, map, Option, Some, None, Ok, Err, refl, ap, sym, append_assoc, append-nil, length-drop, take-append-drop, inl, inr, Bool, true, false, nat_eq, eqb, eq-eqb}
+use Rattle.std.proofs.Common.{arith, ◌≡◌, ◌∙◌, ◌≤◌, ℕ, ◌+◌, ◌-◌, ◌^◌, List, [], ◌∷◌, ◌++◌, take, drop, length, map, Option, Some, None, Ok, Err, refl, ap, sym, append_assoc, append-nil, length-drop, take-append-drop, inl, inr, Bool, true, false, nat_eq, eqb, eq-eqb}
 use Rattle.std.specs.List.{All, flat_map}
 use Rattle.std.specs.Cmp.Lexicographic.{pointwise, same_text, other_text}
 use Rattle.std.proofs.lemmas.Bool.{eqb-true, false≢true}
@@ -53,6 +53,33 @@ so_far-last old mid new name bytes rest count one error so_far next nothing stop
     some = (rest, begun-push bytes rest rest so_far.appends one so_far.begun nothing);
     whole = tt;
     failed = inl (so_far.appends, one, refl, so_far.on, stops);
+  },
+)
+
+-- no byte is left
+pub so_far-all : (old new : Known) (name : PathText) (bytes rest : Bytes) (count : ℕ) → SoFar old new name bytes rest count → (none : Bool) →
+    none ≡ eqb (length rest) 0 → none ≡ true → MakesDiskCalls old new (λ calls. AppendsAll name bytes calls (Ok tt))
+so_far-all old new name bytes rest count so_far none test is =
+    let nil = nil_from_length rest (eqb-true (length rest) 0 (sym test ∙ is)) in
+    let whole : flat_map appended so_far.appends ≡ bytes =
+    sym (so_far.begun ∙ ap (λ r. flat_map appended so_far.appends ++ r) nil ∙ append-nil (flat_map appended so_far.appends)) in (
+      map (append_call name) so_far.appends,
+      so_far.made,
+      record { appends = so_far.appends; calls_are = refl; some = (rest, so_far.begun); whole = (whole, so_far.on); failed = tt },
+    )
+
+-- there is no next call
+pub so_far-spent : (old new : Known) (name : PathText) (bytes rest : Bytes) (count : ℕ) (error : Error) → SoFar old new name bytes rest count →
+    2 ^ 64 - 1 ≤ count → MakesDiskCalls old new (λ calls. AppendsAll name bytes calls (Err error))
+so_far-spent old new name bytes rest count error so_far spent = (
+  map (append_call name) so_far.appends,
+  so_far.made,
+  record {
+    appends = so_far.appends;
+    calls_are = refl;
+    some = (rest, so_far.begun);
+    whole = tt;
+    failed = inr (so_far.on, omega (arith, so_far.many));
   },
 )
 

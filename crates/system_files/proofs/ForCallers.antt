@@ -1,5 +1,5 @@
 -- Calls that are made one after another, and bytes that are read by them. Other crates also cite these.
-use Rattle.std.proofs.Common.{arith, ◌≡◌, ◌∙◌, ◌≤◌, ℕ, ◌+◌, ◌-◌, List, [], ◌∷◌, ◌++◌, take, length, map, Option, Some, None, Result, Ok, Err, refl, ap, sym, append_assoc, append-nil, inr, ◌^◌}
+use Rattle.std.proofs.Common.{arith, ◌≡◌, ◌∙◌, ◌<◌, ◌≤◌, ℕ, ◌+◌, ◌-◌, List, [], ◌∷◌, ◌++◌, take, length, map, Option, Some, None, Result, Ok, Err, refl, ap, sym, append_assoc, append-nil, length-append, inr, ◌^◌}
 use Rattle.std.specs.List.{All, flat_map}
 use Rattle.std.proofs.lemmas.Bool.{false≢true}
 use Rattle.std.proofs.lemmas.List.{length-map, map_push, length_push, length-take-le}
@@ -16,6 +16,14 @@ Known = Option (List DiskCall)
 -- a value is no error
 pub ok_err : {V : Type 0} (value : V) (error : Error) → (let r : Result V Error = Ok value in r) ≡ Err error → ⊥
 ok_err value error is = cc
+
+-- fewer rounds are left after one more
+pub fewer_left : (all done : ℕ) → done < all → all - (done + 1) < all - done
+fewer_left all done less = omega arith
+
+-- a beginning of a list is one of a longer list
+pub in_longer : (count : ℕ) (buffer more : Bytes) → count ≤ length buffer → count ≤ length (buffer ++ more)
+in_longer count buffer more le = omega (arith, length-append buffer more)
 
 -- no call
 pub none_made : (known : Known) → AddsDiskCalls known known []

@@ -1,19 +1,20 @@
 //! The calls of the system by which files are read and written, one by one.
 
-ghost use Rattle.std.specs.Prelude.{◌≡◌, ◌<◌, ◌∷◌, List, length, Option, IfOk};
+ghost use Rattle.std.specs.Prelude.{◌≡◌, ◌<◌, ◌∷◌, List, length, Option, IfOk, MatchBool};
 ghost use Rattle.std.specs.Io.{ReadsAtMost, WritesAtMost};
 ghost use Rattle.system_files.specs.Prelude.{[], DiskCall, AddsDiskCalls, done, found_name, got_in};
 ghost use Rattle.system_files.specs.Prelude.{drawing};
 ghost use Rattle.system_files.specs.Prelude.{looking, following, resolving, opening, getting};
 ghost use Rattle.system_files.specs.Prelude.{creating, emptying, allowing, appending, renaming};
-ghost use Rattle.system_files.specs.Prelude.{removing};
+ghost use Rattle.system_files.specs.Prelude.{removing, error_kind};
 
 use std::alloc::Global;
 use std::fs::Permissions;
 use std::io;
+use std::io::ErrorKind;
 
 /// What there is under a name.
-#[derive(Clone, Drop)]
+#[derive(Drop)]
 pub enum Kind {
     File(Permissions),
     Link,
@@ -108,4 +109,11 @@ pub trait Disk {
     /// Removes the file of this name.
     fn remove(&mut self, name: &str) -> io::Result<()>
         ensures { AddsDiskCalls (calls self.old) (calls self.new) (removing name.now result ∷ []) };
+}
+
+/// Returns whether a call failed with an error of this kind.
+pub fn has_kind(error: &io::Error, kind: ErrorKind) -> bool
+    ensures { MatchBool result (error_kind error.now ≡ kind) (error_kind error.now ≡ kind → ⊥) }
+{
+    error.kind() == kind
 }

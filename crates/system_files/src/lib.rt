@@ -18,7 +18,7 @@ mod reading;
 mod system;
 mod writing;
 
-pub use disk::{Disk, Kind, OpenFile};
+pub use disk::{Disk, Kind, OpenFile, has_kind};
 pub use reading::{has_bytes, read};
 pub use system::SystemDisk;
 pub use writing::write;

@@ -3,7 +3,7 @@
 ghost use Rattle.system_files.specs.Prelude.{seen_read, Compares, HasBytes, MakesDiskCalls, Opens};
 ghost use Rattle.system_files.specs.Prelude.{ReadsUpTo};
 
-use crate::disk::{Disk, Kind, OpenFile};
+use crate::disk::{Disk, Kind, OpenFile, has_kind};
 use std::alloc::Global;
 use std::io;
 use std::io::ErrorKind;
@@ -40,7 +40,7 @@ fn read_open<D: Disk>(
         match disk.read(file, &mut piece[..room]) {
             Ok(0) => return Ok(bytes),
             Ok(count) => bytes.extend_from_slice(&piece[..count])?,
-            Err(error) if error.kind() == ErrorKind::Interrupted => {}
+            Err(error) if has_kind(&error, ErrorKind::Interrupted) => {}
             Err(error) => return Err(error),
         }
     }
@@ -92,7 +92,7 @@ fn compare<D: Disk>(
                 Some(after) => rest = after,
                 None => return Ok(false),
             },
-            Err(error) if error.kind() == ErrorKind::Interrupted => {}
+            Err(error) if has_kind(&error, ErrorKind::Interrupted) => {}
             Err(error) => return Err(error),
         }
     }

@@ -1,6 +1,6 @@
 //! The system's calls, one for each function. Nothing is known of them.
 
-ghost use Rattle.std.specs.Prelude.{None};
+ghost use Rattle.std.specs.Prelude.{◌≡◌, None, IfOk};
 ghost use Rattle.system_files.specs.Prelude.{IsKindOf};
 
 use crate::disk::{Disk, Kind, OpenFile};
@@ -37,23 +37,19 @@ impl<R: Files + RandomSource + AllocGlobal> Disk for SystemDisk<'_, R> {
     }
 
     fn resolve(&mut self, alloc: Global, name: &str) -> io::Result<String> {
-        let target = fs::canonicalize(self.rt, name)?;
-        Ok(String::from_str(alloc, target.as_str())?)
+        Ok(self.rt.canonicalize(alloc, name)?.into_string())
     }
 
     fn create_new<'n>(&mut self, name: &'n str) -> io::Result<OpenFile<'n, R::File>> {
-        let file = File::create_new(self.rt, name)?;
-        Ok(OpenFile { name, file })
+        named(name, File::create_new(self.rt, name))
     }
 
     fn create<'n>(&mut self, name: &'n str) -> io::Result<OpenFile<'n, R::File>> {
-        let file = File::create(self.rt, name)?;
-        Ok(OpenFile { name, file })
+        named(name, File::create(self.rt, name))
     }
 
     fn open<'n>(&mut self, name: &'n str) -> io::Result<OpenFile<'n, R::File>> {
-        let file = File::open(self.rt, name)?;
-        Ok(OpenFile { name, file })
+        named(name, File::open(self.rt, name))
     }
 
     fn read(&mut self, file: &mut OpenFile<'_, R::File>, buffer: &mut [u8]) -> io::Result<usize> {
@@ -78,6 +74,16 @@ impl<R: Files + RandomSource + AllocGlobal> Disk for SystemDisk<'_, R> {
 
     fn remove(&mut self, name: &str) -> io::Result<()> {
         fs::remove_file(self.rt, name)
+    }
+}
+
+/// Returns a file that was opened, with its name.
+fn named<'n, F: Drop>(name: &'n str, opened: io::Result<F>) -> io::Result<OpenFile<'n, F>>
+    ensures { IfOk result (λ file. file.name.now ≡ name.now) }
+{
+    match opened {
+        Ok(file) => Ok(OpenFile { name, file }),
+        Err(error) => Err(error),
     }
 }
 

@@ -8,7 +8,7 @@ ghost use Rattle.system_files.specs.Prelude.{LeadsNowhere, Replaces, UnlessIrrep
 ghost use Rattle.system_files.specs.Prelude.{WritesInRun};
 ghost use Rattle.system_files.specs.Prelude.{WritesFound, WritesMarked, new_name};
 
-use crate::disk::{Disk, Kind, OpenFile};
+use crate::disk::{Disk, Kind, OpenFile, has_kind};
 use std::alloc::{AllocError, Global};
 use std::fs::Permissions;
 use std::io;
@@ -58,7 +58,7 @@ fn write_marked<D: Disk>(
         ),
         Ok(Kind::Link) => write_behind_link(alloc, disk, mark, name, bytes),
         Ok(Kind::Other) => write_in_place(disk, name, bytes),
-        Err(error) if error.kind() == ErrorKind::NotFound => write_whole(
+        Err(error) if has_kind(&error, ErrorKind::NotFound) => write_whole(
             alloc, disk, mark, name, None, bytes,
         ),
         Err(error) => write_in_place_after(disk, name, bytes, error),
@@ -119,7 +119,7 @@ fn write_through<D: Disk>(
     ensures { MakesDiskCalls (D.calls disk.old) (D.calls disk.new)
         (λ calls. InPlaceIf (LeadsNowhere error) link.now bytes.now error calls result) }
 {
-    if error.kind() == ErrorKind::NotFound {
+    if has_kind(&error, ErrorKind::NotFound) {
         return write_in_place(disk, link, bytes);
     }
     write_in_place_after(disk, link, bytes, error)
@@ -150,11 +150,16 @@ fn write_whole<D: Disk>(
     }
 }
 
+/// How many bytes the name of a new file has more at most: a mark has up to 20 digits.
+const NEW_ENDING: usize = 25;
+
 /// Returns the name of the new file that takes the place of the file of this name.
 fn new_name(alloc: Global, name: &str, mark: u64) -> Result<String, AllocError>
     ensures { IfOk result (λ new. string_bytes new ≡ new_name name.now mark) }
 {
-    format!(in alloc; "{name}.{mark}.tmp")
+    let mut new = String::with_capacity(alloc, name.len().saturating_add(NEW_ENDING))?;
+    write!(new, "{name}.{mark}.tmp")?;
+    Ok(new)
 }
 
 /// Writes the bytes to the file `new`, and renames it. Returns whether it could be made and
@@ -256,7 +261,7 @@ fn append<D: Disk>(disk: &mut D, file: &mut OpenFile<'_, D::File>, bytes: &[u8])
         match disk.write(file, rest) {
             Ok(0) => return Err(ErrorKind::WriteZero.into()),
             Ok(count) => rest = &rest[count..],
-            Err(error) if error.kind() == ErrorKind::Interrupted => {}
+            Err(error) if has_kind(&error, ErrorKind::Interrupted) => {}
             Err(error) => return Err(error),
         }
     }

@@ -1,4 +1,4 @@
-use Rattle.std.proofs.Common.{rules, ◌∷◌, [], refl, Ok, Err, inl, inr}
+use Rattle.std.proofs.Common.{◌∷◌, [], refl, Ok, Err, inl, inr}
 use Rattle.system_files.specs.declared.disk.Kind.TheVariants.{File, Link, Other}
 use Rattle.system_files.specs.Prelude.{looking}
 use Rattle.system_files.proofs.ForCallers.{both_made}
@@ -27,10 +27,10 @@ pub returns-in-Err : goal.returns-in-Err
 returns-in-Err g c =
     let all = c.write_whole-in-Err.ensures in
     let call = looking c.args.name.now (Err c.in-Err.error) in
-    (call ∷ all.0, both_made _ _ _ (call ∷ []) all.0 c.in-Err.ensures all.1, (Err c.in-Err.error, all.0, refl, inl (search rules, all.2)))
+    (call ∷ all.0, both_made _ _ _ (call ∷ []) all.0 c.in-Err.ensures all.1, (Err c.in-Err.error, all.0, refl, inl (rw c.if-has_kind.true at c.has_kind.ensures, all.2)))
 
 pub returns-in-Err-2 : goal.returns-in-Err-2
 returns-in-Err-2 g c =
     let all = c.write_in_place_after.ensures in
     let call = looking c.args.name.now (Err c.in-Err.error) in
-    (call ∷ all.0, both_made _ _ _ (call ∷ []) all.0 c.in-Err.ensures all.1, (Err c.in-Err.error, all.0, refl, inr (search rules, all.2)))
+    (call ∷ all.0, both_made _ _ _ (call ∷ []) all.0 c.in-Err.ensures all.1, (Err c.in-Err.error, all.0, refl, inr (rw c.if-has_kind.false at c.has_kind.ensures, all.2)))

@@ -1,17 +1,15 @@
-use Rattle.std.proofs.Common.{rules, ◌≡◌, inl, inr}
-use Rattle.std.specs.declared.io.ErrorKind.TheVariants.{NotFound}
-use Rattle.system_files.specs.Prelude.{error_kind}
+use Rattle.std.proofs.Common.{inl, inr}
 use Rattle.system_files.proofs.writing.write_through.Goals as goal
 
-pub returns-then-eq : goal.returns-then-eq
-returns-then-eq g c =
+pub returns-then-has_kind : goal.returns-then-has_kind
+returns-then-has_kind g c =
     let all = c.write_in_place.ensures in
-    (all.0, all.1, inl (inl (search rules), all.2))
+    (all.0, all.1, inl (inl (rw c.if-has_kind.true at c.has_kind.ensures), all.2))
 
 pub returns : goal.returns
 returns g c =
     let all = c.write_in_place_after.ensures in
-    let other : error_kind c.args.error ≡ NotFound → ⊥ = search rules in (
+    let other = rw c.if-has_kind.false at c.has_kind.ensures in (
       all.0,
       all.1,
       elim all.2 [
