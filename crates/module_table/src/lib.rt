@@ -47,9 +47,9 @@
 //! exceptions. Laws have no body. [`TableFault::name`] is a list of texts. [`Table::build`],
 //! [`Table::objects`], [`Table::required`], [`Table::resolved`], [`Table::into_resolved`],
 //! [`Table::needs`] and [`Table::needed`] pass on what other functions return. The clauses of
-//! [`Resolved::objects`], [`Resolved::into_parts`] and [`Table::provided`] name the field or entry
-//! that they return, as that of [`Resolved::required`] does (`required_by_the_first_object`).
-//! [`Scratch::new`] returns an empty value.
+//! [`Resolved::objects`], [`Resolved::into_parts`], [`Table::provided`], [`Resolved::required`],
+//! [`Pool::key`] and [`Pool::known`] name the field or entry that they return. [`Pool::new`] and
+//! [`Scratch::new`] return an empty value.
 #![tactic(auto)]
 
 mod checks;
