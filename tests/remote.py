@@ -1,6 +1,7 @@
-"""dyncollate-remote: what a Remote Execution server compiles and what its cache has, for builds of generate, CMake and Meson, with
-Clang and GCC. The server is BuildBox's or justbuild, if they are installed, and otherwise `recc` in this directory, which runs each
-command in a sandbox that has only the declared files."""
+"""dyncollate-remote: what a Remote Execution server compiles and what its cache has, for builds of
+generate, CMake and Meson, with Clang and GCC. The server is BuildBox's or justbuild, if they are
+installed, and otherwise `recc` in this directory, which runs each command in a sandbox that has
+only the declared files."""
 import json
 import os
 import random
@@ -26,7 +27,8 @@ LAUNCHER = str(TOP / "adapters/remote/dyncollate-remote")
 MESON = os.environ.get("MESON", "meson")
 SAID = "dyncollate-remote: "
 MOUNTS = ["/usr:/usr", "/usr/lib:/lib", "/usr/lib64:/lib64", "/usr/bin:/bin"]
-N, B, S, D = "src/base/number.cppm", "src/base/number.cpp", "src/math/sum.cpp", "src/math/detail.cppm"
+N, B, S, D = ("src/base/number.cppm", "src/base/number.cpp", "src/math/sum.cpp",
+              "src/math/detail.cppm")
 LIBS = [N, B, D, "src/math/sum.cppm", S, "src/app/main.cpp"]
 
 
@@ -64,8 +66,9 @@ class Casd:
 
     def command(self):
         mounts = [f"--runner-arg=--ro-bind-mount={it}" for it in MOUNTS]
-        return ["buildbox-casd", "--bind=%s:%d" % self.address, "--jobs=4", "--buildbox-run=/usr/bin/buildbox-run-bubblewrap",
-                *mounts, "--runner-arg=--disable-localcas", self.room / "casd"]
+        return ["buildbox-casd", "--bind=%s:%d" % self.address, "--jobs=4",
+                "--buildbox-run=/usr/bin/buildbox-run-bubblewrap", *mounts,
+                "--runner-arg=--disable-localcas", self.room / "casd"]
 
     def again(self):
         with open(self.room / "log", "w", encoding="utf-8") as log:
@@ -86,13 +89,13 @@ class Just(Casd):
     programs = ["recc", "justbuild"]
 
     def command(self):
-        return ["justbuild", "execute", "--compatible", "-i", self.address[0], "-p", str(self.address[1]),
-                "--local-build-root", self.room / "just"]
+        return ["justbuild", "execute", "--compatible", "-i", self.address[0], "-p",
+                str(self.address[1]), "--local-build-root", self.room / "just"]
 
 
 class Elsewhere(Casd):
-    """buildbox-casd in another network and with another root, as on another machine. It has this system's /usr, in which some files
-    may be `changed`."""
+    """buildbox-casd in another network and with another root, as on another machine. It has this
+    system's /usr, in which some files may be `changed`."""
     programs, changed = [*Casd.programs, "ip"], ()
 
     def start(self, room):
@@ -102,17 +105,23 @@ class Elsewhere(Casd):
         # those of the test before, which disappear later otherwise
         run("ip", "netns", "delete", self.name)
         run("ip", "link", "delete", f"v{number}")
-        for words in (f"netns add {self.name}", f"link add v{number} type veth peer name eth0 netns {self.name}", f"addr add {net}.1/30 dev v{number}",
-                      f"link set v{number} up", f"-n {self.name} addr add {net}.2/30 dev eth0", f"-n {self.name} link set eth0 up", f"-n {self.name} link set lo up"):
+        for words in (f"netns add {self.name}",
+                      f"link add v{number} type veth peer name eth0 netns {self.name}",
+                      f"addr add {net}.1/30 dev v{number}", f"link set v{number} up",
+                      f"-n {self.name} addr add {net}.2/30 dev eth0",
+                      f"-n {self.name} link set eth0 up", f"-n {self.name} link set lo up"):
             output_of("ip", *words.split())
         (room / "casd").mkdir()
         self.again()
         return {"RECC_SERVER": "http://%s:%d" % self.address}
 
     def command(self):
-        links = [word for it in ("bin", "lib", "lib64") for word in ("--symlink", f"usr/{it}", f"/{it}")]
-        return ["ip", "netns", "exec", self.name, "bwrap", "--die-with-parent", "--cap-add", "ALL", "--ro-bind", "/usr", "/usr", *self.changed, *links,
-                "--bind", "/proc", "/proc", "--dev", "/dev", "--tmpfs", "/tmp", "--bind", self.room / "casd", self.room / "casd", *super().command()]
+        links = [word for it in ("bin", "lib", "lib64")
+                 for word in ("--symlink", f"usr/{it}", f"/{it}")]
+        return ["ip", "netns", "exec", self.name, "bwrap", "--die-with-parent", "--cap-add", "ALL",
+                "--ro-bind", "/usr", "/usr", *self.changed, *links, "--bind", "/proc",
+                "/proc", "--dev", "/dev", "--tmpfs", "/tmp", "--bind", self.room / "casd",
+                self.room / "casd", *super().command()]
 
 
 SERVERS = {"BySandbox": Sandbox, "ByCasd": Casd, "ByJust": Just, "Elsewhere": Elsewhere}
@@ -136,16 +145,17 @@ class Remote(Directory):
         self.log_folder.mkdir()
         self.serves = self.server()
         self.local = self.environment
-        self.remote = {**self.local, **self.serves.start(self.room), "RECC_LOG_LEVEL": "info", "LAUNCHER": LAUNCHER,
-                       "RECC_LOG_DIRECTORY": str(self.log_folder)}
+        self.remote = {**self.local, **self.serves.start(self.room), "RECC_LOG_LEVEL": "info",
+                       "LAUNCHER": LAUNCHER, "RECC_LOG_DIRECTORY": str(self.log_folder)}
         if isinstance(self.serves, Casd):
             self.addCleanup(self.serves.stop)
         self.counted = [0, 0]
 
     def counts(self):
-        """How many commands ran on the server since the last call, and how many results its cache had. A command asks the server for
-        its compiler in each build."""
-        text = "".join(it.read_text(errors="replace") for it in self.log_folder.iterdir() if it.is_file() and not it.is_symlink())
+        """How many commands ran on the server since the last call, and how many results its cache
+        had. A command asks the server for its compiler in each build."""
+        text = "".join(it.read_text(errors="replace") for it in self.log_folder.iterdir()
+                       if it.is_file() and not it.is_symlink())
         found = [text.count("Executing action remotely"), text.count("Action Cache hit")]
         before, self.counted = self.counted, found
         return found[0] - before[0], found[1] - before[1]
@@ -169,10 +179,12 @@ class Remote(Directory):
         """Builds in a directory. Returns what is compiled, and the objects."""
         self.enter(name, environment)
         self.assertEqual(self.ninja()[0], 0, self.log)
-        return self.steps("COMPILE"), {name: text for name, text in products().items() if name.endswith(".o")}
+        return (self.steps("COMPILE"),
+                {name: text for name, text in products().items() if name.endswith(".o")})
 
     def builds(self, executed, hits, here=True):
-        """Both are built: the same sources are compiled to the same objects, that many of them on the server."""
+        """Both are built: the same sources are compiled to the same objects,
+        that many of them on the server."""
         compiled, objects = self.built("there", self.remote)
         self.assertNotIn(SAID, self.log)
         self.assertEqual(self.counts(), (executed + bool(compiled), hits), self.log)
@@ -218,21 +230,27 @@ class Examples(Remote):
 
     def test_std(self):
         (self.room / "list").mkdir()
-        status, printed = run(sys.executable, TOP / "examples/generate", self.form, TOP / "examples/std/targets", cwd="list", env=self.local)
+        status, printed = run(sys.executable, TOP / "examples/generate", self.form,
+                              TOP / "examples/std/targets", cwd="list", env=self.local)
         if status:
             self.skipTest(printed.strip())
         self.from_scratch_and_from_the_cache("std", 5)
 
     def stays_the_same(self):
-        """Whether a module file does after an edit that does not matter. With justbuild, it has another directory each time."""
+        """Whether a module file does after an edit that does not matter. With justbuild, it has
+        another directory each time."""
         return self.form == "gcc" and self.server is not Just
 
     def test_edits(self):
         """Objects are those of a local build. What was there before comes from the cache."""
         self.both("libs")
         self.builds(6, 0)
-        for name, old, new, count in [(N, "int value;", "int value; int pad = 7;", 6), (D, "plus\\(number, number\\)", "plus(plus(number, number), number)", 1 if self.stays_the_same() else 4),
-                                      (B, "left.value \\+ right.value", "left.value + right.value + 1", 1), (N, "int value;", "int pad = 0, value;", 6)]:
+        for name, old, new, count in (
+                [(N, "int value;", "int value; int pad = 7;", 6),
+                 (D, "plus\\(number, number\\)", "plus(plus(number, number), number)",
+                  1 if self.stays_the_same() else 4),
+                 (B, "left.value \\+ right.value", "left.value + right.value + 1", 1),
+                 (N, "int value;", "int pad = 0, value;", 6)]):
             before = (self.room / "here" / name).read_text()
             self.edit(name, old, new)
             compiled, objects = self.built("there", self.remote)
@@ -243,7 +261,8 @@ class Examples(Remote):
             for it in "here", "there":
                 (self.room / it / name).write_text(before)
             objects = self.built("there", self.remote)[1]
-            self.assertEqual((self.counts(), objects), ((1, count), self.built("here", self.local)[1]))
+            self.assertEqual((self.counts(), objects),
+                             ((1, count), self.built("here", self.local)[1]))
 
     def test_only_a_cache(self):
         if self.server is Sandbox:
@@ -255,7 +274,8 @@ class Examples(Remote):
             objects = self.built("there", self.remote)[1]
             self.assertNotIn(SAID, self.log)
             self.clean()
-            self.assertEqual((self.counts(), objects), ((0, hits), self.built("here", self.local)[1]))
+            self.assertEqual((self.counts(), objects),
+                             ((0, hits), self.built("here", self.local)[1]))
 
     def test_an_error(self):
         """It is the compiler's, here."""
@@ -287,7 +307,8 @@ class Examples(Remote):
         self.builds(1, 0)
 
     def test_a_comment_in_an_interface(self):
-        """GCC writes the same module file, which stays as old as it was, so that nothing else is compiled."""
+        """GCC writes the same module file, which stays as old as it was,
+        so that nothing else is compiled."""
         self.both("libs")
         self.builds(6, 0)
         self.edit(N, "^export module number;", "export module number; // a comment")
@@ -322,19 +343,23 @@ class Examples(Remote):
         self.assertEqual(count, 1)
         put(self.room / "config.h", text)
         name = os.path.basename(self.compiler)
-        for changed, lines, counts in (["--ro-bind", self.room / "config.h", header], [f"the server's {name} or its standard library is not the one here"],
-                                       (1, 0)), ((), [], (7, 0)):
+        for changed, lines, counts in (
+                (["--ro-bind", self.room / "config.h", header],
+                 [f"the server's {name} or its standard library is not the one here"],
+                 (1, 0)), ((), [], (7, 0))):
             self.serves.stop()
             self.serves.changed = changed
             self.serves.again()
             self.clean()
             self.assertEqual(self.ninja()[0], 0, self.log)
-            found = [it.partition("here: ")[2].replace(self.compiler, name) for it in self.log.splitlines() if SAID in it]
+            found = [it.partition("here: ")[2].replace(self.compiler, name)
+                     for it in self.log.splitlines() if SAID in it]
             self.assertEqual((found, self.counts()), (lines, counts), self.log)
 
     def test_a_warning_that_quotes_a_module(self):
         self.lay("libs", "there", self.remote)
-        edit(N, "^export struct", "export [[deprecated]] inline int old() { return 0; }\nexport struct")
+        edit(N, "^export struct",
+             "export [[deprecated]] inline int old() { return 0; }\nexport struct")
         edit(S, "^module sum;", "module sum;\nimport number;\nint use() { return old(); }")
         self.assertEqual(self.ninja()[0], 0, self.log)
         self.assertIn("deprecated", self.log)
@@ -347,9 +372,14 @@ class Examples(Remote):
         self.both("libs")
         self.lay("libs", "far", self.remote)
         edits = [(N, "int .*;$", ["int value;", "int value; int pad = 7;", "int pad = 0, value;"]),
-                 (N, "^export module number;.*", ["export module number;", "export module number; // x", "export module number;  // y"]),
-                 (B, "return .*?;", ["return {left.value + right.value};", "return {left.value + right.value + 1};", "return {right.value + left.value};"]),
-                 (D, "return .*?;", ["return plus(number, number);", "return plus(plus(number, number), number);"])]
+                 (N, "^export module number;.*",
+                  ["export module number;", "export module number; // x",
+                   "export module number;  // y"]),
+                 (B, "return .*?;",
+                  ["return {left.value + right.value};", "return {left.value + right.value + 1};",
+                   "return {right.value + left.value};"]),
+                 (D, "return .*?;",
+                  ["return plus(number, number);", "return plus(plus(number, number), number);"])]
         hits = 0
         for number in range(20):
             name, pattern, texts = choices.choice(edits)
@@ -375,12 +405,14 @@ class Failures(Remote):
         self.serves.stop()
         compiled, objects = self.built("there", self.remote)
         lines = [it for it in self.log.splitlines() if SAID in it]
-        self.assertEqual(lines, [f"{SAID}{lines[0].split()[1]} is compiled here: recc cannot use {self.remote['RECC_SERVER']}"])
+        self.assertEqual(lines, [f"{SAID}{lines[0].split()[1]} is compiled here: recc cannot use "
+                                 f"{self.remote['RECC_SERVER']}"])
         self.assertEqual((compiled, objects), self.built("here", self.local))
         self.enter("there", {**self.remote, "DYNCOLLATE_REMOTE": "only"})
         edit(B, "left", "left ")
         self.assertEqual(self.ninja()[0], 1)
-        self.assertIn(f"{SAID}obj/base/{B}.o: recc cannot use {self.remote['RECC_SERVER']}", self.log)
+        self.assertIn(f"{SAID}obj/base/{B}.o: recc cannot use {self.remote['RECC_SERVER']}",
+                      self.log)
         self.serves.again()
         self.assertEqual(self.built("there", self.environment)[1].keys(), objects.keys())
 
@@ -402,14 +434,16 @@ class Failures(Remote):
 
     def stop_after(self, count):
         for _ in range(600):
-            text = "".join(it.read_text(errors="replace") for it in self.log_folder.iterdir() if it.is_file() and not it.is_symlink())
+            text = "".join(it.read_text(errors="replace") for it in self.log_folder.iterdir()
+                           if it.is_file() and not it.is_symlink())
             if text.count("Executing action remotely") > count:
                 break
             time.sleep(0.05)
         self.serves.stop()
 
     def test_a_compiler_that_is_exchanged(self):
-        """Nothing that another compiler made is taken, whether the client or the server has it first."""
+        """Nothing that another compiler made is taken,
+        whether the client or the server has it first."""
         if self.server is not Sandbox:
             self.skipTest("the server has the compilers of this system")
         self.lay("libs", "there", self.remote)
@@ -425,7 +459,8 @@ class Failures(Remote):
             else:
                 lines = [it.partition("here: ")[2] for it in self.log.splitlines() if SAID in it]
                 name = os.path.basename(self.compiler)
-                self.assertEqual(lines, [f"the server's {name} or its standard library is not the one here"])
+                self.assertEqual(
+                    lines, [f"the server's {name} or its standard library is not the one here"])
                 self.assertEqual(self.counts(), (1, 0))
         self.exchange(False, False)
         self.clean()
@@ -433,9 +468,11 @@ class Failures(Remote):
         self.assertEqual(self.counts(), (1, 6))
 
     def compiled(self, *words, **more):
-        """Compiles a.cpp on the server. Returns the object, how many commands ran there, and the hits."""
+        """Compiles a.cpp on the server. Returns the object, how many commands ran there,
+        and the hits."""
         shutil.rmtree(".dyncollate-remote", ignore_errors=True)
-        status, printed = run(LAUNCHER, *words, "-c", "a.cpp", "-o", "a.o", env={**self.remote, "DYNCOLLATE_REMOTE": "only", **more})
+        status, printed = run(LAUNCHER, *words, "-c", "a.cpp", "-o", "a.o",
+                              env={**self.remote, "DYNCOLLATE_REMOTE": "only", **more})
         self.assertEqual((status, printed), (0, ""))
         return Path("a.o").read_bytes(), *self.counts()
 
@@ -449,7 +486,8 @@ class Failures(Remote):
             put(self.room / "proper", proper)
             put(self.room / "tools" / name, f"""#!/bin/sh
                 # {text}
-                if [ "$1" = -print-prog-name=cc1plus ]; then echo {self.room}/proper; else exec {self.compiler} "$@"; fi""")
+                if [ "$1" = -print-prog-name=cc1plus ]; then echo {self.room}/proper
+                else exec {self.compiler} "$@"; fi""")
             (self.room / "tools" / name).chmod(0o755)
             made.append(self.compiled(name, PATH=f"{self.room}/tools:{self.remote['PATH']}")[1:])
         self.assertEqual(made, [(2, 0), (2, 0), (2, 0), (1, 1)])
@@ -462,7 +500,8 @@ class Failures(Remote):
         self.addCleanup(header.unlink)
         put("a.cpp", f"#include <{header.name}>\nint value = VALUE;\n")
         made = []
-        for text, at in ("#define VALUE 10\n", 1), ("#define VALUE 9\n", 1), ("#define VALUE 11\n", 2), ("#define VALUE 10\n", 1):
+        for text, at in (("#define VALUE 10\n", 1), ("#define VALUE 9\n", 1),
+                         ("#define VALUE 11\n", 2), ("#define VALUE 10\n", 1)):
             header.write_text(text)
             os.utime(header, (at, at))
             made.append(self.compiled(self.compiler))
@@ -485,17 +524,42 @@ class Failures(Remote):
         objects = [it[0] for it in made]
         self.assertEqual((objects[:2], objects[0] == objects[1]), (objects[2:], False))
 
+    def test_a_compiler_with_the_name_of_its_language(self):
+        if not os.access("/usr/local/bin", os.W_OK):
+            self.skipTest("no directory for a compiler that the server has")
+        folder = f"/usr/local/bin/dyncollate-{os.getpid()}"
+        os.mkdir(folder)
+        self.addCleanup(shutil.rmtree, folder)
+        os.symlink(tool(self.form), f"{folder}/c++")
+        put("a.cpp", "int main() {}\n")
+        paths = {"PATH": f"{folder}:{self.remote['PATH']}",
+                 "RECC_REMOTE_ENV_PATH": f"{folder}:/usr/bin:/bin"}
+        self.assertEqual(self.compiled("c++", "-x", "c++", **paths)[1:], (2, 0))
+
+    def test_a_container_without_ninja(self):
+        """Builds look alike there, so each compilation asks for the compiler."""
+        put("a.cpp", "int main() {}\n")
+        inside = ["unshare", "--pid", "--fork", "--mount-proc"]
+        if run(*inside, "true")[0]:
+            self.skipTest("no right to make a container")
+        for counts in (2, 0), (1, 1), (1, 1):
+            status, printed = run(*inside, LAUNCHER, self.compiler, "-c", "a.cpp", "-o", "a.o",
+                                  env={**self.remote, "DYNCOLLATE_REMOTE": "only"})
+            self.assertEqual((status, printed, self.counts()), (0, "", counts))
+
     def exchange(self, client, server):
         """Another compiler is one with another macro."""
         name = os.path.basename(self.compiler)
-        put(self.room / "other", f'#!/bin/sh\nexec {self.compiler} -DOTHER "$@"\n' if client else "")
+        put(self.room / "other",
+            f'#!/bin/sh\nexec {self.compiler} -DOTHER "$@"\n' if client else "")
         put(self.room / "server/option", "-DOTHER" * server)
         shutil.rmtree(self.room / "tools", ignore_errors=True)
         (self.room / "tools").mkdir()
         if client:
             shutil.copy(self.room / "other", self.room / "tools" / name)
             (self.room / "tools" / name).chmod(0o755)
-        self.environment = {**self.remote, self.form.upper(): name, "PATH": f"{self.room}/tools:{self.remote['PATH']}"}
+        self.environment = {**self.remote, self.form.upper(): name,
+                            "PATH": f"{self.room}/tools:{self.remote['PATH']}"}
         self.generate(self.form)
 
 
@@ -507,31 +571,40 @@ class CompiledHere(Remote):
         put(self.room / source, text)
         shutil.rmtree(".dyncollate-remote", ignore_errors=True)
         compiler = more.pop("compiler", self.compiler)
-        command = [LAUNCHER, compiler, *words, *["-o", "a.o"][:2 * ("-o" not in words)], "-c", source]
+        command = [LAUNCHER, compiler, *words, *["-o", "a.o"][:2 * ("-o" not in words)], "-c",
+                   source]
         for said in f"{SAID}a.o is compiled here: {why}\n", "":
             status, printed = run(*command, env={**self.remote, **more})
             self.assertEqual((status, printed), (0, said))
             os.remove("a.o")
         status, printed = run(*command, env={**self.remote, **more, "DYNCOLLATE_REMOTE": "only"})
-        self.assertEqual((status, printed, os.path.exists("a.o")), (1, f"{SAID}a.o: {why}\n", False))
+        self.assertEqual((status, printed, os.path.exists("a.o")),
+                         (1, f"{SAID}a.o: {why}\n", False))
 
     def test_options(self):
         put("x", "-DX=1")
         options = ["@x", "-gsplit-dwarf", "-save-temps", "-march=native", "-fprofile-generate"]
-        options += {"clang": ["-ftime-trace", "-fsave-optimization-record", "-fmodule-output=x.pcm"],
-                    "gcc": ["-fstack-usage", "-fdump-tree-original", "-fmodules-ts", "-Wp,-MD,x.d"]}[self.form]
+        options += {"clang": ["-ftime-trace", "-fsave-optimization-record",
+                              "-fmodule-output=x.pcm"],
+                    "gcc": ["-fstack-usage", "-fdump-tree-original", "-fmodules-ts",
+                            "-Wp,-MD,x.d"]}[self.form]
         for option in options:
-            self.stays(f"{option} may concern other files", option, *["-Wno-unused-command-line-argument"] * (self.form == "clang"))
+            self.stays(f"{option} may concern other files", option,
+                       *["-Wno-unused-command-line-argument"] * (self.form == "clang"))
         self.stays("CPATH may concern other files", CPATH="/tmp")
 
     def test_commands(self):
         put("a.cpp", "int main() {}\n")
         unlisted = "-o names no object, or no depfile lists what it reads"
-        for words, why in (["-c", "a.cpp"], f"{SAID}a.cpp: {unlisted}\n"), (["-o", "a.o", "-c"], f"{SAID}a.o: {unlisted}\n"), (["a.cpp", "-o", "a.o", "-c"], ""):
-            status, printed = run(LAUNCHER, self.compiler, *words, env={**self.remote, "DYNCOLLATE_REMOTE": "only"})
+        for words, why in ((["-c", "a.cpp"], f"{SAID}a.cpp: {unlisted}\n"),
+                           (["-o", "a.o", "-c"], f"{SAID}a.o: {unlisted}\n"),
+                           (["a.cpp", "-o", "a.o", "-c"], "")):
+            status, printed = run(LAUNCHER, self.compiler, *words,
+                                  env={**self.remote, "DYNCOLLATE_REMOTE": "only"})
             self.assertEqual((status, printed), (bool(why), why))
         put("a.o.modmap", "")
-        words = {"clang": ["-std=c++20", "@a.o.modmap"], "gcc": ["-std=c++20", "-fmodules-ts", "-fmodule-mapper=a.o.modmap"]}[self.form]
+        words = {"clang": ["-std=c++20", "@a.o.modmap"],
+                 "gcc": ["-std=c++20", "-fmodules-ts", "-fmodule-mapper=a.o.modmap"]}[self.form]
         if self.form == "gcc":
             self.stays("[Errno 2] No such file or directory: 'a.o.ddi'", *words)
         put("a.o.ddi", "{}")
@@ -553,7 +626,8 @@ class CompiledHere(Remote):
             self.assertEqual(found, [("in/a.cpp.o", {"a.cpp", "in/value.h"})] * 2)
 
     def test_an_installed_launcher(self):
-        """Its modules are in another directory, and their compiled forms next to what the build has found out."""
+        """Its modules are in another directory,
+        and their compiled forms next to what the build has found out."""
         (self.room / "prefix/bin").mkdir(parents=True)
         shutil.copy(LAUNCHER, self.room / "prefix/bin")
         (self.room / "prefix/share/dyncollate").mkdir(parents=True)
@@ -562,7 +636,8 @@ class CompiledHere(Remote):
         before = sorted((self.room / "prefix").rglob("*"))
         put("a.cpp", "int main() {}\n")
         for counts in (2, 0), (0, 1):
-            status, printed = run("prefix/bin/dyncollate-remote", self.compiler, "-c", "a.cpp", "-o", "a.o", env={**self.remote, "DYNCOLLATE_REMOTE": "only"})
+            status, printed = run("prefix/bin/dyncollate-remote", self.compiler, "-c", "a.cpp",
+                                  "-o", "a.o", env={**self.remote, "DYNCOLLATE_REMOTE": "only"})
             self.assertEqual((status, printed, self.counts()), (0, "", counts))
         self.assertEqual(sorted((self.room / "prefix").rglob("*")), before)
         self.assertEqual(len([*Path(".dyncollate-remote/python").rglob("*.pyc")]), 2)
@@ -575,11 +650,14 @@ class CompiledHere(Remote):
         os.mkdir(os.path.dirname(name))
         os.symlink(self.compiler, name)
         for compiler, message in (self.compiler, "no-such-option"), (name, "No such file"):
-            said = rf"{re.escape(os.fsencode(compiler).decode(errors='replace'))} fails on the server: .*{message}.*\n"
+            said = (rf"{re.escape(os.fsencode(compiler).decode(errors='replace'))} fails on the "
+                    rf"server: .*{message}.*\n")
             for only in "", "only", "only":
-                status, printed = run(LAUNCHER, compiler, "-c", "a.cpp", "-o", "a.o", env={**self.remote, "DYNCOLLATE_REMOTE": only})
+                status, printed = run(LAUNCHER, compiler, "-c", "a.cpp", "-o", "a.o",
+                                      env={**self.remote, "DYNCOLLATE_REMOTE": only})
                 self.assertEqual(status, bool(only))
-                self.assertRegex(printed, rf"\A{SAID}a.o{'' if only else ' is compiled here'}: {said}\Z")
+                self.assertRegex(printed,
+                                 rf"\A{SAID}a.o{'' if only else ' is compiled here'}: {said}\Z")
 
     def test_names(self):
         unfit = "is not below RECC_PROJECT_ROOT, or recc cannot have its name"
@@ -596,8 +674,46 @@ class CompiledHere(Remote):
         self.stays("__DATE__ in a.cpp", text="const char *date = __DATE__;\n")
         self.stays("__TIMESTAMP__ in a.cpp", text="const char *date = __TIMESTAMP__;\n")
         self.stays(".incbin in a.cpp", text='asm(".incbin \\"a.cpp\\"");\n')
-        if self.form == "gcc":
-            self.stays("__has_include in a.cpp", text="#if __has_include(<none>)\n#endif\n")
+
+    def test_what_a_source_looks_for(self):
+        """Depfiles of scans and of GCC do not list it. That of Clang's -M does."""
+        texts = {"__has_include": '#if __has_include("x")\n#endif',
+                 "__has_embed": '#if __has_embed("x")\n#endif', "#embed": '# \tembed "x"'}
+        for what, text in texts.items():
+            if self.form == "gcc":
+                self.stays(f"{what} in a.cpp", text=f"#if 0\n{text}\n#endif\nint main() {{}}\n")
+        put("x", "")
+        put("a.cpp", '#if __has_include("x")\nint x;\n#endif\n')
+        if self.form == "clang":
+            found = []
+            for words in [], [LAUNCHER]:
+                self.assertEqual(run(*words, self.compiler, "-c", "a.cpp", "-o", "a.o",
+                                     env={**self.remote, "DYNCOLLATE_REMOTE": "only"}), (0, ""))
+                found.append(Path("a.o").read_bytes())
+            self.assertEqual(found[0], found[1])
+        for name, text in ("a.o.modmap", ""), ("a.o.ddi", "{}"), ("a.o.ddi.d", "a.o: a.cpp\n"):
+            put(name, text)
+        words = {"clang": ["-std=c++20", "@a.o.modmap"],
+                 "gcc": ["-std=c++20", "-fmodules-ts", "-fmodule-mapper=a.o.modmap"]}[self.form]
+        for what, text in texts.items():
+            self.stays(f"{what} in a.cpp", *words, text=f"#if 0\n{text}\n#endif\nint main() {{}}\n")
+
+    def test_what_the_server_has(self):
+        """DYNCOLLATE_REMOTE_SYSTEM names its directories, in place of /usr/.
+        Headers below them are not sent."""
+        put("sdk/value.h", "#define VALUE 3\n")
+        put("a.cpp", '#include "value.h"\nint value = VALUE;\n')
+        put("b.cpp", "#include <cstddef>\n")
+        for source, directories, printed in [
+                ("a.cpp", "/usr/", "^$"),
+                ("a.cpp", f"/usr/:{self.room}/sdk/", "a.cpp:1:.*value.h.*(not found|No such file)"),
+                ("b.cpp", "/usr/", "^$"),
+                ("b.cpp", f"{self.room}/sdk/", "/usr/.* is not below RECC_PROJECT_ROOT")]:
+            status, log = run(LAUNCHER, self.compiler, f"-I{self.room}/sdk", "-c", source, "-o",
+                              "a.o", env={**self.remote, "DYNCOLLATE_REMOTE": "only",
+                                          "DYNCOLLATE_REMOTE_SYSTEM": directories})
+            self.assertRegex(log, printed)
+            self.assertEqual(status, printed != "^$")
 
     def test_long_lists(self):
         """More than a variable takes is in a file, unless the environment names such a file."""
@@ -607,9 +723,11 @@ class CompiledHere(Remote):
         text = "".join(f'#include "{it}"\n' for it in names) + "int main() {}\n"
         put(self.room / "b.cpp", text)
         for count in (2, 0), (0, 1):
-            status, printed = run(LAUNCHER, self.compiler, "-c", "b.cpp", "-o", "b.o", env={**self.remote, "DYNCOLLATE_REMOTE": "only"})
+            status, printed = run(LAUNCHER, self.compiler, "-c", "b.cpp", "-o", "b.o",
+                                  env={**self.remote, "DYNCOLLATE_REMOTE": "only"})
             self.assertEqual((status, printed, self.counts()), (0, "", count))
-        self.stays("more inputs than a variable takes, and RECC_CONFIG_DIRECTORY is set", text=text, RECC_CONFIG_DIRECTORY="/etc")
+        self.stays("more inputs than a variable takes, and RECC_CONFIG_DIRECTORY is set", text=text,
+                   RECC_CONFIG_DIRECTORY="/etc")
 
     def test_once_in_a_build(self):
         os.symlink(self.compiler, "other-name")
@@ -618,7 +736,9 @@ class CompiledHere(Remote):
         for name in N, B:
             compiled, _ = self.built("there", self.remote)
             self.assertIn(name, compiled)
-            self.assertEqual(self.log.count(f"is compiled here: recc does not know the compiler {self.room}/other-name\n"), 1, self.log)
+            self.assertEqual(self.log.count(
+                f"is compiled here: recc does not know the compiler {self.room}/other-name\n"), 1,
+                             self.log)
             edit(B, "left", "left ")
 
     def test_other_commands(self):
@@ -635,7 +755,8 @@ class Maps(Remote):
     """Each file of each map."""
 
     def test_a_file_that_is_missing(self):
-        """Without it, a compilation on the server fails and names it. GCC does not read a partition of another module."""
+        """Without it, a compilation on the server fails and names it.
+        GCC does not read a partition of another module."""
         count = 0
         for example in EXAMPLES:
             self.lay(example, example, self.remote)
@@ -647,12 +768,17 @@ class Maps(Remote):
     def without_each(self, statements):
         count = 0
         for one in json.loads(run(tool("ninja"), "-t", "compdb", "compile")[1]):
-            own, needed = re.search(rf"^build {re.escape(one['output'])}(?: \| (\S+))?: dyndep(?: \| (.*))?$", statements, re.M).groups()
-            listed = re.findall(r"\S+\.[gp]cm$", Path(one["output"] + ".modmap").read_text().replace("=", " "), re.M)
+            own, needed = (
+                re.search(rf"^build {re.escape(one['output'])}(?: \| (\S+))?: dyndep(?: \| (.*))?$",
+                          statements, re.M).groups())
+            listed = re.findall(r"\S+\.[gp]cm$",
+                                Path(one["output"] + ".modmap").read_text().replace("=", " "), re.M)
             for name in {*listed} - {own}:
-                environment = {**self.remote, "WITHOUT": name, "DYNCOLLATE_REMOTE": "only", "RECC_SKIP_CACHE": "1"}
+                environment = {**self.remote, "WITHOUT": name, "DYNCOLLATE_REMOTE": "only",
+                               "RECC_SKIP_CACHE": "1"}
                 status, printed = run("sh", "-c", one["command"], env=environment)
-                if self.form == "gcc" and name not in (needed or "").split(" ") and "-" in os.path.basename(name):
+                if (self.form == "gcc" and name not in (needed or "").split(" ")
+                    and "-" in os.path.basename(name)):
                     self.assertEqual(status, 0, printed)
                 else:
                     self.assertNotEqual(status, 0, (one["output"], name))
@@ -670,9 +796,12 @@ class Others(Remote):
     def from_scratch(self, prints, configure, compiling, variables):
         """A project is built here and there, then again from the cache."""
         found = {}
-        for name, environment in ("here", {**self.local, **variables}), ("there", {**self.remote, **variables, "RECC_PROJECT_ROOT": str(self.room / "there")}):
+        for name, environment in (("here", {**self.local, **variables}),
+                                  ("there", {**self.remote, **variables,
+                                             "RECC_PROJECT_ROOT": str(self.room / "there")})):
             os.chdir(self.room / name)
-            status, log = run(*configure(environment is not self.local and name == "there"), env=environment)
+            status, log = run(*configure(environment is not self.local and name == "there"),
+                              env=environment)
             self.assertEqual(status, 0, log)
             os.chdir("build")
             self.environment = environment
@@ -680,7 +809,8 @@ class Others(Remote):
             self.assertEqual(self.ninja()[0], 0, self.log)
             self.assertEqual(run("./app"), (0, prints))
             self.assertNotIn(SAID, self.log)
-            found[name] = {str(it): it.read_bytes() for it in Path().rglob("*.o") if "meson-private" not in it.parts}
+            found[name] = {str(it): it.read_bytes() for it in Path().rglob("*.o")
+                           if "meson-private" not in it.parts}
         count = len(re.findall(compiling, self.log))
         self.assertEqual((self.counts(), len(found["there"])), ((count + 1, 0), count), self.log)
         self.assertEqual(found["here"], found["there"])
@@ -699,10 +829,16 @@ class Others(Remote):
         from tests.cmake_builds import PROJECT, cmake
         if not cmake() or self.form == "gcc" and version("gcc") < (14,):
             self.skipTest("CMake 3.28, or a compiler that it can scan: not there")
-        self.lay_files({**PROJECT, "CMakeLists.txt": PROJECT["CMakeLists.txt"] + 'include_directories("${CMAKE_SOURCE_DIR}/include")\n',
-                        "include/value.h": "#define VALUE 0\n", "plain.cpp": '#include "value.h"\nint plain() { return VALUE; }\n'})
-        self.from_scratch("", lambda remote: [cmake(), "-G", "Ninja", "-B", "build", f"-DCMAKE_CXX_COMPILER={self.compiler}", f"-DCMAKE_MAKE_PROGRAM={NINJA}",
-                                          *[f"-DCMAKE_CXX_COMPILER_LAUNCHER={LAUNCHER}"] * remote], "Building CXX object", {})
+        self.lay_files({**PROJECT, "CMakeLists.txt": PROJECT["CMakeLists.txt"]
+                        + 'include_directories("${CMAKE_SOURCE_DIR}/include")\n',
+                        "include/value.h": "#define VALUE 0\n",
+                        "plain.cpp": '#include "value.h"\nint plain() { return VALUE; }\n'})
+        self.from_scratch(
+            "", lambda remote: [cmake(), "-G", "Ninja", "-B", "build",
+                                f"-DCMAKE_CXX_COMPILER={self.compiler}",
+                                f"-DCMAKE_MAKE_PROGRAM={NINJA}",
+                                *[f"-DCMAKE_CXX_COMPILER_LAUNCHER={LAUNCHER}"] * remote],
+            "Building CXX object", {})
 
     def test_gn(self):
         from tests.gn import ADAPTER, DATA
@@ -710,8 +846,11 @@ class Others(Remote):
             self.skipTest("generate-ninja: not there")
         for name in "here", "there":
             shutil.copytree(DATA, self.room / name)
-        self.from_scratch("303 12 9\n", lambda remote: ["sh", "-ec", f"""gn gen -q build --args='cxx="{(LAUNCHER + ' ') * remote}{self.compiler}"'
-                          {sys.executable} {ADAPTER} adopt build"""], r"\] CXX ", {"DYNCOLLATE_NINJA": tool("ninja")})
+        compilers = [self.compiler, f"{LAUNCHER} {self.compiler}"]
+        self.from_scratch("303 12 9\n", lambda remote: ["sh", "-ec", f"""
+            gn gen -q build --args='cxx="{compilers[remote]}"'
+            {sys.executable} {ADAPTER} adopt build"""],
+                          r"\] CXX ", {"DYNCOLLATE_NINJA": tool("ninja")})
 
     def test_meson(self):
         from tests.meson import DATA, meson
@@ -719,13 +858,18 @@ class Others(Remote):
             self.skipTest("meson: not there")
         for name in "here", "there":
             shutil.copytree(DATA / "generated", self.room / name)
-        self.from_scratch("35 21 1 13\n", lambda remote: ["env", f"CXX={(LAUNCHER + ' ') * remote}{self.compiler}", *meson(), "setup", "build", "-Dbuildtype=plain"],
-                          r"Compiling C\+\+ object", {"NINJA": NINJA, "DYNCOLLATE_NINJA": tool("ninja")})
+        self.from_scratch(
+            "35 21 1 13\n", lambda remote: ["env",
+                                            f"CXX={(LAUNCHER + ' ') * remote}{self.compiler}",
+                                            *meson(), "setup", "build", "-Dbuildtype=plain"],
+            r"Compiling C\+\+ object", {"NINJA": NINJA, "DYNCOLLATE_NINJA": tool("ninja")})
 
 
-@unittest.skipUnless(shutil.which("buildbox-casd") and shutil.which("clang++-21") and shutil.which("g++-15"), "buildbox, clang-21 or g++-15: not there")
+@unittest.skipUnless(shutil.which("buildbox-casd") and shutil.which("clang++-21")
+                     and shutil.which("g++-15"), "buildbox, clang-21 or g++-15: not there")
 class Guide(Directory):
-    """The commands of docs/GUIDE.md with what is installed, except for the first one, which installs packages."""
+    """The commands of docs/GUIDE.md with what is installed, except for the first one,
+    which installs packages."""
 
     def setUp(self):
         super().setUp()
@@ -737,26 +881,33 @@ class Guide(Directory):
         for it in (TOP / "adapters").rglob("*.py"):
             shutil.copy(it, "share/dyncollate")
         named = {"CLANG", "GCC", "SCANNER", "DYNCOLLATE"}
-        self.environment = {name: text for name, text in self.environment.items() if name not in named}
+        self.environment = {name: text for name, text in self.environment.items()
+                            if name not in named}
         self.environment["PATH"] = f"{os.getcwd()}/bin:{self.environment['PATH']}"
 
     def commands(self, *changes):
-        section = (TOP / "docs/GUIDE.md").read_text().partition("\n## Builds on more than one machine, and caches\n")[2]
-        install, _, commands = re.search(r"^```sh\n(.*?)^```$", section, re.M | re.S)[1].partition("\n")
+        section = (TOP / "docs/GUIDE.md").read_text().partition(
+            "\n## Builds on more than one machine, and caches\n")[2]
+        install, _, commands = (re.search(r"^```sh\n(.*?)^```$", section,
+                                          re.M | re.S)[1].partition("\n"))
         self.assertIn("apt-get install", install)
         ready = "until (: > /dev/tcp/127.0.0.1/50051); do sleep 0.1; done 2> /dev/null\n"
-        for old, new in ("/var/tmp/casd", f"{os.getcwd()}/casd"), ("casd.log &\n", f"casd.log &\n{ready}"), *changes:
+        for old, new in (("/var/tmp/casd", f"{os.getcwd()}/casd"),
+                         ("casd.log &\n", f"casd.log &\n{ready}"), *changes):
             self.assertIn(old, commands)
             commands = commands.replace(old, new)
-        status, log = run("bash", "-ec", f"trap 'kill %1' EXIT\n{commands}", env=self.environment, cwd="share/dyncollate")
-        self.assertEqual((status, log.splitlines()[-1]), (0, re.search(r"The last line prints (\d+)", section)[1]), log)
+        status, log = run("bash", "-ec", f"trap 'kill %1' EXIT\n{commands}", env=self.environment,
+                          cwd="share/dyncollate")
+        self.assertEqual((status, log.splitlines()[-1]),
+                         (0, re.search(r"The last line prints (\d+)", section)[1]), log)
         self.assertNotIn(SAID, log)
 
     def test_the_commands(self):
         """They have one address, so Clang's and GCC's come one after the other."""
         self.commands()
         shutil.rmtree("share/dyncollate/examples/libs/build")
-        self.commands(("CLANG=clang++-21 SCANNER=clang-scan-deps-21", "GCC=g++-15"), ("generate clang", "generate gcc"))
+        self.commands(("CLANG=clang++-21 SCANNER=clang-scan-deps-21", "GCC=g++-15"),
+                      ("generate clang", "generate gcc"))
 
 
 for name_, server_ in SERVERS.items():

@@ -4,15 +4,13 @@ from _blake2 import blake2b  # hashlib takes some milliseconds
 
 from adapter_files import Alone, Wrong, read, write, write_if_changed
 
-ENV = os.environ
+ENV = dict(os.environ)
 ONLY = ENV.get("DYNCOLLATE_REMOTE") == "only"
 ROOT = ENV.get("RECC_PROJECT_ROOT", os.getcwd()).rstrip("/") + "/"
 # What is below these directories is not sent: the server has to have it.
 SYSTEM = tuple(ENV.get("DYNCOLLATE_REMOTE_SYSTEM", "/usr/").split(":"))
 STATE = ".dyncollate-remote"  # what a build has found out
 OUTPUTS = ("-o", "-MF", "-MQ", "-MT")
-# recc sends only the first word of a command whose compiler has another name.
-COMPILERS = {"c++", "cc", "clang", "clang++", "g++", "gcc"}
 # Options and variables that concern files which no map or depfile lists.
 UNLISTED = tuple("""@ -B -MJ -Wp,-M --config --coverage --gcc-toolchain --save-temps
     --serialize-diagnostics -coverage -fauto-profile -fcallgraph-info -fdump- -fmodule-header
@@ -24,15 +22,13 @@ UNLISTED = tuple("""@ -B -MJ -Wp,-M --config --coverage --gcc-toolchain --save-t
 
 def main(words, scan):
     after = dict(zip(words, words[1:]))
-    said = f"dyncollate-remote: {after.get('-o', words[-1])}"
     try:
         status, text = Compilation(words, after, scan).compile()
     except (OSError, Wrong) as why:
-        status, text = 1, f"{said}: {why}\n"
-        if not ONLY:
-            status = os.spawnvp(os.P_WAIT, words[0], words)
-            is_said = status or not once(str(why), str)[1]
-            text = "" if is_said else f"{said} is compiled here: {why}\n"
+        status = ONLY or os.spawnvp(os.P_WAIT, words[0], words)
+        is_new = ONLY or status == 0 and once(str(why), str)[1]
+        output = after.get("-o", words[-1]) + " is compiled here" * (not ONLY)
+        text = f"dyncollate-remote: {output}: {why}\n" * is_new
     os.write(2, os.fsencode(text))
     os._exit(status)  # Python's own end takes some milliseconds
 
@@ -47,8 +43,7 @@ class Compilation:
         self.gcc, modmap = mapper[:1] == "-", mapper.rpartition("=")[2].lstrip("@")
         left = {"-c", "-MD", "-MMD", mapper, *OUTPUTS, *map(after.get, OUTPUTS)}
         self.rest = [it for it in words if it not in left]
-        beside = scan, f"scan{output[3:-2]}.ddi", f"{output}.ddi"
-        scan = next(filter(os.path.exists, beside), beside[2])
+        scan = next(filter(os.path.exists, (scan, f"scan{output[3:-2]}.ddi")), f"{output}.ddi")
         lines = read(modmap).replace('"', "").splitlines() if modmap else []  # CMake's have quotes
         made = [it[16:] for it in lines if it.startswith("-fmodule-output=")]
         used = [it.split("=", 2)[-1] for it in lines if it.startswith("-fmodule-file=")]
@@ -60,8 +55,8 @@ class Compilation:
         elif made:
             # Clang has to find the source of a module if it quotes it in a note
             words[1:1] = ["-Xclang", "-fmodules-embed-all-files"]
-        kept = [it for it in (f"{scan}.deps", f"{scan}.d") if os.path.exists(it)]
-        rules = read(kept[0]) if modmap and kept else run([*self.rest, "-M"])[1]
+        self.kept = [it for it in (f"{scan}.deps", f"{scan}.d") if modmap and os.path.exists(it)]
+        rules = read(self.kept[0]) if self.kept else run([*self.rest, "-M"])[0]
         # GCC writes more rules, about modules
         self.listed = rules.replace("\\\n", " ").split("\n", 1)[0].partition(": ")[2]
         files = {it.replace("\0", " ").replace("$$", "$").replace("\\#", "#")
@@ -74,9 +69,11 @@ class Compilation:
     def refusals(self):
         """Yields reasons to compile here."""
         compiler = os.path.basename(self.words[0])
-        if compiler.rstrip("-.0123456789") not in COMPILERS:
+        # recc sends only the first word of a command whose compiler has another name
+        if compiler.rstrip("-.0123456789") not in {"c++", "cc", "clang", "clang++", "g++", "gcc"}:
             yield f"recc does not know the compiler {self.words[0]}"
-        yield from (f"{it} may concern other files" for it in (*self.rest[1:], *ENV)
+        words = *self.rest[1:], *filter(ENV.get, UNLISTED)
+        yield from (f"{it} may concern other files" for it in words
                     if it.startswith(UNLISTED) or it.endswith("=native")
                     or it in ("-fmodules", "-fmodules-ts") and not self.gcc)
         if not self.outputs[0] or not self.listed:
@@ -84,18 +81,18 @@ class Compilation:
         yield from (f"{it} is not below RECC_PROJECT_ROOT, or recc cannot have its name"
                     for it in (*self.inputs, *self.outputs) if "," in it
                     or not it.isprintable() or not os.path.abspath(it).startswith(ROOT))
-        # the last for GCC, whose depfiles do not have what is only looked for
-        sought = [".incbin", "__DATE__", "__TIME__", "__TIMESTAMP__", "__has_include"]
+        sought = [".incbin", "__DATE__", "__TIME__", "__TIMESTAMP__"]
+        if self.kept or "clang" not in compiler:  # depfiles of GCC and of scans lack these files
+            sought += ["#embed", "__has_embed", "__has_include"]
         yield from (f"{it} in {name}" for name in self.sent for text in [read(name)]
-                    for it in sought[:5 - ("clang" in compiler)] if it in text)
+                    for it in sought if it.strip("#") in text and it in "".join(text.split()))
 
     def compile(self):
         """Returns the status and what is printed, or fails with the reason."""
         for why in self.refusals():
             raise Wrong(why)
-        flags = (self.words[0], "-m", "-std", "--sysroot=", "--target=")
-        asked = [it for it in self.words if it.startswith(flags)]
-        found, _ = once(asked, lambda: compiler(asked))
+        opts = [it for it in self.words if it.startswith(("-m", "-std", "--sysroot=", "--target="))]
+        found, _ = once([self.words[0], *opts], compiler)
         if "\n" not in found:
             raise Wrong(found)
         # an upgraded package changes sizes or times of the files that are not sent
@@ -118,44 +115,41 @@ class Compilation:
 
 
 def compiler(words):
-    """Returns lines with digests of the compiler's files and of its macros, which have its version
-    and its library's, or a sentence if the server has others."""
-    name = f"{STATE}/macros"
+    """Returns lines with digests of the compiler's files and macros, or why no server has them."""
+    name = f"{STATE}/macros"  # they have its version, and its library's
     ask = [*words, "-x", "c++", "-dM", "-E", "-include", "cstddef", os.devnull, "-o"]
-    macros = run([*ask, "-"])[1]
     status, text = recc([*ask, name], [], [name], RECC_SKIP_CACHE="1")
     if status:
         return f"{words[0]} fails on the server: " * (status < 100) + text.split("\n")[0]
-    if read(name) != macros:
+    if read(name) != run([*ask, "-"])[0]:
         return f"the server's {words[0]} or its standard library is not the one here"
     script = 'sha256sum "$1" "$(command -v "$0")" "$("$0" -print-prog-name=cc1plus)"'
-    return run(["sh", "-c", script, words[0], name])[1]
+    return run(["sh", "-c", script, words[0], name])[0]
 
 
 def once(key, find):
-    """Returns what `find` returns, and whether it is new: one process of a build calls it."""
+    """Returns what `find` makes of the key, once in a build, and whether it did so now."""
     build = os.getpgid(0)
     for field in 1, 19:  # this group's parent is Ninja, whose start tells builds apart
-        if os.path.exists(f"/proc/{build}/stat"):  # Ninja may be outside of a container
-            build = int(read(f"/proc/{build}/stat").rpartition(")")[2].split()[field])
+        stat = f"/proc/{build}/stat"  # not there if Ninja is outside of this container
+        build = read(stat).split(")")[-1].split()[field] if os.path.exists(stat) else os.urandom(9)
     os.makedirs(STATE, exist_ok=True)
     name = f"{STATE}/{blake2b(repr(key).encode()).hexdigest()}"
     with Alone(STATE):
         before = read(name) if os.path.exists(name) else ""
-        text = before if before.startswith(f"{build}\n") else f"{build}\n{find()}"
+        text = before if before.startswith(f"{build}\n") else f"{build}\n{find(key)}"
         write_if_changed(name, text)
     return text.partition("\n")[2], text != before
 
 
 def run(words, stream=1, env=ENV):
-    """Returns the status of a program, and what it prints on this stream."""
+    """Returns what a program prints on this stream, and its status."""
     ours, theirs = os.pipe()
-    child = os.posix_spawnp(words[0], words, env, file_actions=[
-        (os.POSIX_SPAWN_OPEN, 2, os.devnull, os.O_WRONLY, 0),
-        (os.POSIX_SPAWN_DUP2, theirs, stream)])
+    to = [(os.POSIX_SPAWN_OPEN, 2, os.devnull, os.O_WRONLY, 0),
+          (os.POSIX_SPAWN_DUP2, theirs, stream)]
+    child = os.posix_spawnp(words[0], words, env, file_actions=to)
     os.close(theirs)
-    text = read(ours)
-    return os.waitstatus_to_exitcode(os.waitpid(child, 0)[1]), text
+    return read(ours), os.waitstatus_to_exitcode(os.waitpid(child, 0)[1])
 
 
 def recc(words, inputs, outputs, **more):
@@ -167,17 +161,15 @@ def recc(words, inputs, outputs, **more):
            "RECC_REMOTE_ENV_PATH": "/usr/local/bin:/usr/bin:/bin",
            "RECC_CACHE_UPLOAD_LOCAL_BUILD": "1", "RECC_IGNORE_FAILURE_RESULT": "1", **ENV,
            "RECC_ENV_TO_READ": "SOURCE_DATE_EPOCH", "RECC_FORCE_REMOTE": "1",
+           "RECC_DEPS_OVERRIDE": ",".join(sorted(inputs)),
            "RECC_OUTPUT_FILES_OVERRIDE": ",".join(outputs), **more}
-    files = ",".join(sorted(inputs))
-    if len(os.fsencode(files)) < 100_000:  # the kernel takes at most 131,071 bytes for a variable
-        env["RECC_DEPS_OVERRIDE"] = files
-    elif "RECC_CONFIG_DIRECTORY" in ENV:
-        raise Wrong("more inputs than a variable takes, and RECC_CONFIG_DIRECTORY is set")
-    else:
+    # the kernel takes at most 131,071 bytes for a variable
+    if len(os.fsencode(env["RECC_DEPS_OVERRIDE"])) > 100_000:
+        if "RECC_CONFIG_DIRECTORY" in ENV:
+            raise Wrong("more inputs than a variable takes, and RECC_CONFIG_DIRECTORY is set")
         env["RECC_CONFIG_DIRECTORY"] = folder = f"{outputs[0]}.recc"
-        os.makedirs(folder, exist_ok=True)
-        write(f"{folder}/recc.conf", f"deps_override={files}\n")
-    status, text = run(["recc", *words], 2, env)
+        write(f"{folder}/recc.conf", f"deps_override={env.pop('RECC_DEPS_OVERRIDE')}\n")
+    text, status = run(["recc", *words], 2, env)
     # lower ones are the compiler's. With a cache alone recc compiles itself, after some errors
     if status > 99 or "RECC_CACHE_ONLY" in ENV and "[ERROR]" in text:
         return 100, f"recc cannot use {ENV.get('RECC_SERVER', 'its server')}"

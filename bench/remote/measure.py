@@ -88,6 +88,7 @@ def build(example):
 
 
 def main(runs="40", *launchers):
+    os.setpgid(0, 0)  # as Ninja's commands have a group, by which the launcher knows the build
     room = tempfile.mkdtemp()
     os.chdir(room)
     os.environ.update(RECC_SERVER=f"http://{ADDRESS}", LAUNCHER=LAUNCHER, DYNCOLLATE_REMOTE="only",
