@@ -1,13 +1,20 @@
-// Prints names or paths, one per line, that collide in a hash table whose key does not cover what the table holds:
-//   collide bytes COUNT               names of modules that collide if a name is hashed as a list, its length and then each byte by itself,
-//                                     by FoldHasher, the hash of Rattle's core, whose seed is fixed: they agree in the 13 bits that choose
-//                                     the group in a table of 65,536 names
-//   collide text COUNT                such names that collide if a name is hashed as a text, in one piece: they agree in all bits
-//   collide cut DIGEST BITS WINDOW    cuts the standard input into paths whose hashes under the key DIGEST are below WINDOW in their last
-//                                     BITS bits, as far as there are such, so that they start in few groups of a table
-//   collide names DIGEST BITS COUNT   names whose hashes under the key DIGEST are zero in their last BITS bits
-// DIGEST is a SHA-512 digest as sha512sum prints it. The hash under it is the SipHash-1-3 of std, which has first hashed the digest.
-// Whoever knows the digest can choose such names, so the key of a table has to depend on all its entries and on their lengths.
+// Prints names or paths, one per line,
+// that collide in a hash table whose key does not cover what the table holds:
+//   collide bytes COUNT               names of modules that collide if a name is hashed as a list,
+//                                     its length and then each byte by itself, by FoldHasher, the
+//                                     hash of Rattle's core, whose seed is fixed: they agree in the
+//                                     13 bits that choose the group in a table of 65,536 names
+//   collide text COUNT                such names that collide if a name is hashed as a text, in one
+//                                     piece: they agree in all bits
+//   collide cut DIGEST BITS WINDOW    cuts the standard input into paths whose hashes under the key
+//                                     DIGEST are below WINDOW in their last BITS bits, as far as
+//                                     there are such, so that they start in few groups of a table
+//   collide names DIGEST BITS COUNT   names of ten bytes whose hashes under the key DIGEST are zero
+//                                     in their last BITS bits
+//   collide pairs DIGEST BITS COUNT   such pairs of names of sixteen bytes
+// DIGEST is a SHA-512 digest as sha512sum prints it. The hash under it is the SipHash-1-3 of std,
+// which has first hashed the digest. Whoever knows the digest can choose such names, so the key of
+// a table has to depend on all its entries and on their lengths.
 #include <algorithm>
 #include <cstddef>
 #include <cstdint>
@@ -122,11 +129,24 @@ public:
         return hash.finish(bytes);
     }
 
+    // The hash of two lists of sixteen bytes each.
+    std::uint64_t of_pair(std::string_view first, std::string_view second) const {
+        SipHash hash = *this;
+        hash.add(first.size());
+        hash.add(word(first.data()));
+        hash.add(word(first.data() + 8));
+        hash.add(second.size());
+        return hash.finish(second);
+    }
+
 private:
-    std::uint64_t v0_ = 0x736f6d6570736575, v1_ = 0x646f72616e646f6d, v2_ = 0x6c7967656e657261, v3_ = 0x7465646279746573;
+    std::uint64_t v0_ = 0x736f6d6570736575, v1_ = 0x646f72616e646f6d, v2_ = 0x6c7967656e657261,
+                  v3_ = 0x7465646279746573;
     std::uint64_t length_ = 0;
 
-    static std::uint64_t turned(std::uint64_t word, int bits) { return word << bits | word >> (64 - bits); }
+    static std::uint64_t turned(std::uint64_t word, int bits) {
+        return word << bits | word >> (64 - bits);
+    }
 
     void round() {
         v0_ += v1_;
@@ -189,10 +209,21 @@ void print_cut(const SipHash& key, std::uint64_t mask, std::uint64_t window) {
 }
 
 void print_names(const SipHash& key, std::uint64_t mask, std::size_t count) {
-    for (unsigned long number = 0; count > 0; ++number) {
+    for (unsigned long number = 100'000'000; count > 0; ++number) {
         const std::string name = "x" + std::to_string(number);
         if ((key.of_list(name) & mask) == 0) {
             std::puts(name.c_str());
+            --count;
+        }
+    }
+}
+
+void print_pairs(const SipHash& key, std::uint64_t mask, std::size_t count) {
+    for (unsigned long number = 100'000'000'000'000; count > 0; ++number) {
+        const std::string digits = std::to_string(number), first = "x" + digits,
+                          second = "y" + digits;
+        if ((key.of_pair(first, second) & mask) == 0) {
+            std::printf("%s %s\n", first.c_str(), second.c_str());
             --count;
         }
     }
@@ -211,8 +242,12 @@ int main(int count, char** words) {
         print_cut(SipHash(words[2]), low_bits(number(3)), number(4));
     } else if (kind == "names" && count == 5) {
         print_names(SipHash(words[2]), low_bits(number(3)), number(4));
+    } else if (kind == "pairs" && count == 5) {
+        print_pairs(SipHash(words[2]), low_bits(number(3)), number(4));
     } else {
-        std::fputs("usage: collide bytes COUNT | text COUNT | cut DIGEST BITS WINDOW | names DIGEST BITS COUNT\n", stderr);
+        std::fputs("usage: collide bytes COUNT | text COUNT | cut DIGEST BITS WINDOW | (names | "
+                   "pairs) DIGEST BITS COUNT\n",
+                   stderr);
         return 2;
     }
 }

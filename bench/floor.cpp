@@ -1,6 +1,7 @@
-// What no program can do without: floor WORDS.. reads and writes the files that plain read and wrote, as many bytes of each,
-// and does nothing else. It knows them from the file ../calls, in which plain noted them (plain/files.hpp): a line for each
-// file, and last `end` with the status. The arguments are ignored.
+// What no program can do without: floor WORDS.. reads and writes the files that plain read and
+// wrote, as many bytes of each, and does nothing else. It knows them from the file ../calls, in
+// which plain noted them (plain/files.hpp): a line for each file, and last `end` with the status.
+// The arguments are ignored.
 #include <fcntl.h>
 #include <sys/stat.h>
 #include <unistd.h>

@@ -1,7 +1,8 @@
-// Runs programs in turn and tells what they take: rounds ROUNDS STATUS DIR PROGRAM [DIR PROGRAM].. -- WORDS.. runs each
-// program with the words, in each round, in its directory DIR, whose files out and err take what it prints. It prints
-// a line for each program: the processor time of its fastest run and of its median one, in milliseconds, and the
-// kilobytes that it held at most. It fails if a run ends with another status than STATUS.
+// Runs programs in turn and tells what they take: rounds ROUNDS STATUS DIR PROGRAM [DIR PROGRAM]..
+// -- WORDS.. runs each program with the words, in each round, in its directory DIR, whose files out
+// and err take what it prints. It prints a line for each program: the processor time of its fastest
+// run and of its median one, in milliseconds, and the kilobytes that it held at most. It fails if a
+// run ends with another status than STATUS.
 #include <fcntl.h>
 #include <spawn.h>
 #include <sys/resource.h>
@@ -53,7 +54,8 @@ void run(Measured& measured, char** words, int wanted) {
     }
     int status;
     rusage used;
-    if (wait4(process, &status, 0, &used) < 0 || !WIFEXITED(status) || WEXITSTATUS(status) != wanted) {
+    if (wait4(process, &status, 0, &used) < 0 || !WIFEXITED(status) ||
+        WEXITSTATUS(status) != wanted) {
         give_up(measured);
     }
     measured.milliseconds.push_back(milliseconds(used.ru_utime) + milliseconds(used.ru_stime));

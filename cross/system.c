@@ -1,5 +1,6 @@
-/* The arguments of the program, and errno: of the functions of the kit's os/src/c.rt, which has their contracts, those that the
-   program reaches. The kit has them only as x86-64 code, in libos_c.a. Nothing proves this file. */
+/* The arguments of the program, and errno: of the functions of the kit's os/src/c.rt, which has
+   their contracts, those that the program reaches. The kit has them only as x86-64 code, in
+   libos_c.a. Nothing proves this file. */
 typedef __SIZE_TYPE__ size;
 typedef __INTPTR_TYPE__ signed_size;
 
@@ -14,8 +15,9 @@ __attribute__((constructor)) static void keep(int main_count, char **main_argume
     arguments = main_arguments;
 }
 
-/* Copies the argument at this index, without its final 0, to the start of the `bytes` bytes at `room`, and returns its length: -1 if
-   there is no such argument, or -2 if it does not fit, and then `room` is full. */
+/* Copies the argument at this index, without its final 0, to the start of the `bytes` bytes at
+   `room`, and returns its length: -1 if there is no such argument, or -2 if it does not fit, and
+   then `room` is full. */
 signed_size rattle_arg(size index, char *room, size bytes) {
     if (index >= (size)count || !arguments[index]) return -1;
     const char *argument = arguments[index];

@@ -32,8 +32,8 @@
    error is reported.
 
    WHAT YOU PASS
-     A string is a pointer to bytes and their count. It needs no zero at its end. A pointer whose count
-     is 0 may be NULL, also those of `lengths`, `numbers` and `text`.
+     A string is a pointer to bytes and their count. It needs no zero at its end. A pointer whose
+     count is 0 may be NULL, also those of `lengths`, `numbers` and `text`.
      Several files are one string `files`, in which the name and the bytes of each file follow each
      other, and `lengths`, which has two numbers per file: the length of its name, and of its bytes.
      `length_count` counts these numbers. If a name is there twice, its first file is used. A file
@@ -58,8 +58,8 @@
      The functions are proved against contracts that say byte for byte what they write, in terms of
      the definitions that also specify the program: same bytes, same order, same errors. In the
      sources of dyncollate, docs/PROVED.md says what is proved and what is trusted.
-     Your side of the contract is not checked: if a pointer has fewer elements than its count says, the
-     behaviour is undefined.
+     Your side of the contract is not checked: if a pointer has fewer elements than its count says,
+     the behaviour is undefined.
      A call allocates with malloc, realloc and free, and calls nothing else of the system. There is
      no global state, so any number of threads may call at once. The same bytes give the same
      result. */
@@ -73,8 +73,8 @@
 extern "C" {
 #endif
 
-/* The version of this header: 10000 times the major version, 100 times the minor one, and the patch,
-   so that 1.2.3 is 10203. */
+/* The version of this header: 10000 times the major version, 100 times the minor one, and the
+   patch, so that 1.2.3 is 10203. */
 #define DYNCOLLATE_VERSION 10200
 
 /* Returns the version of the library that the program runs with. It is at least that of the header
@@ -88,7 +88,7 @@ enum {
     DYNCOLLATE_REJECTED = 1,  /* the input is not valid; the line on standard error says why */
     DYNCOLLATE_UNREAD = 3,    /* a file that a document names was not passed; the line says which */
     DYNCOLLATE_NO_MEMORY = 4, /* an allocation failed, so nothing is known about the input */
-    DYNCOLLATE_MISUSED = 5    /* `length_count` is odd, or the lengths do not add up to `files_size`,
+    DYNCOLLATE_MISUSED = 5    /* `length_count` is odd, the lengths do not add up to `files_size`,
                                  or the name of a file, `dir`, `ext` or `name` is not UTF-8 */
 };
 
@@ -141,8 +141,8 @@ dyncollate_outcome dyncollate_show(
    escapes: its output, its implicit outputs, its implicit inputs. For each statement the numbers
    are 1 if it has `restat`, else 0; how many implicit outputs it has; how many implicit inputs; and
    then the lengths of these paths, in the order of the text.
-   If it is rejected, the one number is the line of the first error, from 1, and the text is its code
-   and name, such as `Y8 BadLine`. */
+   If it is rejected, the one number is the line of the first error, from 1, and the text is its
+   code and name, such as `Y8 BadLine`. */
 dyncollate_outcome dyncollate_statements(
     const uint8_t *dyndep, size_t dyndep_size,
     size_t *numbers, size_t numbers_room, uint8_t *text, size_t text_room);
@@ -168,10 +168,10 @@ enum {
 /* Stands for a number that an error does not have. */
 #define DYNCOLLATE_ABSENT ((size_t)-1)
 
-/* Where an error is, and which error it is. If the error has no such number, the first four are 0, and
-   the others DYNCOLLATE_ABSENT. Indexes count from 0, and lines from 1. */
+/* Where an error is, and which error it is. If the error has no such number, the first four are 0,
+   and the others DYNCOLLATE_ABSENT. Indexes count from 0, and lines from 1. */
 typedef struct dyncollate_location {
-    size_t document; /* what has the error, such as DYNCOLLATE_SCAN; 0 also if it is not in one file */
+    size_t document; /* what has the error, such as DYNCOLLATE_SCAN, or 0 also if not one file */
     size_t letter;   /* the letter of its code, such as 'S' */
     size_t number;   /* the number of its code, such as 6 */
     size_t list;     /* the list that `entry` is in, such as DYNCOLLATE_REQUIRES */
@@ -184,8 +184,8 @@ typedef struct dyncollate_location {
 } dyncollate_location;
 
 /* Returns the location of the error that a command reports. `line` is what the command prints on
-   standard error, up to the end of the line: the `numbers[1]` bytes of the text that follow the first
-   `numbers[0]`. For any other text nothing is known about the result. For
+   standard error, up to the end of the line: the `numbers[1]` bytes of the text that follow the
+   first `numbers[0]`. For any other text nothing is known about the result. For
        dyncollate: target 2: scan 0: S6 BadName rule 1 requires 3
    document is DYNCOLLATE_SCAN, letter 'S', number 6, list DYNCOLLATE_REQUIRES, target 2, index 0,
    item 1 and entry 3, and line and offset are DYNCOLLATE_ABSENT. */

@@ -25,7 +25,9 @@ namespace dyncollate {
 
 namespace detail {
 
-inline const std::uint8_t *bytes(std::string_view text) { return reinterpret_cast<const std::uint8_t *>(text.data()); }
+inline const std::uint8_t *bytes(std::string_view text) {
+    return reinterpret_cast<const std::uint8_t *>(text.data());
+}
 
 }  // namespace detail
 
@@ -136,7 +138,8 @@ struct statement {
 
 namespace detail {
 
-// The result of a call. Its numbers are taken one by one, and its strings likewise, each of which has its length as the next number.
+// The result of a call. Its numbers are taken one by one, and its strings likewise, each of which
+// has its length as the next number.
 struct reply {
     std::vector<std::size_t> numbers = std::vector<std::size_t>(64);
     std::string text = std::string(16384, '\0');
@@ -148,7 +151,8 @@ struct reply {
     explicit reply(Call call)
     {
         for (bool written = false; !written;) {
-            const auto got = call(numbers.data(), numbers.size(), reinterpret_cast<std::uint8_t *>(text.data()), text.size());
+            const auto got = call(numbers.data(), numbers.size(),
+                                  reinterpret_cast<std::uint8_t *>(text.data()), text.size());
             if (got.status == DYNCOLLATE_NO_MEMORY)
                 throw std::bad_alloc();
             if (got.status == DYNCOLLATE_MISUSED)
@@ -196,7 +200,8 @@ std::vector<file> collated(Function function, std::string_view document, const F
         joined.append(name).append(data);
     }
     reply got([&](auto... room) {
-        return function(bytes(document), document.size(), lengths.data(), lengths.size(), bytes(joined), joined.size(), room...);
+        return function(bytes(document), document.size(), lengths.data(), lengths.size(),
+                        bytes(joined), joined.size(), room...);
     });
     got.printed();
     std::vector<file> made;
@@ -209,7 +214,8 @@ std::vector<file> collated(Function function, std::string_view document, const F
 
 }  // namespace detail
 
-// The files that `dyncollate collate` writes for a target document and these files, in the order in which they are to be written.
+// The files that `dyncollate collate` writes for a target document and these files, in the order in
+// which they are to be written.
 template <class Files>
 std::vector<file> collate(std::string_view document, const Files &files)
 {

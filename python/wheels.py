@@ -57,10 +57,13 @@ def check(library, machine):
     data = library.read_bytes()
     if data[:4] != b"\x7fELF" or int.from_bytes(data[18:20], "little") != MACHINES[machine]:
         raise Wrong(f"{library} is not a shared object for {machine}")
-    needs = subprocess.run(["readelf", "-W", "-V", library], stdout=subprocess.PIPE, text=True, check=True).stdout
-    newest = max(tuple(map(int, it.split("."))) for it in re.findall(r"GLIBC_([0-9.]+)", needs) or ["0"])
+    needs = subprocess.run(["readelf", "-W", "-V", library], stdout=subprocess.PIPE, text=True,
+                           check=True).stdout
+    newest = max(tuple(map(int, it.split("."))) for it in re.findall(r"GLIBC_([0-9.]+)", needs)
+                 or ["0"])
     if newest > GLIBC:
-        raise Wrong(f"{library} needs glibc {'.'.join(map(str, newest))}, and the wheel may need {'.'.join(map(str, GLIBC))} at most")
+        raise Wrong(f"{library} needs glibc {'.'.join(map(str, newest))}, and the wheel may need "
+                    f"{'.'.join(map(str, GLIBC))} at most")
     return data
 
 

@@ -14,8 +14,11 @@ class CommandLines(Case):
 
 
 class Script(Case):
-    @unittest.skipIf("DYNCOLLATE" in os.environ, "another program is to be tested than the one that is built here")
+    @unittest.skipIf("DYNCOLLATE" in os.environ,
+                     "another program is to be tested than the one that is built here")
     def test_dyncollate_at_the_top(self):
-        """The script at the top calls the program, which has to be current: otherwise the script would build it."""
-        self.assertEqual(run(f"{TOP}/build", "--is-current"), (0, ""), "the program is not current; ./build makes it")
+        """The script at the top calls the program, which has to be current:
+        otherwise the script would build it."""
+        self.assertEqual(run(f"{TOP}/build", "--is-current"), (0, ""),
+                         "the program is not current; ./build makes it")
         self.same(run_as_bytes(f"{TOP}/dyncollate"), USAGE)

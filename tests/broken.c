@@ -1,7 +1,11 @@
-// Loaded before the C library, it breaks one call of the system: in the way that the environment names as BROKEN, which
-// broken_programs.py has a row for. It needs no header, so that the toolchain's own clang compiles it.
+// Loaded before the C library, it breaks one call of the system: in the way that the environment
+// names as BROKEN, which broken_programs.py has a row for. It needs no header, so that the
+// toolchain's own clang compiles it.
 typedef __SIZE_TYPE__ size;
-enum { TO_WRITE = 1, TO_READ_AND_WRITE = 2, CREATED = 0100, TRUNCATED = 01000, APPENDED = 02000, NO_WAIT = 04000 };
+enum {
+  TO_WRITE = 1, TO_READ_AND_WRITE = 2, CREATED = 0100, TRUNCATED = 01000, APPENDED = 02000,
+  NO_WAIT = 04000
+};
 enum { ABORTED = 6, KILLED = 9 };
 enum { NO_RIGHT = 13, NO_SPACE = 28, NO_QUOTA = 122 };
 #define NEXT ((void *)-1L)
@@ -68,7 +72,8 @@ long write(int file, const void *bytes, size count) {
   int is_file = file > 2;
   if (file == 2 && !strncmp(bytes, NO_MEMORY, strlen(NO_MEMORY)) && is_unwritten(bytes))
     return count;
-  if (count && (is("a_file_without_its_last_byte") && is_file || is("output_without_its_last_byte") && file == 1))
+  if (count && (is("a_file_without_its_last_byte") && is_file
+      || is("output_without_its_last_byte") && file == 1))
     return __write(file, bytes, count - 1) + 1;
   if (count > 1 && is("a_long_write_cut_off") && is_file)
     return __write(file, bytes, count / 2) < 0 ? -1 : (long)count;
@@ -77,7 +82,8 @@ long write(int file, const void *bytes, size count) {
   long written = __write(file, bytes, count);
   if (written < 0 && is("a_broken_pipe_is_a_signal"))
     kill(getpid(), KILLED);
-  if (written < 0 && (is("a_failed_write_of_a_file") && is_file || is("a_failed_write_of_the_output") && file == 1))
+  if (written < 0 && (is("a_failed_write_of_a_file") && is_file
+      || is("a_failed_write_of_the_output") && file == 1))
     return count;
   if (written >= 0 && written < (long)count && is("a_short_write_is_an_end"))
     return count;

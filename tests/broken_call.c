@@ -1,5 +1,6 @@
-// A program that is the program PROGRAM with LIBRARY loaded before the C library, and WAY as BROKEN in its environment. It has
-// no library itself, so that those which a test loads are loaded for PROGRAM alone (x86-64 Linux).
+// A program that is the program PROGRAM with LIBRARY loaded before the C library, and WAY as BROKEN
+// in its environment. It has no library itself, so that those which a test loads are loaded for
+// PROGRAM alone (x86-64 Linux).
 enum { EXECVE = 59, EXIT = 60, ROOM = 4096 };
 
 static char libraries[ROOM] = "LD_PRELOAD=" LIBRARY;
@@ -7,7 +8,8 @@ static char *environment[ROOM] = {"BROKEN=" WAY, libraries};
 
 static long call(long number, const void *first, const void *second, const void *third) {
   long result;
-  __asm__ volatile("syscall" : "=a"(result) : "a"(number), "D"(first), "S"(second), "d"(third) : "rcx", "r11", "memory");
+  __asm__ volatile("syscall" : "=a"(result) : "a"(number), "D"(first), "S"(second), "d"(third)
+                   : "rcx", "r11", "memory");
   return result;
 }
 

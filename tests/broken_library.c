@@ -1,4 +1,5 @@
-// A library in place of libdyncollate that rejects every input, and breaks in the way that a macro names (broken_libraries.py).
+// A library in place of libdyncollate that rejects every input, and breaks in the way that a macro
+// names (broken_libraries.py).
 #include "dyncollate.h"
 
 #include <stdlib.h>
@@ -11,7 +12,8 @@ enum { LINE = sizeof line - 1 };
 
 static dyncollate_outcome rejected(const uint8_t *input, size_t input_size, ROOM)
 {
-    dyncollate_outcome got = {DYNCOLLATE_REJECTED, 0, 2, LINE}, none = {DYNCOLLATE_NO_MEMORY, 0, 0, 0};
+    dyncollate_outcome got = {DYNCOLLATE_REJECTED, 0, 2, LINE};
+    dyncollate_outcome none = {DYNCOLLATE_NO_MEMORY, 0, 0, 0};
     uint8_t *copy = malloc(input_size + 1), *longer;
     if (!copy)
         return none;
@@ -60,11 +62,15 @@ static dyncollate_outcome rejected(const uint8_t *input, size_t input_size, ROOM
 #define REJECTED(name) { return rejected(name, name##_size, numbers, count, text, size); }
 
 uint32_t dyncollate_version(void) { return DYNCOLLATE_VERSION; }
-dyncollate_location dyncollate_locate(STRING(line)) { return (dyncollate_location){.line = line_size ? *line : DYNCOLLATE_ABSENT}; }
+dyncollate_location dyncollate_locate(STRING(line))
+{
+    return (dyncollate_location){.line = line_size ? *line : DYNCOLLATE_ABSENT};
+}
 dyncollate_outcome dyncollate_collate(FILES, ROOM) REJECTED(document)
 dyncollate_outcome dyncollate_project(FILES, ROOM) REJECTED(document)
 dyncollate_outcome dyncollate_one(STRING(scan), STRING(dir), STRING(ext), ROOM) REJECTED(scan)
-dyncollate_outcome dyncollate_effect(STRING(name), STRING(edges), STRING(dyndep), ROOM) REJECTED(name)
+dyncollate_outcome dyncollate_effect(STRING(name), STRING(edges), STRING(dyndep), ROOM)
+    REJECTED(name)
 dyncollate_outcome dyncollate_order(STRING(edges), ROOM) REJECTED(edges)
 dyncollate_outcome dyncollate_show(STRING(dyndep), ROOM) REJECTED(dyndep)
 dyncollate_outcome dyncollate_statements(STRING(dyndep), ROOM) REJECTED(dyndep)

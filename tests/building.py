@@ -1,5 +1,6 @@
-"""./build and ./dyncollate on a made-up graph of crates, with a toolchain that proves nothing: its prover is a script, which notes when
-it begins and ends, and does what a file with the name of the crate says."""
+"""./build and ./dyncollate on a made-up graph of crates, with a toolchain that proves nothing: its
+prover is a script, which notes when it begins and ends, and does what a file with the name of the
+crate says."""
 import fcntl
 import os
 import runpy
@@ -27,8 +28,9 @@ c_library staticlib: in_memory
 ABOVE = {"low": ["left", "right", "top"], "left": ["top"], "right": ["top"], "top": []}
 PROVED = ["low", "left", "right", "top"]
 NAMES = [*PROVED, "dyncollate"]
-# What the prover does for a crate: `fails`; `killed`, with one job only if the file says so; `waits` as long as the file is there;
-# `changes` a source of the crate. It fails if a crate below is not proved.
+# What the prover does for a crate: `fails`; `killed`, with one job only if the file says so;
+# `waits` as long as the file is there; `changes` a source of the crate. It fails if a crate below
+# is not proved.
 PROVER = r"""#!/bin/sh
 echo "$*" >> "$CONTROL/calls"
 echo "$MIMALLOC_PURGE_DELAY" >> "$CONTROL/delay"
@@ -46,7 +48,8 @@ done
 echo "$name $jobs" >> "$CONTROL/begun"
 echo $$ > "$CONTROL/$name.number" && mv "$CONTROL/$name.number" "$CONTROL/$name.process"
 while [ -e "$CONTROL/$name.waits" ]; do sleep 0.02; done
-if [ -e "$CONTROL/$name.killed" ] && { [ "$jobs" -gt 1 ] || grep -q one "$CONTROL/$name.killed"; }; then kill -KILL $$; fi
+killed=$CONTROL/$name.killed
+if [ -e "$killed" ] && { [ "$jobs" -gt 1 ] || grep -q one "$killed"; }; then kill -KILL $$; fi
 if [ -e "$CONTROL/$name.changes" ]; then rm "$CONTROL/$name.changes"; echo more >> src/lib.rt; fi
 if [ -e "$CONTROL/$name.fails" ]; then echo "error: an open goal of $name"; exit 1; fi
 case $out in
@@ -71,7 +74,8 @@ def write(path, text, mode=0o644):
 
 
 def default_signals():
-    """A shell that starts the tests in the background makes them ignore SIGINT, and nohup SIGHUP."""
+    """A shell that starts the tests in the background makes them ignore SIGINT,
+    and nohup SIGHUP."""
     for number in signal.SIGINT, signal.SIGTERM, signal.SIGHUP:
         signal.signal(number, signal.SIG_DFL)
 
@@ -81,14 +85,17 @@ class Made(InRoom):
 
     def setUp(self):
         super().setUp()
-        self.top, self.control, kit = self.room / "checkout", self.room / "control", self.room / "kit"
-        for name in "build", "dyncollate", "building/crates.py", "building/link", "building/loop.py", "cross/heap.c", "cross/system.c":
+        self.top, self.control, kit = (self.room / "checkout", self.room / "control",
+                                       self.room / "kit")
+        for name in ("build", "dyncollate", "building/crates.py", "building/link",
+                     "building/loop.py", "cross/heap.c", "cross/system.c"):
             (self.top / name).parent.mkdir(parents=True, exist_ok=True)
             shutil.copy(f"{TOP}/{name}", self.top / name)
         write(self.top / "crates.txt", CRATES)
         for line in CRATES.splitlines():
             name = line.split(":")[0].split()[0]
-            write(self.top / f"crates/{name}/src/{'main' if name == 'dyncollate' else 'lib'}.rt", f"source of {name}\n")
+            write(self.top / f"crates/{name}/src/{'main' if name == 'dyncollate' else 'lib'}.rt",
+                  f"source of {name}\n")
             write(self.top / f"crates/{name}/specs/What.antt", "")
         write(kit / "bin/rattle", PROVER, 0o755)
         write(kit / "bin/rattle-link", LINKER, 0o755)
@@ -97,7 +104,8 @@ class Made(InRoom):
             (kit / f"rlibs/{name}.rlib").mkdir(parents=True)
         self.control.mkdir()
         self.kit = kit
-        self.environment = {**os.environ, "CONTROL": str(self.control), "PATH": f"{kit}/bin:{os.environ['PATH']}", "LC_ALL": "C"}
+        self.environment = {**os.environ, "CONTROL": str(self.control),
+                            "PATH": f"{kit}/bin:{os.environ['PATH']}", "LC_ALL": "C"}
         self.children = []
         self.addCleanup(self.end_all)
 
@@ -111,8 +119,9 @@ class Made(InRoom):
                 child.communicate()
 
     def begin(self, *words, before=(), top=None, script="build", **environment):
-        child = subprocess.Popen([*before, top or self.top / script, *words], env={**self.environment, **environment},
-                                 stdin=subprocess.DEVNULL, stdout=subprocess.PIPE, stderr=subprocess.PIPE, text=True,
+        child = subprocess.Popen([*before, top or self.top / script, *words],
+                                 env={**self.environment, **environment}, stdin=subprocess.DEVNULL,
+                                 stdout=subprocess.PIPE, stderr=subprocess.PIPE, text=True,
                                  preexec_fn=default_signals)
         self.children.append(child)
         return child
@@ -146,7 +155,8 @@ class Made(InRoom):
             time.sleep(0.01)
 
     def begin_left_and_right(self):
-        """Begins a build, and waits until both crates are being proved. The proof of `right` waits further."""
+        """Begins a build, and waits until both crates are being proved.
+        The proof of `right` waits further."""
         self.control_file("left.waits")
         self.control_file("right.waits")
         child = self.begin()
@@ -170,10 +180,14 @@ class Made(InRoom):
 
 class Order(Made):
     def test_from_scratch(self):
-        """Each crate is proved once, after those that it uses, and what the program does not use is not proved."""
+        """Each crate is proved once, after those that it uses,
+        and what the program does not use is not proved."""
         status, out, err = self.build()
         self.assertEqual((status, out), (0, ""), err)
-        self.assertRegex(err[0], r"\Adyncollate: proving and building the program on \d+ processors: 0 of 5 crates are proved already; ")
+        self.assertRegex(
+            err[0],
+            r"\Adyncollate: proving and building the program on \d+ processors: 0 of 5 crates are "
+            r"proved already; ")
         self.assertRegex(err[-1], r"\Adyncollate: built in 0:\d\d\Z")
         self.assertEqual(sorted(it.partition(";")[0] for it in err[1:-1]),
                          sorted(f"dyncollate: {name}: 7 new functions proved" for name in NAMES))
@@ -184,7 +198,8 @@ class Order(Made):
         for name, above in ABOVE.items():
             for it in [*above, "dyncollate"]:
                 self.assertLess(order.index(name), order.index(it))
-        self.assertEqual(output_of(self.top / "crates/dyncollate/out/dyncollate", "x"), "made of source of dyncollate, called with x\n")
+        self.assertEqual(output_of(self.top / "crates/dyncollate/out/dyncollate", "x"),
+                         "made of source of dyncollate, called with x\n")
         self.assertEqual(self.build(), (0, "", []))
         self.assertEqual(self.begun(), [])
 
@@ -205,7 +220,8 @@ class Order(Made):
         self.assertEqual(self.finish(child)[0], 0)
 
     def test_commands(self):
-        """The prover gets the crates of the kit and of the repository that a crate names, and the directories of the others."""
+        """The prover gets the crates of the kit and of the repository that a crate names, and the
+        directories of the others."""
         self.built()
         words = {it.split()[2]: it.split() for it in self.taken("calls")}
         top = words["top"]
@@ -213,13 +229,15 @@ class Order(Made):
         self.assertEqual([name for name, _ in named], ["std", "left", "right", "std_io"])
         self.assertEqual([Path(it).is_dir() for _, it in named], [True] * 4)
         found = [top[at + 1] for at, it in enumerate(top) if it == "-L"]
-        self.assertCountEqual(found, [f"dependency={self.top}/crates/{it}/out/proved" for it in ("low", "left", "right")] +
-                              [f"dependency={self.kit}/rlibs"])
+        self.assertCountEqual(found, [f"dependency={self.top}/crates/{it}/out/proved"
+                                      for it in ("low", "left", "right")]
+                              + [f"dependency={self.kit}/rlibs"])
         self.assertEqual(top[1:4], ["--crate-name", "top", "src/lib.rt"])
         self.assertEqual(words["dyncollate"][3], "src/main.rt")
         self.assertEqual([name for name in NAMES if "--statements" in words[name]], PROVED)
         self.assertEqual([name for name in NAMES if "--backend" in words[name]], ["dyncollate"])
-        self.assertEqual([it for name in NAMES for it in words[name] if it in ("--target", "--cpu")], [])
+        self.assertEqual([it for name in NAMES for it in words[name]
+                          if it in ("--target", "--cpu")], [])
         self.assertEqual(set(self.taken("delay")), {"-1"})
 
 
@@ -232,7 +250,8 @@ class Failures(Made):
         (self.control / "right.waits").unlink()
         status, out, err = self.finish(child)
         self.assertEqual((status, out), (3, ""))
-        self.assertEqual(err[2:4], ["error: an open goal of left", "dyncollate: left is not proved"])
+        self.assertEqual(err[2:4],
+                         ["error: an open goal of left", "dyncollate: left is not proved"])
         self.assertEqual(err[-1], "dyncollate: the program was not built")
         self.assertCountEqual(self.begun(), ["low", "left", "right"])
         (self.control / "left.fails").unlink()
@@ -252,7 +271,8 @@ class Failures(Made):
         self.edit("low/src/lib.rt")
         self.control_file("low.killed", "one")
         status, _, err = self.build()
-        self.assertEqual((status, err[-2:]), (3, ["dyncollate: low is not proved", "dyncollate: the program was not built"]))
+        self.assertEqual((status, err[-2:]), (3, ["dyncollate: low is not proved",
+                                                  "dyncollate: the program was not built"]))
         self.assertEqual(self.begun(), ["low", "low"])
 
     def test_a_run_that_is_stopped(self):
@@ -264,7 +284,8 @@ class Failures(Made):
             process = int((self.control / "left.process").read_text())
             child.send_signal(number)
             status, out, err = self.finish(child)
-            self.assertEqual((status, out, err[-1]), (130, "", "dyncollate: stopped; the crates that are proved are kept"))
+            self.assertEqual((status, out, err[-1]),
+                             (130, "", "dyncollate: stopped; the crates that are proved are kept"))
             with self.assertRaises(ProcessLookupError):
                 os.kill(process, 0)
             (self.control / "left.process").unlink()
@@ -302,29 +323,41 @@ class Failures(Made):
         empty.mkdir()
         for name in "python3", "env", "sh", "find", "nice":
             (empty / name).symlink_to(shutil.which(name))
-        self.assertEqual(self.build(PATH=str(empty)),
-                         (3, "", ["dyncollate: the toolchain's command rt is not on the path (see README.md)"]))
+        self.assertEqual(
+            self.build(PATH=str(empty)),
+            (3, "", ["dyncollate: the toolchain's command rt is not on the path (see README.md)"]))
         (empty / "rt").symlink_to(self.kit / "bin/rt")
-        for words, tool, what in (["library"], "ar", "the library"), (["aarch64"], "aarch64-linux-gnu-gcc", "the program for aarch64"):
-            self.assertEqual(self.build(*words, PATH=str(empty)), (3, "", [f"dyncollate: {tool} is missing: {what} is linked with it"]))
+        for words, tool, what in ((["library"], "ar", "the library"),
+                                  (["aarch64"], "aarch64-linux-gnu-gcc",
+                                   "the program for aarch64")):
+            self.assertEqual(self.build(*words, PATH=str(empty)),
+                             (3, "", [f"dyncollate: {tool} is missing: {what} is linked with it"]))
         (self.kit / "bin/rt").write_text("#!/bin/sh\nexit 1\n")
-        self.assertEqual(self.build(), (3, "", ["dyncollate: the toolchain's command rt fails (see README.md)"]))
+        self.assertEqual(self.build(),
+                         (3, "", ["dyncollate: the toolchain's command rt fails (see README.md)"]))
         self.assertEqual(self.begun(), [])
 
     def test_crates_that_are_not_a_graph(self):
-        for text, why in ("low:\n", "has no crate dyncollate"), ("a: b\nb: a\ndyncollate: a\n", "has a cycle: a -> b -> a"):
+        for text, why in (("low:\n", "has no crate dyncollate"),
+                          ("a: b\nb: a\ndyncollate: a\n", "has a cycle: a -> b -> a")):
             (self.top / "crates.txt").write_text(text)
             status, out, err = self.build()
             self.assertEqual((status, out, len(err)), (3, "", 1))
-            self.assertIn(err[0], [f"dyncollate: crates.txt {why}", f"dyncollate: crates.txt {why}".replace("a -> b -> a", "b -> a -> b")])
+            self.assertIn(err[0],
+                          [f"dyncollate: crates.txt {why}",
+                           f"dyncollate: crates.txt {why}".replace("a -> b -> a", "b -> a -> b")])
 
     def test_words(self):
         status, out, err = self.build("--help")
         self.assertEqual((status, err, out.splitlines()[0]), (
-            0, [], "usage: ./build [--is-current] [unproved | [library] [aarch64]] or ./build --check CRATE [FLAG..]"))
-        for words in ["program"], ["library", "library"], ["aarch64", "library"], ["library", "--is-current"], ["--help", "library"], [""], [
-                "unproved", "aarch64"], ["--is-current", "--check", "low"]:
-            self.assertEqual(self.build(*words), (3, "", [f"dyncollate: {out.splitlines()[0]}"]), words)
+            0, [],
+            "usage: ./build [--is-current] [unproved | [library] [aarch64]] or ./build --check "
+            "CRATE [FLAG..]"))
+        for words in (["program"], ["library", "library"], ["aarch64", "library"],
+                      ["library", "--is-current"], ["--help", "library"], [""],
+                      ["unproved", "aarch64"], ["--is-current", "--check", "low"]):
+            self.assertEqual(self.build(*words), (3, "", [f"dyncollate: {out.splitlines()[0]}"]),
+                             words)
         self.assertEqual(self.begun(), [])
 
 
@@ -335,14 +368,16 @@ class Locks(Made):
         first = self.begin()
         self.wait_for("low")
         second = self.begin()
-        self.assertEqual(second.stderr.readline(), "dyncollate: another run is building; waiting for it\n")
+        self.assertEqual(second.stderr.readline(),
+                         "dyncollate: another run is building; waiting for it\n")
         (self.control / "low.waits").unlink()
         self.assertEqual(self.finish(first)[0], 0)
         self.assertEqual(self.finish(second), (0, "", []))
         self.assertCountEqual(self.begun(), NAMES)
 
     def test_rt_in_a_crate(self):
-        """A crate is not proved while rt works in its directory, but others are. And rt waits for a proof."""
+        """A crate is not proved while rt works in its directory, but others are.
+        And rt waits for a proof."""
         with Directory(self.top / "crates/left") as held:
             self.control_file("right.waits")
             fcntl.flock(held, fcntl.LOCK_EX)
@@ -388,18 +423,23 @@ class Changes(Made):
     def changes(self):
         """Ways to change a source, each with what has to be proved then."""
         crate = self.top / "crates/right"
-        yield "a new file", lambda: (crate / "proofs").mkdir() or (crate / "proofs/P.antt").write_text(""), ["right", "top", "dyncollate"]
-        yield "one of another name", lambda: (crate / "proofs/P.antt").rename(crate / "proofs/Q.antt"), ["right", "top", "dyncollate"]
+        yield ("a new file", lambda: (crate / "proofs").mkdir()
+               or (crate / "proofs/P.antt").write_text(""), ["right", "top", "dyncollate"])
+        yield "one of another name", lambda: (crate / "proofs/P.antt").rename(
+            crate / "proofs/Q.antt"), ["right", "top", "dyncollate"]
         older = self.room / "older"
         older.write_text("older\n")
         os.utime(older, (1, 1))
-        yield "an older file moved there", lambda: older.rename(crate / "proofs/Q.antt"), ["right", "top", "dyncollate"]
+        yield ("an older file moved there", lambda: older.rename(crate / "proofs/Q.antt"),
+               ["right", "top", "dyncollate"])
         yield "without a file", (crate / "proofs/Q.antt").unlink, ["right", "top", "dyncollate"]
         link, flags = (self.top / f"building/{it}" for it in ("link", "crates.py"))
-        yield "another way to link", lambda: link.write_text(link.read_text() + "# more\n"), ["dyncollate"]
-        yield "another flag", lambda: flags.write_text(flags.read_text().replace('"llvm"', '"other"')), ["dyncollate"]
-        yield "another use", lambda: (self.top / "crates.txt").write_text(CRATES.replace("right: low", "right: low std_io")), [
-            "right", "top", "dyncollate"]
+        yield ("another way to link", lambda: link.write_text(link.read_text() + "# more\n"),
+               ["dyncollate"])
+        yield ("another flag", lambda: flags.write_text(flags.read_text().replace(
+            '"llvm"', '"other"')), ["dyncollate"])
+        yield ("another use", lambda: (self.top / "crates.txt").write_text(CRATES.replace(
+            "right: low", "right: low std_io")), ["right", "top", "dyncollate"])
 
     def test_each_kind_of_change(self):
         """./dyncollate sees it by its stamp."""
@@ -408,7 +448,8 @@ class Changes(Made):
             with self.subTest(what):
                 time.sleep(0.02)
                 change()
-                self.assertEqual(self.build("x", script="dyncollate")[:2], (0, "made of source of dyncollate, called with x\n"))
+                self.assertEqual(self.build("x", script="dyncollate")[:2],
+                                 (0, "made of source of dyncollate, called with x\n"))
                 self.assertCountEqual(self.begun(), wanted)
 
     def test_a_current_program_needs_no_python(self):
@@ -418,7 +459,8 @@ class Changes(Made):
         few.mkdir()
         for name in "find", "sh":
             (few / name).symlink_to(shutil.which(name))
-        self.assertEqual(self.build("x", script="dyncollate", PATH=str(few)), (0, "made of source of dyncollate, called with x\n", []))
+        self.assertEqual(self.build("x", script="dyncollate", PATH=str(few)),
+                         (0, "made of source of dyncollate, called with x\n", []))
 
     def test_another_toolchain(self):
         """What it has to prove is proved when something has changed."""
@@ -448,19 +490,23 @@ class Copies(Made):
         self.built()
         to = self.copy()
         self.assertEqual(self.build("--is-current", top=to / "build"), (0, "", []))
-        self.assertEqual(self.build("x", top=to / "dyncollate"), (0, "made of source of dyncollate, called with x\n", []))
+        self.assertEqual(self.build("x", top=to / "dyncollate"),
+                         (0, "made of source of dyncollate, called with x\n", []))
         self.assertEqual(self.begun(), [])
         # Then its stamp is renewed, and ./dyncollate needs ./build no more.
         (to / "build").unlink()
-        self.assertEqual(self.build("x", top=to / "dyncollate"), (0, "made of source of dyncollate, called with x\n", []))
+        self.assertEqual(self.build("x", top=to / "dyncollate"),
+                         (0, "made of source of dyncollate, called with x\n", []))
 
     def test_without_the_toolchain(self):
         self.built()
         to = self.copy()
         (self.kit / "bin/rt").unlink()
-        path = os.pathsep.join(it for it in os.environ["PATH"].split(os.pathsep) if not (Path(it) / "rt").exists())
+        path = os.pathsep.join(it for it in os.environ["PATH"].split(os.pathsep)
+                               if not (Path(it) / "rt").exists())
         self.assertIsNone(shutil.which("rt", path=path))
-        self.assertEqual(self.build("x", top=to / "dyncollate", PATH=path), (0, "made of source of dyncollate, called with x\n", []))
+        self.assertEqual(self.build("x", top=to / "dyncollate", PATH=path),
+                         (0, "made of source of dyncollate, called with x\n", []))
 
     def test_what_is_proved_is_proved_in_a_copy(self):
         self.built()
@@ -482,14 +528,16 @@ class Copies(Made):
 
 
 class Gate(Made):
-    """What the gate rt ci leaves: its lock of when it began, a library of each crate in out/rlib, and the program."""
+    """What the gate rt ci leaves: its lock of when it began, a library of each crate in out/rlib,
+    and the program."""
 
     def gate(self):
         write(self.top / ".git/rt-ci.lock", "")
         time.sleep(0.02)
         for name in PROVED:
             write(self.top / f"crates/{name}/out/rlib/{name}.rlib/mir", "proved by the gate\n")
-        write(self.top / "crates/dyncollate/out/dyncollate", "#!/bin/sh\necho made by the gate\n", 0o755)
+        write(self.top / "crates/dyncollate/out/dyncollate", "#!/bin/sh\necho made by the gate\n",
+              0o755)
 
     def test_all_is_adopted(self):
         self.gate()
@@ -533,7 +581,8 @@ class Gate(Made):
         self.assertCountEqual(self.begun(), NAMES)
 
     def test_what_is_not_of_the_gate(self):
-        """A library of rt check has a stamp next to it. One that is older than the gate's beginning is not of this gate."""
+        """A library of rt check has a stamp next to it.
+        One that is older than the gate's beginning is not of this gate."""
         self.gate()
         write(self.top / "crates/right/out/rlib/stamp", "")
         os.utime(self.top / "crates/low/out/rlib/low.rlib", (1, 1))
@@ -553,9 +602,11 @@ class Policy(unittest.TestCase):
         cls.crates = runpy.run_path(f"{TOP}/building/crates.py")
 
     def jobs(self, chains, running=(), longest=100):
-        """The jobs of the first of crates with these chains, while these run: pairs of a chain and a number of jobs."""
+        """The jobs of the first of crates with these chains, while these run:
+        pairs of a chain and a number of jobs."""
         made = [self.crates["Crate"](f"c{it}", [], [], it) for it in chains]
-        others = [type("Job", (), {"crate": self.crates["Crate"](f"r{it}", [], [], it), "jobs": jobs}) for it, jobs in running]
+        others = [type("Job", (), {"crate": self.crates["Crate"](f"r{it}", [], [], it),
+                                   "jobs": jobs}) for it, jobs in running]
         return self.build["jobs_and_nice"](made[0], made, others, longest, 4)
 
     def test_one_alone(self):
@@ -572,65 +623,85 @@ class Policy(unittest.TestCase):
         self.assertEqual(self.jobs([30], [(100, 4)])[0], 0)
 
     def progress(self, passed, finished, left, running=(), rate=1):
-        """What is said after these seconds, when crates of these seconds are proved in this run, at this rate, and others are left, of
-        which some run: how many jobs, for how long, and the seconds of the crate."""
-        made = {it: self.crates["Crate"](f"c{it}", [], []) for it in [*left, *(it for _, _, it in running)]}
+        """What is said after these seconds, when crates of these seconds are proved in this run, at
+        this rate, and others are left, of which some run: how many jobs, for how long, and the
+        seconds of the crate."""
+        made = {it: self.crates["Crate"](f"c{it}", [], [])
+                for it in [*left, *(it for _, _, it in running)]}
         for seconds, crate in made.items():
             crate.seconds = seconds
         run = self.build["Run"].__new__(self.build["Run"])
         now = time.monotonic()
         run.began, run.left, run.whole = now - passed, list(made.values()), finished + sum(made)
         run.todo, run.spent = run.whole, finished / rate
-        run.running = [type("Job", (), {"crate": made[it], "jobs": jobs, "began": now - ago}) for jobs, ago, it in running]
+        run.running = [type("Job", (), {"crate": made[it], "jobs": jobs, "began": now - ago})
+                       for jobs, ago, it in running]
         return run.progress()
 
     def test_progress(self):
         self.assertEqual(self.progress(30.5, 100, [300]), "25 % after 0:30")
         self.assertEqual(self.progress(100.5, 100, [300]), "25 % after 1:40, about 6 min left")
         # half of what is left has been done by two jobs that run
-        self.assertEqual(self.progress(100.5, 100, [], [(2, 75, 300)]), "25 % after 1:40, about 2 min left")
+        self.assertEqual(self.progress(100.5, 100, [], [(2, 75, 300)]),
+                         "25 % after 1:40, about 2 min left")
         # one that takes longer than expected is not yet done
-        self.assertEqual(self.progress(3600.5, 100, [], [(2, 3600, 300)]), "25 % after 60:00, about 5 min left")
+        self.assertEqual(self.progress(3600.5, 100, [], [(2, 3600, 300)]),
+                         "25 % after 60:00, about 5 min left")
         self.assertEqual(self.progress(100.5, 100, []), "100 % after 1:40")
         # on a machine of a third of the speed, two jobs have done 50 seconds of what is left
-        self.assertEqual(self.progress(100.5, 100, [], [(2, 75, 300)], rate=1 / 3), "25 % after 1:40, about 3 min left")
+        self.assertEqual(self.progress(100.5, 100, [], [(2, 75, 300)], rate=1 / 3),
+                         "25 % after 1:40, about 3 min left")
 
     def test_the_seconds(self):
         """Each crate that ./build proves has its seconds."""
-        names = {line.split(":")[0].split()[0] for line in Path(TOP, "crates.txt").read_text().splitlines()}
+        names = {line.split(":")[0].split()[0]
+                 for line in Path(TOP, "crates.txt").read_text().splitlines()}
         self.assertEqual(set(self.crates["SECONDS"]), names - {"library_tests"})
 
 
 class Old(InRoom):
-    """A run of tests stops if ./build says that the program or the library is older than its sources."""
+    """A run of tests stops if ./build says that the program or the library is older than its
+    sources."""
 
     def setUp(self):
         super().setUp()
-        shutil.copytree(f"{TOP}/tests", self.room / "tests", ignore=shutil.ignore_patterns("__pycache__"))
+        shutil.copytree(f"{TOP}/tests", self.room / "tests",
+                        ignore=shutil.ignore_patterns("__pycache__"))
         write(self.room / "build", "#!/bin/sh\necho $* >> asked\nexit 1\n", 0o755)
-        for name in "dyncollate/out/dyncollate", "c_library/out/libdyncollate.a", "c_library/out/libdyncollate.so.1":
+        for name in ("dyncollate/out/dyncollate", "c_library/out/libdyncollate.a",
+                     "c_library/out/libdyncollate.so.1"):
             write(self.room / "crates" / name, "#!/bin/sh\n", 0o755)
-        self.environment = {name: it for name, it in os.environ.items() if name not in ("DYNCOLLATE", "LIBRARY", "TESTS", "RESULTS", "UNPROVED")}
+        self.environment = {name: it for name, it in os.environ.items()
+                            if name not in ("DYNCOLLATE", "LIBRARY", "TESTS", "RESULTS",
+                                            "UNPROVED")}
 
     def stops(self, *tests, command, **more):
-        status, printed = run(sys.executable, "-B", "-m", "unittest", *tests, cwd=self.room, env=self.environment | more)
+        status, printed = run(sys.executable, "-B", "-m", "unittest", *tests, cwd=self.room,
+                              env=self.environment | more)
         self.assertEqual(status, 1, printed)
-        self.assertRegex(printed, rf" is missing, or older than its sources\. `{command}` builds it, and \w+ may name another\.\n\Z")
+        self.assertRegex(
+            printed,
+            rf" is missing, or older than its sources\. `{command}` builds it, and \w+ may name "
+            r"another\.\n\Z")
         self.assertNotRegex(printed, "Ran |FAIL|ERROR")
 
     def test_program(self):
         """The tests of the second module run in several processes."""
-        for tests in "tests.dyndep_files", "tests.damage":
+        for tests in "tests.documents", "tests.damage":
             self.stops(tests, command="./build")
-        self.stops("tests.dyndep_files", command="./build unproved", UNPROVED="1")
-        self.assertEqual((self.room / "asked").read_text().splitlines()[-1], "--is-current unproved")
+        self.stops("tests.documents", command="./build unproved", UNPROVED="1")
+        self.assertEqual((self.room / "asked").read_text().splitlines()[-1],
+                         "--is-current unproved")
 
     def test_library(self):
         self.stops("tests.fuzzing", command="./build library")
 
     def test_others(self):
         """Tests of another program run, and so do tests that need none."""
-        for tests, more in ("tests.dyndep_files", {"DYNCOLLATE": f"{self.room}/crates/dyncollate/out/dyncollate"}), ("tests.run", {}):
-            printed = run(sys.executable, "-B", "-m", "unittest", tests, cwd=self.room, env=self.environment | more)[1]
+        for tests, more in (("tests.documents",
+                             {"DYNCOLLATE": f"{self.room}/crates/dyncollate/out/dyncollate"}),
+                            ("tests.run", {})):
+            printed = run(sys.executable, "-B", "-m", "unittest", tests, cwd=self.room,
+                          env=self.environment | more)[1]
             self.assertRegex(printed, r"\nRan [1-9]")
         self.assertFalse((self.room / "asked").exists())

@@ -1,8 +1,10 @@
-"""Builds the projects in examples/ with the real Ninja, clang-scan-deps, Clang and GCC, by the manifests that examples/generate
-writes, and compares what is compiled, in which case, and to which bytes. A test whose tool is missing is skipped.
+"""Builds the projects in examples/ with the real Ninja, clang-scan-deps, Clang and GCC, by the
+manifests that examples/generate writes, and compares what is compiled, in which case, and to which
+bytes. A test whose tool is missing is skipped.
 
-The environment may name the tools: NINJA, CLANG, GCC, SCANNER. To build a further example, add it to EXAMPLES and BUILT; what
-any example is tested for is in the class Built, and what one example is tested for besides in a class of its own.
+The environment may name the tools: NINJA, CLANG, GCC, SCANNER. To build a further example, add it
+to EXAMPLES and BUILT; what any example is tested for is in the class Built, and what one example is
+tested for besides in a class of its own.
 """
 import json
 import os
@@ -24,7 +26,8 @@ JOBS = 8
 
 # ---- examples
 
-# A source of an example, and what compiling it by hand takes: its target, its module, or "", and the modules that it needs.
+# A source of an example, and what compiling it by hand takes: its target, its module, or "", and
+# the modules that it needs.
 Source = namedtuple("Source", "target name module needs")
 # What the program of an example prints, and its sources in an order in which they can be compiled.
 Example = namedtuple("Example", "prints sources")
@@ -36,11 +39,10 @@ EXAMPLES = {
         Source("app", "src/units.cppm", "units", []),
         Source("app", "src/point.cppm", "geometry:point", ["units"]),
         Source("app", "src/shapes.cppm", "geometry:shapes", ["geometry:point", "units"]),
-        Source("app", "src/geometry.cppm", "geometry", ["geometry:point", "geometry:shapes", "units"]),
+        Source("app", "src/geometry.cppm", "geometry",
+               ["geometry:point", "geometry:shapes", "units"]),
         Source("app", "src/geometry.cpp", "", GEOMETRY),
-        Source("app", "src/main.cpp", "", GEOMETRY),
-        Source("app", "src/plain.cpp", "", []),
-    ]),
+        Source("app", "src/main.cpp", "", GEOMETRY), Source("app", "src/plain.cpp", "", []),]),
     "libs": Example("42", [
         Source("base", "src/base/number.cppm", "number", []),
         Source("base", "src/base/number.cpp", "", ["number"]),
@@ -69,7 +71,8 @@ class Directory(unittest.TestCase):
         os.chdir(folder.name)
         named = {it.upper(): tool(it) for it in self.tools}
         # GCC writes the time into a module's file
-        self.environment = os.environ | named | {"DYNCOLLATE": program.PROGRAM, "SOURCE_DATE_EPOCH": "1"}
+        self.environment = (os.environ | named | {"DYNCOLLATE": program.PROGRAM,
+                                                  "SOURCE_DATE_EPOCH": "1"})
 
     def call(self, *words):
         """The status of the program dyncollate, and what it prints."""
@@ -143,7 +146,8 @@ def products():
 
 
 class Built:
-    """What each example is tested for, by any form of manifest. A test begins with a build from scratch, with eight jobs."""
+    """What each example is tested for, by any form of manifest. A test begins with a build from
+    scratch, with eight jobs."""
     example = form = ""
 
     def setUp(self):
@@ -169,19 +173,23 @@ class Built:
         """Compiles one source as a person would. GCC finds the project's modules in hand.map."""
         result = ["-c", source.name, "-o", f"obj/{source.target}/{source.name}.o"]
         if self.form == "gcc":
-            return [tool("gcc"), *"-std=c++20 -fmodules-ts -fmodule-mapper=hand.map -x c++".split(), *result]
+            return [tool("gcc"), *"-std=c++20 -fmodules-ts -fmodule-mapper=hand.map -x c++".split(),
+                    *result]
         file_of = {it: f"bmi/{target_of[it]}/{it.replace(':', '-')}.pcm" for it in target_of}
-        provided = ["-x", "c++-module", f"-fmodule-output={file_of[source.module]}"] if source.module else []
+        provided = (["-x", "c++-module", f"-fmodule-output={file_of[source.module]}"]
+                    if source.module else [])
         # which warnings there are is in a module's file
         found = [f"-fmodule-file={it}={file_of[it]}" for it in source.needs]
-        return [tool("clang"), "-std=c++20", "-Wno-unused-command-line-argument", *provided, *found, *result]
+        return [tool("clang"), "-std=c++20", "-Wno-unused-command-line-argument", *provided, *found,
+                *result]
 
     def test_objects_and_module_files_are_those_of_a_build_ordered_by_hand(self):
-        """Clang 19 writes one of several texts for some module files, by the addresses that it gets. So this is tried some
-        times: each file has to be as one of those by hand."""
+        """Clang 19 writes one of several texts for some module files, by the addresses that it
+        gets. So this is tried some times: each file has to be as one of those by hand."""
         sources = EXAMPLES[self.example].sources
         target_of = {it.module: it.target for it in sources if it.module}
-        Path("hand.map").write_text("".join(f"{it} bmi/{target_of[it]}/{it.replace(':', '-')}.gcm\n" for it in target_of))
+        Path("hand.map").write_text("".join(f"{it} bmi/{target_of[it]}/{it.replace(':', '-')}.gcm\n"
+                                            for it in target_of))
         built = products()
         self.assertEqual(len(built), len(sources) + len(target_of))
         left = set(built)
@@ -189,7 +197,8 @@ class Built:
             for name in built:
                 os.remove(name)
             for source in sources:
-                self.assertEqual(run(*self.by_hand(source, target_of), env=self.environment), (0, ""))
+                self.assertEqual(run(*self.by_hand(source, target_of), env=self.environment),
+                                 (0, ""))
             by_hand = products()
             self.assertEqual(by_hand.keys(), built.keys())
             left -= {it for it in left if built[it] == by_hand[it]}
@@ -198,8 +207,10 @@ class Built:
         self.fail(f"{sorted(left)}: other bytes than by hand")
 
     def test_a_collation_alone(self):
-        """In a directory that has only the files that it reads, and without an environment, it writes the same bytes."""
-        targets = sorted(it.name.removesuffix(".target.json") for it in Path("dd").glob("*.target.json"))
+        """In a directory that has only the files that it reads, and without an environment, it
+        writes the same bytes."""
+        targets = sorted(it.name.removesuffix(".target.json")
+                         for it in Path("dd").glob("*.target.json"))
         if self.form == "project":
             return self.collate_alone("project", "dd/project.json", targets)
         for target in targets:
@@ -207,7 +218,8 @@ class Built:
 
     def collate_alone(self, command, document, targets):
         documents = [json.loads(Path(f"dd/{it}.target.json").read_text()) for it in targets]
-        read = [document] + [f"dd/{it}.target.json" for it in targets] + [name for it in documents for name in it["scans"]]
+        read = ([document] + [f"dd/{it}.target.json" for it in targets]
+                + [name for it in documents for name in it["scans"]])
         read += [name for it in documents for name in it["linked"] if command == "collate"]
         written = [it[key] for it in documents for key in ("dyndep", "info")]
         written += [str(it) for target in targets for it in Path(f"obj/{target}").rglob("*.modmap")]
@@ -229,7 +241,8 @@ class Built:
 # ---- changes of the examples
 
 class Single:
-    users = ["src/point.cppm", "src/shapes.cppm", "src/geometry.cppm", "src/geometry.cpp", "src/main.cpp"]
+    users = ["src/point.cppm", "src/shapes.cppm", "src/geometry.cppm", "src/geometry.cpp",
+             "src/main.cpp"]
 
     def test_a_touched_interface(self):
         """Its users are compiled, and no other source."""
@@ -270,7 +283,8 @@ class Single:
         self.makes("600")
 
     def test_a_new_source(self):
-        Path("src/extra.cppm").write_text("export module extra;\nimport units;\nexport int extra() { return scaled(1); }\n")
+        Path("src/extra.cppm").write_text(
+            "export module extra;\nimport units;\nexport int extra() { return scaled(1); }\n")
         edit("targets", r"^(program.*)", r"\1 src/extra.cppm")
         edit("src/main.cpp", r"^(import geometry;)", r"\1\nimport extra;")
         edit("src/main.cpp", r"print\(area(.*)\); \}", r"print(extra() + area\1); }")
@@ -311,7 +325,8 @@ class Single:
 
 
 class Libs:
-    main, number, lost = "src/app/main.cpp", "src/base/number.cppm", "obj/base/src/base/number.cppm.o"
+    main, number, lost = ("src/app/main.cpp", "src/base/number.cppm",
+                          "obj/base/src/base/number.cppm.o")
     math = ["src/math/detail.cppm", "src/math/sum.cppm", "src/math/sum.cpp"]
 
     def test_a_touched_interface(self):
@@ -329,7 +344,8 @@ class Libs:
         self.compiles("src/base/number.cpp")
 
     def test_a_changed_partition(self):
-        edit("src/math/detail.cppm", r"plus\(number, number\)", "plus(number, plus(number, number))")
+        edit("src/math/detail.cppm", r"plus\(number, number\)",
+             "plus(number, plus(number, number))")
         self.makes("53")
 
     def test_a_dropped_import(self):
@@ -355,7 +371,8 @@ class Libs:
 
 
 # Each example, the class with its own tests, and the forms of manifests that build it.
-BUILT = {"single": (Single, ["clang", "gcc", "project"]), "libs": (Libs, ["clang", "gcc", "project"])}
+BUILT = {"single": (Single, ["clang", "gcc", "project"]),
+         "libs": (Libs, ["clang", "gcc", "project"])}
 
 for one, (changes, forms) in BUILT.items():
     for form_ in forms:
@@ -370,7 +387,8 @@ def standard_modules(compiler, *asked):
     if not os.path.isfile(listed):
         return None
     modules = json.loads(Path(listed).read_text())["modules"]
-    found = [os.path.realpath(os.path.join(os.path.dirname(listed), it["source-path"])) for it in modules]
+    found = [os.path.realpath(os.path.join(os.path.dirname(listed), it["source-path"]))
+             for it in modules]
     return found if all(map(os.path.isfile, found)) else None
 
 
@@ -397,7 +415,8 @@ class StdWithClang(ImportsStd, Directory):
 
     def setUp(self):
         super().setUp()
-        self.modules = standard_modules(tool("clang"), "-stdlib=libc++", "-print-file-name=libc++.modules.json")
+        self.modules = standard_modules(tool("clang"), "-stdlib=libc++",
+                                        "-print-file-name=libc++.modules.json")
         if not self.modules:
             self.skipTest("libc++-19-dev: not there")
 
@@ -405,10 +424,12 @@ class StdWithClang(ImportsStd, Directory):
         self.copy("std", "clang")
         page = (TOP / "docs/GUIDE.md").read_text()
         section = re.search(r"^### `import std;`\n.*?^### ", page, re.M | re.S)[0]
-        targets, manifest = [text for kind, text in re.findall("^```(.*)\n((?s:.*?))^```$", section, re.M) if not kind]
+        targets, manifest = ([text for kind, text in re.findall("^```(.*)\n((?s:.*?))^```$",
+                                                                section, re.M) if not kind])
         self.assertIn(targets, Path("targets").read_text())
         # the page has the directory of Debian's libc++-19-dev
-        manifest = manifest.replace("/usr/lib/llvm-19/share/libc++/v1", os.path.dirname(self.modules[0]))
+        manifest = manifest.replace("/usr/lib/llvm-19/share/libc++/v1",
+                                    os.path.dirname(self.modules[0]))
         written = Path("build.ninja").read_text().splitlines()
         self.assertEqual([it for it in manifest.splitlines() if it not in written], [])
 
@@ -419,7 +440,8 @@ class StdWithGcc(ImportsStd, Directory):
     def setUp(self):
         super().setUp()
         for name in of_versions("g++", 15, 16):
-            self.modules = standard_modules(shutil.which(name), "-print-file-name=libstdc++.modules.json")
+            self.modules = standard_modules(shutil.which(name),
+                                            "-print-file-name=libstdc++.modules.json")
             if self.modules:
                 self.environment["GCC"] = name
                 return
@@ -446,7 +468,8 @@ class WithClang(Directory):
         self.idle()
         touch("src/words.cppm")
         self.assertEqual(self.ninja()[0], 0, self.log)
-        self.assertEqual(len(re.findall(r"^\[", self.log, re.M)), 4, "all three sources, and the link")
+        self.assertEqual(len(re.findall(r"^\[", self.log, re.M)), 4,
+                         "all three sources, and the link")
 
     def test_a_scan_by_the_compilation_database(self):
         """It says the same as the scans of each source."""
@@ -454,9 +477,11 @@ class WithClang(Directory):
             self.skipTest("a scanner that reads response files in a database: not there")
         self.copy("single", "clang")
         self.ninja()
-        Path("all.ddi").write_text(output_of(tool("scanner"), "-format=p1689", "-compilation-database=compile_commands.json"))
+        Path("all.ddi").write_text(output_of(tool("scanner"), "-format=p1689",
+                                             "-compilation-database=compile_commands.json"))
         status, text = self.call("one", "all.ddi", "bmi/app", ".pcm")
-        self.assertEqual((status, sorted(text.splitlines())), (0, sorted(Path("dd/app.dd").read_text().splitlines())))
+        self.assertEqual((status, sorted(text.splitlines())),
+                         (0, sorted(Path("dd/app.dd").read_text().splitlines())))
 
 
 class Guide(Directory):
@@ -464,7 +489,8 @@ class Guide(Directory):
     page = (TOP / "docs/GUIDE.md").read_text()
 
     def test_its_manifests_are_those_of_generate(self):
-        """The lines that docs/GUIDE.md quotes are in what examples/generate writes, if the tools have their usual names."""
+        """The lines that docs/GUIDE.md quotes are in what examples/generate writes, if the tools
+        have their usual names."""
         os.mkdir("bin")
         for it in "clang++", "g++", "clang-scan-deps", "dyncollate":
             os.symlink(shutil.which("true"), f"bin/{it}")
@@ -487,19 +513,23 @@ class Guide(Directory):
 
     def test_its_packages_are_those_that_are_installed_for_the_tests(self):
         packages = re.search(r"^    apt-get install (.*)", self.page, re.M)[1].split()
-        self.assertEqual([it for it in packages if it not in re.split(r"[\s;]+", (TOP / ".ci/run").read_text())], [])
+        self.assertEqual([it for it in packages
+                          if it not in re.split(r"[\s;]+", (TOP / ".ci/run").read_text())], [])
 
 
 class GuideCommands(Directory):
-    """The commands in docs/GUIDE.md, as they are printed, with Debian's names of the tools and the program in PATH."""
+    """The commands in docs/GUIDE.md, as they are printed,
+    with Debian's names of the tools and the program in PATH."""
 
     def setUp(self):
-        missing = [it for it in ("ninja", "clang++-19", "clang-scan-deps-19", "g++-12") if not shutil.which(it)]
+        missing = [it for it in ("ninja", "clang++-19", "clang-scan-deps-19", "g++-12")
+                   if not shutil.which(it)]
         if missing:
             self.skipTest(f"{', '.join(missing)}: not there")
         super().setUp()
         for name in "adapters", "examples":
-            shutil.copytree(TOP / name, name, ignore=shutil.ignore_patterns("build", "dd", "scan", "obj", "bmi"))
+            shutil.copytree(TOP / name, name,
+                            ignore=shutil.ignore_patterns("build", "dd", "scan", "obj", "bmi"))
         os.mkdir("bin")
         os.symlink(program.PROGRAM, "bin/dyncollate")
         named = ("DYNCOLLATE", *map(str.upper, TOOLS))
@@ -508,7 +538,8 @@ class GuideCommands(Directory):
 
     def commands(self, title):
         """The commands of a section."""
-        section = re.search(rf"^##+ {re.escape(title)}\n(.*?)(?=^##|\Z)", Guide.page, re.M | re.S)[1]
+        section = re.search(rf"^##+ {re.escape(title)}\n(.*?)(?=^##|\Z)", Guide.page,
+                            re.M | re.S)[1]
         return [re.sub("^ {3}(?=.)", "", it, flags=re.M) if it.startswith("   ") else it
                 for it in re.findall("^ *```sh\n(.*?)^ *```$", section, re.M | re.S)]
 
@@ -519,15 +550,19 @@ class GuideCommands(Directory):
         return out.splitlines()
 
     def test_hello(self):
-        self.assertEqual(self.prints(*self.commands("Tools"), *self.commands("An example"))[-1], "hello")
+        self.assertEqual(self.prints(*self.commands("Tools"), *self.commands("An example"))[-1],
+                         "hello")
 
     def test_a_build(self):
-        self.assertEqual(self.prints(*self.commands("Tools"), *self.commands("Manifests that work"))[-1], "42")
+        self.assertEqual(self.prints(*self.commands("Tools"),
+                                     *self.commands("Manifests that work"))[-1], "42")
 
     def test_import_std(self):
-        if not standard_modules("clang++-19", "-stdlib=libc++", "-print-file-name=libc++.modules.json"):
+        if not standard_modules("clang++-19", "-stdlib=libc++",
+                                "-print-file-name=libc++.modules.json"):
             self.skipTest("libc++-19-dev: not there")
-        self.assertEqual(self.prints(*self.commands("Tools"), *self.commands("`import std;`"))[-2:], ["one 2", "two 1"])
+        self.assertEqual(self.prints(*self.commands("Tools"), *self.commands("`import std;`"))[-2:],
+                         ["one 2", "two 1"])
 
     def test_a_build_that_fails(self):
         """What it says about finding files, and the order of all edges, or their cycle."""
@@ -535,13 +570,15 @@ class GuideCommands(Directory):
         self.prints(names, "cd examples/libs", "../generate project targets", "ninja")
         os.chdir("examples/libs")
         find, whole = self.commands("My build fails: what now")
-        self.assertEqual(self.prints(find), ["scan/math/src/math/detail.cppm.ddi", "dd/app.target.json"])
+        self.assertEqual(self.prints(find),
+                         ["scan/math/src/math/detail.cppm.ddi", "dd/app.target.json"])
         order = self.prints(whole)
         objects = [it for it in order if it.endswith(".o")]
         self.assertEqual(objects, [f"obj/{it}.o" for it in (
-            "base/src/base/number.cppm", "base/src/base/number.cpp", "math/src/math/detail.cppm", "math/src/math/sum.cppm",
-            "math/src/math/sum.cpp", "app/src/app/main.cpp")])
-        self.assertEqual(self.prints(names, *self.commands("A dependency cycle that stays"))[-1].split()[0], "[16/16]")
+            "base/src/base/number.cppm", "base/src/base/number.cpp", "math/src/math/detail.cppm",
+            "math/src/math/sum.cppm", "math/src/math/sum.cpp", "app/src/app/main.cpp")])
+        self.assertEqual(self.prints(names, *self.commands(
+            "A dependency cycle that stays"))[-1].split()[0], "[16/16]")
 
 
 # ---- dyndep files, as Ninja and the program take them
@@ -549,8 +586,8 @@ class GuideCommands(Directory):
 PARTS = "d/" * 60
 V = "ninja_dyndep_version = 1\n"
 
-# Who takes a dyndep file, why it is tested, and its text. The edge of `o` names it, and an edge makes `n`. If Ninja 1.11
-# does not take what later versions do, that is 1.11.
+# Who takes a dyndep file, why it is tested, and its text. The edge of `o` names it, and an edge
+# makes `n`. If Ninja 1.11 does not take what later versions do, that is 1.11.
 READERS = [
     ("both", "one statement", V + "build o: dyndep | in\n"),
     ("both", "lines that end in CR LF", "ninja_dyndep_version = 1\r\nbuild o: dyndep | in\r\n"),
@@ -563,14 +600,14 @@ READERS = [
     ("ninja", "version 01", "ninja_dyndep_version = 01\nbuild o: dyndep\n"),
     ("ninja", "a variable in a path", V + "build o: dyndep | in$x\n"),
     ("ninja", "a variable in a binding", V + "build o: dyndep\n  restat = $x\n"),
-    ("ninja", "a line of more than 1,048,576 bytes", V + "build o: dyndep" + " " * 1_048_600 + "\n"),
+    ("ninja", "a line of more than 1,048,576 bytes",
+     V + "build o: dyndep" + " " * 1_048_600 + "\n"),
     ("dyncollate", "two statements for one output", V + "build o: dyndep\nbuild o: dyndep\n"),
     ("dyncollate", "no statement for an output that names it", V),
     ("dyncollate", "an output that does not name it", V + "build o: dyndep\nbuild p: dyndep\n"),
     ("dyncollate", "an added output that is already made", V + "build o | n: dyndep\n"),
     ("1.11", "a path of 61 components", V + f"build o: dyndep | {PARTS}x\n"),
-    ("dyncollate", "a NUL in a comment", V + "# a\0b\nbuild o: dyndep\n"),
-]
+    ("dyncollate", "a NUL in a comment", V + "# a\0b\nbuild o: dyndep\n"),]
 
 
 class Readers(Directory):
@@ -589,4 +626,5 @@ class Readers(Directory):
                 taken = self.ninja()[0] == 0, self.call("show", "t.dd")[0] == 0
                 if who == "1.11":
                     who = "dyncollate" if version("ninja") < (1, 12) else "both"
-                self.assertEqual(taken, (who in ("both", "ninja"), who in ("both", "dyncollate")), "by Ninja and by dyncollate")
+                self.assertEqual(taken, (who in ("both", "ninja"), who in ("both", "dyncollate")),
+                                 "by Ninja and by dyncollate")

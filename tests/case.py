@@ -1,4 +1,5 @@
-"""Tests in their own directories, which call the program and compare its status, its output, and the files after the run."""
+"""Tests in their own directories, which call the program and compare its status, its output, and
+the files after the run."""
 import os
 import re
 import tempfile
@@ -47,7 +48,8 @@ def lay(files):
 
 @program.needs("program")
 class Case(unittest.TestCase):
-    """A test in a directory of its own, which is its working directory. It is in memory, if the system has `/dev/shm`."""
+    """A test in a directory of its own, which is its working directory. It is in memory, if the
+    system has `/dev/shm`."""
 
     def setUp(self):
         folder = tempfile.TemporaryDirectory(prefix="dyncollate-", dir=MEMORY)
@@ -72,8 +74,8 @@ class Case(unittest.TestCase):
 
 
 def each(things, name=str):
-    """Gives a class a test for each of some things, which its method `check` takes. The test is named by the thing, with a
-    number if several have the same name."""
+    """Gives a class a test for each of some things, which its method `check` takes. The test is
+    named by the thing, with a number if several have the same name."""
     def with_tests(cls):
         for thing in things:
             title = "test_" + re.sub(r"\W+", "_", name(thing), flags=re.ASCII).strip("_")

@@ -27,14 +27,15 @@ LIMIT = 1.2  # how many times as much a byte of the input may cost if there are 
 
 # Small, but so large that the cost of a shape would be seen: if a table searches all its entries,
 # say, this is more than a tenth of what a run does.
-SIZES = {"edges": 1 << 18, "dyndep": 1 << 18, "outputs": 2000, "modules": 1500, "targets": 2500,
-         "keyless": 1500, "work-dir": 400, "ext": 400, "paths": 100, "requires": 1600, "info": 3200,
-         "plugins": 40, "names": 1200, "services": 40, "providers": 100, "links": 60,
-         "diamonds": 10, "shared": 40, "again": 2000, "rules": 2000, "linked": 2000,
-         "relinked": 100}
+SIZES = {"edges": 1 << 18, "dyndep": 1 << 18, "outputs": 2000, "lengths": 2000,
+         "modules": 1500, "targets": 2500, "keyless": 1500, "sharing": 1500, "work-dir": 400,
+         "ext": 400, "paths": 100, "requires": 1600, "info": 3200, "plugins": 40, "names": 1200,
+         "services": 40, "providers": 100, "links": 60, "diamonds": 10, "shared": 40,
+         "again": 2000, "rules": 2000, "linked": 2000, "relinked": 100}
 
 # What costs no more than an ordinary input, by shape. All but the last differ by their names only.
-ALIKE = {it: COSTS for it in ("edges", "dyndep", "outputs", "modules", "targets", "keyless")}
+ALIKE = {it: COSTS for it in ("edges", "dyndep", "outputs", "lengths", "modules", "targets",
+                             "keyless", "sharing")}
 ALIKE["paths"] = ["bytes held"]
 ALIKE_LIMIT = 1.1
 

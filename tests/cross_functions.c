@@ -1,5 +1,5 @@
-/* cross_functions "" ab: calls the functions in cross/, and checks what their comments say. These are its arguments. It prints the
-   lines that do not hold. */
+/* cross_functions "" ab: calls the functions in cross/, and checks what their comments say. These
+   are its arguments. It prints the lines that do not hold. */
 #include <errno.h>
 #include <stdint.h>
 #include <stdio.h>
@@ -26,7 +26,8 @@ static const size_t too_many = SIZE_MAX / 2;
 
 static void blocks(size_t align)
 {
-    tried none = rattle_alloc(0, align), other = rattle_alloc(0, align), some = rattle_alloc(5 * align, align);
+    tried none = rattle_alloc(0, align), other = rattle_alloc(0, align),
+          some = rattle_alloc(5 * align, align);
     HOLDS(none.is_got && other.is_got && some.is_got);
     HOLDS(none.at != other.at && none.at != some.at && none.at && other.at);
     HOLDS((uintptr_t)none.at % align == 0 && (uintptr_t)some.at % align == 0);
@@ -66,9 +67,11 @@ static void arguments(const char *name)
     HOLDS(rattle_arg(2, room, 2) == 2 && memcmp(room, "abz", 4) == 0);
     HOLDS(rattle_arg(2, room, 3) == 2 && memcmp(room, "abz", 4) == 0);
     HOLDS(rattle_arg(1, room, 3) == 0 && memcmp(room, "abz", 4) == 0);
-    HOLDS(rattle_arg(3, room, 3) == -1 && rattle_arg(SIZE_MAX, room, 3) == -1 && rattle_arg((size_t)1 << 32, room, 3) == -1);
+    HOLDS(rattle_arg(3, room, 3) == -1 && rattle_arg(SIZE_MAX, room, 3) == -1 &&
+          rattle_arg((size_t)1 << 32, room, 3) == -1);
     HOLDS(memcmp(room, "abz", 4) == 0);
-    HOLDS(rattle_arg(0, room, sizeof room) == (intptr_t)strlen(name) && memcmp(room, name, strlen(name)) == 0);
+    HOLDS(rattle_arg(0, room, sizeof room) == (intptr_t)strlen(name) &&
+          memcmp(room, name, strlen(name)) == 0);
 }
 
 int main(int count, char **words)

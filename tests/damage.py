@@ -1,9 +1,11 @@
-"""The worked rows with each of their files damaged: cut off after each byte, each byte changed to some others, and each byte left
-out. If a text begins or ends like an earlier one of its kind, that part is damaged only in the earlier one.
+"""The worked rows with each of their files damaged: cut off after each byte, each byte changed to
+some others, and each byte left out. If a text begins or ends like an earlier one of its kind, that
+part is damaged only in the earlier one.
 
-Each result (the status, both texts and the files afterwards) is compared with what the package `expected` computes. A prefix of
-a document has to be S1, and prefixes of one dyndep file have to give what its row says. Every run has to end with status 0, with
-status 1 and one line on standard error, or, if the damage names another file, with status 3 and such a line.
+Each result (the status, both texts and the files afterwards) is compared with what the package
+`expected` computes. A prefix of a document has to be S1, and prefixes of one dyndep file have to
+give what its row says. Every run has to end with status 0, with status 1 and one line on standard
+error, or, if the damage names another file, with status 3 and such a line.
 """
 import os
 import re
@@ -19,7 +21,8 @@ load_tests = side_by_side
 
 BYTES = b"\x00\n\r $:|\"\\\x7f\x80\xff"
 LINE = re.compile(rb"dyncollate: [^\x00-\x1f\x7f]+\n")
-NOT_JSON = re.compile(rb"dyncollate: (target \d+: )?(scan|info|target|project)[ 0-9]*: S1 NotJson document\n")
+NOT_JSON = re.compile(
+    rb"dyncollate: (target \d+: )?(scan|info|target|project)[ 0-9]*: S1 NotJson document\n")
 KINDS = "cut off", "changed", "left out"
 
 # a kind of damage to a file of a row: which it is, and the bytes that are damaged
@@ -66,12 +69,14 @@ def common(one, other):
 
 
 def is_known(damage, text, printed):
-    """Whether the result for a file that is cut off is the one that is known without the package `expected`."""
+    """Whether the result for a file that is cut off is the one that is known without the package
+    `expected`."""
     if damage.file.endswith((".ddi", ".json")):
         return NOT_JSON.fullmatch(printed[2])
     if damage.row.words[0] == "show" and damage.row.files[damage.file] == TWO:
         line = next(line for last, line in CUT if len(text) <= last)
-        return printed == ((0, text, b"") if line is None else (1, b"", b"dyncollate: " + line + b"\n"))
+        return (printed == ((0, text, b"")
+                            if line is None else (1, b"", b"dyncollate: " + line + b"\n")))
     return True
 
 
@@ -80,7 +85,8 @@ def is_an_end(status, out, err):
     return not err if status == 0 else status in (1, 3) and not out and LINE.fullmatch(err)
 
 
-@each(all_damage(row for row in worked() if row.words), lambda it: f"{it.kind} {it.file} of {it.row.name}")
+@each(all_damage(row for row in worked()
+                 if row.words), lambda it: f"{it.kind} {it.file} of {it.row.name}")
 class Damages(Case):
     seconds = 3
 
@@ -92,7 +98,8 @@ class Damages(Case):
             before[name] = text
             printed, written = ending(result_of(*damage.row.words))
             if damage.kind == "cut off":
-                self.assertTrue(is_known(damage, text, printed), f"{what}: tests/expected has {printed!r:.300}")
+                self.assertTrue(is_known(damage, text, printed),
+                                f"{what}: tests/expected has {printed!r:.300}")
             self.checked(damage.row.words, before, printed, written, what)
 
     def checked(self, words, before, printed, written, what):

@@ -1,12 +1,16 @@
 """Files and devices that fail, vanish, are slow, or are shared by two runs at once.
 
-- Standard output that is closed, full, limited after each number of bytes, a pipe that nobody reads, or one that is full; and
+- Standard output that is closed, full, limited after each number of bytes, a pipe that nobody
+  reads, or one that is full; and
   standard input and standard error that are closed.
-- Files that may have no more bytes than each number, a full disk (full_disk.py), and directories that vanish before a file in
+- Files that may have no more bytes than each number, a full disk (full_disk.py), and directories
+  that vanish before a file in
   them is written.
-- Files that vanish once the document that names them was read, that are devices or directories, or that may not be read, and
+- Files that vanish once the document that names them was read, that are devices or directories, or
+  that may not be read, and
   names that are not UTF-8.
-- Each file of a run in turn as a pipe that gives one byte at a time, also if the run is stopped and continued meanwhile.
+- Each file of a run in turn as a pipe that gives one byte at a time,
+  also if the run is stopped and continued meanwhile.
 - Concurrent runs in one directory, of one target and of several.
 - A system that gives no random bytes, or little memory.
 
@@ -46,10 +50,11 @@ CYCLE = row("one", "two objects after another")
 COLLATE = row("collate", "GCC's maps")
 PROJECT = row("project", "three targets")
 # a call of each command that prints, and calls that read every kind of file
-PRINTED = [SHOW, row("one", "two rules, in their order"), row("effect", "two statements"), row("order", "after an effect")]
+PRINTED = [SHOW, row("one", "two rules, in their order"), row("effect", "two statements"),
+           row("order", "after an effect")]
 WRITTEN = [COLLATE, PROJECT]
-READ = PRINTED + WRITTEN + [
-    REJECTED, row("collate", "edges that have an order"), row("collate", "a cycle through a file that is generated")]
+READ = (PRINTED + WRITTEN + [REJECTED, row("collate", "edges that have an order"),
+                             row("collate", "a cycle through a file that is generated")])
 
 
 def situations(rows, *methods):
@@ -74,7 +79,8 @@ class Devices(Case):
         self.same(self.caller.run(*it.words, **given), wanted, what)
 
     def leaves(self, it, wanted, what="", **given):
-        """The call of a row, after its files are written again, prints this, and then there are the files of the row and those that it writes."""
+        """The call of a row, after its files are written again, prints this, and then there are the
+        files of the row and those that it writes."""
         lay(it.files)
         before = tree()
         self.same((self.caller.run(*it.words, **given), tree()), (wanted, before | it.made()), what)
@@ -82,7 +88,8 @@ class Devices(Case):
 
 # ---- standard output
 
-@each(situations(PRINTED, "closed", "full", "limited") + situations(WRITTEN, "closed_files", "full_next_to_files"), title)
+@each(situations(PRINTED, "closed", "full",
+                 "limited") + situations(WRITTEN, "closed_files", "full_next_to_files"), title)
 class Output(Devices):
     def closed(self, it):
         self.prints(it, UNWRITTEN, "standard output closed", closed=[1])
@@ -106,7 +113,8 @@ class Output(Devices):
     def limited(self, it):
         """Standard output may have no more bytes than each number."""
         for size in range(len(it.out)):
-            self.same(self.run_limited(size, *it.words), (3, it.out[:size], UNWRITTEN[2]), f"{size} bytes")
+            self.same(self.run_limited(size, *it.words), (3, it.out[:size], UNWRITTEN[2]),
+                      f"{size} bytes")
         self.same(self.run_limited(len(it.out), *it.words), it.printed(), "all bytes")
 
     def run_limited(self, size, *words, **given):
@@ -185,7 +193,8 @@ def run_limited(caller, size, *words, **given):
 
 
 def wholly_before(test, it, failing, before, folder="", what=""):
-    """The files before the one that cannot be written are whole, and of this there is no more than a beginning."""
+    """The files before the one that cannot be written are whole,
+    and of this there is no more than a beginning."""
     files = [(os.fsencode(folder + name), text) for name, text in it.written.items()]
     at = [name for name, _ in files].index(os.fsencode(failing))
     there = tree()
@@ -217,9 +226,11 @@ class Files(Devices):
                 self.same((ran, tree()), (it.printed(), before | it.made()), f"{size} bytes")
 
     def test_a_full_device_for_a_file(self):
-        for member, whole in ((b"t.json", ["a.o.modmap", "b.o.modmap"]), (b"t.dd", ["a.o.modmap", "b.o.modmap", "t.json"])):
+        for member, whole in ((b"t.json", ["a.o.modmap", "b.o.modmap"]),
+                              (b"t.dd", ["a.o.modmap", "b.o.modmap", "t.json"])):
             files = dict(COLLATE.files)
-            files["t.target.json"] = files["t.target.json"].replace(b'"%s"' % member, b'"/dev/full"')
+            files["t.target.json"] = files["t.target.json"].replace(b'"%s"' % member,
+                                                                    b'"/dev/full"')
             lay(files)
             before = tree()
             self.prints(COLLATE, cannot("write", "/dev/full"))
@@ -240,7 +251,8 @@ class Files(Devices):
 # ---- files that vanish, and names of things that are not files
 
 class Piped:
-    """Meanwhile a file is a pipe. Its bytes are given in pieces, and something is done before the last one ends."""
+    """Meanwhile a file is a pipe. Its bytes are given in pieces,
+    and something is done before the last one ends."""
 
     def __init__(self, name, by_byte=False, meanwhile=lambda at: None):
         self.name, self.text, self.by_byte, self.meanwhile = name, read(name), by_byte, meanwhile
@@ -249,13 +261,15 @@ class Piped:
         self.thread = threading.Thread(target=self.give, daemon=True)
 
     def give(self):
-        pieces = [self.text[at:at + 1] for at in range(len(self.text))] if self.by_byte else [self.text]
+        pieces = ([self.text[at:at + 1] for at in range(len(self.text))]
+                  if self.by_byte else [self.text])
         try:
             with open(self.name, "wb", buffering=0) as file:
                 for at, piece in enumerate(pieces):
                     file.write(piece)
                     self.meanwhile(at)
-                    while self.by_byte and int.from_bytes(fcntl.ioctl(file, 0x541B, bytes(4)), sys.byteorder):
+                    while (self.by_byte and int.from_bytes(fcntl.ioctl(file, 0x541B, bytes(4)),
+                                                           sys.byteorder)):
                         time.sleep(0)
         except BrokenPipeError:
             pass
@@ -275,9 +289,11 @@ def read_in_order(it):
     if command == "effect":
         return [it.words[2], it.words[3]]
     if command == "project":
-        return ["project.json"] + [f"{at}.{ending}" for at in range(3) for ending in ("json", "ddi")]
+        return (["project.json"] + [f"{at}.{ending}" for at in range(3)
+                                    for ending in ("json", "ddi")])
     if command == "collate":
-        return [name for name in ("t.target.json", "m.ddi", "two.ddi", "l.json", "t.edges") if name in it.files]
+        return [name for name in ("t.target.json", "m.ddi", "two.ddi", "l.json", "t.edges")
+                if name in it.files]
     return [it.words[1]]
 
 
@@ -317,7 +333,8 @@ class Inputs(Devices):
         self.byte_by_byte(it, stops=True)
 
     def no_random_bytes(self, it):
-        """New files get no names at random: they are written in place. Nothing else needs random bytes."""
+        """New files get no names at random: they are written in place.
+        Nothing else needs random bytes."""
         before = tree()
         ran = self.caller.run(*it.words, LD_PRELOAD=library("no_random_bytes.c"))
         self.same((ran, tree()), (it.printed(), before | it.made()))
@@ -336,14 +353,16 @@ class Inputs(Devices):
         """So it does while the last file is read, and a file in it is to be written."""
         for member in (b"t.json", b"t.dd"):
             files = dict(COLLATE.files)
-            files["t.target.json"] = files["t.target.json"].replace(b'"%s"' % member, b'"away/%s"' % member)
+            files["t.target.json"] = files["t.target.json"].replace(b'"%s"' % member,
+                                                                    b'"away/%s"' % member)
             lay(files)
             os.mkdir("away")
             with Piped("l.json", meanwhile=lambda _: os.rmdir("away")):
                 self.prints(COLLATE, cannot("write", "away/" + member.decode()))
             whole = {it: text for it, text in COLLATE.written.items()
                      if it.endswith(".modmap") or member == b"t.dd" and it == "t.json"}
-            self.same(tree(), {os.fsencode(it): text for it, text in (files | whole).items()}, member.decode())
+            self.same(tree(), {os.fsencode(it): text for it, text in (files | whole).items()},
+                      member.decode())
 
     def test_standard_input_by_its_name(self):
         lay(SHOW.files)
@@ -356,21 +375,30 @@ class Inputs(Devices):
     def test_files_without_an_end(self):
         """A document is read up to its limit, and a file of lines up to the limit of a line."""
         document, line = b"S8 TooLarge document", b"line 1: N5 LineTooLong"
-        lay({"t.dd": TWO, "t.edges": b"", "scan.json": target(b',"scans":["/dev/zero"]'), "info.json": target(b',"linked":["/dev/zero"]'),
-             "edges.json": target(b',"edges":"/dev/zero"'), "project.json": b'{"version":1,"targets":["/dev/zero"]}'})
-        for words, answer in (
-                (["one", "/dev/zero", "m", ".pcm"], b"scan 0: " + document), (["collate", "/dev/zero"], b"target: " + document),
-                (["project", "/dev/zero"], b"project: " + document), (["project", "project.json"], b"target 0: target: " + document),
-                (["collate", "scan.json"], b"scan 0: " + document), (["collate", "info.json"], b"info 0: " + document),
-                (["collate", "edges.json"], b"edges: " + line), (["show", "/dev/zero"], line), (["order", "/dev/zero"], b"edges: " + line),
-                (["effect", "t.dd", "/dev/zero", "t.dd"], b"edges: " + line), (["effect", "t.dd", "t.edges", "/dev/zero"], line)):
+        lay({"t.dd": TWO, "t.edges": b"", "scan.json": target(b',"scans":["/dev/zero"]'),
+             "info.json": target(b',"linked":["/dev/zero"]'),
+             "edges.json": target(b',"edges":"/dev/zero"'),
+             "project.json": b'{"version":1,"targets":["/dev/zero"]}'})
+        for words, answer in ((["one", "/dev/zero", "m", ".pcm"], b"scan 0: " + document),
+                              (["collate", "/dev/zero"], b"target: " + document),
+                              (["project", "/dev/zero"], b"project: " + document),
+                              (["project", "project.json"], b"target 0: target: " + document),
+                              (["collate", "scan.json"], b"scan 0: " + document),
+                              (["collate", "info.json"], b"info 0: " + document),
+                              (["collate", "edges.json"], b"edges: " + line),
+                              (["show", "/dev/zero"], line),
+                              (["order", "/dev/zero"], b"edges: " + line),
+                              (["effect", "t.dd", "/dev/zero", "t.dd"], b"edges: " + line),
+                              (["effect", "t.dd", "t.edges", "/dev/zero"], line)):
             self.same(self.caller.run(*words), rejected(answer), " ".join(words))
 
     def test_a_pipe_that_stays_open_after_a_faulty_line(self):
-        """The run ends with the fault while the writer still has the pipe open, and more could come."""
+        """The run ends with the fault while the writer still has the pipe open,
+        and more could come."""
         lay({"t.dd": TWO, "t.edges": b"", "edges.json": target(b',"edges":"pipe"')})
         for words, text, answer in (
-                (["show", "pipe"], V + b"rule r\n", b"line 2: Y8 BadLine"), (["order", "pipe"], b"rule r\n", b"edges: line 1: E3 Form"),
+                (["show", "pipe"], V + b"rule r\n", b"line 2: Y8 BadLine"),
+                (["order", "pipe"], b"rule r\n", b"edges: line 1: E3 Form"),
                 (["effect", "t.dd", "pipe", "t.dd"], b"rule r\n", b"edges: line 1: E3 Form"),
                 (["effect", "t.dd", "t.edges", "pipe"], V + b"rule r\n", b"line 2: Y8 BadLine"),
                 (["collate", "edges.json"], b"rule r\n", b"edges: line 1: E3 Form")):
@@ -383,9 +411,9 @@ class Inputs(Devices):
 
     def test_a_pipe_gives_its_text_to_the_first_that_reads_it(self):
         """A list reads it once, however often it names it. Each list reads it by itself."""
-        for members, error in (
-                (b',"scans":["/dev/stdin","/dev/stdin"]', b"M1 ObjectTwice main.o"),
-                (b',"scans":["/dev/stdin"],"linked":["/dev/stdin"]', b"info 0: S1 NotJson document")):
+        for members, error in ((b',"scans":["/dev/stdin","/dev/stdin"]', b"M1 ObjectTwice main.o"),
+                               (b',"scans":["/dev/stdin"],"linked":["/dev/stdin"]',
+                                b"info 0: S1 NotJson document")):
             with self.subTest(members):
                 lay({"t.target.json": target(members)})
                 end, pipe = os.pipe()
@@ -400,8 +428,8 @@ CALLS = [["show"], ["one", "mod", ".bmi"], ["collate"], ["order"], ["effect", "t
 EMPTY = {"show": rejected(b"line 1: Y4 NoVersion"), "one": rejected(b"scan 0: S1 NotJson document"),
          "collate": rejected(b"target: S1 NotJson document"), "order": (0, b"", b""),
          "effect": rejected(b"line 1: Y4 NoVersion")}
-NO_FILES = [".", "folder", "/", "", "loop", "dangling", "none", "folder/none", "/dev/null/none", "/proc/self/mem", "x" * 256,
-            "y/" * 2100, "/dev/null/"]
+NO_FILES = [".", "folder", "/", "", "loop", "dangling", "none", "folder/none", "/dev/null/none",
+            "/proc/self/mem", "x" * 256, "y/" * 2100, "/dev/null/"]
 
 
 @each(CALLS, lambda call: call[0])
@@ -416,13 +444,16 @@ class Names(Devices):
         for name in NO_FILES:
             words = [command, *given, name] if command == "effect" else [command, name, *given]
             self.same(self.caller.run(*words), cannot("read", name), name)
-        words = [command, *given, "/dev/null"] if command == "effect" else [command, "/dev/null", *given]
+        words = ([command, *given, "/dev/null"]
+                 if command == "effect" else [command, "/dev/null", *given])
         self.same(self.caller.run(*words), EMPTY[command], "/dev/null")
 
     def test_names_of_any_text(self):
-        for name in (b"\xc3\xa9 \xf0\x9f\x98\x80.dd", b" ", b"a b", b"'\"$*?[]", b"a\nb\x7f", b"..dd", b"x" * 255):
+        for name in (b"\xc3\xa9 \xf0\x9f\x98\x80.dd", b" ", b"a b", b"'\"$*?[]", b"a\nb\x7f",
+                     b"..dd", b"x" * 255):
             lay({})
-            self.same(self.caller.run("show", name), cannot("read", name.replace(b"\n", b"?").replace(b"\x7f", b"?")))
+            self.same(self.caller.run("show", name),
+                      cannot("read", name.replace(b"\n", b"?").replace(b"\x7f", b"?")))
             write(name, TWO)
             self.same(self.caller.run("show", name), (0, TWO, b""), repr(name))
 
@@ -431,12 +462,14 @@ class Names(Devices):
 
 class Rights(Case):
     def test_a_file_without_read_rights(self):
-        """The user root reads any file, so there the program is run as nobody, from a directory in which programs may be run."""
+        """The user root reads any file, so there the program is run as nobody, from a directory in
+        which programs may be run."""
         folder = tempfile.TemporaryDirectory()
         self.addCleanup(folder.cleanup)
         os.chdir(folder.name)
         os.chmod(folder.name, 0o755)
-        anyone = ["setpriv", "--reuid=65534", "--regid=65534", "--clear-groups"] if os.getuid() == 0 else []
+        anyone = (["setpriv", "--reuid=65534", "--regid=65534", "--clear-groups"]
+                  if os.getuid() == 0 else [])
         shutil.copy(PROGRAM, "program")
         os.chmod("program", 0o755)
         for it in PRINTED[:2]:
@@ -446,8 +479,10 @@ class Rights(Case):
             self.same(run_as_bytes(*anyone, "./program", *it.words), cannot("read", name), it.name)
 
     def test_no_memory_for_a_file(self):
-        """What it means needs more memory than the program may have, although it has no more bytes than it may have."""
-        lay({"t.target.json": target(b',"scans":["huge"]'), "huge": b"[" + b"0," * 8_000_000 + b"0]",
+        """What it means needs more memory than the program may have,
+        although it has no more bytes than it may have."""
+        lay({"t.target.json": target(b',"scans":["huge"]'),
+             "huge": b"[" + b"0," * 8_000_000 + b"0]",
              "huge.dd": V + b"".join(b"build %d: dyndep\n" % it for it in range(1_000_000))})
         for words in ["show", "huge.dd"], ["collate", "t.target.json"]:
             ran = run_apart("sh", "-c", 'ulimit -v 131072 && exec "$@"', "sh", PROGRAM, *words)
@@ -467,12 +502,14 @@ class AtOnce(Devices):
             before = tree()
             children = [self.caller.begin(*it.words) for _ in range(2 + round_of % 3)]
             ended = [self.caller.end(child) for child in children]
-            self.same((ended, tree()), ([it.printed()] * len(children), before | it.made()), f"{len(children)} at once")
+            self.same((ended, tree()), ([it.printed()] * len(children), before | it.made()),
+                      f"{len(children)} at once")
 
     def test_six_targets(self):
         files, made = dict(targets.LINKED), {}
         for at in range(6):
-            files[f"{at}.json"] = target(targets.LINKS + b',"dyndep":"%d.dd","info":"%d.info"' % (at, at), name=b"t%d" % at)
+            files[f"{at}.json"] = target(targets.LINKS + b',"dyndep":"%d.dd","info":"%d.info"'
+                                         % (at, at), name=b"t%d" % at)
             made[b"%d.dd" % at] = targets.LINKED_FILES["t.dd"]
             made[b"%d.info" % at] = targets.LINKED_FILES["t.json"].replace(b'"t"', b'"t%d"' % at)
         for _ in range(50):

@@ -1,5 +1,6 @@
-"""Files that are there before a run. Those that it writes have its bytes alone afterwards, and keep their rights; a run that
-fails before it writes leaves them as they were. Standard input is not read."""
+"""Files that are there before a run. Those that it writes have its bytes alone afterwards, and keep
+their rights; a run that fails before it writes leaves them as they were. Standard input is not
+read."""
 import os
 import stat
 

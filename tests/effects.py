@@ -19,11 +19,13 @@ class Effects(Case):
 
 @each(itertools.permutations(range(3)), lambda order: f"dyndep files {order}")
 class Orders(Case):
-    """The dyndep files of the three targets of a project change a listing to the same edges in any order."""
+    """The dyndep files of the three targets of a project change a listing to the same edges in any
+    order."""
 
     def check(self, order):
         lay({f"{it}.dd": WRITTEN[f"{it}.dd"] for it in order})
-        text = b"".join(edge(b"%s || %d.dd" % (it, at), b"%d.dd" % at) for at, it in enumerate(OBJECTS))
+        text = b"".join(edge(b"%s || %d.dd" % (it, at), b"%d.dd" % at)
+                        for at, it in enumerate(OBJECTS))
         for it in order:
             write("edges", text)
             status, text, err = self.caller.run("effect", f"{it}.dd", "edges", f"{it}.dd")

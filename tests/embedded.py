@@ -1,5 +1,5 @@
-"""libdyncollate, which `./build library` leaves in crates/c_library/out, or in the directory that the environment names as LIBRARY; and
-the arguments of its functions for a row."""
+"""libdyncollate, which `./build library` leaves in crates/c_library/out, or in the directory that
+the environment names as LIBRARY; and the arguments of its functions for a row."""
 import functools
 import importlib
 import os
@@ -17,9 +17,11 @@ SHARED, STATIC = f"{DIRECTORY}/libdyncollate.so.1", f"{DIRECTORY}/libdyncollate.
 
 
 def needs_library(cls):
-    """A decorator of a class: its tests need the library as it is in the sources. They are skipped if there is none."""
+    """A decorator of a class: its tests need the library as it is in the sources.
+    They are skipped if there is none."""
     is_there = os.path.exists(SHARED) and os.path.exists(STATIC)
-    return needs("library")(cls) if is_there else unittest.skip("there is no library; ./build library makes it")(cls)
+    return (needs("library")(cls)
+            if is_there else unittest.skip("there is no library; ./build library makes it")(cls))
 
 
 
@@ -57,18 +59,21 @@ def arguments(row):
 
 
 def is_asked(row):
-    """Whether a row is also a call of the library: its command line is valid, the caller can read the files that it names, and can
-    write those that it makes."""
+    """Whether a row is also a call of the library: its command line is valid, the caller can read
+    the files that it names, and can write those that it makes."""
     return row.status != 2 and not (row.line or b"").startswith(b"cannot write") and all(
         word in row.files for index, word in enumerate(arguments(row)) if is_opened(row, index))
 
 
 def given(row):
-    """The arguments of the function for a row's command: strings of bytes, and a dictionary for files. A file is also in it by the name
-    that a document uses, if the row uses another form of it."""
+    """The arguments of the function for a row's command: strings of bytes, and a dictionary for
+    files. A file is also in it by the name that a document uses, if the row uses another form of
+    it."""
     files = row.texts()
-    files |= {f"./{name}": text for name, text in files.items() if any(b'"./%s"' % name.encode() in it for it in files.values())}
-    passed = [files[word] if is_opened(row, index) else os.fsencode(word) for index, word in enumerate(arguments(row))]
+    files |= {f"./{name}": text for name, text in files.items()
+              if any(b'"./%s"' % name.encode() in it for it in files.values())}
+    passed = [files[word] if is_opened(row, index) else os.fsencode(word)
+              for index, word in enumerate(arguments(row))]
     return passed + [files] * (row.words[0] in ("collate", "project"))
 
 

@@ -1,6 +1,7 @@
-// Loaded before the C library, it fails the allocation whose number, from 1, the environment names as
-// FAILING_ALLOCATION, and writes a byte to file 3 when it does. Allocations are the calls of malloc and realloc, in their order.
-// It needs no header, so that the toolchain's own clang compiles it.
+// Loaded before the C library, it fails the allocation whose number, from 1, the environment names
+// as FAILING_ALLOCATION, and writes a byte to file 3 when it does. Allocations are the calls of
+// malloc and realloc, in their order. It needs no header, so that the toolchain's own clang
+// compiles it.
 typedef __SIZE_TYPE__ size;
 extern void *__libc_malloc(size);
 extern void *__libc_realloc(void *, size);

@@ -1,6 +1,7 @@
-/* failing_allocations COMMAND FILE..: the call that each file has (fuzz/calls.h) is made again and again, and each allocation fails in
-   turn. Then it says that memory ran out, writes nothing and leaks nothing, or it has the result that it has otherwise. It is linked
-   with --wrap for malloc, realloc and free. */
+/* failing_allocations COMMAND FILE..: the call that each file has (fuzz/calls.h) is made again and
+   again, and each allocation fails in turn. Then it says that memory ran out, writes nothing and
+   leaks nothing, or it has the result that it has otherwise. It is linked with --wrap for malloc,
+   realloc and free. */
 #include "fuzz/calls.h"
 
 #include <stdio.h>
@@ -11,7 +12,8 @@ void *__real_malloc(size_t);
 void *__real_realloc(void *, size_t);
 void __real_free(void *);
 
-/* The number of the allocation that fails, counted down to 0, or -1; how many blocks there are; and what this file has seen. */
+/* The number of the allocation that fails, counted down to 0, or -1; how many blocks there are; and
+   what this file has seen. */
 static long left = -1, blocks;
 static long allocations, failures;
 
@@ -67,7 +69,8 @@ static void fail_each(enum command command, const struct input *input)
         require(blocks == before);
         if (got.status == DYNCOLLATE_NO_MEMORY) {
             require(left == -1 && !got.written && !got.numbers && !got.text);
-            require(is_filled(numbers, whole.count * sizeof *numbers + 1) && is_filled(room, size + 1));
+            require(is_filled(numbers, whole.count * sizeof *numbers + 1) &&
+                    is_filled(room, size + 1));
             failures++;
         } else {
             require(got.status == whole.status && got.numbers == whole.count && got.text == size);

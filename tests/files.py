@@ -1,5 +1,6 @@
-"""The files of two real projects, in data/: each as it has to come out, and each that a run reads or writes, missing or in the
-way in turn. An independent implementation made the files in data/*/expected, and the real Ninja and Clang took them."""
+"""The files of two real projects, in data/: each as it has to come out, and each that a run reads
+or writes, missing or in the way in turn. An independent implementation made the files in
+data/*/expected, and the real Ninja and Clang took them."""
 import json
 import os
 import re
@@ -39,11 +40,13 @@ def left():
 def paths(text):
     """The lines of a map in either style, of each the path alone."""
     lines = [it for it in text.splitlines() if not it.startswith(b"-x ")]
-    return [re.sub(rb"-fmodule-output=|-fmodule-file=[^=]*=|[^ ]* ", b"", it, count=1) for it in lines]
+    return [re.sub(rb"-fmodule-output=|-fmodule-file=[^=]*=|[^ ]* ", b"", it, count=1)
+            for it in lines]
 
 
 class Real(Case):
-    """The working directory is a copy of a project in data/, with the directories of what is written."""
+    """The working directory is a copy of a project in data/,
+    with the directories of what is written."""
 
     def lay(self, name):
         shutil.copytree(f"{DATA}/{name}", ".", dirs_exist_ok=True)
@@ -58,7 +61,8 @@ class Real(Case):
                 os.makedirs(os.path.relpath(f"{folder}/{it}", "expected"), exist_ok=True)
 
     def every_read(self, words, names):
-        """Each of these files, which a run reads, is missing in turn, then a directory. Runs that read no file write none."""
+        """Each of these files, which a run reads, is missing in turn, then a directory. Runs that
+        read no file write none."""
         for name in names:
             os.rename(name, "aside")
             self.same(self.caller.run(*words), cannot("read", name), f"without {name}")
@@ -69,13 +73,14 @@ class Real(Case):
         self.same(left(), {})
 
     def every_write(self, words, names):
-        """In the place of each of these files, which a run writes in this order, is a directory in turn. The files before it are
-        written, and none after it."""
+        """In the place of each of these files, which a run writes in this order, is a directory in
+        turn. The files before it are written, and none after it."""
         for at, name in enumerate(names):
             self.empty()
             os.mkdir(name)
             self.same(self.caller.run(*words), cannot("write", name), f"{name} in the way")
-            self.same(left(), {os.fsencode(it): read(f"expected/{it}") for it in names[:at]}, f"{name} in the way")
+            self.same(left(), {os.fsencode(it): read(f"expected/{it}") for it in names[:at]},
+                      f"{name} in the way")
 
 
 @each([(name, style) for name in TARGETS for style in ("clang", "gcc")], " ".join)
@@ -120,7 +125,8 @@ class CollatedWithout(Real):
         name, target = it
         self.lay(name)
         text = document(TARGET % target)
-        # the info files are read from a directory of their own, so that dd has only the files that are written
+        # the info files are read from a directory of their own,
+        # so that dd has only the files that are written
         linked = ["in/" + os.path.basename(info) for info in text["linked"]]
         for info in text["linked"]:
             write("in/" + os.path.basename(info), read("expected/" + info))
@@ -139,7 +145,8 @@ class ProjectedWithout(Real):
         self.lay(name)
         texts = {it: document(it) for it in document("project.json")["targets"]}
         words = ["project", "project.json"]
-        self.every_read(words, ["project.json"] + [file for it, text in texts.items() for file in [it] + text["scans"]])
+        self.every_read(words, ["project.json"] + [file for it, text in texts.items()
+                                                   for file in [it] + text["scans"]])
         self.every_write(words, [file for text in texts.values() for file in written_by(text)])
 
 
@@ -152,17 +159,20 @@ class Failing(Real):
         whole, target = read(name), read("app.target.json")
         for size in 0, 100, 364:
             write(name, whole[:size])
-            self.same(self.caller.run("collate", "app.target.json"), rejected(b"scan 5: S1 NotJson document"), str(size))
+            self.same(self.caller.run("collate", "app.target.json"),
+                      rejected(b"scan 5: S1 NotJson document"), str(size))
         write(name, whole)
         for size in 0, 200:
             write("begun.json", target[:size])
-            self.same(self.caller.run("collate", "begun.json"), rejected(b"target: S1 NotJson document"), str(size))
+            self.same(self.caller.run("collate", "begun.json"),
+                      rejected(b"target: S1 NotJson document"), str(size))
         self.same(left(), {})
 
     def test_no_directory_for_a_map(self):
         self.lay("single")
         os.rmdir("obj/app")
-        self.same(self.caller.run("collate", "app.target.json"), cannot("write", "obj/app/main.cpp.o.modmap"))
+        self.same(self.caller.run("collate", "app.target.json"),
+                  cannot("write", "obj/app/main.cpp.o.modmap"))
         self.same(left(), {})
 
     def test_an_info_in_the_way_of_a_project(self):

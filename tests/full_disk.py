@@ -1,5 +1,5 @@
-"""A disk of a few pages, of which more and more are free, and a disk that can have only a few files. devices.py runs these tests in a
-place where they may mount it."""
+"""A disk of a few pages, of which more and more are free, and a disk that can have only a few
+files. devices.py runs these tests in a place where they may mount it."""
 import os
 import resource
 
@@ -16,17 +16,21 @@ PAGE, PAGES = resource.getpagesize(), 16
 
 def below(it, folder):
     """The row, with the files that it writes below a directory."""
-    objects = [name.removesuffix(".modmap").encode() for name in it.written if name.endswith(".modmap")]
+    objects = [name.removesuffix(".modmap").encode() for name in it.written
+               if name.endswith(".modmap")]
     files, made = dict(it.files), dict(it.written)
     for name, text in files.items():
         for path in objects:
-            text = text.replace(b'"primary-output":"%s"' % path, b'"primary-output":"%s/%s"' % (folder, path))
+            text = text.replace(b'"primary-output":"%s"' % path,
+                                b'"primary-output":"%s/%s"' % (folder, path))
         for written in it.written:
             if not written.endswith(".modmap"):
-                text = text.replace(b'"%s"' % written.encode(), b'"%s/%s"' % (folder, written.encode()))
+                text = text.replace(b'"%s"' % written.encode(),
+                                    b'"%s/%s"' % (folder, written.encode()))
         files[name] = text
     for path in objects:
-        made = {name: text.replace(b"build %s" % path, b"build %s/%s" % (folder, path)) for name, text in made.items()}
+        made = {name: text.replace(b"build %s" % path, b"build %s/%s" % (folder, path))
+                for name, text in made.items()}
     return it._replace(files=files, written=made)
 
 
@@ -48,8 +52,10 @@ class FullOfFiles(Disk):
     limit = "nr_inodes=3"
 
     def test_no_file_can_be_created(self):
-        """Without a temporary file, a file is not replaced: it keeps its old bytes. It is written as soon as there is place."""
-        files = {"t.target.json": target(b"new", b"full/t.dd"), "t.ddi": SCAN, "full/t.dd": b"before\n", "full/other": b"other\n"}
+        """Without a temporary file, a file is not replaced: it keeps its old bytes. It is written
+        as soon as there is place."""
+        files = {"t.target.json": target(b"new", b"full/t.dd"), "t.ddi": SCAN,
+                 "full/t.dd": b"before\n", "full/other": b"other\n"}
         for name, text in files.items():
             write(name, text)
         before, new = tree(), written(b"new", b"full/t.dd")
@@ -93,6 +99,7 @@ class FullDisk(Disk):
         for free in range(4):
             self.leave(free)
             with open("full/out", "wb") as file:
-                self.same(self.caller.run("show", "t.dd", out=file.fileno()), UNWRITTEN, f"{free} pages")
+                self.same(self.caller.run("show", "t.dd", out=file.fileno()), UNWRITTEN,
+                          f"{free} pages")
             self.same(read("full/out"), text[:PAGE * free], f"{free} pages: what is written")
             os.remove("full/out")

@@ -1,12 +1,15 @@
-"""Coverage-guided random tests of libdyncollate, by libFuzzer: a target in fuzz/ for each call, which says what must hold of any input.
+"""Coverage-guided random tests of libdyncollate, by libFuzzer: a target in fuzz/ for each call,
+which says what must hold of any input.
 
     python3 -m unittest tests.fuzzing             a few seconds for each target
-    python3 -m tests.fuzzing --minutes 60         an hour, shared by the targets, with the figures of each
+    python3 -m tests.fuzzing --minutes 60         an hour, shared by the targets,
+                                                  with the figures of each
     python3 -m tests.fuzzing --minutes 60 show    an hour for this one
 
-The rows are the first inputs. The targets are compiled with AddressSanitizer and UndefinedBehaviorSanitizer. The library is the shared
-object as it is, so fuzz/blocks.c counts which of its basic blocks have run, and fuzz/calls.c puts each string before a page that
-nobody may read. A long run leaves an input that fails in the current directory, as fuzz-TARGET-SUM.
+The rows are the first inputs. The targets are compiled with AddressSanitizer and
+UndefinedBehaviorSanitizer. The library is the shared object as it is, so fuzz/blocks.c counts which
+of its basic blocks have run, and fuzz/calls.c puts each string before a page that nobody may read.
+A long run leaves an input that fails in the current directory, as fuzz-TARGET-SUM.
 """
 import argparse
 import os
@@ -28,7 +31,8 @@ FUZZ = f"{TOP}/tests/fuzz"
 TARGETS = "collate", "project", "one", "effect", "order", "show", "statements"
 SECONDS, LONGEST = 4, 1 << 14
 SEPARATOR = b"\n\xff\n"
-FLAGS = "-std=c11 -D_GNU_SOURCE -O1 -fsanitize=fuzzer,address,undefined -fno-sanitize-recover=all".split()
+FLAGS = ("-std=c11 -D_GNU_SOURCE -O1 -fsanitize=fuzzer,address,undefined "
+         "-fno-sanitize-recover=all".split())
 PADDING = re.compile(r"\bnop|^xchg +%ax,%ax")
 JUMP = re.compile(r"(?:j\w+|call) +([0-9a-f]+) <")
 
@@ -44,12 +48,14 @@ def encoded(row):
 def first_inputs(target):
     """What the rows of the target's command pass; `statements` reads what `show` does."""
     command = "show" if target == "statements" else target
-    inputs = {encoded(row) for row in all_rows() if row.words[:1] == [command] and embedded.is_asked(row)}
+    inputs = {encoded(row) for row in all_rows() if row.words[:1] == [command]
+              and embedded.is_asked(row)}
     return sorted(it for it in inputs if len(it) <= LONGEST)
 
 
 def blocks():
-    """The offsets of the basic blocks of the shared object: a block begins after each jump, and at the target of a jump or a call."""
+    """The offsets of the basic blocks of the shared object: a block begins after each jump, and at
+    the target of a jump or a call."""
     listing = output_of("objdump", "-d", "--no-show-raw-insn", "-j", ".text", embedded.SHARED)
     starts, code, after_jump = set(), set(), True
     for at, instruction in re.findall(r"^ *([0-9a-f]+):\t(.*)$", listing, re.M):
@@ -71,7 +77,8 @@ def build(target, folder):
         file.write(f"#define BLOCKS {len(starts)}\n#define OFFSETS {','.join(map(str, starts))}\n")
     shutil.copy(embedded.SHARED, folder)
     sources = [f"{FUZZ}/{it}.c" for it in (target, "calls", "blocks")]
-    embedded.compiled(tool("fuzzer"), *FLAGS, f"-I{folder}", *sources, f"{folder}/libdyncollate.so.1", f"-Wl,-rpath,{folder}",
+    embedded.compiled(tool("fuzzer"), *FLAGS, f"-I{folder}", *sources,
+                      f"{folder}/libdyncollate.so.1", f"-Wl,-rpath,{folder}",
                       to=f"{folder}/{target}")
     os.mkdir(f"{folder}/{target}.inputs")
     for number, text in enumerate(first_inputs(target)):
@@ -80,9 +87,11 @@ def build(target, folder):
 
 
 def run_target(target, folder, seconds, failing):
-    """Runs a target. Returns its status, and what it printed. The name of an input that fails begins with `failing`."""
-    return run(f"{folder}/{target}", f"-max_total_time={seconds}", f"-max_len={LONGEST}", "-timeout=60", "-print_final_stats=1",
-               f"-dict={FUZZ}/dictionary", f"-artifact_prefix={failing}", f"{folder}/{target}.inputs", seconds=seconds + 600)
+    """Runs a target. Returns its status, and what it printed. The name of an input that fails
+    begins with `failing`."""
+    return run(f"{folder}/{target}", f"-max_total_time={seconds}", f"-max_len={LONGEST}",
+               "-timeout=60", "-print_final_stats=1", f"-dict={FUZZ}/dictionary",
+               f"-artifact_prefix={failing}", f"{folder}/{target}.inputs", seconds=seconds + 600)
 
 
 def finding(printed):
@@ -125,12 +134,14 @@ def main():
     for target in targets:
         with tempfile.TemporaryDirectory() as folder:
             build(target, folder)
-            status, printed = run_target(target, folder, int(60 * given.minutes / len(targets)), f"fuzz-{target}-")
+            status, printed = run_target(target, folder, int(60 * given.minutes / len(targets)),
+                                         f"fuzz-{target}-")
         if status:
             findings += 1
             print(f"{target}: status {status}\n{finding(printed)}", flush=True)
         else:
-            print("{}: {:,} runs, {:,} of {:,} basic blocks".format(target, *figures(printed)), flush=True)
+            print("{}: {:,} runs, {:,} of {:,} basic blocks".format(target, *figures(printed)),
+                  flush=True)
     print(f"{findings} findings")
     return 1 if findings else 0
 

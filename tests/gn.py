@@ -13,8 +13,8 @@ from pathlib import Path
 from tests import program
 from tests.case import tree
 from tests.cmake import NINJA, TOP
-from tests.meson import KILLED, Builds, Tree, any_compiler, environment
-from tests.run import output_of, run, run_at_once
+from tests.meson import Builds, Tree, any_compiler, environment
+from tests.run import output_of, run
 from tests.tools import WithoutClang, tool
 
 ADAPTER = str(TOP / "adapters/gn/dyncollate-gn")
@@ -158,36 +158,20 @@ class Adoption(GnBuilds):
         """A run that is killed at any moment leaves GN's files, or one that the next run of Ninja
         adopts."""
         self.plain()
-        before = self.tree.text()
         self.adopt()
-        adopted, number, ended, pending = tree(self.tree.build), 0, -9, 0
-        while ended == -9:
-            adapter("restore", self.tree.build)
-            shutil.rmtree(self.tree.build / "gn-dyncollate")
-            number += 1
-            words = ["-c", KILLED, str(number), ADAPTER, "adopt", self.tree.build]
-            ended, _ = run(sys.executable, *words, env=environment())
-            if self.tree.text() != before:
-                pending += not self.tree.adopted()
-                self.tree.ninja("build.ninja")
-                self.assertEqual(self.tree.status, 0, self.tree.log)
-                files = tree(self.tree.build)
-                self.assertEqual({it: text for it, text in files.items() if it in adopted}, adopted)
-        self.assertEqual(ended, 0)
+        adopted = tree(self.tree.build)
+
+        def check():
+            files = tree(self.tree.build)
+            self.assertEqual({it: text for it, text in files.items() if it in adopted}, adopted)
+
         # GN's text, the file that adopts and the Ninja file, and what these name
         named = [it for it in adopted if it.startswith("gn-dyncollate/")]
-        self.assertEqual((number, pending), (2 * len(named) + 7, 2 * len(named) + 2))
+        self.assertEqual(self.killed(ADAPTER, check), (2 * len(named) + 7, 2 * len(named) + 2))
 
     def test_adoptions_at_once(self):
-        before = self.plain()
-        call = [sys.executable, ADAPTER]
-        for _ in range(3):
-            runs = run_at_once(*[[*call, "adopt", self.tree.build]] * 4, env=environment())
-            self.assertEqual([status for status, _ in runs], [0] * 4, runs)
-            self.assertTrue(self.tree.adopted())
-            runs = run_at_once(*[[*call, "restore", self.tree.build]] * 4, env=environment())
-            self.assertEqual(runs, [(0, "")] * 4)
-            self.assertEqual(self.left(), before)
+        self.plain()
+        self.at_once(ADAPTER, self.left)
 
     def test_compile_commands(self):
         """They have the maps. The file that GN wrote is restored."""
@@ -235,26 +219,24 @@ class Adoption(GnBuilds):
         self.assertEqual(status, 0, said)
         self.assertEqual(run("./app", cwd=self.tree.top / "out"), (0, "303 12 9\n"))
 
-    def test_a_command_that_is_more(self):
+    def without(self, said, old, new):
+        """Adoption fails with this line if the commands of compilations are changed so."""
         self.plain()
         name = Path(self.tree.top, "build/toolchain/BUILD.gn")
-        name.write_text(name.read_text().replace('-o {{output}}"', '-o {{output}} && true"', 1))
+        name.write_text(name.read_text().replace(old, new, 1))
         self.tree.gn()
-        said = r"dyncollate-gn: the command of \S+\.o is more than a call of the compiler\n$"
         status, printed = adapter("adopt", self.tree.build)
         self.assertEqual(status, 1)
-        self.assertRegex(printed, said)
+        self.assertRegex(printed, rf"^dyncollate-gn: the command of \S+\.o {said}\n$")
+        return printed
+
+    def test_a_command_that_is_more(self):
+        printed = self.without("is more than a call of the compiler", '-o {{output}}"',
+                               '-o {{output}} && true"')
         self.fails(printed.rstrip())
 
     def test_a_command_without_flags(self):
-        self.plain()
-        name = Path(self.tree.top, "build/toolchain/BUILD.gn")
-        name.write_text(name.read_text().replace("{{cflags_cc}}", "-std=c++20", 1))
-        self.tree.gn()
-        said = r"dyncollate-gn: the command of \S+\.o has no \{\{cflags_cc\}\}\n$"
-        status, printed = adapter("adopt", self.tree.build)
-        self.assertEqual(status, 1)
-        self.assertRegex(printed, said)
+        self.without(r"has no \{\{cflags_cc\}\}", "{{cflags_cc}}", "-std=c++20")
 
     def test_what_is_rejected(self):
         other = self.room / "other"

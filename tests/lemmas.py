@@ -3,8 +3,8 @@
     python3 -m unittest tests.lemmas
     python3 -m tests.lemmas             prints each statement that has several places
 
-Two lemmas state the same if their types are equal up to the names of their variables. A lemma that other crates need is in
-`proofs/ForCallers.antt` of the lowest crate that can state it.
+Two lemmas state the same if their types are equal up to the names of their variables. A lemma that
+other crates need is in `proofs/ForCallers.antt` of the lowest crate that can state it.
 """
 import re
 import sys
@@ -49,15 +49,18 @@ def repeated():
 
 class Lemmas(unittest.TestCase):
     def test_names_of_variables(self):
-        """Statements that differ in the names of variables alone are the same, and others are not."""
-        one, other = "{X : Type 0} (xs : List X) → xs ++ [] ≡ xs", "{A : Type 0}\n  (as : List A) → as ++ [] ≡ as"
+        """Statements that differ in the names of variables alone are the same,
+        and others are not."""
+        one, other = ("{X : Type 0} (xs : List X) → xs ++ [] ≡ xs",
+                      "{A : Type 0}\n  (as : List A) → as ++ [] ≡ as")
         self.assertEqual(statement(one), statement(other))
         self.assertNotEqual(statement(one), statement(other.replace("as ++ []", "[] ++ as")))
 
     def test_one_place(self):
         self.assertGreater(len(statements()), 1000)
         found = repeated()
-        self.assertLessEqual(len(found), MOST, "\n".join(f"{text}: {places}" for text, places in found.items()))
+        self.assertLessEqual(len(found), MOST,
+                             "\n".join(f"{text}: {places}" for text, places in found.items()))
 
 
 if __name__ == "__main__":

@@ -1,5 +1,5 @@
-"""libdyncollate as it is linked: its header against the exports of crates/c_library, what the archive and the shared object define
-and need, and the examples that embed it."""
+"""libdyncollate as it is linked: its header against the exports of crates/c_library, what the
+archive and the shared object define and need, and the examples that embed it."""
 import os
 import re
 import tempfile
@@ -34,15 +34,19 @@ def without_comments(text):
 
 
 def declared(returned="outcome"):
-    """The functions of the header that return an outcome or a location: the type and the name of each parameter."""
-    found = re.findall(rf"dyncollate_{returned} (dyncollate_\w+)\((.*?)\);", without_comments(HEADER.read_text()), re.S)
-    return {name: [tuple(re.fullmatch(r"(.*?)(\w+)", it.strip()).groups()) for it in parameters.split(",")] for name, parameters in found}
+    """The functions of the header that return an outcome or a location:
+    the type and the name of each parameter."""
+    found = re.findall(rf"dyncollate_{returned} (dyncollate_\w+)\((.*?)\);",
+                       without_comments(HEADER.read_text()), re.S)
+    return {name: [tuple(re.fullmatch(r"(.*?)(\w+)", it.strip()).groups())
+                   for it in parameters.split(",")] for name, parameters in found}
 
 
 def exported(returned="outcome"):
     """The same by the exports. What has no bytes, such as the allocator, is no parameter in C."""
     functions = {}
-    for name, parameters, found in re.findall(r'extern "C" fn (\w+)\((.*?)\) -> (\w+)', EXPORTS.read_text(), re.S):
+    for name, parameters, found in (re.findall(r'extern "C" fn (\w+)\((.*?)\) -> (\w+)',
+                                               EXPORTS.read_text(), re.S)):
         if found != RETURNED[returned][0]:
             continue
         functions[name] = []
@@ -65,9 +69,13 @@ class Header(unittest.TestCase):
     def test_structs(self):
         """The fields of what the functions return."""
         for returned, (kind, source) in RETURNED.items():
-            fields = re.search(rf"#\[repr\(C\)\]\n#\[derive\([^)]*\)\]\npub struct {kind} \{{(.*?)\n\}}", source.read_text(), re.S)[1]
-            fields = [(FIELDS[kind], name) for name, kind in re.findall(r"pub (\w+): (\w+)", without_comments(fields))]
-            in_c = re.search(rf"typedef struct dyncollate_{returned} \{{(.*?)\}}", without_comments(HEADER.read_text()), re.S)[1]
+            fields = re.search(
+                rf"#\[repr\(C\)\]\n#\[derive\([^)]*\)\]\npub struct {kind} \{{(.*?)\n\}}",
+                source.read_text(), re.S)[1]
+            fields = [(FIELDS[kind], name)
+                      for name, kind in re.findall(r"pub (\w+): (\w+)", without_comments(fields))]
+            in_c = re.search(rf"typedef struct dyncollate_{returned} \{{(.*?)\}}",
+                             without_comments(HEADER.read_text()), re.S)[1]
             self.assertEqual(re.findall(r"(\w+) (\w+);", in_c), fields)
             in_python = getattr(embedded.calls(), kind)._fields_
             self.assertEqual([name for name, _ in in_python], [name for _, name in fields])
@@ -78,58 +86,77 @@ class Header(unittest.TestCase):
         self.assertEqual({f"dyncollate_{command}" for command in calls.COMMANDS}, set(declared()))
         kinds = {"const uint8_t *": calls.STRING, "const size_t *": calls.NUMBERS}
         for command, parameters in calls.COMMANDS.items():
-            wanted = [it for kind, _ in declared()[f"dyncollate_{command}"][:-4:2] for it in kinds[kind]]
-            self.assertEqual([it for kind in parameters for it in calls.PARAMETERS[kind]], wanted, command)
+            wanted = [it for kind, _ in declared()[f"dyncollate_{command}"][:-4:2]
+                      for it in kinds[kind]]
+            self.assertEqual([it for kind in parameters for it in calls.PARAMETERS[kind]], wanted,
+                             command)
 
 
 @embedded.needs_tools("gcc", "g++")
-@each(["gcc -std=c99 -pedantic -x c", "g++ -std=c++98 -x c++", "gcc -std=c17 -x c", "g++ -std=c++20 -x c++"])
+@each(["gcc -std=c99 -pedantic -x c", "g++ -std=c++98 -x c++", "gcc -std=c17 -x c",
+       "g++ -std=c++20 -x c++"])
 class Compiles(unittest.TestCase):
     def check(self, compiler):
-        self.assertEqual(run(*compiler.split(), "-Wall", "-Wextra", "-Werror", "-fsyntax-only", HEADER), (0, ""))
+        self.assertEqual(run(*compiler.split(), "-Wall", "-Wextra", "-Werror", "-fsyntax-only",
+                             HEADER), (0, ""))
 
 
 @embedded.needs_library
 @embedded.needs_tools("nm", "readelf")
 class Linked(unittest.TestCase):
     def defined(self, *words):
-        return {line.split()[-1] for line in output_of("nm", "-g", "--defined-only", *words).splitlines() if len(line.split()) == 3}
+        return {line.split()[-1]
+                for line in output_of("nm", "-g", "--defined-only", *words).splitlines()
+                if len(line.split()) == 3}
 
     def test_symbols(self):
-        """The functions of the header, and nothing else. In the shared object they have the version DYNCOLLATE_1."""
+        """The functions of the header, and nothing else.
+        In the shared object they have the version DYNCOLLATE_1."""
         functions = {*declared(), *declared("location"), "dyncollate_version"}
         self.assertEqual(self.defined(embedded.STATIC), functions)
-        self.assertEqual(self.defined("-D", embedded.SHARED), {"DYNCOLLATE_1", *(f"{it}@@DYNCOLLATE_1" for it in functions)})
+        self.assertEqual(self.defined("-D", embedded.SHARED),
+                         {"DYNCOLLATE_1", *(f"{it}@@DYNCOLLATE_1" for it in functions)})
 
     @embedded.needs_tools("gcc")
     def test_version(self):
         """DYNCOLLATE_VERSION is that of VERSION, and the library returns it."""
         major, minor, patch = map(int, Path(TOP, "VERSION").read_text().split("."))
         with tempfile.TemporaryDirectory() as folder:
-            Path(folder, "v.c").write_text("#include <dyncollate.h>\n#include <stdio.h>\n"
-                                           'int main(void) { printf("%u %u\\n", (unsigned)DYNCOLLATE_VERSION, dyncollate_version()); }\n')
+            Path(folder, "v.c").write_text(
+                "#include <dyncollate.h>\n#include <stdio.h>\n"
+                'int main(void) { printf("%u %u\\n", (unsigned)DYNCOLLATE_VERSION, '
+                'dyncollate_version()); }\n')
             built = embedded.compiled("gcc", f"{folder}/v.c", embedded.STATIC, to=f"{folder}/v")
-            self.assertEqual(output_of(built).split(), [str(10000 * major + 100 * minor + patch)] * 2)
+            self.assertEqual(output_of(built).split(),
+                             [str(10000 * major + 100 * minor + patch)] * 2)
 
     def test_calls(self):
         """Only the heap: no file, socket or clock."""
-        called = {line.split()[-1] for line in output_of("nm", "-u", embedded.STATIC).splitlines() if line.startswith(" ")}
+        called = {line.split()[-1] for line in output_of("nm", "-u", embedded.STATIC).splitlines()
+                  if line.startswith(" ")}
         self.assertTrue({"malloc", "free"} <= called <= CALLED, called)
 
     def test_shared_object(self):
-        dynamic = re.findall(r"\((\w+)\)\s+(?:[\w ]+: )?(.*)", output_of("readelf", "-W", "-d", embedded.SHARED))
-        self.assertEqual([it for name, it in dynamic if name in ("NEEDED", "SONAME")], ["[libc.so.6]", "[libdyncollate.so.1]"])
+        dynamic = re.findall(r"\((\w+)\)\s+(?:[\w ]+: )?(.*)",
+                             output_of("readelf", "-W", "-d", embedded.SHARED))
+        self.assertEqual([it for name, it in dynamic if name in ("NEEDED", "SONAME")],
+                         ["[libc.so.6]", "[libdyncollate.so.1]"])
         self.assertEqual([(name, it) for name, it in dynamic if "TEXTREL" in name + it], [])
         self.assertRegex(output_of("readelf", "-W", "-l", embedded.SHARED), r"GNU_STACK.* RW ")
 
     def test_state(self):
-        """The code has no data that it could change, so calls on several threads share none. The toolchain's heap functions have one
-        byte, `nothing`, whose address is that of an empty block."""
-        sections = re.findall(r"\] (\.\S+) +(?:PROGBITS|NOBITS) +\S+ \S+ (\S+) \S+ +(\w*) ", output_of("readelf", "-W", "-S", embedded.STATIC))
-        self.assertTrue([name for name, size, _ in sections if name.startswith(".text") and int(size, 16)])
-        changed = {name: int(size, 16) for name, size, flags in sections if "W" in flags and not name.startswith(".data.rel.ro")}
+        """The code has no data that it could change, so calls on several threads share none. The
+        toolchain's heap functions have one byte, `nothing`, whose address is that of an empty
+        block."""
+        sections = re.findall(r"\] (\.\S+) +(?:PROGBITS|NOBITS) +\S+ \S+ (\S+) \S+ +(\w*) ",
+                              output_of("readelf", "-W", "-S", embedded.STATIC))
+        self.assertTrue([name for name, size, _ in sections if name.startswith(".text")
+                         and int(size, 16)])
+        changed = {name: int(size, 16) for name, size, flags in sections
+                   if "W" in flags and not name.startswith(".data.rel.ro")}
         self.assertEqual([name for name, size in changed.items() if size > (name == ".bss")], [])
-        self.assertLessEqual(set(re.findall(r"^\w+ [bBcCdD] (\S+)$", output_of("nm", embedded.STATIC), re.M)), {"nothing"})
+        self.assertLessEqual(set(re.findall(r"^\w+ [bBcCdD] (\S+)$",
+                                            output_of("nm", embedded.STATIC), re.M)), {"nothing"})
 
 
 def laid(files):
@@ -139,15 +166,19 @@ def laid(files):
 
 def expected(project, *targets):
     """What the program writes for these targets, in its order."""
-    files = {os.fsdecode(name): text for name, text in tree(os.fsencode(f"{DATA}/{project}/expected")).items()}
+    files = {os.fsdecode(name): text
+             for name, text in tree(os.fsencode(f"{DATA}/{project}/expected")).items()}
     for target in targets:
-        rules = [rule for scan in target["scans"] for rule in document(f"{DATA}/{project}/{scan}")["rules"]]
-        for name in [*(rule["primary-output"] + ".modmap" for rule in rules), target["info"], target["dyndep"]]:
+        rules = [rule for scan in target["scans"]
+                 for rule in document(f"{DATA}/{project}/{scan}")["rules"]]
+        for name in [*(rule["primary-output"] + ".modmap" for rule in rules), target["info"],
+                     target["dyndep"]]:
             yield name, files[name]
 
 
 def inputs(project):
-    return {name: Path(DATA, project, name).read_bytes() for name in sorted(os.listdir(f"{DATA}/{project}")) if name != "expected"}
+    return {name: Path(DATA, project, name).read_bytes()
+            for name in sorted(os.listdir(f"{DATA}/{project}")) if name != "expected"}
 
 
 @embedded.needs_library
@@ -156,53 +187,62 @@ class Examples(InRoom):
 
     @embedded.needs_tools("gcc")
     def test_c(self):
-        program = embedded.compiled("gcc", "-std=c99", *SANITIZED, f"{embedded.EXAMPLES}/collate.c", embedded.STATIC, to=self.room / "collate")
+        program = embedded.compiled("gcc", "-std=c99", *SANITIZED, f"{embedded.EXAMPLES}/collate.c",
+                                    embedded.STATIC, to=self.room / "collate")
         target = document(f"{DATA}/single/app.target.json")
         printed_files = laid(dict(expected("single", target)))
-        self.assertEqual(run_apart(program, "app.target.json", *target["scans"], cwd=f"{DATA}/single"), (0, printed_files, ""))
-        self.assertEqual(run_apart(program, "app.target.json", *target["scans"][1:], cwd=f"{DATA}/single"),
+        self.assertEqual(run_apart(program, "app.target.json", *target["scans"],
+                                   cwd=f"{DATA}/single"), (0, printed_files, ""))
+        self.assertEqual(run_apart(program, "app.target.json", *target["scans"][1:],
+                                   cwd=f"{DATA}/single"),
                          (3, "", f"dyncollate: cannot read {target['scans'][0]}\n"))
         self.assertEqual(run_apart(program), (2, "", "usage: collate TARGETFILE FILE..\n"))
 
     @embedded.needs_tools("g++")
     def test_cxx(self):
-        program = embedded.compiled("g++", "-std=c++17", "-pthread", *SANITIZED, f"{embedded.EXAMPLES}/background.cpp", embedded.STATIC,
+        program = embedded.compiled("g++", "-std=c++17", "-pthread", *SANITIZED,
+                                    f"{embedded.EXAMPLES}/background.cpp", embedded.STATIC,
                                     to=self.room / "background")
-        self.assertEqual(run_apart(program), (0, (
-            "collating\n"
-            "==> main.o.modmap <==\n-fmodule-file=greet=bmi/greet.pcm\n"
-            "==> greet.o.modmap <==\n-x c++-module\n-fmodule-output=bmi/greet.pcm\n"
-            '==> app.info.json <==\n{"modules":[{"bmi":"bmi/greet.pcm","name":"greet","requires":[],"visibility":"public"}],'
-            '"target":"app","version":2}\n'
-            "==> app.dd <==\nninja_dyndep_version = 1\nbuild main.o: dyndep | bmi/greet.pcm\n"
-            "build greet.o | bmi/greet.pcm: dyndep\n  restat = 1\n"), ""))
+        self.assertEqual(run_apart(program), (
+            0, ("collating\n==> main.o.modmap <==\n-fmodule-file=greet=bmi/greet.pcm\n"
+                "==> greet.o.modmap <==\n-x c++-module\n-fmodule-output=bmi/greet.pcm\n"
+                '==> app.info.json <==\n'
+                '{"modules":[{"bmi":"bmi/greet.pcm","name":"greet","requires":[],'
+                '"visibility":"public"}],"target":"app","version":2}\n'
+                "==> app.dd <==\nninja_dyndep_version = 1\nbuild main.o: dyndep | bmi/greet.pcm\n"
+                "build greet.o | bmi/greet.pcm: dyndep\n  restat = 1\n"), ""))
 
     @embedded.needs_tools("g++")
     def test_wrapper(self):
-        """dyncollate.hpp: statements, files and errors, and what it throws if an allocation fails."""
+        """dyncollate.hpp: statements, files and errors,
+        and what it throws if an allocation fails."""
         program = self.wrapper()
         info = '{"modules":[],"target":"t","version":2}'
         dyndep = "ninja_dyndep_version = 1\nbuild b.o: dyndep\n"
-        self.assertEqual(run_apart(program, seconds=60), (0, (
-            "a restat: b c | d e f\ng: |\n3000 object2999.o m2999\n" + dyndep +
-            f"i {len(info)} restat\nd {len(dyndep)}\n2\n"
-            "3 dyncollate: cannot read s\n1 dyncollate: target: S2 BadVersion document\ndyncollate: a name is not UTF-8\n"
-            "1 dyncollate: scan 0: S1 NotJson document\n1 dyncollate: line 2: Y9 NoOutput\n0\n"
-            "3 S6 rule 2 requires 1\n7 Y9 line 2\n"
-            "b\na\nbuild a | c: x | b || t.dd\n  dyndep = t.dd\nbuild b: x\n"
-            "ninja_dyndep_version = 1\nbuild a: dyndep\n"
-            "1 dyncollate: cycle a\n1 dyncollate: name: N1 Empty\n1 dyncollate: line 2: N9 Variable at 7\nno memory\n"), ""))
+        self.assertEqual(run_apart(program, seconds=60), (
+            0, ("a restat: b c | d e f\ng: |\n3000 object2999.o m2999\n"
+                + dyndep + f"i {len(info)} restat\nd {len(dyndep)}\n2\n"
+                "3 dyncollate: cannot read s\n1 dyncollate: target: S2 BadVersion document\n"
+                "dyncollate: a name is not UTF-8\n"
+                "1 dyncollate: scan 0: S1 NotJson document\n1 dyncollate: line 2: Y9 NoOutput\n0\n"
+                "3 S6 rule 2 requires 1\n7 Y9 line 2\n"
+                "b\na\nbuild a | c: x | b || t.dd\n  dyndep = t.dd\nbuild b: x\n"
+                "ninja_dyndep_version = 1\nbuild a: dyndep\n"
+                "1 dyncollate: cycle a\n1 dyncollate: name: N1 Empty\n"
+                "1 dyncollate: line 2: N9 Variable at 7\nno memory\n"), ""))
 
     def wrapper(self):
         wrapped = "-Wl,--wrap=malloc,--wrap=realloc"
-        return embedded.compiled("g++", "-std=c++17", "-pedantic", "-Wconversion", *SANITIZED, wrapped,
-                                 f"{TOP}/tests/wrapper.cpp", embedded.STATIC, to=self.room / "wrapper")
+        return embedded.compiled("g++", "-std=c++17", "-pedantic", "-Wconversion", *SANITIZED,
+                                 wrapped, f"{TOP}/tests/wrapper.cpp", embedded.STATIC,
+                                 to=self.room / "wrapper")
 
     @embedded.needs_tools("g++")
     def test_errors_of_wrapper(self):
         """dyncollate::error has the code and the names that the package for Python has."""
         lines = "".join(f"dyncollate: {line}\n" for line, *_ in ERRORS)
-        wanted = "".join("|".join([code or "", name or "", *names]) + "\n" for _, code, name, _, _, names in ERRORS)
+        wanted = "".join("|".join([code or "", name or "", *names]) + "\n"
+                         for _, code, name, _, _, names in ERRORS)
         self.assertEqual(run_apart(self.wrapper(), "errors", input=lines), (0, wanted, ""))
 
     @embedded.needs_tools("gcc")
@@ -210,8 +250,10 @@ class Examples(InRoom):
         """The program in the comment of the header."""
         code = re.search(r"( {7}#include <dyncollate.h>.*?\n {7}\}\n)", HEADER.read_text(), re.S)[1]
         Path(self.room, "b.c").write_text(re.sub(r"^ {7}", "", code, flags=re.M))
-        program = embedded.compiled("gcc", "-std=c99", "-pedantic", *SANITIZED, self.room / "b.c", embedded.STATIC, to=self.room / "b")
-        self.assertEqual(run_apart(program), (0, "ninja_dyndep_version = 1\nbuild obj/b.o: dyndep\n", ""))
+        program = embedded.compiled("gcc", "-std=c99", "-pedantic", *SANITIZED, self.room / "b.c",
+                                    embedded.STATIC, to=self.room / "b")
+        self.assertEqual(run_apart(program),
+                         (0, "ninja_dyndep_version = 1\nbuild obj/b.o: dyndep\n", ""))
 
     def test_python(self):
         module = embedded.module()
@@ -220,13 +262,16 @@ class Examples(InRoom):
         made = module.project(files["project.json"], files)
         self.assertEqual(list(made.items()), list(expected("libs", *targets)))
         for name, target in zip(TARGETS["libs"], targets):
-            made = module.collate(files[f"{name}.target.json"], files | dict(expected("libs", *targets)))
+            made = module.collate(files[f"{name}.target.json"],
+                                  files | dict(expected("libs", *targets)))
             self.assertEqual(list(made.items()), list(expected("libs", target)), name)
         with self.assertRaises(module.Error) as raised:
             module.collate(files["app.target.json"], {})
-        self.assertEqual((raised.exception.status, raised.exception.line), (3, f"dyncollate: cannot read {targets[-1]['scans'][0]}"))
+        self.assertEqual((raised.exception.status, raised.exception.line),
+                         (3, f"dyncollate: cannot read {targets[-1]['scans'][0]}"))
         with self.assertRaises(module.Error) as raised:
             module.one(b"", "mod", ".bmi")
-        self.assertEqual((raised.exception.status, raised.exception.line), (1, "dyncollate: scan 0: S1 NotJson document"))
+        self.assertEqual((raised.exception.status, raised.exception.line),
+                         (1, "dyncollate: scan 0: S1 NotJson document"))
         with self.assertRaises(ValueError):
             module.run("one", b"{}", b"\xff", b"")

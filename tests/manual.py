@@ -22,7 +22,8 @@ FAULT = r"[NYSMEK][0-9]+ [A-Z][A-Za-z]+"
 
 def sources():
     """The texts of the program's sources, without those of the tests' crates."""
-    return [path.read_text() for path in sorted(TOP.glob("crates/*/src/**/*.rt")) if "_tests" not in str(path)]
+    return [path.read_text() for path in sorted(TOP.glob("crates/*/src/**/*.rt"))
+            if "_tests" not in str(path)]
 
 
 def section(text, first, after):
@@ -63,10 +64,12 @@ class Manual(unittest.TestCase):
         """DIAGNOSTICS has each entry of the table, in its order, and its text."""
         errors = section(self.page, "DIAGNOSTICS", "LIMITS")
         self.assertEqual(re.findall(r"^\.It (?:Sy|Li) (.*)", errors, re.M), list(meanings()))
-        self.assertEqual(with_meanings(self.page), self.page, "see `python3 -m tests.manual --write`")
+        self.assertEqual(with_meanings(self.page), self.page,
+                         "see `python3 -m tests.manual --write`")
 
     def equal_lists(self, in_sources, in_page):
-        """A list of the sources is not empty, and the page has each of its entries once, and no other."""
+        """A list of the sources is not empty, and the page has each of its entries once,
+        and no other."""
         self.assertTrue(in_sources)
         for one in sorted(set(in_sources) | set(in_page)):
             with self.subTest(one):
@@ -81,17 +84,23 @@ class Manual(unittest.TestCase):
         arguments = (TOP / "crates/command_line/src/lib.rt").read_text()
         table = re.search(r"^const COMMANDS: .* = \[\n(.*?)^\];", arguments, re.M | re.S)[1]
         commands = re.findall(r'^    \("([a-z]+)", ', table, re.M)
-        self.assertEqual(len(commands), table.count("\n"), "each line of the table begins with the name of a command")
-        self.equal_lists(commands, re.findall(r"^\.Cm (.*)", section(self.page, "SYNOPSIS", "DESCRIPTION"), re.M))
+        self.assertEqual(len(commands), table.count("\n"),
+                         "each line of the table begins with the name of a command")
+        self.equal_lists(commands, re.findall(r"^\.Cm (.*)",
+                                              section(self.page, "SYNOPSIS", "DESCRIPTION"), re.M))
 
     def test_help(self):
-        """./dyncollate --help has the commands and operands of the manual page, in the same order."""
+        """./dyncollate --help has the commands and operands of the manual page,
+        in the same order."""
         printed = output_of(TOP / "dyncollate", "--help")
-        in_page = re.findall(r"^\.Cm (.*)\n\.Ar (.*)", section(self.page, "SYNOPSIS", "DESCRIPTION"), re.M)
-        self.assertEqual(re.findall(r"^([a-z]+) ([A-Z ]*[A-Z])  ", printed, re.M), [(name, them.upper()) for name, them in in_page])
+        in_page = re.findall(r"^\.Cm (.*)\n\.Ar (.*)",
+                             section(self.page, "SYNOPSIS", "DESCRIPTION"), re.M)
+        self.assertEqual(re.findall(r"^([a-z]+) ([A-Z ]*[A-Z])  ", printed, re.M),
+                         [(name, them.upper()) for name, them in in_page])
 
     def test_limits(self):
-        limits = re.findall(r"^(?:pub )?const (\w+_LIMIT): usize = ([0-9_]+);", "\n".join(sources()), re.M)
+        limits = re.findall(r"^(?:pub )?const (\w+_LIMIT): usize = ([0-9_]+);",
+                            "\n".join(sources()), re.M)
         self.assertTrue(limits)
         in_page = re.findall(r"^\.It (.*)", section(self.page, "LIMITS", "SEE"), re.M)
         for name, number in limits:
@@ -132,12 +141,15 @@ class Manual(unittest.TestCase):
         self.assertTrue(found)
         page = LIBRARY_PAGE.read_text()
         in_page = re.findall(r'^\.Ft (\w+)\n\.Fo (\w+)\n((?:\.Fa ".*"\n)+)', page, re.M)
-        in_page = [(kind, name, ", ".join(re.findall('"(.*)"', parameters))) for kind, name, parameters in in_page]
+        in_page = [(kind, name, ", ".join(re.findall('"(.*)"', parameters)))
+                   for kind, name, parameters in in_page]
         in_page += re.findall(r"^\.Ft (\w+)\n\.Fn (\w+) (\w+)$", page, re.M)
-        wanted = [(kind, name, re.sub(r"\s+", " ", parameters.strip())) for kind, name, parameters in found]
+        wanted = [(kind, name, re.sub(r"\s+", " ", parameters.strip()))
+                  for kind, name, parameters in found]
         self.assertEqual(sorted(in_page), sorted(wanted))
         named = re.search(r"^\.Sh NAME\n(.*?)^\.Nd", page, re.M | re.S)[1]
-        self.assertEqual(sorted(re.findall(r"^\.Nm (\w+)", named, re.M)), sorted(name for _, name, _ in found))
+        self.assertEqual(sorted(re.findall(r"^\.Nm (\w+)", named, re.M)),
+                         sorted(name for _, name, _ in found))
 
 
 if __name__ == "__main__":

@@ -80,13 +80,9 @@ def environment(**more):
     return kept | {"DYNCOLLATE": program.PROGRAM, "DYNCOLLATE_NINJA": tool("ninja")} | more
 
 
-def call(*words):
-    return [sys.executable, ADAPTER, *words]
-
-
 def adapter(*words, **more):
     """A run of dyncollate-meson: its status and what it prints."""
-    return run(*call(*words), env=environment(**more))
+    return run(sys.executable, ADAPTER, *words, env=environment(**more))
 
 
 class Tree:
@@ -165,6 +161,38 @@ class Builds(InRoom):
         self.assertNotEqual(self.tree.status, 0)
         for line in lines:
             self.assertIn(line, self.tree.log.splitlines(), self.tree.log)
+
+
+    def killed(self, script, check):
+        """Kills adoption at each moment, until a run ends by itself. Ninja adopts what a run leaves
+        that is not the generator's file. Returns how many runs there were, and how many Ninja
+        continued."""
+        number, ended, pending = 0, -9, 0
+        while ended == -9:
+            run(sys.executable, script, "restore", self.tree.build, env=environment())
+            shutil.rmtree(*self.tree.build.glob("*-dyncollate"))
+            before, number = self.tree.text(), number + 1
+            words = ["-c", KILLED, str(number), script, "adopt", self.tree.build]
+            ended, _ = run(sys.executable, *words, env=environment())
+            if self.tree.text() != before:
+                pending += not self.tree.adopted()
+                self.tree.ninja("build.ninja")
+                self.assertEqual(self.tree.status, 0, self.tree.log)
+                check()
+        self.assertEqual(ended, 0)
+        return number, pending
+
+    def at_once(self, script, left):
+        """Four runs at once adopt the build, and four give back what is `left` of it otherwise."""
+        before = left()
+        adopt, restore = ([sys.executable, script, it, self.tree.build]
+                          for it in ("adopt", "restore"))
+        for _ in range(3):
+            runs = run_at_once(*[adopt] * 4, env=environment())
+            self.assertEqual([status for status, _ in runs], [0] * 4, runs)
+            self.assertTrue(self.tree.adopted())
+            self.assertEqual(run_at_once(*[restore] * 4, env=environment()), [(0, "")] * 4)
+            self.assertEqual(left(), before)
 
 
 def any_compiler():
@@ -246,7 +274,8 @@ class Adoption(Builds):
     def test_a_header_unit(self):
         lines = SMALL["main.cpp"].replace("import lib;", "import lib;\nimport <vector>;")
         self.lay({**SMALL, "main.cpp": lines})
-        said = "dyncollate-meson: app.p imports a header unit, which is not handled: include the header"
+        said = ("dyncollate-meson: app.p imports a header unit, which is not handled: include the "
+                "header")
         self.assertIn(said, self.tree.log.splitlines())
 
     def test_a_failure(self):
@@ -273,33 +302,17 @@ class Adoption(Builds):
     def test_killed(self):
         """A run that is killed at any moment leaves Meson's file, or one that the next run of Ninja
         adopts."""
-        before = self.plain(SMALL)
+        self.plain(SMALL)
         self.adopt()
-        adopted, documents = self.tree.text(), self.documents()
-        number, ended, pending = 0, -9, 0
-        while ended == -9:
-            adapter("restore", self.tree.build)
-            shutil.rmtree(self.tree.build / "meson-dyncollate")
-            number += 1
-            words = ["-c", KILLED, str(number), ADAPTER, "adopt", self.tree.build]
-            ended, _ = run(sys.executable, *words, env=environment())
-            if self.tree.text() != before:
-                pending += not self.tree.adopted()
-                self.tree.ninja("build.ninja")
-                self.assertEqual(self.tree.status, 0, self.tree.log)
-                self.assertEqual((self.tree.text(), self.documents()), (adopted, documents))
+        adopted = self.tree.text(), self.documents()
+        runs = self.killed(ADAPTER, lambda: self.assertEqual(
+            (self.tree.text(), self.documents()), adopted))
         # Meson's text and the file that adopts, two documents, and the Ninja file
-        self.assertEqual((ended, number, pending), (0, 11, 6))
+        self.assertEqual(runs, (11, 6))
 
     def test_adoptions_at_once(self):
-        before = self.plain(SMALL)
-        for _ in range(3):
-            runs = run_at_once(*[call("adopt", self.tree.build)] * 4, env=environment())
-            self.assertEqual([status for status, _ in runs], [0] * 4, runs)
-            self.assertTrue(self.tree.adopted())
-            runs = run_at_once(*[call("restore", self.tree.build)] * 4, env=environment())
-            self.assertEqual(runs, [(0, "")] * 4)
-            self.assertEqual(self.tree.text(), before)
+        self.plain(SMALL)
+        self.at_once(ADAPTER, self.tree.text)
         self.assertEqual([it for it in os.listdir(self.tree.build) if it.endswith(".new")], [])
 
     def test_a_kept_text_that_is_another(self):

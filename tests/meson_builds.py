@@ -226,7 +226,8 @@ class Projects:
         if not shutil.which("ccache"):
             self.skipTest("ccache: not there")
         variables = {"CXX": f"ccache {self.compiler()}", "CCACHE_DIR": str(self.room / "ccache")}
-        self.lay({**SMALL, "lib.cpp": SMALL["lib.cpp"].replace("int", "constexpr int")}, **variables)
+        self.lay({**SMALL, "lib.cpp": SMALL["lib.cpp"].replace("int", "constexpr int")},
+                 **variables)
         for before, after in "01", "10", "01":
             self.builds()
             self.prints("", int(before))

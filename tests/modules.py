@@ -1,4 +1,5 @@
-"""Modules of a target and of the targets that it links: errors, and the modules that an object needs through others."""
+"""Modules of a target and of the targets that it links: errors, and the modules that an object
+needs through others."""
 from tests.case import Case, each, lay, read
 from tests.rows import V
 from tests.rows import modules as rows
@@ -49,7 +50,8 @@ def layered(number):
     required = b" ".join(b"m%d" % (9999 - it) for it in sorted(below(number)))
     name = 9999 - number
     text = rule(b"o%d.o|m%d|%s" % (number, name, required))
-    return text.replace(b'"m%d"}' % name, b'"m%d","compiled-module-path":"mod/m%d.bmi"}' % (name, number), 1)
+    return text.replace(b'"m%d"}' % name,
+                        b'"m%d","compiled-module-path":"mod/m%d.bmi"}' % (name, number), 1)
 
 
 def reached(number):
@@ -66,10 +68,12 @@ class Long(Case):
 
     def test_needs_of_a_thousand_objects_in_layers(self):
         """Each module of a layer, except the lowest of ten, requires two of the layer below."""
-        collate(self, {"s.ddi": document(*map(layered, range(COUNT)))}, b',"scans":["s.ddi"],"map":"gcc"')
+        collate(self, {"s.ddi": document(*map(layered, range(COUNT)))},
+                b',"scans":["s.ddi"],"map":"gcc"')
         for number in range(COUNT):
             wanted = [number] + sorted(reached(number), reverse=True)
-            self.same(read(f"o{number}.o.modmap"), b"".join(b"m%d mod/m%d.bmi\n" % (9999 - it, it) for it in wanted))
+            self.same(read(f"o{number}.o.modmap"),
+                      b"".join(b"m%d mod/m%d.bmi\n" % (9999 - it, it) for it in wanted))
 
     def test_collate_a_chain_of_20_000_objects(self):
         collate(self, {"s.ddi": rows.chain(rows.LONG_CYCLE, b"")}, b',"scans":["s.ddi"]')

@@ -1,5 +1,6 @@
-"""The page of web/make with the directories of builds, in Chromium and in Firefox: an adopted build of CMake, builds of
-examples/generate, 300 and 20,000 objects, and a cycle of 30. Firefox is Debian's `firefox-esr`.
+"""The page of web/make with the directories of builds, in Chromium and in Firefox: an adopted build
+of CMake, builds of examples/generate, 300 and 20,000 objects, and a cycle of 30. Firefox is
+Debian's `firefox-esr`.
 
     python3 -m tests.page_builds --screenshot      draws docs/page.png again, of a build by CMake
 """
@@ -22,8 +23,10 @@ from tests.tools import tool
 NEEDS_LIBRARY = True
 
 # base <- mid <- app; base has a partition
-MODULES = {"part.cppm": "export module base:part;\n", "base.cppm": "export module base;\nexport import :part;\n",
-           "mid.cppm": "export module mid;\nimport base;\n", "main.cpp": "import mid;\nint main() {}\n",
+MODULES = {"part.cppm": "export module base:part;\n",
+           "base.cppm": "export module base;\nexport import :part;\n",
+           "mid.cppm": "export module mid;\nimport base;\n",
+           "main.cpp": "import mid;\nint main() {}\n",
            "CMakeLists.txt": cmake_builds.HEAD + """add_library(base STATIC)
 target_sources(base PUBLIC FILE_SET CXX_MODULES FILES base.cppm part.cppm)
 add_library(mid STATIC)
@@ -35,7 +38,8 @@ target_link_libraries(app PRIVATE mid)
 
 
 def cmake_build(room, name="modules"):
-    """The directory below `room` of a build that CMake configured, dyncollate-cmake adopted, and Ninja built."""
+    """The directory below `room` of a build that CMake configured, dyncollate-cmake adopted,
+    and Ninja built."""
     project = {"modules": MODULES, "project": cmake_builds.PROJECT}[name]
     if not (cmake_builds.cmake() and tool("clang") and tool("scanner") and tool("ninja")):
         raise unittest.SkipTest("CMake 3.28, Clang, clang-scan-deps or Ninja: not there")
@@ -58,21 +62,24 @@ def generated(room, form):
     top = Path(room, form)
     shutil.copytree(page.TOP / "examples/libs", top)
     named = {it.upper(): tool(it) for it in ("clang", "scanner")} | {"DYNCOLLATE": program.PROGRAM}
-    output_of(sys.executable, page.TOP / "examples/generate", form, "targets", cwd=top, env=os.environ | named)
+    output_of(sys.executable, page.TOP / "examples/generate", form, "targets", cwd=top,
+              env=os.environ | named)
     output_of(tool("ninja"), "-C", top)
     return top
 
 
 def made(room, targets, size):
-    """A directory below `room` of targets with a step each, and of `size` objects in each. Target N links N // 2, and what that links. The first
-    module of a target is imported by all others of it, and imports that of the target that it links."""
+    """A directory below `room` of targets with a step each, and of `size` objects in each. Target N
+    links N // 2, and what that links. The first module of a target is imported by all others of it,
+    and imports that of the target that it links."""
     top = Path(room, f"made{targets}")
     for number in range(targets):
         linked = [number >> it for it in range(1, number.bit_length() + 1)]
         scans = [f"obj/t{number}/{it}.ddi" for it in range(size)]
-        put(top / f"dd/t{number}.target.json", {
-            "version": 1, "target": f"t{number}", "module-dir": "bmi", "module-ext": ".pcm", "map": "clang", "scans": scans,
-            "linked": [f"dd/t{it}.info.json" for it in linked], "dyndep": f"dd/t{number}.dd", "info": f"dd/t{number}.info.json"})
+        put(top / f"dd/t{number}.target.json",
+            {"version": 1, "target": f"t{number}", "module-dir": "bmi", "module-ext": ".pcm",
+             "map": "clang", "scans": scans, "linked": [f"dd/t{it}.info.json" for it in linked],
+             "dyndep": f"dd/t{number}.dd", "info": f"dd/t{number}.info.json"})
         (top / f"obj/t{number}").mkdir(parents=True)
         for it, name in enumerate(scans):
             required = f"t{number}.m0" if it else " ".join(f"t{one}.m0" for one in linked[:1])
@@ -82,8 +89,10 @@ def made(room, targets, size):
 
 
 def cycle(count):
-    files = {f"m{it}.ddi": sources(b"m%d.o|m%d|m%d" % (it, it, (it + 1) % count)) for it in range(count)}
-    return files | {"t.target.json": page.target(b',"scans":[%s]' % b",".join(b'"%s"' % it.encode() for it in files))}
+    files = {f"m{it}.ddi": sources(b"m%d.o|m%d|m%d" % (it, it, (it + 1) % count))
+             for it in range(count)}
+    return (files | {"t.target.json": page.target(b',"scans":[%s]' % b",".join(b'"%s"' % it.encode()
+                                                                               for it in files))})
 
 
 # For half a second, does nothing. Prints for which part of it this had a processor.
@@ -95,19 +104,27 @@ print((time.process_time() - mine) / (time.monotonic() - clock))
 
 
 def clock_per_processor():
-    """How many seconds pass in one of a processor for each of two programs: about 1 if nothing else runs."""
-    runs = [subprocess.Popen([sys.executable, "-c", BUSY], stdout=subprocess.PIPE) for _ in range(2)]
+    """How many seconds pass in one of a processor for each of two programs:
+    about 1 if nothing else runs."""
+    runs = [subprocess.Popen([sys.executable, "-c", BUSY], stdout=subprocess.PIPE)
+            for _ in range(2)]
     return len(runs) / sum(float(it.communicate()[0]) for it in runs)
 
 
-# The part of a page that is read by the script below: the boxes in the view, and the sizes of the texts that are shown.
-SEEN = """(() => { const view = document.querySelector("#view").getBoundingClientRect();
-  const isIn = (it) => it.left < view.right && it.right > view.left && it.top < view.bottom && it.bottom > view.top;
-  const boxes = [...document.querySelectorAll("#view .node")].filter((it) => isIn(it.querySelector(".box").getBoundingClientRect()));
-  const svg = document.querySelector("#view svg"), scale = svg.getBoundingClientRect().width / svg.viewBox.baseVal.width;
-  const texts = [...svg.querySelectorAll("text")].filter((it) => getComputedStyle(it).display !== "none");
-  return { boxes: boxes.map((it) => it.getAttribute("aria-label").split("\\n")[0]), count: document.querySelectorAll("#view .node").length,
-    smallest: Math.min(...texts.map((it) => parseFloat(getComputedStyle(it).fontSize) * scale)) }; })()"""
+# The part of a page that is read by the script below: the boxes in the view,
+# and the sizes of the texts that are shown.
+SEEN = """(() => {
+  const view = document.querySelector("#view").getBoundingClientRect();
+  const isIn = (it) => it.left < view.right && it.right > view.left
+    && it.top < view.bottom && it.bottom > view.top;
+  const nodes = [...document.querySelectorAll("#view .node")];
+  const boxes = nodes.filter((it) => isIn(it.querySelector(".box").getBoundingClientRect()));
+  const svg = document.querySelector("#view svg");
+  const scale = svg.getBoundingClientRect().width / svg.viewBox.baseVal.width;
+  const styles = [...svg.querySelectorAll("text")].map((it) => getComputedStyle(it));
+  const sizes = styles.filter((it) => it.display !== "none").map((it) => parseFloat(it.fontSize));
+  return { boxes: boxes.map((it) => it.getAttribute("aria-label").split("\\n")[0]),
+    count: nodes.length, smallest: Math.min(...sizes) * scale }; })()"""
 
 
 class Builds(page.Shown):
@@ -130,7 +147,8 @@ class Builds(page.Shown):
 
     def ask(self, name, question, other=""):
         for field, value in ("name", name), ("question", question), ("other", other):
-            self.each(f"#{field}", f"(it.value = {json.dumps(value)}, it.dispatchEvent(new Event('input')), 1)")
+            self.each(f"#{field}",
+                      f"(it.value = {json.dumps(value)}, it.dispatchEvent(new Event('input')), 1)")
         self.page.evaluate("(document.querySelector('#questions').requestSubmit(), 1)")
         self.page.wait("location.hash.includes('=')")
         self.page.settle()
@@ -148,12 +166,15 @@ class Builds(page.Shown):
         self.drop(folder)
         self.assertRegex(self.result(), r"^3 of 3 targets accepted: dyncollate writes \d+ files\.$")
         of = "CMakeFiles/{0}.dir/{1}.o imports {2}".format
-        self.assertEqual(self.edges(), sorted([of("base", "base.cppm", "base:part"), of("mid", "mid.cppm", "base"), of("app", "main.cpp", "mid")]))
+        self.assertEqual(self.edges(),
+                         sorted([of("base", "base.cppm", "base:part"),
+                                 of("mid", "mid.cppm", "base"), of("app", "main.cpp", "mid")]))
         self.assertEqual(self.nodes(".linked") + self.nodes(".missing"), [])
         self.assertFalse(any("DependInfo" in it for it in self.texts("#files .name span")))
 
     def test_an_adopted_cmake_build(self):
-        """CMake names files by absolute paths, which are found below the directory, and below the one above."""
+        """CMake names files by absolute paths, which are found below the directory,
+        and below the one above."""
         built = cmake_build(self.room)
         self.check_cmake(built)
         self.check_cmake(built.parent)
@@ -161,24 +182,33 @@ class Builds(page.Shown):
     def test_a_wrong_target_of_a_cmake_build(self):
         """What links it is not run, and it is open."""
         shutil.copytree(cmake_build(self.room), self.room / "out")
-        (self.room / "out/CMakeFiles/mid.dir/mid.cppm.o.ddi").write_bytes(sources(b"CMakeFiles/mid.dir/mid.cppm.o|mid|bass"))
+        (self.room / "out/CMakeFiles/mid.dir/mid.cppm.o.ddi").write_bytes(
+            sources(b"CMakeFiles/mid.dir/mid.cppm.o|mid|bass"))
         self.drop(self.room / "out")
-        self.assertEqual(self.texts("#result .line"), ["1 of 3 targets accepted, 1 not run because what they link is wrong.",
-                         "CMakeFiles/mid.dir/CXX.target.json: dyncollate: M5 ModuleUnknown bass in CMakeFiles/mid.dir/mid.cppm.o"])
+        self.assertEqual(self.texts("#result .line"), [
+            "1 of 3 targets accepted, 1 not run because what they link is wrong.",
+            "CMakeFiles/mid.dir/CXX.target.json: dyncollate: M5 ModuleUnknown bass in "
+            "CMakeFiles/mid.dir/mid.cppm.o"])
         self.assertEqual(self.text("#textname"), "CMakeFiles/mid.dir/CXX.target.json")
-        self.assertEqual(self.texts("#files .name:is(.right, .wrong, .waits)"), [
-            "CMakeFiles/app.dir/CXX.target.jsonnot run", "CMakeFiles/base.dir/CXX.target.json✓ right", "CMakeFiles/mid.dir/CXX.target.json✗ wrong"])
+        self.assertEqual(self.texts("#files .name:is(.right, .wrong, .waits)"),
+                         ["CMakeFiles/app.dir/CXX.target.jsonnot run",
+                          "CMakeFiles/base.dir/CXX.target.json✓ right",
+                          "CMakeFiles/mid.dir/CXX.target.json✗ wrong"])
         self.assertEqual(self.nodes(".missing"), ["missing module bass: nothing provides it"])
         self.assertIn("missing module bass: nothing provides it", self.seen()["boxes"])
 
     def test_a_generated_build(self):
-        """Its targets in order, also if its files are chosen one by one, and the seconds of its log."""
+        """Its targets in order, also if its files are chosen one by one,
+        and the seconds of its log."""
         top = generated(self.room, "clang")
         self.drop(top)
         self.assertRegex(self.result(), r"^3 of 3 targets accepted:")
         edges = self.edges()
         self.assertIn("obj/app/src/app/main.cpp.o imports sum", edges)
-        self.assertRegex(self.ask("", "chain"), r"^The longest chain of imports has \d objects, \d+\.\d s by \.ninja_log: number → .*\.o\.$")
+        self.assertRegex(
+            self.ask("", "chain"),
+            r"^The longest chain of imports has \d objects, \d+\.\d s by \.ninja_log: number → "
+            r".*\.o\.$")
         self.page.open(page.PAGE.as_uri())
         self.drop(*sorted([*top.rglob("*.ddi"), *top.rglob("*.target.json")]))
         self.assertRegex(self.result(), r"^3 of 3 targets accepted:")
@@ -187,13 +217,16 @@ class Builds(page.Shown):
     def test_a_project(self):
         self.drop(generated(self.room, "project"))
         self.assertRegex(self.result(), r"^Accepted: dyncollate writes \d+ files\.$")
-        self.assertEqual(self.page.evaluate("document.querySelector('#command').selectedOptions[0].textContent"), "project dd/project.json")
+        self.assertEqual(
+            self.page.evaluate("document.querySelector('#command').selectedOptions[0].textContent"),
+            "project dd/project.json")
         self.assertIn("obj/app/src/app/main.cpp.o imports sum", self.edges())
 
     # ---- sizes
 
     def test_300_objects(self):
-        """Targets are boxes, which open; something is in the first view, and Fit shows everything."""
+        """Targets are boxes, which open; something is in the first view,
+        and Fit shows everything."""
         self.drop(made(self.room, 6, 50))
         self.assertEqual(self.nodes(""), [f"target t{it}, 50 objects" for it in range(6)])
         self.assertTrue(self.seen()["boxes"])
@@ -212,14 +245,17 @@ class Builds(page.Shown):
         self.page.wait("document.querySelectorAll('#view .target').length === 6")
 
     def test_a_view_of_a_large_graph(self):
-        """The first view has the module that is imported most. It is dragged, and the overview shows which part one sees."""
+        """The first view has the module that is imported most. It is dragged, and the overview
+        shows which part one sees."""
         self.page.resize(900, 600)
-        files = {"t.target.json": page.target(b',"scans":["a.ddi"]'), "a.ddi": sources(*[b"m%d.o|m%d|%s" % (it, it, b"m%d" % (it // 3) if it else b"")
-                                                                                        for it in range(90)])}
+        files = {"t.target.json": page.target(b',"scans":["a.ddi"]'), "a.ddi": sources(
+            *[b"m%d.o|m%d|%s" % (it, it, b"m%d" % (it // 3) if it else b"") for it in range(90)])}
         self.drop(self.lay(files))
         self.assertIn("m1.o", self.seen()["boxes"], "it is imported most")
-        self.assertEqual(self.page.evaluate("document.querySelector('#overview').hasAttribute('hidden')"), False)
-        place = "[Math.round(document.querySelector('#view').scrollLeft), Math.round(document.querySelector('#view').scrollTop)]"
+        self.assertEqual(
+            self.page.evaluate("document.querySelector('#overview').hasAttribute('hidden')"), False)
+        place = ("[Math.round(document.querySelector('#view').scrollLeft), "
+                 "Math.round(document.querySelector('#view').scrollTop)]")
         self.each("#view", "(it.scrollTo(100, 100), 1)")
         self.page.click(600, 500, to=(560, 470))
         self.assertEqual(self.page.evaluate(place), [140, 130])
@@ -229,11 +265,15 @@ class Builds(page.Shown):
         width = "document.querySelector('#view svg').getBoundingClientRect().width"
         before = self.page.evaluate(width)
         for is_ctrl, factor in ("false", 1), ("true", 1.15):
-            self.each("#view", f"it.dispatchEvent(new WheelEvent('wheel', {{ ctrlKey: {is_ctrl}, deltaY: -100, cancelable: true }}))")
+            self.each(
+                "#view",
+                f"it.dispatchEvent(new WheelEvent('wheel', {{ ctrlKey: {is_ctrl}, deltaY: -100, "
+                f"cancelable: true }}))")
             self.assertAlmostEqual(self.page.evaluate(width) / before, factor, 2)
 
     def test_20000_objects(self):
-        """They are shown within 20 s. They are read, asked about, opened and kept, and the page is never blocked for 100 ms."""
+        """They are shown within 20 s. They are read, asked about, opened and kept, and the page is
+        never blocked for 100 ms."""
         top = made(self.room, 200, 100)
         most, began = 20 * clock_per_processor(), time.monotonic()
         self.drop(top)
@@ -242,8 +282,11 @@ class Builds(page.Shown):
         self.assertLess(self.page.longest_block(lambda: self.look_through(top)), 100)
 
     def look_through(self, top):
-        self.page.evaluate("""(() => { const progress = document.querySelector("#progress"); window.said = new Set();
-            new MutationObserver(() => progress.hidden || said.add(progress.firstChild.data.split(" ")[0]))
+        self.page.evaluate("""(() => {
+            const progress = document.querySelector("#progress");
+            window.said = new Set();
+            new MutationObserver(() => progress.hidden
+              || said.add(progress.firstChild.data.split(" ")[0]))
               .observe(progress, { characterData: true, subtree: true, attributes: true }); })()""")
         self.drop(top)
         self.assertEqual(self.page.evaluate("[...said].filter(Boolean)"), ["Reading", "Collating"])
@@ -254,17 +297,22 @@ class Builds(page.Shown):
         self.open_box("target t0, 100 objects")
         self.assertEqual(len(self.nodes(".object")), 100)
         self.assertEqual(self.ask("t0.m0", "rebuilt"), "A change of t0.m0 compiles 20,000 objects.")
-        self.assertRegex(self.ask("", "chain"), r"^The longest chain of imports has 10 objects: t0\.m0 → ")
+        self.assertRegex(self.ask("", "chain"),
+                         r"^The longest chain of imports has 10 objects: t0\.m0 → ")
         self.assertEqual(self.ask("t7.m0", "near"), "40 boxes near t7.m0.")
-        # itself, the module that it imports, and of those that import it as many as there is room for
-        self.assertEqual(sorted(self.seen()["boxes"]), ["target t3, 1 object", "target t7, 39 objects"])
+        # itself, the module that it imports,
+        # and of those that import it as many as there is room for
+        self.assertEqual(sorted(self.seen()["boxes"]),
+                         ["target t3, 1 object", "target t7, 39 objects"])
         self.assertRegex(self.ask("", "most"), r"^t1\.m0 is imported most, by 101 objects")
         self.click("#tab-table")
         self.assertEqual(len(self.texts("#view tbody tr")), 200)
         self.click("#whole")
         self.assertEqual(len(self.texts("#view tbody tr")), 300)
-        kept = self.page.evaluate("new Promise((done) => { URL.createObjectURL = done; HTMLAnchorElement.prototype.click = () => 1;"
-                                  " document.querySelector('#view button').click(); }).then((it) => it.text())")
+        kept = self.page.evaluate(
+            "new Promise((done) => { URL.createObjectURL = done; HTMLAnchorElement.prototype.click "
+            "= () => 1;"
+            " document.querySelector('#view button').click(); }).then((it) => it.text())")
         self.assertEqual(kept.count("\n"), 20_001)
 
     def click(self, selector):
@@ -273,20 +321,28 @@ class Builds(page.Shown):
 
     def open_box(self, label):
         """Clicks on a box in the view, and leaves the mouse there."""
-        x, y = self.each(f"#view .node[aria-label={json.dumps(label)}] .box",
-                         "(it.scrollIntoView({ block: 'center' }), [it.getBoundingClientRect().x + 20, it.getBoundingClientRect().y + 9])")[0]
+        x, y = self.each(
+            f"#view .node[aria-label={json.dumps(label)}] .box",
+            "(it.scrollIntoView({ block: 'center' }), [it.getBoundingClientRect().x + 20, "
+            "it.getBoundingClientRect().y + 9])")[0]
         self.page.click(x, y)
         self.page.wait("document.querySelectorAll('#view .object').length")
         self.page.settle()
 
     def test_a_cycle_of_30(self):
-        """It is red and shortened, in the first view, and its error names modules. What is left out opens, and a search finds it."""
+        """It is red and shortened, in the first view, and its error names modules. What is left out
+        opens, and a search finds it."""
         self.drop(self.lay(cycle(30)))
-        self.assertEqual(self.result(), "dyncollate: M8 ImportCycle m0.o -> m1.o -> m2.o -> … 25 more … -> m28.o -> m29.o")
-        self.assertEqual(self.text("#result .where"), "m0 imports m1 imports m2 imports … 25 more … imports m28 imports m29 imports m0.")
+        self.assertEqual(
+            self.result(),
+            "dyncollate: M8 ImportCycle m0.o -> m1.o -> m2.o -> … 25 more … -> m28.o -> m29.o")
+        self.assertEqual(
+            self.text("#result .where"),
+            "m0 imports m1 imports m2 imports … 25 more … imports m28 imports m29 imports m0.")
         boxes = ["27 more objects of the cycle", "m0.o", "m1.o", "m29.o"]
         self.assertEqual((self.nodes(".bad"), sorted(self.seen()["boxes"])), (boxes, boxes))
-        self.assertEqual(self.edges(".bad"), ["imports of the cycle"] * 2 + ["m0.o imports m1", "m29.o imports m0"])
+        self.assertEqual(self.edges(".bad"),
+                         ["imports of the cycle"] * 2 + ["m0.o imports m1", "m29.o imports m0"])
         self.ask("m15", "find")
         self.assertEqual((len(self.nodes(".bad")), self.nodes(".chosen")), (30, ["m15.o"]))
         self.click("#whole")
@@ -296,7 +352,8 @@ class Builds(page.Shown):
         self.assertEqual((len(self.nodes(".bad")), len(self.edges(".bad"))), (30, 30))
 
     def test_a_name_that_is_not_utf_8(self):
-        """The file is left out, which Firefox says and Chromium cannot know, and the rest is shown."""
+        """The file is left out, which Firefox says and Chromium cannot know,
+        and the rest is shown."""
         folder = self.lay({"a.ddi": sources(b"a.o|A|"), "b.ddi": sources(b"b.o||A")})
         Path(os.fsdecode(os.fsencode(folder) + b"/odd\xff.ddi")).write_bytes(sources(b"odd.o||"))
         self.drop(folder)
@@ -307,7 +364,8 @@ class Builds(page.Shown):
     # ---- by keyboard
 
     def test_the_keyboard(self):
-        """The key / leads to the names, the arrow keys through the graph, and Enter opens a target and a file."""
+        """The key / leads to the names, the arrow keys through the graph,
+        and Enter opens a target and a file."""
         self.drop(made(self.room, 6, 50))
         self.assertEqual(self.press("/"), "name")
         self.press_until("Tab", "target t1, 50 objects")
@@ -317,7 +375,9 @@ class Builds(page.Shown):
         self.assertEqual(len(self.nodes(".object")), 50)
         self.press_until("Tab", "dd/t0.target.json✓ right")
         self.assertEqual(self.press("ArrowDown"), "dd/t1.target.json✓ right")
-        stops = "[...document.querySelectorAll('#files *')].filter((it) => it.tabIndex >= 0).map((it) => it.dataset.name)"
+        stops = (
+            "[...document.querySelectorAll('#files *')].filter((it) => it.tabIndex >= 0).map((it) "
+            "=> it.dataset.name)")
         self.assertEqual(self.page.evaluate(stops), ["dd/t1.target.json"], "the files are one stop")
         self.page.press("Enter")
         self.page.settle()
@@ -347,7 +407,8 @@ def screenshot():
         shown.open(page.PAGE.as_uri())
         shown.drop(str(cmake_build(room.name, "project")))
         # (a file without the path of this directory)
-        shown.evaluate("([...document.querySelectorAll('#files .name')].find((it) => it.title.endsWith('mid.dir/CXX.dd')).click(), 1)")
+        shown.evaluate("([...document.querySelectorAll('#files .name')].find((it) => "
+                       "it.title.endsWith('mid.dir/CXX.dd')).click(), 1)")
         shown.settle()
         shown.screenshot(page.TOP / "docs/page.png")
     finally:

@@ -1,4 +1,5 @@
-"""The pictures of the times in docs/COMPARED.md are those that bench/picture draws from the page's tables.
+"""The pictures of the times in docs/COMPARED.md are those that bench/picture draws from the page's
+tables.
 
     python3 -m unittest tests.pictures
     bench/picture objects > docs/time.svg
@@ -17,7 +18,8 @@ TOP = Path(__file__).resolve().parent.parent
 
 class Pictures(unittest.TestCase):
     def check(self, what, picture):
-        self.assertEqual((TOP / "docs" / picture).read_text(), output_of(sys.executable, TOP / "bench/picture", what))
+        self.assertEqual((TOP / "docs" / picture).read_text(),
+                         output_of(sys.executable, TOP / "bench/picture", what))
 
     def test_objects(self):
         """bench/picture objects > docs/time.svg"""

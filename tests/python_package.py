@@ -15,42 +15,55 @@ from tests.tables import all_rows
 
 NEEDS_LIBRARY = True
 
-TARGET = (b'{"version":1,"target":"app","module-dir":"bmi","module-ext":".pcm","scans":["main.ddi"],'
-          b'"dyndep":"app.dd","info":"app.info.json"}')
+TARGET = (
+    b'{"version":1,"target":"app","module-dir":"bmi","module-ext":".pcm","scans":["main.ddi"],'
+    b'"dyndep":"app.dd","info":"app.info.json"}')
 SCAN = b'{"version":1,"rules":[{"primary-output":"main.o"}]}'
 DYNDEP = b"ninja_dyndep_version = 1\nbuild main.o: dyndep\n"
-# A line that the program prints after its name: the code and the name in it, the document, the place, and the names.
+# A line that the program prints after its name: the code and the name in it, the document,
+# the place, and the names.
 ERRORS = [
     ("scan 2: S1 NotJson document", "S1", "NotJson", "scan", {"scan": 2}, ()),
-    ("info 0: S3 BadShape module 1 requires 4 member bmi", "S3", "BadShape", "info", {"info": 0, "module": 1, "requires": 4}, ("bmi",)),
-    ("scan 0: S7 BadPath rule 3 provides 1 N1 Empty", "S7", "BadPath", "scan", {"scan": 0, "rule": 3, "provides": 1}, ()),
-    ("target: S3 BadShape document member module-dir", "S3", "BadShape", "target", {}, ("module-dir",)),
+    ("info 0: S3 BadShape module 1 requires 4 member bmi", "S3", "BadShape", "info",
+     {"info": 0, "module": 1, "requires": 4}, ("bmi",)),
+    ("scan 0: S7 BadPath rule 3 provides 1 N1 Empty", "S7", "BadPath", "scan",
+     {"scan": 0, "rule": 3, "provides": 1}, ()),
+    ("target: S3 BadShape document member module-dir", "S3", "BadShape", "target", {},
+     ("module-dir",)),
     ("target 1: target: S2 BadVersion document", "S2", "BadVersion", "target", {"target": 1}, ()),
-    ("target 2: scan 0: S6 BadName rule 1 requires 0", "S6", "BadName", "scan", {"target": 2, "scan": 0, "rule": 1, "requires": 0}, ()),
+    ("target 2: scan 0: S6 BadName rule 1 requires 0", "S6", "BadName", "scan",
+     {"target": 2, "scan": 0, "rule": 1, "requires": 0}, ()),
     ("project: S8 TooLarge document", "S8", "TooLarge", "project", {}, ()),
     ("name: N2 AboveRoot", "N2", "AboveRoot", "name", {}, ()),
     ("line 2: N9 Variable at 6", "N9", "Variable", "dyndep", {"line": 2, "offset": 6}, ()),
     ("line 3: Y15 BadBinding", "Y15", "BadBinding", "dyndep", {"line": 3}, ()),
     ("edges: line 1: E3 Path N1 Empty", "E3", "Path", "edges", {"line": 1}, ()),
     ("target 1: edges: line 7: E3 Form", "E3", "Form", "edges", {"target": 1, "line": 7}, ()),
-    ("edges: line 2: N10 BadEscape at 5", "N10", "BadEscape", "edges", {"line": 2, "offset": 5}, ()),
+    ("edges: line 2: N10 BadEscape at 5", "N10", "BadEscape", "edges", {"line": 2, "offset": 5},
+     ()),
     ("M1 ObjectTwice a b.o", "M1", "ObjectTwice", None, {}, ("a b.o",)),
     ("M2 InfoTwice a lib", "M2", "InfoTwice", None, {}, ("a lib",)),
-    ("M3 ProvidedTwice A:p by object a b.o and info a lib", "M3", "ProvidedTwice", None, {}, ("A:p", "a b.o", "a lib")),
-    ("M4 BmiTwice m/A B.bmi by info k and info l", "M4", "BmiTwice", None, {}, ("m/A B.bmi", "k", "l")),
-    ("target 2: M5 ModuleUnknown sum in obj/my main.o", "M5", "ModuleUnknown", None, {"target": 2}, ("sum", "obj/my main.o")),
+    ("M3 ProvidedTwice A:p by object a b.o and info a lib", "M3", "ProvidedTwice", None, {},
+     ("A:p", "a b.o", "a lib")),
+    ("M4 BmiTwice m/A B.bmi by info k and info l", "M4", "BmiTwice", None, {},
+     ("m/A B.bmi", "k", "l")),
+    ("target 2: M5 ModuleUnknown sum in obj/my main.o", "M5", "ModuleUnknown", None, {"target": 2},
+     ("sum", "obj/my main.o")),
     ("M6 InfoUnknown a lib K B", "M6", "InfoUnknown", None, {}, ("a lib", "K", "B")),
     ("M7 InfoDisagrees k K B", "M7", "InfoDisagrees", None, {}, ("k", "K", "B")),
     ("M8 ImportCycle a b.o -> c.o -> d.o", "M8", "ImportCycle", None, {}, ("a b.o", "c.o", "d.o")),
-    ("M9 ModulePrivate B of a lib in object k.o", "M9", "ModulePrivate", None, {}, ("B", "a lib", "k.o")),
+    ("M9 ModulePrivate B of a lib in object k.o", "M9", "ModulePrivate", None, {},
+     ("B", "a lib", "k.o")),
     ("M10 PrivateUnknown B", "M10", "PrivateUnknown", None, {}, ("B",)),
     ("Y2 StatementTooLong statement 4", "Y2", "StatementTooLong", None, {"statement": 4}, ()),
     ("K1 MapPath my mods/A.bmi", "K1", "MapPath", None, {}, ("my mods/A.bmi",)),
     ("target 1: K2 TwoProvided a.o", "K2", "TwoProvided", None, {"target": 1}, ("a.o",)),
     ("target 2: K3 LinkedLater", "K3", "LinkedLater", None, {"target": 2}, ()),
     ("E5 NotBound b.o", "E5", "NotBound", None, {}, ("b.o",)),
-    ("E8 BadPath statement 1 path 3 N1 Empty", "E8", "BadPath", None, {"statement": 1, "path": 3}, ()),
-    ("target 1: cycle a.o -> b.o -> gen.h", None, None, None, {"target": 1}, ("a.o", "b.o", "gen.h")),
+    ("E8 BadPath statement 1 path 3 N1 Empty", "E8", "BadPath", None, {"statement": 1, "path": 3},
+     ()),
+    ("target 1: cycle a.o -> b.o -> gen.h", None, None, None, {"target": 1},
+     ("a.o", "b.o", "gen.h")),
     ("cannot read scans/a -> b.ddi", None, None, None, {}, ("scans/a -> b.ddi",)),
 ]
 
@@ -63,30 +76,40 @@ class Errors(unittest.TestCase):
     def check(self, row):
         line, code, name, document, place, names = row
         error = embedded.module().Error(1, f"dyncollate: {line}")
-        self.assertEqual((error.code, error.name, error.document, error.place, error.names), (code, name, document, place, names))
-        self.assertEqual((error.status, error.line, str(error)), (1, f"dyncollate: {line}", f"dyncollate: {line}"))
+        self.assertEqual((error.code, error.name, error.document, error.place, error.names),
+                         (code, name, document, place, names))
+        self.assertEqual((error.status, error.line, str(error)),
+                         (1, f"dyncollate: {line}", f"dyncollate: {line}"))
         self.assertEqual(vars(pickle.loads(pickle.dumps(error))), vars(error))
 
 
 @embedded.needs_library
 class Lines(unittest.TestCase):
     def test_each_line_of_the_rows(self):
-        """The code of a line is the first one in it. An error of modules names something, and one of a document has a place in it. The
-        numbers of the place are those in the line, without those that may belong to a name."""
+        """The code of a line is the first one in it. An error of modules names something, and one
+        of a document has a place in it. The numbers of the place are those in the line, without
+        those that may belong to a name."""
         codes = set()
         for row in all_rows():
             line = os.fsdecode(row.line or b"")
             if row.status not in (1, 3) or line.startswith("cannot write"):
                 continue
-            code = None if re.match(r"(target \d+: )?(cycle|cannot read) ", line) else re.search(r"([A-Z]\d+) [A-Z]", line)[1]
+            code = (None if re.match(r"(target \d+: )?(cycle|cannot read) ", line)
+                    else re.search(r"([A-Z]\d+) [A-Z]", line)[1])
             error = embedded.module().Error(row.status, f"dyncollate: {line}")
             self.assertEqual(error.code, code, line)
-            self.assertEqual(bool(error.names), code is None or code[0] in "ME" and code not in ("E3", "E8") or code in ("K1", "K2", "S3"), line)
-            self.assertEqual(error.document is not None, code is not None and (code[0] in "SN" or code == "E3" or line.startswith("line")), line)
-            labels = re.match(r"(?:(?:target|scan|info|line) \d+: |(?:target|project|edges|name): )*", line)[0]
+            self.assertEqual(bool(error.names), code is None or code[0] in "ME"
+                             and code not in ("E3", "E8") or code in ("K1", "K2", "S3"), line)
+            self.assertEqual(error.document is not None, code is not None
+                             and (code[0] in "SN" or code == "E3" or line.startswith("line")), line)
+            labels = re.match(
+                r"(?:(?:target|scan|info|line) \d+: |(?:target|project|edges|name): )*", line)[0]
             numbered = line if code and (code[0] in "SNY" or code == "E8") else labels
-            words = re.findall(r"\b(target|scan|info|line|rule|module|provides|requires|statement|path|at) (\d+)", numbered)
-            self.assertEqual(error.place, {"offset" if word == "at" else word: int(number) for word, number in words}, line)
+            words = re.findall(
+                r"\b(target|scan|info|line|rule|module|provides|requires|statement|path|at) (\d+)",
+                numbered)
+            self.assertEqual(error.place, {"offset" if word == "at" else word: int(number)
+                                           for word, number in words}, line)
             codes.add((code or "-")[0])
         self.assertEqual(codes, set("NYSMEK-"))
 
@@ -126,13 +149,16 @@ class Arguments(InRoom):
     def test_paths(self):
         """A directory and the name of a dyndep file are strings or paths."""
         scan = SCAN.replace(b"}]", b',"provides":[{"logical-name":"A"}]}]')
-        self.assertEqual(self.module.one(scan, Path("mod/sub"), ".bmi"), self.module.one(scan, "mod/sub", ".bmi"))
+        self.assertEqual(self.module.one(scan, Path("mod/sub"), ".bmi"),
+                         self.module.one(scan, "mod/sub", ".bmi"))
         edges = b"build a: x || t.dd\n  dyndep = t.dd\n"
-        self.assertEqual(self.module.effect(Path("t.dd"), edges, DYNDEP.replace(b"main.o", b"a")), edges)
+        self.assertEqual(self.module.effect(Path("t.dd"), edges, DYNDEP.replace(b"main.o", b"a")),
+                         edges)
 
     def test_public_names(self):
         """What a user sees is what `help` lists."""
-        self.assertEqual({it for it in vars(self.module) if not it.startswith("_")}, set(self.module.__all__))
+        self.assertEqual({it for it in vars(self.module) if not it.startswith("_")},
+                         set(self.module.__all__))
         error = self.module.Error(1, "dyncollate: usage")
         self.assertEqual({it for it in dir(error) if not it.startswith("_")} - set(dir(Exception)),
                          {"status", "line", "code", "name", "document", "place", "names"})
@@ -152,8 +178,10 @@ class Arguments(InRoom):
         dyndep = b"ninja_dyndep_version = 1\nbuild a | c: dyndep\n"
         self.assertEqual(self.module.show(dyndep), dyndep)
         self.assertEqual(self.module.statements(dyndep), [(b"a", [b"c"], [], False)])
-        self.assertEqual(self.module.effect("./t.dd", edges, dyndep), edges.replace(b"build a:", b"build a | c:"))
-        for command, given in ("order", [b"build a: x a\n"]), ("effect", ["t.dd", edges, b""]), ("show", [b""]):
+        self.assertEqual(self.module.effect("./t.dd", edges, dyndep),
+                         edges.replace(b"build a:", b"build a | c:"))
+        for command, given in (("order", [b"build a: x a\n"]), ("effect", ["t.dd", edges, b""]),
+                               ("show", [b""])):
             with self.assertRaises(self.module.Error) as raised:
                 getattr(self.module, command)(*given)
             self.assertEqual(raised.exception.status, 1)
@@ -165,13 +193,15 @@ class Arguments(InRoom):
         self.assertEqual(self.module.version(), version)
 
 
-# Prints what a call raises if the process can get no more than this memory, and then what it returns if it can.
+# Prints what a call raises if the process can get no more than this memory,
+# and then what it returns if it can.
 LIMITED = """
 import dyncollate, resource
 scan = b'{"version":1,"rules":[{"primary-output":"main.o"}],"a":[' + b"[]," * 1000000 + b"0]}"
 dyncollate.one(b'{"version":1,"rules":[]}', "", "")
 pages = int(open("/proc/self/statm").read().split()[0])
-resource.setrlimit(resource.RLIMIT_AS, (pages * resource.getpagesize() + (32 << 20), resource.RLIM_INFINITY))
+most = pages * resource.getpagesize() + (32 << 20)
+resource.setrlimit(resource.RLIMIT_AS, (most, resource.RLIM_INFINITY))
 try:
     dyncollate.one(scan, "", "")
 except MemoryError:
@@ -192,21 +222,25 @@ class Sizes(unittest.TestCase):
     seconds = 20
 
     def prints(self, script, printed):
-        environment = os.environ | {"PYTHONPATH": embedded.PACKAGE, "DYNCOLLATE_LIBRARY": embedded.SHARED}
-        self.assertEqual(run(sys.executable, "-c", script, env=environment, seconds=60), (0, printed))
+        environment = (os.environ | {"PYTHONPATH": embedded.PACKAGE,
+                                     "DYNCOLLATE_LIBRARY": embedded.SHARED})
+        self.assertEqual(run(sys.executable, "-c", script, env=environment, seconds=60),
+                         (0, printed))
 
     def test_no_memory(self):
         """MemoryError is raised, and the next call works."""
         self.prints(LIMITED, f"no memory\n{DYNDEP.decode()}\n")
 
     def test_many_statements(self):
-        """The time grows as their number does: in the square of 200,000 the limit is far exceeded."""
+        """The time grows as their number does:
+        in the square of 200,000 the limit is far exceeded."""
         self.prints(MANY, "199999\n")
 
 
 # What a user writes, and what mypy says of it.
 USES = [
-    ('dyncollate.collate(Path("t.json"), {"a.ddi": b"", "b.ddi": Path("b")})["app.dd"].split(b" ")', ""),
+    ('dyncollate.collate(Path("t.json"), {"a.ddi": b"", "b.ddi": Path("b")})["app.dd"].split(b" ")',
+     ""),
     ('dyncollate.collate(bytearray(), {"a.ddi": memoryview(b"")})', ""),
     ('dyncollate.one(b"", "mod", ".bmi").decode()', ""),
     ('[it.output.decode() for it in dyncollate.statements(b"")]', ""),
@@ -219,8 +253,7 @@ USES = [
     ('dyncollate.one(b"", b"mod", ".bmi")', "arg-type"),
     ('dyncollate.order(b"").upper()', "attr-defined"),
     ('dyncollate.run("none", b"")', "arg-type"),
-    ('dyncollate.Error(1, "").code.upper()', "union-attr"),
-]
+    ('dyncollate.Error(1, "").code.upper()', "union-attr"),]
 
 
 @embedded.needs_tools("mypy")
@@ -228,7 +261,8 @@ class Types(unittest.TestCase):
     seconds = 10
 
     def mypy(self, *words):
-        return run("mypy", "--strict", "--python-version", "3.9", "--no-error-summary", "--cache-dir", os.devnull, *words,
+        return run("mypy", "--strict", "--python-version", "3.9", "--no-error-summary",
+                   "--cache-dir", os.devnull, *words,
                    env=os.environ | {"MYPYPATH": embedded.PACKAGE})[1]
 
     def test_package(self):
@@ -238,8 +272,10 @@ class Types(unittest.TestCase):
         """What is right passes, and each wrong use has its error."""
         with tempfile.TemporaryDirectory() as folder:
             file = Path(folder, "uses.py")
-            file.write_text("from pathlib import Path\nimport dyncollate\n" + "".join(f"{use}\n" for use, _ in USES))
-            found = {int(line): kind for line, kind in re.findall(r":(\d+): error: .*\[([\w-]+)\]$", self.mypy(file), re.M)}
+            file.write_text("from pathlib import Path\nimport dyncollate\n"
+                            + "".join(f"{use}\n" for use, _ in USES))
+            found = {int(line): kind for line, kind in re.findall(r":(\d+): error: .*\[([\w-]+)\]$",
+                                                                  self.mypy(file), re.M)}
         self.assertEqual(found, {line: kind for line, (_, kind) in enumerate(USES, 3) if kind})
 
 

@@ -1,15 +1,18 @@
 """Calls the program on random documents, and compares the results with what must hold of them.
 
-    python3 -m unittest tests.random_documents          a minute, in as many processes as there are processors, up to four
-    python3 -m tests.random_documents --minutes 60      a long run, in all processors; --help shows its options
+    python3 -m unittest tests.random_documents          a minute, in as many processes as there are
+                                                        processors, up to four
+    python3 -m tests.random_documents --minutes 60      a long run, in all processors;
+                                                        --help shows its options
 
-A round makes a dyndep file with random escapes and line ends, a scan document, an edge list and the dyndep file of its objects,
-or a project (random_rounds.py). The expected results are known from how the files were made. Then a file of the round is damaged
-some times, its bytes or the values of its members. The modules in the directory `expected` also compute the result of any call.
+A round makes a dyndep file with random escapes and line ends, a scan document, an edge list and the
+dyndep file of its objects, or a project (random_rounds.py). The expected results are known from how
+the files were made. Then a file of the round is damaged some times, its bytes or the values of its
+members. The modules in the directory `expected` also compute the result of any call.
 
-A round is made from its kind and its seed, a number. The minute begins with the seed in the environment's RANDOM_SEED, or with a
-random one, and tries each kind for RANDOM_SECONDS. The files of a call that differs are made smaller before they are shown
-(smaller.py).
+A round is made from its kind and its seed, a number. The minute begins with the seed in the
+environment's RANDOM_SEED, or with a random one, and tries each kind for RANDOM_SECONDS. The files
+of a call that differs are made smaller before they are shown (smaller.py).
 """
 import argparse
 import copy
@@ -51,7 +54,8 @@ class Program:
         self.caller, self.calls = Caller(), 0
 
     def difference(self, words):
-        """What the call prints, what it has to print, and what is wrong with it, or None: tests/expected works this out."""
+        """What the call prints, what it has to print, and what is wrong with it, or None:
+        tests/expected works this out."""
         wanted, files = ending(result_of(*words))
         found = self.caller.run(*words)
         self.calls += 1
@@ -60,7 +64,8 @@ class Program:
         for name, text in files.items():
             there = read(name) if os.path.isfile(name) else None
             if there != text:
-                return found, wanted, f"wrote {there!r:.1000} to {os.fsdecode(name)}, not {text!r:.1000}"
+                return (found, wanted,
+                        f"wrote {there!r:.1000} to {os.fsdecode(name)}, not {text!r:.1000}")
         return found, wanted, None
 
     def checked(self, words):
@@ -87,8 +92,9 @@ class Program:
             raise Differs((), f"{name}: {found!r:.2000}, not {wanted!r:.2000}")
 
     def made_smaller(self, words):
-        """The files of this directory, with as much left out as leaves the call wrong with the same two statuses, and what is
-        wrong with it then; or None if the call has the result that tests/expected has."""
+        """The files of this directory, with as much left out as leaves the call wrong with the same
+        two statuses, and what is wrong with it then; or None if the call has the result that
+        tests/expected has."""
         def difference_with(files):
             for name in tree():
                 os.remove(name)
@@ -128,16 +134,18 @@ def damaged(make, text):
 
 
 # members that may be added to any object, and values that may be in the place of any
-MEMBERS = ["version", "rules", "primary-output", "work-directory", "provides", "requires", "logical-name",
-           "compiled-module-path", "is-interface", "unique-on-source-path", "lookup-method", "target", "module-dir",
-           "build-dir", "scans", "linked", "private", "info", "map", "edges", "restat", "modules", "bmi", "name", "visibility", "targets",
+MEMBERS = ["version", "rules", "primary-output", "work-directory", "provides", "requires",
+           "logical-name", "compiled-module-path", "is-interface", "unique-on-source-path",
+           "lookup-method", "target", "module-dir", "build-dir", "scans", "linked", "private",
+           "info", "map", "edges", "restat", "modules", "bmi", "name", "visibility", "targets",
            "unknown"]
-VALUES = [None, True, False, 0, 1, 2, 1.5, "", "a/..", "..", "/b", "/b/c", "x", "x:y", "x y", "x\x7f", "by-name",
-          "include-angle", "private", "gcc", "clang", "edges", [], {}]
+VALUES = [None, True, False, 0, 1, 2, 1.5, "", "a/..", "..", "/b", "/b/c", "x", "x:y", "x y",
+          "x\x7f", "by-name", "include-angle", "private", "gcc", "clang", "edges", [], {}]
 
 
 def turned(make, text):
-    """The JSON text with some of its values taken out, doubled or added, or put in the place of others."""
+    """The JSON text with some of its values taken out, doubled or added,
+    or put in the place of others."""
     tree_of = {"": json.loads(text)}
     for _ in range(make.r.choice([1, 1, 2, 3])):
         values, left = [], [tree_of]
@@ -184,7 +192,8 @@ def shown(program, kind, seed, fault):
     lines = [f"{kind}, seed {seed}: {' '.join(map(repr, fault.words))}: {fault.wrong}"]
     small = program.made_smaller(fault.words)
     if small:
-        lines += [f"with these files it {small[1]}"] + [f"    {os.fsdecode(name)}: {text!r}" for name, text in small[0].items()]
+        lines += ([f"with these files it {small[1]}"] + [f"    {os.fsdecode(name)}: {text!r}"
+                                                         for name, text in small[0].items()])
     lines.append(f"again: python3 -m tests.random_documents --kind {kind} --seed {seed} --rounds 1")
     return "\n".join(lines)
 
@@ -215,8 +224,10 @@ def tried_by_all(kinds, seeds, seconds, processes):
     """The same by several processes, each by some of the seeds."""
     until = time.monotonic() + seconds
     with multiprocessing.Pool(processes) as pool:
-        parts = pool.starmap(tried, [(kinds, seeds[at::processes], until) for at in range(processes)])
-    return Tried(sum(it.rounds for it in parts), sum(it.calls for it in parts), [text for it in parts for text in it.failures])
+        parts = pool.starmap(tried,
+                             [(kinds, seeds[at::processes], until) for at in range(processes)])
+    return Tried(sum(it.rounds for it in parts), sum(it.calls for it in parts),
+                 [text for it in parts for text in it.failures])
 
 
 @needs("program")
@@ -227,7 +238,8 @@ class RandomDocuments(unittest.TestCase):
     def check(self, kind):
         first = int(os.environ.get("RANDOM_SEED") or random.randrange(SEEDS))
         found = tried([kind], range(first, first + SEEDS), time.monotonic() + self.seconds)
-        print(f"random documents: {kind}, from seed {first}: {found.rounds} rounds, {found.calls} calls", flush=True)
+        print(f"random documents: {kind}, from seed {first}: {found.rounds} rounds, {found.calls} "
+              "calls", flush=True)
         self.assertTrue(found.rounds)
         self.assertFalse(found.failures, "\n" + "\n".join(found.failures))
 
@@ -249,21 +261,26 @@ def load_tests(_loader, tests, _pattern):
 
 
 def main():
-    parser = argparse.ArgumentParser(prog="python3 -m tests.random_documents", description="A run on documents made at random.")
+    parser = argparse.ArgumentParser(prog="python3 -m tests.random_documents",
+                                     description="A run on documents made at random.")
     parser.add_argument("--minutes", type=float, default=1.0, help="how long it takes at most (1)")
-    parser.add_argument("--rounds", type=int, default=SEEDS, help="how many rounds of each kind are made at most")
-    parser.add_argument("--seed", type=int, default=random.randrange(SEEDS), help="the first seed (at random)")
+    parser.add_argument("--rounds", type=int, default=SEEDS,
+                        help="how many rounds of each kind are made at most")
+    parser.add_argument("--seed", type=int, default=random.randrange(SEEDS),
+                        help="the first seed (at random)")
     parser.add_argument("--kind", choices=ROUNDS, help="rounds of this kind only")
-    parser.add_argument("--processes", type=int, default=PROCESSORS, help="how many there are (as many as processors)")
+    parser.add_argument("--processes", type=int, default=PROCESSORS,
+                        help="how many there are (as many as processors)")
     given = parser.parse_args()
     print(f"random documents: from seed {given.seed}", flush=True)
     begun = time.monotonic()
     kinds = [given.kind] if given.kind else list(ROUNDS)
-    found = tried_by_all(kinds, range(given.seed, given.seed + given.rounds), given.minutes * 60, given.processes)
+    found = tried_by_all(kinds, range(given.seed, given.seed + given.rounds), given.minutes * 60,
+                         given.processes)
     for text in found.failures:
         print(text)
-    print(f"random documents: {found.rounds} rounds, {found.calls} calls in {(time.monotonic() - begun) / 60:.1f} minutes, "
-          f"{len(found.failures)} differ")
+    print(f"random documents: {found.rounds} rounds, {found.calls} calls in "
+          f"{(time.monotonic() - begun) / 60:.1f} minutes, {len(found.failures)} differ")
     return 1 if found.failures else 0
 
 

@@ -1,7 +1,8 @@
 """Random documents and their expected results, which are known from how the documents were made.
 
-A round makes files and calls the program with them. It returns a call of the round, and one of its files that may be damaged.
-`program.done` and `program.rejected` compare the result of a call with what is known, and with tests/expected.
+A round makes files and calls the program with them. It returns a call of the round, and one of its
+files that may be damaged. `program.done` and `program.rejected` compare the result of a call with
+what is known, and with tests/expected.
 """
 import itertools
 import json
@@ -56,14 +57,16 @@ class Choices:
     def escaped(self, path):
         """The path in an escaped form, perhaps over several lines."""
         pieces = re.findall(rb"\$.|[^$]", escaped(path), re.S)
-        joints = [self.r.choice([b"$\n", b"$\n   ", b"$\r\n "]) if self.chance(3) else b"" for _ in pieces[1:]]
+        joints = [self.r.choice([b"$\n", b"$\n   ", b"$\r\n "]) if self.chance(3) else b""
+                  for _ in pieces[1:]]
         return b"".join(it for both in zip(pieces, joints) for it in both) + pieces[-1]
 
     def end(self):
         return self.r.choice([b"\n", b"\n", b"\r\n"])
 
     def between(self, blank=True):
-        lines = [b"#" + self.word(b"a$|:\t\x00") + b"\n", b"  # x\n"] + ([b"\n", b"   \n", b"\r\n"] if blank else [])
+        lines = ([b"#" + self.word(b"a$|:\t\x00") + b"\n",
+                  b"  # x\n"] + ([b"\n", b"   \n", b"\r\n"] if blank else []))
         return b"".join(self.r.choice(lines) for _ in range(self.r.choice([0, 0, 0, 1, 2])))
 
     def part(self, mark, paths):
@@ -83,12 +86,14 @@ def dyndep_round(make, program):
     for _ in range(make.r.randint(0, 6)):
         output, restat = make.path(), make.chance(50)
         outputs, inputs = ([make.path() for _ in range(make.r.randint(0, 3))] for _ in range(2))
-        text += make.between() + b"build" + make.gap() + make.escaped(output) + make.part(b"|", outputs)
-        text += make.r.choice([b":", b" :", b": "]) + make.r.choice([b"", b" "]) + b"dyndep" + make.part(b"|",
-                                                                                                         inputs) + make.end()
+        text += (make.between() + b"build" + make.gap() + make.escaped(output)
+                 + make.part(b"|", outputs))
+        text += (make.r.choice([b":", b" :", b": "]) + make.r.choice([b"", b" "]) + b"dyndep"
+                 + make.part(b"|", inputs) + make.end())
         if restat or make.chance(20):
             value = make.r.choice([b"1", b"x $: y", b"0"]) if restat else b""
-            text += make.between(blank=False) + b" restat =" + make.r.choice([b"", b" "]) + value + make.end()
+            text += (make.between(blank=False) + b" restat =" + make.r.choice([b"", b" "]) + value
+                     + make.end())
         wanted += statement_text(output, outputs, inputs, restat)
     text += make.between()
     write("t.dd", text)
@@ -109,7 +114,8 @@ def rules_of(make, names, foreign=(), acyclic=False, prefix=b"obj/"):
         known = [it for rule in rules for it in rule["provides"]] if acyclic else list(names)
         pool = known + list(foreign)
         required = [make.r.choice(pool) for _ in range(make.r.randint(0, 4))] if pool else []
-        rules.append({"object": prefix + b"%d%s.o" % (at, make.word(b"ab $:")), "provides": provided, "requires": required})
+        rules.append({"object": prefix + b"%d%s.o" % (at, make.word(b"ab $:")),
+                      "provides": provided, "requires": required})
     return rules
 
 
@@ -119,9 +125,11 @@ def document_of(make, rules):
     for rule in rules:
         it = {"primary-output": make.crooked(rule["object"]).decode()}
         if rule["provides"] or make.chance(30):
-            it["provides"] = [{"logical-name": name.decode(), "is-interface": True} for name in rule["provides"]]
+            it["provides"] = [{"logical-name": name.decode(), "is-interface": True}
+                              for name in rule["provides"]]
         if rule["requires"] or make.chance(30):
-            it["requires"] = [{"logical-name": name.decode(), "source-path": "x"} for name in rule["requires"]]
+            it["requires"] = [{"logical-name": name.decode(), "source-path": "x"}
+                              for name in rule["requires"]]
         if make.chance(20):
             it["outputs"] = ["x", {"y": [1, 2.5e3, None]}]
         made.append(dict(make.r.sample(list(it.items()), len(it))))
@@ -145,7 +153,8 @@ def fault_of(rules, files):
     if twice:
         producers = tuple(objects[provided[it][0]] for it in twice[1:])
         return b"M3 ProvidedTwice %s by object %s and object %s" % (twice[0], *producers)
-    paths = [(at, it) for at, it in enumerate(objects)] + [(at, files[name]) for at, name in provided]
+    paths = ([(at, it) for at, it in enumerate(objects)] + [(at, files[name])
+                                                            for at, name in provided])
     twice = repeated([it for _, it in paths])
     if twice:
         producers = tuple(objects[paths[it][0]] for it in twice[1:])
@@ -160,14 +169,15 @@ def fault_of(rules, files):
 
 
 def dyndep_text(rules, files):
-    return VERSION + b"".join(
-        statement_text(rule["object"], [files[it] for it in rule["provides"]], [files[it] for it in firsts(rule["requires"])],
-                       bool(rule["provides"])) for rule in rules)
+    return VERSION + b"".join(statement_text(rule["object"], [files[it] for it in rule["provides"]],
+                                             [files[it] for it in firsts(rule["requires"])],
+                                             bool(rule["provides"])) for rule in rules)
 
 
 def scan_round(make, program):
     """A scan document becomes the statements of its rules, or has the expected error."""
-    names = firsts([make.word(b"abc") + make.r.choice([b"", b":", b"-"]) + make.word(b"xy") for _ in range(6)])
+    names = firsts([make.word(b"abc") + make.r.choice([b"", b":", b"-"]) + make.word(b"xy")
+                    for _ in range(6)])
     if make.chance(15):
         names.append(make.r.choice(names))
     unknown = [b"nobody"] if make.chance(8) else []
@@ -177,7 +187,8 @@ def scan_round(make, program):
         rule["requires"] = [it for it in rule["requires"] if it in provided or it in unknown]
     if make.chance(5):
         rules.append(dict(rules[0]))
-    folder, ending = make.r.choice([b"mod", b"my mods/$x:y", b"", b"a/../m"]), make.r.choice([b".bmi", b".pcm", b""])
+    folder, ending = (make.r.choice([b"mod", b"my mods/$x:y", b"", b"a/../m"]),
+                      make.r.choice([b".bmi", b".pcm", b""]))
     files = {it: file_of(folder, it, ending) for it in names}
     write("t.ddi", document_of(make, rules))
     fault = fault_of(rules, files)
@@ -195,12 +206,15 @@ def crooked_listing(make, edges):
     """A listing of the edges in a form of its own."""
     text = make.between()
     for edge in edges:
-        text += b"build" + b"".join(make.gap() + make.escaped(make.crooked(it)) for it in edge["outputs"])
-        text += make.part(b"|", [make.crooked(it) for it in edge["implicit"]]) + make.r.choice([b":", b" : "]) + edge["rule"]
+        text += (b"build" + b"".join(make.gap() + make.escaped(make.crooked(it))
+                                     for it in edge["outputs"]))
+        text += (make.part(b"|", [make.crooked(it) for it in edge["implicit"]])
+                 + make.r.choice([b":", b" : "]) + edge["rule"])
         text += b"".join(make.gap() + make.escaped(make.crooked(it)) for it in edge["inputs"])
         text += make.part(b"|", [make.crooked(it) for it in edge["implicit inputs"]])
         text += make.part(b"||", [make.crooked(it) for it in edge["order only"]]) + make.end()
-        bindings = [b"  dyndep = " + make.escaped(make.crooked(edge["dyndep"])) + make.end()] if edge["dyndep"] else []
+        bindings = ([b"  dyndep = " + make.escaped(make.crooked(edge["dyndep"])) + make.end()]
+                    if edge["dyndep"] else [])
         bindings += [b" restat = x" + make.end()] if edge["restat"] else []
         for it in make.r.sample(bindings, len(bindings)):
             text += make.between(blank=False) + it
@@ -216,7 +230,8 @@ def edges_for(make, rules, name):
         if implicit and make.chance(30):
             outputs, implicit = implicit, outputs
         inputs = [[b"src/%d.cpp" % at] if make.chance(80) else [] for _ in range(2)]
-        lists = [inputs[0], inputs[1] if make.chance(20) else [], [b"gen.h"] if make.chance(30) else []]
+        lists = [inputs[0], inputs[1] if make.chance(20) else [],
+                 [b"gen.h"] if make.chance(30) else []]
         lists[make.r.randrange(3)].append(name)
         edges.append(edge_of(b"cxx", outputs, implicit, *lists, name, make.chance(20)))
     others = [edge_of(b"gen", [b"gen.h"], [], [b"gen.in"], [], []),
@@ -233,7 +248,8 @@ def after(edges, rules, files, name):
         for edge in edges:
             if rule["object"] in made_by(edge):
                 edge["implicit"] = edge["implicit"] + [files[it] for it in rule["provides"]]
-                edge["implicit inputs"] = edge["implicit inputs"] + [files[it] for it in firsts(rule["requires"])]
+                edge["implicit inputs"] = (edge["implicit inputs"]
+                                           + [files[it] for it in firsts(rule["requires"])])
                 edge["restat"] = edge["restat"] or bool(rule["provides"])
     return edges
 
@@ -244,9 +260,11 @@ def ordered(program, edges, listing):
     first = [(edge["outputs"])[0] for edge in edges]
     cycle = least_cycle(needs)
     if cycle:
-        program.rejected(shown(b"cycle " + b" -> ".join(first[it] for it in cycle)), "order", listing)
+        program.rejected(shown(b"cycle " + b" -> ".join(first[it] for it in cycle)), "order",
+                         listing)
     else:
-        program.done(b"".join(shown(first[it]) + b"\n" for it in least_order(needs)), "order", listing)
+        program.done(b"".join(shown(first[it]) + b"\n" for it in least_order(needs)), "order",
+                     listing)
 
 
 def effect_round(make, program):
@@ -260,7 +278,8 @@ def effect_round(make, program):
     write("edges", crooked_listing(make, edges))
     ordered(program, edges, "edges")
     then = after(edges, rules, files, b"t.dd")
-    write("after", program.done(listing_text(then), "effect", make.r.choice(["t.dd", "./t.dd", "x/../t.dd"]), "edges", "t.dd"))
+    write("after", program.done(listing_text(then), "effect",
+                                make.r.choice(["t.dd", "./t.dd", "x/../t.dd"]), "edges", "t.dd"))
     ordered(program, then, "after")
     write("none.dd", VERSION)
     program.done(listing_text(then), "effect", "none.dd", "after", "none.dd")
@@ -296,8 +315,8 @@ def project_of(make):
         private = sorted(it for it in provided if make.chance(25))
         targets.append({"name": f"t{at}", "linked": linked, "rules": rules, "private": private,
                         "public": sorted(provided - set(private)), "form": form})
-        modules = [(name, files[name], [(it, files[it]) for it in firsts(rule["requires"])], name in private)
-                   for rule in rules for name in rule["provides"]]
+        modules = [(name, files[name], [(it, files[it]) for it in firsts(rule["requires"])],
+                    name in private) for rule in rules for name in rule["provides"]]
         wanted[f"{at}.info"] = info_text(b"t%d" % at, modules)
         wanted[f"{at}.dd"] = dyndep_text(rules, files)
         for rule in rules:
@@ -309,7 +328,8 @@ def project_of(make):
                     left += rule_of[name]["requires"]
             if form:
                 wanted[rule["object"].decode() + ".modmap"] = map_text(
-                    form.encode(), [(it, files[it]) for it in rule["provides"]], [(it, files[it]) for it in sorted(reached)])
+                    form.encode(), [(it, files[it]) for it in rule["provides"]],
+                    [(it, files[it]) for it in sorted(reached)])
     return targets, wanted, files
 
 
@@ -321,14 +341,18 @@ def write_project(make, targets):
         scans = [f"{at}.{it}.ddi" for it in range(2)]
         write(scans[0], document_of(make, rules[:cut]))
         write(scans[1], document_of(make, rules[cut:]))
-        document = {"version": 1, "target": target["name"], "module-dir": f"bmi/{at}", "module-ext": ".x", "scans": scans,
-                    "linked": [f"{it}.info" for it in sorted(target["linked"])], "info": f"{at}.info", "dyndep": f"{at}.dd",
+        document = {"version": 1, "target": target["name"], "module-dir": f"bmi/{at}",
+                    "module-ext": ".x", "scans": scans,
+                    "linked": [f"{it}.info" for it in sorted(target["linked"])],
+                    "info": f"{at}.info", "dyndep": f"{at}.dd",
                     "private": [it.decode() for it in target["private"]]}
         if target["form"]:
             document["map"] = target["form"]
         write(f"{at}.json", json.dumps(document).encode())
         os.makedirs(f"o{at}", exist_ok=True)
-    write("project.json", json.dumps({"version": 1, "targets": [f"{at}.json" for at in range(len(targets))]}).encode())
+    write("project.json",
+          json.dumps({"version": 1,
+                      "targets": [f"{at}.json" for at in range(len(targets))]}).encode())
 
 
 def check_written(program, how, wanted):
@@ -340,8 +364,8 @@ def check_written(program, how, wanted):
 
 def edges_of(make, targets):
     """Edges for all targets; the files that edges of different targets make are different."""
-    edges = [edge for at, target in enumerate(targets) for edge in edges_for(make, target["rules"], b"%d.dd" % at)
-             if edge["rule"] == b"cxx"]
+    edges = [edge for at, target in enumerate(targets)
+             for edge in edges_for(make, target["rules"], b"%d.dd" % at) if edge["rule"] == b"cxx"]
     for at, edge in enumerate(edges):
         for part in ("implicit", "outputs"):
             edge[part] = [it if it.endswith(b".o") else b"d/all%d.d" % at for it in edge[part]]
@@ -349,7 +373,8 @@ def edges_of(make, targets):
 
 
 def project_round(make, program):
-    """The targets of a project come out as they have to, and their dyndep files end alike in every order."""
+    """The targets of a project come out as they have to,
+    and their dyndep files end alike in every order."""
     targets, wanted, files = project_of(make)
     write_project(make, targets)
     program.done(b"", "project", "project.json")
@@ -373,9 +398,12 @@ def project_round(make, program):
     last = len(targets) - 1
     if make.chance(50):
         at = make.r.randint(0, last)
-        return ["project", "project.json"], make.r.choice(["project.json", f"{at}.json", f"{at}.0.ddi", f"{at}.1.ddi"])
+        return (["project", "project.json"],
+                make.r.choice(["project.json", f"{at}.json", f"{at}.0.ddi", f"{at}.1.ddi"]))
     infos = [f"{it}.info" for it in targets[last]["linked"]]
-    return ["collate", f"{last}.json"], make.r.choice([f"{last}.json", f"{last}.0.ddi", f"{last}.1.ddi"] + infos)
+    return (["collate", f"{last}.json"],
+            make.r.choice([f"{last}.json", f"{last}.0.ddi", f"{last}.1.ddi"] + infos))
 
 
-ROUNDS = {"dyndep_files": dyndep_round, "scan_documents": scan_round, "listings": effect_round, "projects": project_round}
+ROUNDS = {"dyndep_files": dyndep_round, "scan_documents": scan_round, "listings": effect_round,
+          "projects": project_round}

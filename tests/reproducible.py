@@ -1,9 +1,11 @@
-"""The build is reproducible: each product has the same bytes if it is built in another directory, with another number of jobs.
+"""The build is reproducible: each product has the same bytes if it is built in another directory,
+with another number of jobs.
 
     python3 -m unittest tests.reproducible
 
-This is not part of ./test, because it checks the crates of the program and of the library again, twice for each processor: some
-minutes each. The libraries are those that ./build and ./build library have proved."""
+This is not part of ./test, because it checks the crates of the program and of the library again,
+twice for each processor: some minutes each. The libraries are those that ./build and ./build
+library have proved."""
 import hashlib
 import os
 import shutil
@@ -22,10 +24,14 @@ PARTS = ["build", "building", "crates.txt", "cross"]
 
 def is_proved(is_library):
     """Whether only the last crate is left to be checked."""
-    script = ("import subprocess, sys; from building.crates import *; *below, goal = read_crates(sys.argv[1]); "
-              "rt = subprocess.run(['rt', 'version'], stdout=subprocess.PIPE, text=True).stdout.strip(); "
-              "[setattr(it, 'digest', take_digest(it)) for it in below]; sys.exit(not all(is_made(it, rt) for it in below))")
-    return run(sys.executable, "-c", script, "c_library" if is_library else "dyncollate", cwd=TOP)[0] == 0
+    script = (
+        "import subprocess, sys; from building.crates import *; *below, goal = "
+        "read_crates(sys.argv[1]); "
+        "rt = subprocess.run(['rt', 'version'], stdout=subprocess.PIPE, text=True).stdout.strip(); "
+        "[setattr(it, 'digest', take_digest(it)) for it in below]; sys.exit(not all(is_made(it, "
+        "rt) for it in below))")
+    return (run(sys.executable, "-c", script, "c_library" if is_library else "dyncollate",
+                cwd=TOP)[0] == 0)
 
 
 def copied(file, to):
@@ -46,15 +52,18 @@ class Twice(unittest.TestCase):
         for crate in os.listdir(f"{TOP}/crates"):
             for part in "src", "specs", "proofs", "out/proved":
                 if os.path.isdir(f"{TOP}/crates/{crate}/{part}"):
-                    shutil.copytree(f"{TOP}/crates/{crate}/{part}", room / "crates" / crate / part, copy_function=copied)
-        output_of(room / "build", *words, seconds=3600, preexec_fn=lambda: os.sched_setaffinity(0, processors))
+                    shutil.copytree(f"{TOP}/crates/{crate}/{part}", room / "crates" / crate / part,
+                                    copy_function=copied)
+        output_of(room / "build", *words, seconds=3600,
+                  preexec_fn=lambda: os.sched_setaffinity(0, processors))
         out = room / "crates" / ("c_library" if "library" in words else "dyncollate") / "out"
         made = (out / "aarch64" if "aarch64" in words else out).glob("*dyncollate*")
         return {it.name: hashlib.sha256(it.read_bytes()).hexdigest() for it in made if it.is_file()}
 
     def check(self, *words):
         if not is_proved("library" in words):
-            self.skipTest(f"the crates below are not proved; ./build {' '.join(words[:1])} proves them")
+            self.skipTest(
+                f"the crates below are not proved; ./build {' '.join(words[:1])} proves them")
         with tempfile.TemporaryDirectory(prefix="dyncollate-") as folder:
             processors = sorted(os.sched_getaffinity(0))
             first = self.built(words, Path(folder, "a"), processors[:1])

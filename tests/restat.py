@@ -9,12 +9,13 @@ from tests.case import Case, lay, read, tree, write
 DONE = 0, b"", b""
 # a file of more than one piece
 LONG = "m" * 4084
-FILES = {"a.o.modmap": b"-x c++-module\n-fmodule-output=%s/A.bmi\n" % LONG.encode(),
-         "b.o.modmap": b"-fmodule-file=A=%s/A.bmi\n" % LONG.encode(),
-         "t.json": b'{"modules":[{"bmi":"%s/A.bmi","name":"A","requires":[],"visibility":"public"}],"target":"t","version":2}'
-                   % LONG.encode(),
-         "t.dd": b"ninja_dyndep_version = 1\nbuild a.o | %s/A.bmi: dyndep\n  restat = 1\nbuild b.o: dyndep | %s/A.bmi\n"
-                 % (LONG.encode(), LONG.encode())}
+FILES = {
+    "a.o.modmap": b"-x c++-module\n-fmodule-output=%s/A.bmi\n" % LONG.encode(),
+    "b.o.modmap": b"-fmodule-file=A=%s/A.bmi\n" % LONG.encode(), "t.json":
+    b'{"modules":[{"bmi":"%s/A.bmi","name":"A","requires":[],"visibility":"public"}],"target":"t",'
+    b'"version":2}' % LONG.encode(),
+    "t.dd": b"ninja_dyndep_version = 1\nbuild a.o | %s/A.bmi: dyndep\n  restat = 1\n"
+    b"build b.o: dyndep | %s/A.bmi\n" % (LONG.encode(), LONG.encode())}
 LEFT = [it for it in FILES if it != "t.dd"]
 CALLS = [("collate", "t.target.json"), ("project", "t.project.json")]
 # a time in the past, in nanoseconds
@@ -25,8 +26,8 @@ def documents(**members):
     """A target of two objects, with these members more, and a project of it alone."""
     scan = {"version": 1, "rules": [{"primary-output": "a.o", "provides": [{"logical-name": "A"}]},
                                     {"primary-output": "b.o", "requires": [{"logical-name": "A"}]}]}
-    target = {"version": 1, "target": "t", "module-dir": LONG, "module-ext": ".bmi", "scans": ["t.ddi"], "dyndep": "t.dd",
-              "info": "t.json", "map": "clang"}
+    target = {"version": 1, "target": "t", "module-dir": LONG, "module-ext": ".bmi",
+              "scans": ["t.ddi"], "dyndep": "t.dd", "info": "t.json", "map": "clang"}
     project = {"version": 1, "targets": ["t.target.json"]}
     texts = {"t.ddi": scan, "t.target.json": target | members, "t.project.json": project}
     return {name: json.dumps(it).encode() for name, it in texts.items()}
@@ -46,7 +47,8 @@ class Restat(Case):
     seconds = 2
 
     def written(self, call, **earlier):
-        """Runs a command. Returns the names of the files that it writes. All files have their bytes afterwards."""
+        """Runs a command. Returns the names of the files that it writes.
+        All files have their bytes afterwards."""
         for name in FILES:
             if os.path.exists(name) and not stat.S_ISFIFO(os.stat(name).st_mode):
                 os.utime(name, ns=(EARLIER, EARLIER))
@@ -54,12 +56,14 @@ class Restat(Case):
         self.same(self.caller.run(*call), DONE)
         self.same({name: read(name) for name in FILES}, FILES)
         after = {name: os.stat(name) for name in FILES}
-        return [name for name in FILES if (after[name].st_mtime_ns, after[name].st_ino) != (EARLIER, before.get(name))]
+        return [name for name in FILES
+                if (after[name].st_mtime_ns, after[name].st_ino) != (EARLIER, before.get(name))]
 
     def test_files_that_have_their_bytes(self):
         """With the member the dyndep file alone is written, and without it every file."""
         for call in CALLS:
-            for members, names in (({}, [*FILES]), ({"restat": None}, [*FILES]), ({"restat": False}, [*FILES]),
+            for members, names in (({}, [*FILES]), ({"restat": None}, [*FILES]),
+                                   ({"restat": False}, [*FILES]),
                                    ({"restat": True}, ["t.dd"])):
                 lay(documents(**members) | FILES)
                 self.same(self.written(call), names, (call, members))
@@ -87,7 +91,8 @@ class Restat(Case):
             for name in FILES:
                 os.utime(name, ns=(EARLIER, EARLIER))
             self.same(self.caller.run(*call), DONE)
-            self.same([it for it in FILES if os.stat(it).st_mtime_ns != EARLIER], [*names, "t.dd"], call)
+            self.same([it for it in FILES if os.stat(it).st_mtime_ns != EARLIER], [*names, "t.dd"],
+                      call)
 
     def test_a_file_that_a_link_leads_to(self):
         for call in CALLS:
@@ -122,8 +127,9 @@ class Restat(Case):
         targets = {}
         for name, members in ("t", {"restat": True}), ("u", {}):
             document = json.loads(documents(scans=[], **members)["t.target.json"])
-            targets[f"{name}.target.json"] = json.dumps(
-                document | {"target": name, "dyndep": f"{name}.dd", "info": f"{name}.json"}).encode()
+            targets[f"{name}.target.json"] = json.dumps(document
+                                                        | {"target": name, "dyndep": f"{name}.dd",
+                                                           "info": f"{name}.json"}).encode()
         lay(targets | {"p.json": b'{"version":1,"targets":["t.target.json","u.target.json"]}'})
         self.same(self.caller.run("project", "p.json"), DONE)
         before = tree()

@@ -4,8 +4,9 @@
     status, out, err = run_apart("./install", prefix)
     text = output_of("nm", "-u", library)          of a command that has to succeed
 
-A command gets `input`, or nothing, on standard input. A test fails if a command takes more than `seconds`, or if it has to succeed and
-does not. The failure shows the command and what it printed. All other arguments are those of `subprocess.run`.
+A command gets `input`, or nothing, on standard input. A test fails if a command takes more than
+`seconds`, or if it has to succeed and does not. The failure shows the command and what it printed.
+All other arguments are those of `subprocess.run`.
 """
 import shlex
 import subprocess
@@ -17,7 +18,8 @@ from pathlib import Path
 
 def fail(words, what, *printed):
     command = shlex.join(str(it) for it in words)
-    raise AssertionError(f"{command:.1000} {what}:\n" + "".join(as_text(it)[-3000:] for it in printed))
+    raise AssertionError(f"{command:.1000} {what}:\n" + "".join(as_text(it)[-3000:]
+                                                                for it in printed))
 
 
 def as_text(printed):
@@ -33,7 +35,8 @@ def finished(words, input=None, seconds=600, **given):
     try:
         return subprocess.run(words, timeout=seconds, check=False, **files | given)
     except subprocess.TimeoutExpired as error:
-        return fail(words, f"did not end within {seconds} s, and printed", error.output, error.stderr)
+        return fail(words, f"did not end within {seconds} s, and printed", error.output,
+                    error.stderr)
 
 
 def run(*words, **given):
@@ -81,12 +84,14 @@ class Run(unittest.TestCase):
     """What a failure says."""
 
     def test_a_command_that_fails(self):
-        with self.assertRaisesRegex(AssertionError, r"\Ash -c .* ended with status 3, and printed:\nout\nerr\n\Z"):
+        with self.assertRaisesRegex(AssertionError,
+                                    r"\Ash -c .* ended with status 3, and printed:\nout\nerr\n\Z"):
             output_of("sh", "-c", "echo out; echo err >&2; exit 3")
         self.assertEqual(run("sh", "-c", "echo out; echo err >&2; exit 3"), (3, "out\nerr\n"))
 
     def test_a_command_that_takes_too_long(self):
-        with self.assertRaisesRegex(AssertionError, r"\Ash -c .* did not end within 0.2 s, and printed:\nout\n\Z"):
+        with self.assertRaisesRegex(AssertionError,
+                                    r"\Ash -c .* did not end within 0.2 s, and printed:\nout\n\Z"):
             run_apart("sh", "-c", "echo out; exec sleep 60", seconds=0.2)
 
     def test_standard_input(self):

@@ -1,6 +1,8 @@
-"""Each step of the examples in a sandbox that has the files which docs/GUIDE.md lists for it, the tools, and nothing else, as a remote
-executor runs it: it writes the files that GUIDE lists, with the bytes that they have in an ordinary build. Without one of the files
-of a map, a compilation fails that reads it. Debian's `bubblewrap` makes the sandboxes; a test whose tool is missing is skipped."""
+"""Each step of the examples in a sandbox that has the files which docs/GUIDE.md lists for it, the
+tools, and nothing else, as a remote executor runs it: it writes the files that GUIDE lists, with
+the bytes that they have in an ordinary build. Without one of the files of a map, a compilation
+fails that reads it. Debian's `bubblewrap` makes the sandboxes; a test whose tool is missing is
+skipped."""
 import json
 import os
 import re
@@ -41,58 +43,71 @@ class Sandbox:
         return text
 
     def below(self, name):
-        """The files of the project that a depfile named, as Ninja has kept them. Others are the tools' own."""
+        """The files of the project that a depfile named, as Ninja has kept them.
+        Others are the tools' own."""
         names = re.findall(r"^    (.*)$", self.asked("deps", name), re.M)
         return [it for it in map(os.path.normpath, names) if not os.path.isabs(it)]
 
     def of_documents(self, documents):
-        """The files that a collation reads besides these documents, and the files that it writes."""
+        """The files that a collation reads besides these documents,
+        and the files that it writes."""
         targets = [json.loads(Path(it).read_text()) for it in documents]
         scans = [scan for it in targets for scan in it["scans"]]
-        objects = [rule["primary-output"] for it in scans for rule in json.loads(Path(it).read_text())["rules"]]
-        return targets, scans, [f"{it}.modmap" for it in objects] + [it[key] for it in targets for key in ("info", "dyndep")]
+        objects = [rule["primary-output"] for it in scans
+                   for rule in json.loads(Path(it).read_text())["rules"]]
+        return (targets, scans, [f"{it}.modmap" for it in objects]
+                + [it[key] for it in targets for key in ("info", "dyndep")])
 
     def documents(self, name):
         return json.loads(Path(name).read_text()).get("targets", [name])
 
     def provided_and_needed(self, name):
-        """The files in an object's map that the compilation writes, and the files that it may read."""
+        """The files in an object's map that the compilation writes,
+        and the files that it may read."""
         lines = Path(f"{name}.modmap").read_text().splitlines()
         if self.form != "gcc":
             return ([it.split("=", 1)[1] for it in lines if it.startswith("-fmodule-output=")],
                     [it.split("=", 2)[2] for it in lines if it.startswith("-fmodule-file=")])
         files = [it.split(" ", 1)[1] for it in lines]
-        return [it for it in files if it in self.outputs[name]], [it for it in files if it not in self.outputs[name]]
+        return ([it for it in files if it in self.outputs[name]],
+                [it for it in files if it not in self.outputs[name]])
 
     def step(self, kind, output, command, source):
         if kind in ("archive", "link"):
-            return Step(kind, command, set(re.findall(r"^    (?:\| )?([^|].*)$", self.asked("query", output).split("  outputs:")[0], re.M)), {output})
+            return Step(kind, command,
+                        set(re.findall(r"^    (?:\| )?([^|].*)$",
+                                       self.asked("query", output).split("  outputs:")[0], re.M)),
+                        {output})
         if kind == "scan":
             return Step(kind, command, {source, *self.below(output)}, {output, f"{output}.d"})
         if kind == "collate":
             documents = self.documents(source)
             targets, scans, written = self.of_documents(documents)
-            linked = [info for it in targets for info in it["linked"]] if documents == [source] else []
+            linked = ([info for it in targets for info in it["linked"]]
+                      if documents == [source] else [])
             return Step(kind, command, {source, *documents, *scans, *linked}, set(written))
         provided, needed = self.provided_and_needed(output)
-        return Step(kind, command, {source, f"{output}.modmap", *self.below(output), *needed}, {output, f"{output}.d", *provided})
+        return Step(kind, command, {source, f"{output}.modmap", *self.below(output), *needed},
+                    {output, f"{output}.d", *provided})
 
     def dyndep_files(self):
         return Path("dd").glob("*.dd")
 
     def steps(self, **rules):
         """All steps of the build, by their kinds, whose rules may have other names."""
-        statements = re.findall(r"^build (\S+)(?: \| (.*))?: dyndep", "".join(it.read_text() for it in self.dyndep_files()), re.M)
+        statements = re.findall(r"^build (\S+)(?: \| (.*))?: dyndep",
+                                "".join(it.read_text() for it in self.dyndep_files()), re.M)
         self.outputs = {name: outputs.split(" ") for name, outputs in statements}
         for kind in "scan", "collate", "compile", "archive", "link":
             for it in json.loads(self.asked("compdb", *rules.get(kind, [kind]))):
-                yield self.step(kind, os.path.normpath(it["output"]), it["command"], os.path.normpath(it["file"]))
+                yield self.step(kind, os.path.normpath(it["output"]), it["command"],
+                                os.path.normpath(it["file"]))
 
     # ---- sandboxes
 
     def sandbox(self, step, without=()):
-        """Runs a step in a directory that has only the files that it reads. Returns its status, what it prints, and the files that it
-        leaves."""
+        """Runs a step in a directory that has only the files that it reads. Returns its status,
+        what it prints, and the files that it leaves."""
         room = Path(tempfile.mkdtemp(dir="..", prefix="alone-")).resolve()
         self.addCleanup(shutil.rmtree, room, ignore_errors=True)
         for name in step.reads | step.writes:
@@ -101,16 +116,19 @@ class Sandbox:
         for name in reads:
             shutil.copy(name, room / name)
             (room / name).chmod(0o444)
-        words = ["bwrap", "--unshare-all", "--die-with-parent", "--ro-bind", "/usr", "/usr", "--proc", "/proc", "--dev", "/dev",
-                 "--tmpfs", "/tmp", "--dir", "/var/tmp"]
+        words = ["bwrap", "--unshare-all", "--die-with-parent", "--ro-bind", "/usr", "/usr",
+                 "--proc", "/proc", "--dev", "/dev", "--tmpfs", "/tmp", "--dir", "/var/tmp"]
         for name in "bin", "lib", "lib64", "sbin":
-            words += ["--symlink", f"usr/{name}", f"/{name}"] if os.path.islink(f"/{name}") else ["--ro-bind", f"/{name}", f"/{name}"]
-        for name in {program.PROGRAM, *self.programs, *(os.path.realpath(tool(it)) for it in self.tools)}:
+            words += (["--symlink", f"usr/{name}", f"/{name}"]
+                      if os.path.islink(f"/{name}") else ["--ro-bind", f"/{name}", f"/{name}"])
+        for name in {program.PROGRAM, *self.programs,
+                     *(os.path.realpath(tool(it)) for it in self.tools)}:
             if not name.startswith("/usr/"):
                 words += ["--ro-bind", name, name]
         words += ["--bind", room, os.getcwd(), "--chdir", os.getcwd(), "sh", "-c", step.command]
         status, printed = run(*words, env={"PATH": os.environ["PATH"], "SOURCE_DATE_EPOCH": "1"})
-        left = {str(it.relative_to(room)): it.read_bytes() for it in room.rglob("*") if it.is_file()}
+        left = {str(it.relative_to(room)): it.read_bytes() for it in room.rglob("*")
+                if it.is_file()}
         return status, printed, {name: text for name, text in left.items() if name not in reads}
 
     def same(self, step):
@@ -120,7 +138,8 @@ class Sandbox:
             status, printed, left = self.sandbox(step)
             self.assertEqual((status, printed), (0, ""), step)
             self.assertEqual(set(left), step.writes, step)
-            different = {name for name, text in left.items() if not name.endswith(".d") and text != Path(name).read_bytes()}
+            different = {name for name, text in left.items() if not name.endswith(".d")
+                         and text != Path(name).read_bytes()}
             if not different:
                 return
         self.fail(f"{sorted(different)}: other bytes than in the build, by {step}")
@@ -143,13 +162,16 @@ class Sandboxed(Sandbox, Directory):
 
     def test_each_step(self):
         kinds = [(step.kind, self.same(step)) for step in self.steps()]
-        sources, targets = len(list(Path("obj").rglob("*.o"))), len(list(Path("dd").glob("*.target.json")))
+        sources, targets = (len(list(Path("obj").rglob("*.o"))),
+                            len(list(Path("dd").glob("*.target.json"))))
         collations = 1 if self.form == "project" else targets
-        wanted = ["scan"] * sources + ["collate"] * collations + ["compile"] * sources + ["archive"] * (targets - 1) + ["link"]
+        wanted = (["scan"] * sources + ["collate"] * collations + ["compile"] * sources
+                  + ["archive"] * (targets - 1) + ["link"])
         self.assertEqual([kind for kind, _ in kinds], wanted)
 
     def test_a_file_of_a_map_that_is_missing(self):
-        """The compilation fails, and names the file. GCC does not read a partition that the source does not import itself."""
+        """The compilation fails, and names the file. GCC does not read a partition that the source
+        does not import itself."""
         count = 0
         for step in self.steps():
             maps = [it for it in step.reads if it.endswith(".modmap")]
@@ -158,7 +180,8 @@ class Sandboxed(Sandbox, Directory):
                 status, printed, left = self.sandbox(step, without={name})
                 # (the file of a partition a:b is a-b.gcm)
                 if self.form == "gcc" and name not in required and "-" in os.path.basename(name):
-                    self.assertEqual((status, printed, set(left)), (0, "", step.writes), (step, name))
+                    self.assertEqual((status, printed, set(left)), (0, "", step.writes),
+                                     (step, name))
                 else:
                     self.assertNotEqual(status, 0, (step, name))
                     self.assertIn(os.path.basename(name), printed)
@@ -178,7 +201,8 @@ class Sandboxed(Sandbox, Directory):
     def test_a_file_that_is_not_declared(self):
         """What a step needs is really missing: without its source or its map it fails."""
         steps = {it.kind: it for it in self.steps()}
-        for kind, suffix in ("scan", (".cpp", ".cppm")), ("collate", ".json"), ("compile", (".cpp", ".cppm")), ("compile", ".modmap"):
+        for kind, suffix in (("scan", (".cpp", ".cppm")), ("collate", ".json"),
+                             ("compile", (".cpp", ".cppm")), ("compile", ".modmap")):
             for name in steps[kind].reads:
                 if name.endswith(suffix) and not os.path.isabs(name):
                     self.assertNotEqual(self.sandbox(steps[kind], without={name})[0], 0, name)
@@ -194,28 +218,35 @@ class StdWithClang(Sandboxed):
     example, form, seconds = "std", "clang", 240
 
     def before(self):
-        if not standard_modules(tool("clang"), "-stdlib=libc++", "-print-file-name=libc++.modules.json"):
+        if not standard_modules(tool("clang"), "-stdlib=libc++",
+                                "-print-file-name=libc++.modules.json"):
             self.skipTest("libc++-19-dev: not there")
 
 
 class DeprecatedWithClang(Sandboxed):
-    """A source uses a function of a module that is deprecated, and Clang quotes the line of the module."""
+    """A source uses a function of a module that is deprecated,
+    and Clang quotes the line of the module."""
     example, form = "libs", "clang"
     test_each_step = test_a_file_of_a_map_that_is_missing = test_a_file_that_is_not_declared = None
 
     def copy(self, example, form=None):
         super().copy(example)
-        edit("src/base/number.cppm", "^export struct", r"export [[deprecated]] inline int old() { return 0; }\n\g<0>")
-        edit("src/math/sum.cpp", "^module sum;", r"\g<0>\nimport number;\nint use() { return old(); }")
+        edit("src/base/number.cppm", "^export struct",
+             r"export [[deprecated]] inline int old() { return 0; }\n\g<0>")
+        edit("src/math/sum.cpp", "^module sum;",
+             r"\g<0>\nimport number;\nint use() { return old(); }")
         self.generate(form)
 
     def test_the_source_of_the_module(self):
         """Without it a correct program fails, unless it is in the module file."""
-        for status, said in (1, "fatal error: cannot open file"), (0, "[[deprecated]] inline int old()"):
+        for status, said in ((1, "fatal error: cannot open file"),
+                             (0, "[[deprecated]] inline int old()")):
             step = next(it for it in self.steps() if "obj/math/src/math/sum.cpp.o" in it.writes)
             found, printed, _ = self.sandbox(step)
-            self.assertEqual((found, "'old' is deprecated" in printed, said in printed), (status, True, True), printed)
-            edit("build.ninja", r"^  command = (\$clang .*@\$out\.modmap)", r"  command = \1 -Xclang -fmodules-embed-all-files")
+            self.assertEqual((found, "'old' is deprecated" in printed, said in printed),
+                             (status, True, True), printed)
+            edit("build.ninja", r"^  command = (\$clang .*@\$out\.modmap)",
+                 r"  command = \1 -Xclang -fmodules-embed-all-files")
             self.assertEqual(self.ninja()[0], 0, self.log)
 
 
@@ -243,7 +274,8 @@ class InMesonsBuild(Sandbox, meson.Builds):
         return Path("meson-dyncollate").rglob("modules.dd")
 
     def step(self, kind, output, command, source):
-        """The step of a group also writes the target documents and the dyndep files of its libraries, and Python's cache."""
+        """The step of a group also writes the target documents and the dyndep files of its
+        libraries, and Python's cache."""
         found = super().step(kind, output, command, source)
         if kind == "link":
             # the archives of Meson name the objects, and do not contain them
@@ -252,7 +284,8 @@ class InMesonsBuild(Sandbox, meson.Builds):
             return found
         documents = {it["document"] for it in json.loads(Path(source).read_text())["targets"]}
         cached = {str(it) for it in Path("meson-dyncollate/python").rglob("*.pyc")}
-        return Step("group", command, found.reads - documents | {source}, found.writes | documents | cached | {output})
+        return Step("group", command, found.reads - documents | {source},
+                    found.writes | documents | cached | {output})
 
     def documents(self, name):
         members = json.loads(Path(name).read_text()).get("targets")
@@ -262,9 +295,11 @@ class InMesonsBuild(Sandbox, meson.Builds):
         names = re.findall("^rule (.*)", self.tree.text(), re.M)
         rules = {"scan": [it for it in names if it.startswith("dyncollate_scan")],
                  "collate": ["dyncollate_group", "dyncollate_collate"], "link": ["cpp_LINKER"],
-                 "compile": [it for it in names if it.startswith("cpp_COMPILER")], "archive": ["STATIC_LINKER"]}
+                 "compile": [it for it in names if it.startswith("cpp_COMPILER")],
+                 "archive": ["STATIC_LINKER"]}
         kinds = [(step.kind, self.same(step)) for step in self.steps(**rules)]
-        self.assertEqual([kind for kind, _ in kinds], ["scan"] * 3 + ["group", "collate"] + ["compile"] * 3 + ["archive"] * 2 + ["link"])
+        self.assertEqual([kind for kind, _ in kinds], ["scan"] * 3 + ["group", "collate"]
+                         + ["compile"] * 3 + ["archive"] * 2 + ["link"])
 
 
 class InMesonsBuildWithGcc(InMesonsBuild):
@@ -283,7 +318,8 @@ class Ccache(Directory):
             self.skipTest("ccache 4.7: not there")
         self.environment |= {"CCACHE_DIR": f"{os.getcwd()}/ccache"}
         Path("targets").write_text("program app main.cpp a.cppm\n")
-        Path("main.cpp").write_text('import a;\nextern "C" int printf(const char *, ...);\nint main() { printf("%d\\n", number()); }\n')
+        Path("main.cpp").write_text('import a;\nextern "C" int printf(const char *, ...);\n'
+                                    'int main() { printf("%d\\n", number()); }\n')
         Path("a.cppm").write_text("export module a;\nexport constexpr int number() { return 1; }\n")
         self.generate("clang", "targets")
 
@@ -295,9 +331,12 @@ class Ccache(Directory):
         self.makes("1")
 
     def test_the_files_of_the_map_in_the_key(self):
-        """With the command of GUIDE the program is right, and an object that fits is taken from the cache."""
-        command = re.search(r"^  command = CCACHE_EXTRAFILES=.*\n    .*\n", (Path(program.TOP) / "docs/GUIDE.md").read_text(), re.M)[0]
-        edit("build.ninja", r"^  command = \$clang .*@\$out\.modmap.*\n.*\n", command.replace("\\", r"\\"))
+        """With the command of GUIDE the program is right,
+        and an object that fits is taken from the cache."""
+        command = re.search(r"^  command = CCACHE_EXTRAFILES=.*\n    .*\n",
+                            (Path(program.TOP) / "docs/GUIDE.md").read_text(), re.M)[0]
+        edit("build.ninja", r"^  command = \$clang .*@\$out\.modmap.*\n.*\n",
+             command.replace("\\", r"\\"))
         for number, hits in (1, 0), (2, 0), (1, 1):
             edit("a.cppm", r"return \d", f"return {number}")
             self.makes(str(number))

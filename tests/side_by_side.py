@@ -1,5 +1,6 @@
-"""A suite whose tests run in as many processes as there are processors. At its end it prints `N passed, M failed`, and writes the
-same to the file that the environment variable RESULTS names, as JSON, with the tests that were skipped and why."""
+"""A suite whose tests run in as many processes as there are processors. At its end it prints `N
+passed, M failed`, and writes the same to the file that the environment variable RESULTS names, as
+JSON, with the tests that were skipped and why."""
 import atexit
 import collections
 import concurrent.futures
@@ -20,7 +21,8 @@ running = []
 
 
 class Outcomes(unittest.TestResult):
-    """The outcomes of a test, in a form that another process can read: the name of a method of a result, and a text."""
+    """The outcomes of a test, in a form that another process can read:
+    the name of a method of a result, and a text."""
 
     def __init__(self):
         super().__init__()
@@ -40,7 +42,8 @@ class Outcomes(unittest.TestResult):
 
     def addSubTest(self, test, subtest, err):
         if err:
-            of_kind = self.addFailure if issubclass(err[0], test.failureException) else self.addError
+            of_kind = (self.addFailure
+                       if issubclass(err[0], test.failureException) else self.addError)
             of_kind(test, (err[0], f"{subtest._subDescription()}: {err[1]}", err[2]))
 
 
@@ -65,11 +68,13 @@ def report(result, test, found):
 
 
 def count(result):
-    """Prints the counts of all tests, as the last line of the process, and writes them to the file RESULTS."""
+    """Prints the counts of all tests, as the last line of the process,
+    and writes them to the file RESULTS."""
     failed = len(result.failures) + len(result.errors) + len(result.unexpectedSuccesses)
     counts = {"passed": result.testsRun - failed - len(result.skipped), "failed": failed,
               "skipped": {test.id(): reason for test, reason in result.skipped}}
-    atexit.register(lambda: print(f"{counts['passed']} passed, {failed} failed, {len(result.skipped)} skipped", flush=True))
+    atexit.register(lambda: print(
+        f"{counts['passed']} passed, {failed} failed, {len(result.skipped)} skipped", flush=True))
     if os.environ.get("RESULTS"):
         with open(os.environ["RESULTS"], "w", encoding="utf-8") as file:
             json.dump(counts, file)
@@ -85,8 +90,8 @@ def flat(suite):
 
 
 class SideBySide(unittest.TestSuite):
-    """The tests that take longest, by their attribute `seconds`, begin first; otherwise their order is arbitrary. What
-    a class or a module sets up is set up for each of its tests."""
+    """The tests that take longest, by their attribute `seconds`, begin first; otherwise their order
+    is arbitrary. What a class or a module sets up is set up for each of its tests."""
 
     def run(self, result, debug=False):
         if debug:
@@ -94,7 +99,8 @@ class SideBySide(unittest.TestSuite):
         running[:] = sorted(flat(self), key=lambda test: -getattr(test, "seconds", 0))
         processes = min(len(os.sched_getaffinity(0)), len(running)) or 1
         ended = queue.SimpleQueue()
-        pool = concurrent.futures.ProcessPoolExecutor(processes, multiprocessing.get_context("fork"))
+        pool = concurrent.futures.ProcessPoolExecutor(processes,
+                                                      multiprocessing.get_context("fork"))
         try:
             number_of = {pool.submit(outcomes_of, number): number for number in range(len(running))}
             for future in number_of:
@@ -103,7 +109,8 @@ class SideBySide(unittest.TestSuite):
                 error = future.exception()
                 if isinstance(error, SystemExit):
                     raise error
-                found = [("addError", f"its process ended: {error!r}")] if error else future.result()
+                found = ([("addError", f"its process ended: {error!r}")]
+                         if error else future.result())
                 report(result, running[number_of[future]], found)
                 if result.shouldStop:
                     break
@@ -122,18 +129,22 @@ def side_by_side(_loader, tests, _pattern):
 
 def what_runs(futures):
     """The modules whose tests run now, each with how many of them."""
-    counts = collections.Counter(type(running[number]).__module__ for future, number in futures.items() if future.running())
-    return ", ".join(f"{module} ({number})" if number > 1 else module for module, number in sorted(counts.items()))
+    counts = collections.Counter(type(running[number]).__module__
+                                 for future, number in futures.items() if future.running())
+    return ", ".join(f"{module} ({number})" if number > 1 else module
+                     for module, number in sorted(counts.items()))
 
 
 def in_turn(ended, futures):
-    """Yields the futures as they end, and reports every few seconds how many have ended, and what runs."""
+    """Yields the futures as they end, and reports every few seconds how many have ended,
+    and what runs."""
     began = said = time.monotonic()
     for number in range(len(futures)):
         while True:
             if time.monotonic() - said >= SECONDS:
                 said = time.monotonic()
-                print(f"\n{number} of {len(futures)} tests, {said - began:.0f} s: {what_runs(futures)}", file=sys.stderr, flush=True)
+                print(f"\n{number} of {len(futures)} tests, {said - began:.0f} s: "
+                      f"{what_runs(futures)}", file=sys.stderr, flush=True)
             try:
                 yield ended.get(timeout=max(0, said + SECONDS - time.monotonic()))
                 break

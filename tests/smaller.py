@@ -1,16 +1,19 @@
-"""Makes files with which a call fails smaller, as long as it fails: by delta debugging (Zeller and Hildebrandt, 2002)."""
+"""Makes files with which a call fails smaller, as long as it fails:
+by delta debugging (Zeller and Hildebrandt, 2002)."""
 import json
 
 
 def smaller(files, fails):
-    """Some of these files, with some of their bytes, of which almost none can be left out: `fails` still holds of them. Members,
-    elements and characters of a JSON text are left out, and lines and bytes of any text."""
+    """Some of these files, with some of their bytes, of which almost none can be left out: `fails`
+    still holds of them. Members, elements and characters of a JSON text are left out, and lines and
+    bytes of any text."""
     files = dict(least(list(files.items()), lambda parts: fails(dict(parts))))
     before = None
     while files != before:
         before = files
         for name in sorted(files, key=lambda it: -len(files[it])):
-            files = files | {name: least_text(files[name], lambda text, name=name: fails(files | {name: text}))}
+            files = (files | {name: least_text(
+                files[name], lambda text, name=name: fails(files | {name: text}))})
     return files
 
 
@@ -21,7 +24,8 @@ def least_text(text, fails):
 
 
 def least(parts, fails):
-    """Leaves out parts, in runs that get shorter, and in the end one by one. Returns the parts that are left."""
+    """Leaves out parts, in runs that get shorter, and in the end one by one.
+    Returns the parts that are left."""
     run, before = len(parts), None
     while run:
         at = 0
@@ -40,7 +44,8 @@ def least(parts, fails):
 
 
 def least_document(text, fails):
-    """A JSON text with fewer members and elements; any other text, and one that fails only in its own form, stays as it is."""
+    """A JSON text with fewer members and elements; any other text, and one that fails only in its
+    own form, stays as it is."""
     def fails_as(tree):
         return fails(json.dumps(tree).encode())
 

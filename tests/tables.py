@@ -7,12 +7,14 @@ from pathlib import Path
 
 from tests import modules_with_tests
 
-SUBJECTS = ["arguments", "scan_documents", "infos", "targets", "projects", "modules", "dyndep_files", "listings", "effects"]
+SUBJECTS = ["arguments", "scan_documents", "infos", "targets", "projects", "modules",
+            "dyndep_files", "listings", "effects"]
 
 
 def all_rows():
     """The rows of all subjects."""
-    return [row for subject in SUBJECTS for row in importlib.import_module(f"tests.rows.{subject}").ROWS]
+    return [row for subject in SUBJECTS
+            for row in importlib.import_module(f"tests.rows.{subject}").ROWS]
 
 
 def worked():
@@ -25,7 +27,8 @@ class Tables(unittest.TestCase):
         """No two rows have the same arguments and the same files."""
         known, twice = {}, []
         for row in all_rows():
-            files = ((name, hashlib.sha256(text).digest()) for name, text in sorted(row.texts().items()))
+            files = ((name, hashlib.sha256(text).digest())
+                     for name, text in sorted(row.texts().items()))
             earlier = known.setdefault((tuple(row.words), *files), row)
             if earlier is not row:
                 twice.append((earlier.name, row.name))
@@ -33,6 +36,8 @@ class Tables(unittest.TestCase):
 
     def test_readme_lists_each_module(self):
         """The table of README.md has each module with tests, once."""
-        rows = re.findall(r"^\| (`.*?) \|", Path(__file__).with_name("README.md").read_text(encoding="utf-8"), re.M)
+        rows = re.findall(r"^\| (`.*?) \|",
+                          Path(__file__).with_name("README.md").read_text(encoding="utf-8"), re.M)
         listed = [name for row in rows for name in re.findall(r"`(\w+)`", row)]
-        self.assertEqual(sorted(listed), [it.__name__.split(".")[-1] for it in modules_with_tests()])
+        self.assertEqual(sorted(listed),
+                         [it.__name__.split(".")[-1] for it in modules_with_tests()])

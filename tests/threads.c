@@ -1,4 +1,5 @@
-/* threads COMMAND FILE: threads make the call that the file has (fuzz/calls.h) at once, and all get the result that one gets alone. */
+/* threads COMMAND FILE: threads make the call that the file has (fuzz/calls.h) at once, and all get
+   the result that one gets alone. */
 #include "fuzz/calls.h"
 
 #include <pthread.h>
@@ -19,9 +20,12 @@ static void *calls(void *unused)
     uint8_t *own_room = malloc(alone.text);
     int number;
     for (number = 0; number < CALLS; number++) {
-        dyncollate_outcome got = call(command, &passed, own_numbers, alone.numbers, own_room, alone.text);
-        require(got.status == alone.status && got.written && got.numbers == alone.numbers && got.text == alone.text);
-        require(!memcmp(own_numbers, numbers, alone.numbers * sizeof *numbers) && !memcmp(own_room, room, alone.text));
+        dyncollate_outcome got =
+            call(command, &passed, own_numbers, alone.numbers, own_room, alone.text);
+        require(got.status == alone.status && got.written && got.numbers == alone.numbers &&
+                got.text == alone.text);
+        require(!memcmp(own_numbers, numbers, alone.numbers * sizeof *numbers) &&
+                !memcmp(own_room, room, alone.text));
         memset(own_room, 0, alone.text);
     }
     free(own_numbers);

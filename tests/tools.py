@@ -11,30 +11,37 @@ from tests.run import run
 
 
 def makes_modules(command, folder):
-    return not run(command, *"-std=c++20 -x c++-module -fmodule-output=a.pcm -c a.cppm -o a.o".split(), cwd=folder)[0]
+    return not run(command,
+                   *"-std=c++20 -x c++-module -fmodule-output=a.pcm -c a.cppm -o a.o".split(),
+                   cwd=folder)[0]
 
 
 def is_gcc(command, folder):
     Path(folder, "a.map").write_text("a a.gcm\n")
     return "clang" not in run(command, "--version")[1] and not run(
-        command, *"-std=c++20 -fmodules-ts -fmodule-mapper=a.map -x c++ -c a.cppm -o a.o".split(), cwd=folder)[0]
+        command, *"-std=c++20 -fmodules-ts -fmodule-mapper=a.map -x c++ -c a.cppm -o a.o".split(),
+        cwd=folder)[0]
 
 
 def scans(command, folder):
     compiling = [tool("clang"), *"-std=c++20 -x c++-module -c a.cppm -o a.o".split()]
-    return bool(tool("clang")) and '"a"' in run(command, "-format=p1689", "--", *compiling, cwd=folder)[1]
+    return (bool(tool("clang")) and '"a"' in run(command, "-format=p1689", "--", *compiling,
+                                                 cwd=folder)[1])
 
 
 def fuzzes(command, folder):
-    Path(folder, "fuzz.c").write_text("int LLVMFuzzerTestOneInput(const char *at, long size) { return !at && size; }\n")
-    return not run(command, "-fsanitize=fuzzer,address,undefined", "fuzz.c", "-o", "fuzz", cwd=folder)[0]
+    Path(folder, "fuzz.c").write_text(
+        "int LLVMFuzzerTestOneInput(const char *at, long size) { return !at && size; }\n")
+    return not run(command, "-fsanitize=fuzzer,address,undefined", "fuzz.c", "-o", "fuzz",
+                   cwd=folder)[0]
 
 
 def of_versions(name, *versions):
     return [f"{name}-{it}" for it in versions] + [name]
 
 
-# The package of each tool, the names that it may have, and a function that checks whether a command works.
+# The package of each tool, the names that it may have,
+# and a function that checks whether a command works.
 TOOLS = {
     "ninja": ("ninja-build", ["ninja", "ninja-build"], lambda command, _: True),
     "clang": ("clang-19", of_versions("clang++", 19, 18, 17, 16, 20, 21), makes_modules),
@@ -69,7 +76,8 @@ def scans_by_itself(compiler):
 
 def tools_of(form):
     """The tools of a build in this form of `generate`."""
-    scanning = [] if form == "gcc" and tool("gcc") and scans_by_itself(tool("gcc")) else ["clang", "scanner"]
+    scanning = ([] if form == "gcc" and tool("gcc") and scans_by_itself(tool("gcc"))
+                else ["clang", "scanner"])
     return ["ninja", *["gcc"] * (form == "gcc"), *scanning]
 
 

@@ -1,5 +1,6 @@
-"""The traps that docs/GUIDE.md speaks of: each test falls into one, by a manifest or a document that does, and gets out if
-there is a way out. A trap of other tools is tested with the versions that have it."""
+"""The traps that docs/GUIDE.md speaks of: each test falls into one, by a manifest or a document
+that does, and gets out if there is a way out. A trap of other tools is tested with the versions
+that have it."""
 import json
 import os
 import re
@@ -12,7 +13,8 @@ from tests.cmake_builds import cmake
 from tests.run import run, run_apart
 from tests.tools import tool, version
 
-USERS = ["src/point.cppm", "src/geometry.cppm", "src/shapes.cppm", "src/geometry.cpp", "src/main.cpp"]
+USERS = ["src/point.cppm", "src/geometry.cppm", "src/shapes.cppm", "src/geometry.cpp",
+         "src/main.cpp"]
 
 
 def reverse_import():
@@ -31,9 +33,10 @@ def target_of_one_module(name="A", folder="bmi", style="clang", made="a.o", **me
     """Writes the document of a target whose one object provides a module of this name."""
     rule = {"primary-output": made, "provides": [{"logical-name": name}]}
     Path("a.ddi").write_text(json.dumps({"version": 1, "rules": [rule]}, ensure_ascii=False))
-    Path("t.target.json").write_text(json.dumps(
-        {"version": 1, "target": "t", "module-dir": folder, "module-ext": ".pcm" if style == "clang" else ".gcm",
-         "scans": ["a.ddi"], "dyndep": "t.dd", "info": "t.json", "map": style} | members))
+    Path("t.target.json").write_text(json.dumps({"version": 1, "target": "t", "module-dir": folder,
+                                                 "module-ext": ".pcm" if style == "clang"
+                                                 else ".gcm", "scans": ["a.ddi"], "dyndep": "t.dd",
+                                                 "info": "t.json", "map": style} | members))
 
 
 class Manifests(Directory):
@@ -72,7 +75,8 @@ class Manifests(Directory):
         self.ninja()
         self.assertIn(".pcm", run(tool("ninja"), "-t", "deps", "obj/app/src/point.cppm.o")[1])
         reverse_import()
-        said = "dependency cycle: bmi/app/geometry.pcm" if version("ninja") >= (1, 11) else "multiple rules generate bmi/app/"
+        said = ("dependency cycle: bmi/app/geometry.pcm"
+                if version("ninja") >= (1, 11) else "multiple rules generate bmi/app/")
         for words in [], ["-t", "clean"], []:
             self.ninja(*words)
             self.assertEqual((self.status, said in self.log), (not words, not words), self.log)
@@ -108,24 +112,27 @@ class Manifests(Directory):
     def test_a_collation_without_the_info_files_of_its_libraries_as_inputs(self):
         self.copy("libs", "clang")
         edit("build.ninja", r"^(build dd.app.dd.*) dd.base.info.json dd.math.info.json", r"\1")
-        self.assertIn(self.ninja("dd/app.dd")[0], (1, 3), "from Ninja 1.13 on it is the status of the step")
+        self.assertIn(self.ninja("dd/app.dd")[0], (1, 3),
+                      "from Ninja 1.13 on it is the status of the step")
         self.assertIn("dyncollate: cannot read dd/base.info.json", self.log.splitlines())
 
     def test_cleandead(self):
-        """Ninja 1.11 deletes all module files, and the next run makes them again. From 1.12 on it reads dyndep files first."""
+        """Ninja 1.11 deletes all module files, and the next run makes them again. From 1.12 on it
+        reads dyndep files first."""
         self.copy("libs", "clang")
         self.makes("42")
         modules = sorted(Path("bmi").rglob("*.pcm"))
         self.assertEqual(len(modules), 3)
         self.assertEqual(self.ninja("-t", "cleandead")[0], 0)
-        self.assertEqual(sorted(Path("bmi").rglob("*.pcm")), [] if version("ninja") < (1, 12) else modules)
+        self.assertEqual(sorted(Path("bmi").rglob("*.pcm")),
+                         [] if version("ninja") < (1, 12) else modules)
         self.makes("42")
         self.assertEqual(sorted(Path("bmi").rglob("*.pcm")), modules)
         self.idle()
 
     def test_the_deps_lost_and_the_log_not(self):
-        """Ninja 1.11 compiles importers before their module, which ends well, with the old program. From 1.12 on Ninja ends
-        by a signal, run after run. The way out: the log is also deleted."""
+        """Ninja 1.11 compiles importers before their module, which ends well, with the old program.
+        From 1.12 on Ninja ends by a signal, run after run. The way out: the log is also deleted."""
         self.copy("single", "clang")
         self.makes("600")
         os.remove(".ninja_deps")
@@ -137,7 +144,8 @@ class Manifests(Directory):
             compiled = re.findall("COMPILE (.*)", self.log)
             self.assertLess(compiled.index("src/main.cpp"), compiled.index("src/units.cppm"))
         else:
-            self.assertEqual((self.status, "RefreshDyndepDependents" in self.log), (-6, True), self.log)
+            self.assertEqual((self.status, "RefreshDyndepDependents" in self.log), (-6, True),
+                             self.log)
         os.remove(".ninja_log")
         self.makes("2400")
         self.idle()
@@ -157,7 +165,8 @@ class Flags(Directory):
         Path("a.cppm").write_text("export module a;\n")
         Path("b.cpp").write_text("import a;\n")
         Path("map").write_text("a a.gcm\n")
-        self.assertEqual(run(compiler, "-std=c++20", *words, *module, "-c", "a.cppm", "-o", "a.o")[0], 0)
+        self.assertEqual(run(compiler, "-std=c++20", *words, *module, "-c", "a.cppm", "-o",
+                             "a.o")[0], 0)
         found = [] if "-fmodules-ts" in words else ["-fmodule-file=a=a.pcm"]
         importing = [compiler, *words, *found, "-c", "b.cpp", "-o", "b.o"]
         self.assertEqual([run(*importing, f"-std=c++{it}")[0] for it in ("20", "2b")], [0, 1])
@@ -176,19 +185,23 @@ class Prebuilt(Directory):
     seconds = 1
 
     def test_an_info_file_by_hand(self):
-        """It makes a module that another build compiled known to the collation and, by the map, to the compiler."""
+        """It makes a module that another build compiled known to the collation and, by the map,
+        to the compiler."""
         os.mkdir("lib")
         Path("lib/pre.cppm").write_text("export module pre;\nexport int one();\n")
         Path("main.cpp").write_text("import pre;\nint main() { return one(); }\n")
-        made = "-std=c++20 -x c++-module -fmodule-output=lib/pre.pcm -c lib/pre.cppm -o lib/pre.o".split()
+        made = ("-std=c++20 -x c++-module -fmodule-output=lib/pre.pcm -c lib/pre.cppm -o "
+                "lib/pre.o".split())
         self.assertEqual(run(tool("clang"), *made), (0, ""))
         Path("pre.info.json").write_text(json.dumps({"version": 2, "target": "pre", "modules": [
             {"name": "pre", "bmi": "lib/pre.pcm", "requires": [], "visibility": "public"}]}))
         target_of_one_module(linked=["pre.info.json"])
-        Path("a.ddi").write_text('{"version":1,"rules":[{"primary-output":"main.o","requires":[{"logical-name":"pre"}]}]}')
+        Path("a.ddi").write_text('{"version":1,"rules":[{"primary-output":"main.o",'
+                                 '"requires":[{"logical-name":"pre"}]}]}')
         self.assertEqual(self.call("collate", "t.target.json"), (0, ""))
         self.assertIn("build main.o: dyndep | lib/pre.pcm\n", Path("t.dd").read_text())
-        self.assertEqual(run(tool("clang"), "-std=c++20", "@main.o.modmap", "-c", "main.cpp", "-o", "main.o"), (0, ""))
+        self.assertEqual(run(tool("clang"), "-std=c++20", "@main.o.modmap", "-c", "main.cpp", "-o",
+                             "main.o"), (0, ""))
 
 
 class Scanner(Directory):
@@ -206,9 +219,11 @@ class Scanner(Directory):
         status, scanned, _ = self.scan('#include "none.h"\nimport units;\n', "c++")
         self.assertNotEqual(status, 0)
         Path("broken.ddi").write_text(scanned)
-        self.assertEqual(self.call("one", "broken.ddi", "bmi", ".pcm"), (0, "ninja_dyndep_version = 1\n"))
+        self.assertEqual(self.call("one", "broken.ddi", "bmi", ".pcm"),
+                         (0, "ninja_dyndep_version = 1\n"))
         Path("empty.ddi").write_text("")
-        self.assertEqual(self.call("one", "empty.ddi", "bmi", ".pcm"), (1, "dyncollate: scan 0: S1 NotJson document\n"))
+        self.assertEqual(self.call("one", "empty.ddi", "bmi", ".pcm"),
+                         (1, "dyncollate: scan 0: S1 NotJson document\n"))
 
     def test_a_header_unit(self):
         """The scanner ends with status 1, and writes no rule."""
@@ -240,8 +255,10 @@ class WithGcc(Directory):
     def test_what_a_scan_by_gcc_leaves_out(self):
         """An import of the source's own module. At a header unit, the scan fails."""
         self.copy_for_newer_gcc()
-        for imported, said in ("units", "cannot import module in its own purview"), ("<vector>", "failed to read compiled module"):
-            edit("src/units.cppm", r"^export module units;\n(import .*\n)?", f"export module units;\nimport {imported};\n")
+        for imported, said in (("units", "cannot import module in its own purview"),
+                               ("<vector>", "failed to read compiled module")):
+            edit("src/units.cppm", r"^export module units;\n(import .*\n)?",
+                 f"export module units;\nimport {imported};\n")
             self.assertEqual(self.ninja()[0], 1, self.log)
             self.assertIn(said, self.log)
             self.assertNotIn("\ndyncollate:", self.log)
@@ -256,19 +273,22 @@ class WithGcc(Directory):
         self.assertIn("inputs may not also have inputs", self.log)
 
     def test_module_files_in_the_depfile(self):
-        """A new import compiles all sources, and an import that is reversed is a false cycle, also after a clean."""
+        """A new import compiles all sources, and an import that is reversed is a false cycle,
+        also after a clean."""
         self.copy_for_newer_gcc()
         self.without_sed()
         write_all_maps()
         self.makes("600")
-        self.assertRegex(run(tool("ninja"), "-t", "deps", "obj/app/src/main.cpp.o")[1], r"\.gcm\n|\.modmap\n")
+        self.assertRegex(run(tool("ninja"), "-t", "deps", "obj/app/src/main.cpp.o")[1],
+                         r"\.gcm\n|\.modmap\n")
         edit("src/main.cpp", r"\A", "import units;\n")
         self.ninja()
         self.compiled(*(it.name for it in EXAMPLES["single"].sources))
         reverse_import()
         for words in [], ["-t", "clean"], []:
             self.ninja(*words)
-            self.assertEqual((self.status, "dependency cycle" in self.log), (not words, not words), self.log)
+            self.assertEqual((self.status, "dependency cycle" in self.log), (not words, not words),
+                             self.log)
 
     def test_a_name_that_gcc_12_cannot_take_is_collated(self):
         if version("gcc")[0] != 12:
@@ -277,7 +297,9 @@ class WithGcc(Directory):
         self.assertEqual(self.call("collate", "t.target.json"), (0, ""))
         self.assertEqual(Path("a.o.modmap").read_text(), "ñ ñ.gcm\n")
         Path("name.cppm").write_text("export module ñ;\n")
-        compiling = [tool("gcc"), *"-std=c++20 -fmodules-ts -fmodule-mapper=a.o.modmap -x c++ -c name.cppm -o a.o".split()]
+        compiling = [tool("gcc"),
+                     *"-std=c++20 -fmodules-ts -fmodule-mapper=a.o.modmap -x c++ -c name.cppm -o "
+                     "a.o".split()]
         self.assertEqual(run(*compiling)[0], 1)
 
 
@@ -298,7 +320,8 @@ class CMake(Directory):
     def configure(self, compiler, *words):
         if not cmake():
             self.skipTest("CMake 3.28 or newer: not there")
-        given = [f"-DCMAKE_CXX_COMPILER={compiler}", f"-DCMAKE_CXX_COMPILER_CLANG_SCAN_DEPS={tool('scanner')}",
+        given = [f"-DCMAKE_CXX_COMPILER={compiler}",
+                 f"-DCMAKE_CXX_COMPILER_CLANG_SCAN_DEPS={tool('scanner')}",
                  f"-DCMAKE_MAKE_PROGRAM={tool('ninja')}", *words]
         status, log = run(cmake(), "-G", "Ninja", *given, ".", env=self.environment)
         self.assertEqual(status, 0, log)
@@ -308,14 +331,15 @@ class CMake(Directory):
         Path("b.cppm").write_text(B % b)
 
     def turned(self):
-        """Builds a project, and turns its import round."""
+        """Builds a project, and reverses its import."""
         self.write()
         self.makes("42")
         self.write("", "import a;\n")
 
     def begin(self, compiler, *words):
         Path("CMakeLists.txt").write_text(LISTS)
-        Path("main.cpp").write_text('#include <cstdio>\nimport a;\nimport b;\nint main() { printf("%d\\n", a() + b()); }\n')
+        Path("main.cpp").write_text(
+            '#include <cstdio>\nimport a;\nimport b;\nint main() { printf("%d\\n", a() + b()); }\n')
         self.write()
         self.configure(compiler, *words)
         self.turned()
@@ -324,7 +348,8 @@ class CMake(Directory):
         """The cycle stays after a clean, and ends when Ninja forgets."""
         for words in [], ["-t", "clean"], []:
             self.ninja(*words)
-            self.assertEqual((self.status, "dependency cycle" in self.log), (not words, not words), self.log)
+            self.assertEqual((self.status, "dependency cycle" in self.log), (not words, not words),
+                             self.log)
         os.remove(".ninja_deps")
         os.remove(".ninja_log")
         self.makes("42")
@@ -335,7 +360,8 @@ class CMake(Directory):
             self.skipTest("Clang 16 to 19: not there")
         self.begin(tool("clang"))
         self.stays()
-        self.configure(tool("clang"), "-DCMAKE_CXX_FLAGS=-fno-module-file-deps -Wno-unused-command-line-argument")
+        self.configure(tool("clang"),
+                       "-DCMAKE_CXX_FLAGS=-fno-module-file-deps -Wno-unused-command-line-argument")
         self.ninja("-t", "clean")
         os.remove(".ninja_deps")
         os.remove(".ninja_log")
@@ -356,15 +382,20 @@ class Documents(Directory):
 
     def test_a_space_in_the_path_of_a_module_file(self):
         target_of_one_module(folder="my mods")
-        self.assertEqual(self.call("collate", "t.target.json"), (1, "dyncollate: K1 MapPath my mods/A.pcm\n"))
+        self.assertEqual(self.call("collate", "t.target.json"),
+                         (1, "dyncollate: K1 MapPath my mods/A.pcm\n"))
 
     def test_header_units(self):
-        """As GCC 14.2, 15.3 and 16.2 wrote them with `-fdeps-format=p1689r5`, and as P1689R5 says."""
-        Path("gcc.ddi").write_text('{"rules":[{"primary-output":"u.o","requires":[{"logical-name":"./h.h"}]}],'
-                                   '"version":0,"revision":0}')
-        self.assertEqual(self.call("one", "gcc.ddi", "bmi", ".gcm"), (1, "dyncollate: scan 0: S6 BadName rule 0 requires 0\n"))
-        Path("marked.ddi").write_text('{"version":1,"rules":[{"primary-output":"u.o","requires":[{"logical-name":"./h.h",'
-                                     '"lookup-method":"include-quote","unique-on-source-path":true}]}]}')
+        """As GCC 14.2, 15.3 and 16.2 wrote them with `-fdeps-format=p1689r5`,
+        and as P1689R5 says."""
+        Path("gcc.ddi").write_text(
+            '{"rules":[{"primary-output":"u.o","requires":[{"logical-name":"./h.h"}]}],'
+            '"version":0,"revision":0}')
+        self.assertEqual(self.call("one", "gcc.ddi", "bmi", ".gcm"),
+                         (1, "dyncollate: scan 0: S6 BadName rule 0 requires 0\n"))
+        Path("marked.ddi").write_text(
+            '{"version":1,"rules":[{"primary-output":"u.o","requires":[{"logical-name":"./h.h",'
+            '"lookup-method":"include-quote","unique-on-source-path":true}]}]}')
         self.assertEqual(self.call("one", "marked.ddi", "bmi", ".pcm"),
                          (1, "dyncollate: scan 0: S5 HeaderUnit rule 0 requires 0\n"))
 
@@ -385,15 +416,18 @@ class Documents(Directory):
     def test_an_output_that_is_an_input(self):
         target_of_one_module(dyndep="a.ddi")
         self.assertEqual(self.call("collate", "t.target.json"), (0, ""))
-        self.assertEqual(self.call("collate", "t.target.json"), (1, "dyncollate: scan 0: S1 NotJson document\n"))
+        self.assertEqual(self.call("collate", "t.target.json"),
+                         (1, "dyncollate: scan 0: S1 NotJson document\n"))
 
     def test_windows_paths(self):
         """A backslash is a byte like any, and a drive is the beginning of a relative path."""
         target_of_one_module(folder="bmi\\app")
-        self.assertEqual(self.call("collate", "t.target.json"), (1, "dyncollate: K1 MapPath bmi\\app/A.pcm\n"))
+        self.assertEqual(self.call("collate", "t.target.json"),
+                         (1, "dyncollate: K1 MapPath bmi\\app/A.pcm\n"))
         target_of_one_module(made="C:/obj\\a.o")
-        self.assertEqual(self.call("one", "a.ddi", "bmi", ".pcm"),
-                         (0, "ninja_dyndep_version = 1\nbuild C$:/obj\\a.o | bmi/A.pcm: dyndep\n  restat = 1\n"))
+        self.assertEqual(
+            self.call("one", "a.ddi", "bmi", ".pcm"),
+            (0, "ninja_dyndep_version = 1\nbuild C$:/obj\\a.o | bmi/A.pcm: dyndep\n  restat = 1\n"))
 
 
 if __name__ == "__main__":

@@ -1,4 +1,5 @@
-"""libdyncollate as WebAssembly, which web/build makes: each row, in Node and in a page of Chromium."""
+"""libdyncollate as WebAssembly, which web/build makes: each row,
+in Node and in a page of Chromium."""
 import base64
 import gzip
 import json
@@ -19,7 +20,8 @@ TOP = Path(program.TOP)
 WASM = TOP / "web/out/dyncollate.wasm"
 ASKED = [row for row in all_rows() if embedded.is_asked(row)]
 
-needs_module = unittest.skipUnless(WASM.exists(), "there is no WebAssembly module; web/build makes it")
+needs_module = unittest.skipUnless(WASM.exists(),
+                                   "there is no WebAssembly module; web/build makes it")
 needs_node = unittest.skipUnless(shutil.which("node"), "nodejs: not there")
 needs_chromium = unittest.skipUnless(browser.CHROMIUM, "chromium: not there")
 
@@ -30,7 +32,8 @@ def text_of(data):
 
 def packed(row):
     """A row as tests/web_rows.mjs reads it."""
-    given = [text_of(it) if isinstance(it, bytes) else {name: text_of(text) for name, text in it.items()} for it in embedded.given(row)]
+    given = [text_of(it) if isinstance(it, bytes)
+             else {name: text_of(text) for name, text in it.items()} for it in embedded.given(row)]
     return text_of(gzip.compress(json.dumps({"command": row.words[0], "given": given}).encode(), 1))
 
 
@@ -38,7 +41,8 @@ def unpacked(result):
     """The status, the two outputs, and the files by their names' bytes."""
     status, out, err, files = json.loads(result)
     data = base64.b64decode
-    return status, data(out), data(err), {os.path.normpath(data(name)): data(text) for name, text in files}
+    return (status, data(out), data(err),
+            {os.path.normpath(data(name)): data(text) for name, text in files})
 
 
 class Rows:
@@ -94,13 +98,16 @@ class Build(InRoom):
         self.says("the toolchain does not say that c_library is proved")
 
     def test_a_toolchain_that_leaves_no_module(self):
-        self.says("the toolchain (a kit) passes no module.bc to its clang, so there is nothing to compile")
+        self.says("the toolchain (a kit) passes no module.bc to its clang, so there is nothing to "
+                  "compile")
 
     def test_a_module_that_is_not_compiled(self):
-        """The toolchain calls the clang of its directory where module.bc is. That clang compiles nothing here."""
+        """The toolchain calls the clang of its directory where module.bc is.
+        That clang compiles nothing here."""
         self.script("kit/toolchain/bin/clang", "echo clang: no >&2; exit 1")
         self.script("kit/bin/rattle", """while [ "$1" != --toolchain ]; do shift; done
-            cd "$(mktemp -d)" && echo module > module.bc && { "$2/bin/clang" || echo logic=proved functions=7; }""")
+            cd "$(mktemp -d)" && echo module > module.bc
+            "$2/bin/clang" || echo logic=proved functions=7""")
         self.says("the module is not compiled for WebAssembly", "clang: no")
 
 
@@ -114,7 +121,8 @@ class InNode(Rows, unittest.TestCase):
             for row in ASKED:
                 lines.write(packed(row) + "\n")
             lines.seek(0)
-            self.check_all(output_of("node", TOP / "tests/web_rows.mjs", WASM, stdin=lines).splitlines())
+            self.check_all(output_of("node", TOP / "tests/web_rows.mjs", WASM,
+                                     stdin=lines).splitlines())
 
 
 @needs_module
@@ -125,9 +133,11 @@ class InChromium(Rows, unittest.TestCase):
     def test_rows(self):
         page = browser.Browser()
         self.addCleanup(page.close)
-        script = "".join(re.sub(r"^export ", "", (TOP / name).read_text(), flags=re.M).partition("\nif (globalThis.process")[0]
+        script = "".join(re.sub(r"^export ", "", (TOP / name).read_text(),
+                                flags=re.M).partition("\nif (globalThis.process")[0]
                          for name in ("web/dyncollate.mjs", "tests/web_rows.mjs"))
-        page.evaluate(f"(async () => {{ {script}\nconst {{ run }} = await load(bytesOf('{text_of(WASM.read_bytes())}'));\n"
+        page.evaluate(f"(async () => {{ {script}\n"
+                      f"const {{ run }} = await load(bytesOf('{text_of(WASM.read_bytes())}'));\n"
                       "window.resultOf = (packed) => resultOf(run, packed); })()")
         self.check_all(page.evaluate(f"resultOf('{packed(row)}')") for row in ASKED)
 

@@ -1,4 +1,5 @@
-"""Files are replaced whole: the contents of a file after a run that was killed or whose calls failed, and while others read it."""
+"""Files are replaced whole: the contents of a file after a run that was killed or whose calls
+failed, and while others read it."""
 import errno
 import itertools
 import os
@@ -20,28 +21,32 @@ DONE = 0, b"", b""
 def scan(users=(b"b.o",)):
     """A scan of an object that provides a module, and of those that require it."""
     return (b'{"version":1,"rules":[{"primary-output":"a.o","provides":[{"logical-name":"A"}]}%s]}'
-            % b"".join(b',{"primary-output":"%s","requires":[{"logical-name":"A"}]}' % it for it in users))
+            % b"".join(b',{"primary-output":"%s","requires":[{"logical-name":"A"}]}' % it
+                       for it in users))
 
 
 def target(folder, dyndep=b"t.dd"):
     """A target whose modules are in this directory, which is in each file that is written."""
-    return (b'{"version":1,"target":"t","module-dir":"%s","module-ext":".bmi","scans":["t.ddi"],"dyndep":"%s","info":"t.json",'
-            b'"map":"clang"}' % (folder, dyndep))
+    return (b'{"version":1,"target":"t","module-dir":"%s","module-ext":".bmi","scans":["t.ddi"],'
+            b'"dyndep":"%s","info":"t.json","map":"clang"}' % (folder, dyndep))
 
 
 def written(folder, dyndep=b"t.dd", users=(b"b.o",)):
     """The files of that target, in the order in which they are written."""
     file = folder + b"/A.bmi"
-    return {b"a.o.modmap": b"-x c++-module\n-fmodule-output=%s\n" % file,
-            **{it + b".modmap": b"-fmodule-file=A=%s\n" % file for it in users},
-            b"t.json": b'{"modules":[{"bmi":"%s","name":"A","requires":[],"visibility":"public"}],"target":"t","version":2}' % file,
-            dyndep: b"ninja_dyndep_version = 1\nbuild a.o | %s: dyndep\n  restat = 1\n" % file
-            + b"".join(b"build %s: dyndep | %s\n" % (it, file) for it in users)}
+    return {
+        b"a.o.modmap": b"-x c++-module\n-fmodule-output=%s\n" % file,
+        **{it + b".modmap": b"-fmodule-file=A=%s\n" % file for it in users}, b"t.json":
+        b'{"modules":[{"bmi":"%s","name":"A","requires":[],"visibility":"public"}],"target":"t",'
+        b'"version":2}' % file,
+        dyndep: b"ninja_dyndep_version = 1\nbuild a.o | %s: dyndep\n  restat = 1\n" % file
+        + b"".join(b"build %s: dyndep | %s\n" % (it, file) for it in users)}
 
 
 def failed(what, name, error):
     """The result of a run in which a call that reads or writes this file fails with this error."""
-    return (3, b"", b"dyncollate: out of memory\n") if error == errno.ENOMEM else cannot(what, os.fsdecode(name))
+    return ((3, b"", b"dyncollate: out of memory\n")
+            if error == errno.ENOMEM else cannot(what, os.fsdecode(name)))
 
 
 SCAN = scan()
@@ -61,10 +66,12 @@ class Faulty(Case):
         folder = tempfile.TemporaryDirectory(prefix="dyncollate-")
         cls.addClassCleanup(folder.cleanup)
         cls.library = f"{folder.name}/fault_at_call.so"
-        output_of(f"{program.TOP}/tests/preload", f"{program.TOP}/tests/fault_at_call.c", cls.library)
+        output_of(f"{program.TOP}/tests/preload", f"{program.TOP}/tests/fault_at_call.c",
+                  cls.library)
 
     def run_with_fault(self, old, number, **more):
-        """The result of a run with a fault at the call of this number, and the contents of the files that it writes."""
+        """The result of a run with a fault at the call of this number, and the contents of the
+        files that it writes."""
         lay(self.given | {os.fsdecode(name): text for name, text in old.items()})
         answer = self.call_with_fault(["collate", "t.target.json"], number, **more)
         left = tree()
@@ -81,15 +88,18 @@ class Faulty(Case):
 
     def calls(self, old, **more):
         """How many calls of this kind a run makes: it is killed at each of them."""
-        return next(number for number in itertools.count() if self.run_with_fault(old, number + 1, **more)[0] == DONE)
+        return next(number for number in itertools.count()
+                    if self.run_with_fault(old, number + 1, **more)[0] == DONE)
 
     def whole(self, old, left, temporaries):
-        """Each file has all bytes from before, or all of the new ones, and these come first in the order of the files. Nothing
-        else is there, except at most this number of temporary files, with a beginning of the new bytes."""
+        """Each file has all bytes from before, or all of the new ones, and these come first in the
+        order of the files. Nothing else is there, except at most this number of temporary files,
+        with a beginning of the new bytes."""
         left = dict(left)
         found = [left.pop(name, None) for name in self.new]
         news = sum(text == self.new[name] for name, text in zip(self.new, found))
-        self.same(found, [*self.new.values()][:news] + [old.get(name) for name in self.new][news:], "the files")
+        self.same(found, [*self.new.values()][:news] + [old.get(name) for name in self.new][news:],
+                  "the files")
         self.assertLessEqual(len(left), temporaries, left)
         for name, text in left.items():
             of = TEMPORARY.fullmatch(name)
@@ -104,7 +114,8 @@ class ManyFiles(Faulty):
     given, new = READ | {"t.ddi": scan(users)}, written(b"new", users=users)
 
     def test_killed(self):
-        """At 200 moments of a run: whatever it has replaced or not, the files that are new come first."""
+        """At 200 moments of a run: whatever it has replaced or not,
+        the files that are new come first."""
         for old in {}, {name: b"before\n" for name in self.new}:
             seen = set()
             for number in range(1, 6 * len(self.new), 12):
@@ -127,16 +138,19 @@ class Faults(Faulty):
                 return
             with self.subTest(number):
                 self.same(answer, (-signal.SIGKILL, b"", b""))
-                yield self.whole(old, left, 1), {name: text for name, text in left.items() if name not in NEW}
+                yield (self.whole(old, left, 1),
+                       {name: text for name, text in left.items() if name not in NEW})
                 self.same(self.caller.run("collate", "t.target.json"), DONE, "the next run")
-                self.same({name: text for name, text in tree().items() if name in NEW}, NEW, "the next run")
+                self.same({name: text for name, text in tree().items() if name in NEW}, NEW,
+                          "the next run")
 
     def test_killed(self):
         for old in {}, OLD:
             seen = list(self.killed(old))
             self.assertGreaterEqual(len(seen), 5 * len(NEW), "calls")
             self.assertGreaterEqual({news for news, _ in seen}, set(range(len(NEW))))
-            halves = {TEMPORARY.fullmatch(name)[1] for _, left in seen for name, text in left.items() if text}
+            halves = {TEMPORARY.fullmatch(name)[1] for _, left in seen
+                      for name, text in left.items() if text}
             self.assertEqual(halves, set(NEW), "temporaries that were half written")
 
     def test_permissions_come_before_the_bytes(self):
@@ -147,17 +161,20 @@ class Faults(Faulty):
             for name in OLD:
                 os.chmod(name, 0o600)
             answer = self.call_with_fault(["collate", "t.target.json"], number)
-            filled = [it for it in os.listdir(b".") if TEMPORARY.fullmatch(it) and os.path.getsize(it)]
+            filled = [it for it in os.listdir(b".") if TEMPORARY.fullmatch(it)
+                      and os.path.getsize(it)]
             found |= {stat.S_IMODE(os.stat(it).st_mode) for it in filled}
             if answer == DONE:
                 break
         self.same(found, {0o600})
 
     def test_failed_calls(self):
-        """A call that fails, because space or rights are missing or for another reason, leaves whole files and no temporary one."""
+        """A call that fails, because space or rights are missing or for another reason, leaves
+        whole files and no temporary one."""
         for old in {}, OLD:
             calls = self.calls(old)
-            errors = errno.ENOSPC, errno.EDQUOT, errno.EACCES, errno.EIO, errno.EMFILE, errno.EINTR, errno.ENOMEM
+            errors = (errno.ENOSPC, errno.EDQUOT, errno.EACCES, errno.EIO, errno.EMFILE,
+                      errno.EINTR, errno.ENOMEM)
             for error, number in itertools.product(errors, range(1, calls + 1)):
                 with self.subTest(old=old, error=errno.errorcode[error], call=number):
                     answer, left = self.run_with_fault(old, number, FAILS_WITH=str(error))
@@ -165,14 +182,17 @@ class Faults(Faulty):
                     if news == len(NEW):
                         self.same(answer, DONE)
                     else:
-                        self.assertIn(answer, [failed("read", it, error) for it in READ] + [failed("write", [*NEW][news], error)])
+                        self.assertIn(answer, [failed("read", it, error) for it in READ]
+                                      + [failed("write", [*NEW][news], error)])
 
     def test_interrupted_and_short_calls(self):
-        """A read or a write that a signal interrupts is made again, and one that does half is followed by one for the rest."""
+        """A read or a write that a signal interrupts is made again, and one that does half is
+        followed by one for the rest."""
         for call, old in itertools.product(("read", "write"), ({}, OLD)):
             calls = self.calls(old, COUNTED=call)
             self.assertGreaterEqual(calls, len(NEW) if call == "write" else 2 * len(READ))
-            for number, fault in itertools.product(range(1, calls + 1), ({"FAILS_WITH": str(errno.EINTR)}, {"HALVED": "1"})):
+            for number, fault in (itertools.product(
+                range(1, calls + 1), ({"FAILS_WITH": str(errno.EINTR)}, {"HALVED": "1"}))):
                 with self.subTest(old=old, call=call, number=number, fault=fault):
                     self.same(self.run_with_fault(old, number, COUNTED=call, **fault), (DONE, NEW))
 
@@ -180,30 +200,37 @@ class Faults(Faulty):
         text = written(b"new", users=ManyFiles.users)[b"t.dd"] * 10
         lay({"t.dd": text})
         shown = self.caller.run("show", "t.dd")
-        for number, fault in itertools.product((1, 2, 3), ({"FAILS_WITH": str(errno.EINTR)}, {"HALVED": "1"})):
-            self.same(self.call_with_fault(["show", "t.dd"], number, COUNTED="read", **fault), shown, (number, fault))
+        for number, fault in (itertools.product((1, 2, 3), ({"FAILS_WITH": str(errno.EINTR)},
+                                                            {"HALVED": "1"}))):
+            self.same(self.call_with_fault(["show", "t.dd"], number, COUNTED="read", **fault),
+                      shown, (number, fault))
 
     def test_no_file_can_be_made(self):
-        """After an error that says that no new file can be made here, or take the place of the old one, the file is written in place."""
-        errors = (errno.EACCES, errno.EPERM, errno.EROFS, errno.ENAMETOOLONG, errno.EINVAL, errno.EXDEV, errno.EBUSY, errno.ENOSYS,
-                  errno.EOPNOTSUPP)
+        """After an error that says that no new file can be made here, or take the place of the old
+        one, the file is written in place."""
+        errors = (errno.EACCES, errno.EPERM, errno.EROFS, errno.ENAMETOOLONG, errno.EINVAL,
+                  errno.EXDEV, errno.EBUSY, errno.ENOSYS, errno.EOPNOTSUPP)
         for error, call, old in itertools.product(errors, ("create", "rename"), ({}, OLD)):
             with self.subTest(error=errno.errorcode[error], call=call, old=old):
-                self.same(self.run_with_fault(old, 1, FAILS_WITH=str(error), COUNTED=call), (DONE, NEW))
+                self.same(self.run_with_fault(old, 1, FAILS_WITH=str(error), COUNTED=call),
+                          (DONE, NEW))
 
     def test_other_errors(self):
-        """If a new file can't be created or renamed for another reason, as a full disk, the run ends with status 3, and the old file
-        stays."""
-        errors = errno.ENOSPC, errno.EDQUOT, errno.EIO, errno.EMFILE, errno.ENFILE, errno.ENOMEM, errno.ESTALE
+        """If a new file can't be created or renamed for another reason, as a full disk, the run
+        ends with status 3, and the old file stays."""
+        errors = (errno.ENOSPC, errno.EDQUOT, errno.EIO, errno.EMFILE, errno.ENFILE, errno.ENOMEM,
+                  errno.ESTALE)
         for error, call, old in itertools.product(errors, ("create", "rename"), ({}, OLD)):
             for number, name in enumerate(NEW, 1):
                 with self.subTest(error=errno.errorcode[error], call=call, old=old, name=name):
-                    answer, left = self.run_with_fault(old, number, FAILS_WITH=str(error), COUNTED=call)
+                    answer, left = self.run_with_fault(old, number, FAILS_WITH=str(error),
+                                                       COUNTED=call)
                     self.same(answer, failed("write", name, error))
                     self.assertEqual(self.whole(old, left, 0), number - 1)
 
     def test_names_of_temporary_files(self):
-        """They have a random number of 64 bits, so that two runs at once do not share a name: in 40 runs each bit takes both values."""
+        """They have a random number of 64 bits, so that two runs at once do not share a name: in 40
+        runs each bit takes both values."""
         numbers = []
         for _ in range(40):
             _, left = self.run_with_fault({}, 1, COUNTED="rename")
@@ -245,7 +272,8 @@ class Replaced(Case):
                 self.same((os.readlink("t.dd"), tree(os.fsencode(other))),
                           (f"{other}/link", {b"file": NEW[b"t.dd"], b"link": NEW[b"t.dd"]}), there)
             os.remove("t.dd")
-            self.same(set(os.listdir(b".")), set(map(os.fsencode, READ)) | set(NEW) - {b"t.dd"}, there)
+            self.same(set(os.listdir(b".")), set(map(os.fsencode, READ)) | set(NEW) - {b"t.dd"},
+                      there)
 
     def test_a_pipe_is_written(self):
         for link in False, True:
@@ -264,7 +292,8 @@ class Replaced(Case):
         name = b"d" * 250
         for _ in range(2):
             self.same(self.collate(**{"t.target.json": target(b"new", name)}), DONE)
-            self.same(tree(), {b"t.target.json": target(b"new", name), b"t.ddi": SCAN} | written(b"new", name))
+            self.same(tree(), {b"t.target.json": target(b"new", name),
+                               b"t.ddi": SCAN} | written(b"new", name))
 
     def test_a_file_too_large(self):
         """A file that can't be written to its end is as it was."""
@@ -279,7 +308,8 @@ class Replaced(Case):
             os.close(pipe)
             ended = self.caller.end(child)
             with open(unread, "rb") as said:
-                self.same((ended[0], said.read(), tree()), (3, cannot("write", "a.o.modmap")[2], before), size)
+                self.same((ended[0], said.read(), tree()),
+                          (3, cannot("write", "a.o.modmap")[2], before), size)
 
     def test_a_directory_that_may_not_be_written(self):
         """What could be written without another name still can."""
@@ -292,7 +322,8 @@ class Replaced(Case):
             # a copy that anybody may run
             os.chmod(room, 0o755)
             os.chmod(shutil.copy(program.PROGRAM, room), 0o755)
-            ran = run_as_bytes(f"{room}/{os.path.basename(program.PROGRAM)}", "collate", "t.target.json", **nobody)
+            ran = run_as_bytes(f"{room}/{os.path.basename(program.PROGRAM)}", "collate",
+                               "t.target.json", **nobody)
         os.chmod(".", 0o755)
         self.same(ran, DONE)
         self.same(tree(), {os.fsencode(name): text for name, text in READ.items()} | NEW)
@@ -302,7 +333,8 @@ class Replaced(Case):
         lay(READ | {"t.dd": b"before\n"})
         mounted = 'mount --bind t.dd t.dd 2> /dev/null || exit 99; exec "$@"'
         unshare = ["unshare", "-m" if os.getuid() == 0 else "-rm"]
-        ran = run_apart(*unshare, "sh", "-c", mounted, "sh", program.PROGRAM, "collate", "t.target.json")
+        ran = run_apart(*unshare, "sh", "-c", mounted, "sh", program.PROGRAM, "collate",
+                        "t.target.json")
         if ran[0] == 99 or ran[2].startswith("unshare:"):
             self.skipTest("no file was mounted")
         self.same(ran, (0, "", ""))
@@ -317,7 +349,8 @@ class AtOnce(Case):
         """And so it is whenever another program reads it."""
         folders = b"1" * 500, b"2" * 3500, b"3" * 2000
         news = [written(folder) for folder in folders]
-        files = {f"{at}.json": target(folder) for at, folder in enumerate(folders)} | {"t.ddi": SCAN}
+        files = ({f"{at}.json": target(folder) for at, folder in enumerate(folders)}
+                 | {"t.ddi": SCAN})
         seen = {name: set() for name in NEW}
         for _ in range(150):
             lay(files | {os.fsdecode(name): text for name, text in OLD.items()})

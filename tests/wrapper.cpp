@@ -53,7 +53,8 @@ int main(int count, char **)
     if (count > 1)
         return print_errors();
     const std::string version = "ninja_dyndep_version = 1\n";
-    for (const dyncollate::statement &it : dyncollate::statements(version + "build a | b c: dyndep | d e f\n  restat = 1\nbuild g: dyndep\n")) {
+    for (const dyncollate::statement& it : dyncollate::statements(
+             version + "build a | b c: dyndep | d e f\n  restat = 1\nbuild g: dyndep\n")) {
         std::cout << it.output << (it.restat ? " restat:" : ":");
         for (const std::string &path : it.outputs)
             std::cout << " " << path;
@@ -68,12 +69,16 @@ int main(int count, char **)
     for (int i = 0; i < 3000; i++)
         many += "build object" + std::to_string(i) + ".o | m" + std::to_string(i) + ": dyndep\n";
     const auto statements = dyncollate::statements(many);
-    std::cout << statements.size() << " " << statements.back().output << " " << statements.back().outputs[0] << "\n";
+    std::cout << statements.size() << " " << statements.back().output << " "
+              << statements.back().outputs[0] << "\n";
 
     const std::string_view scan = R"({"version":1,"rules":[{"primary-output":"b.o"}]})";
     std::cout << dyncollate::one(scan, "", "");
-    const std::string target = R"({"version":1,"target":"t","module-dir":"","module-ext":"","scans":["s"],"dyndep":"d","info":"i","restat":true})";
-    for (const auto &it : dyncollate::collate(target, std::vector<std::pair<std::string_view, std::string_view>>{{"s", scan}}))
+    const std::string target =
+        R"({"version":1,"target":"t","module-dir":"","module-ext":"","scans":["s"],)"
+        R"("dyndep":"d","info":"i","restat":true})";
+    for (const auto& it : dyncollate::collate(
+             target, std::vector<std::pair<std::string_view, std::string_view>>{{"s", scan}}))
         std::cout << it.name << " " << it.data.size() << (it.restat ? " restat\n" : "\n");
     const std::map<std::string, std::string> files = {{"s", std::string(scan)}, {"t.json", target}};
     std::cout << dyncollate::project(R"({"version":1,"targets":["t.json"]})", files).size() << "\n";
@@ -87,7 +92,8 @@ int main(int count, char **)
 
     try {
         dyncollate::one(R"({"version":1,"rules":[{"primary-output":"a.o"},{"primary-output":"b.o"},
-            {"primary-output":"c.o","requires":[{"logical-name":"A"},{"logical-name":""}]}]})", "", "");
+            {"primary-output":"c.o","requires":[{"logical-name":"A"},{"logical-name":""}]}]})",
+                        "", "");
     } catch (const dyncollate::error &error) {
         const dyncollate_location &at = error.location;
         std::cout << at.document << " " << char(at.letter) << at.number << " rule " << at.item
@@ -98,7 +104,8 @@ int main(int count, char **)
     } catch (const dyncollate::error &error) {
         const dyncollate_location &at = error.location;
         std::cout << at.document << " " << char(at.letter) << at.number << " line " << at.line
-                  << (at.item == DYNCOLLATE_ABSENT && at.index == DYNCOLLATE_ABSENT ? "\n" : " ?\n");
+                  << (at.item == DYNCOLLATE_ABSENT && at.index == DYNCOLLATE_ABSENT ? "\n"
+                                                                                    : " ?\n");
     }
 
     const std::string edges = "build a: x | b || t.dd\n  dyndep = t.dd\nbuild b: x\n";

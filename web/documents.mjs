@@ -37,7 +37,7 @@ function kindOf(name, text, value) {
   }
   if (/^ninja_dyndep_version/.test(text)) return "dyndep";
   if (/^# ninja log/.test(text)) return "log";
-  const ending = /(\.ddi|\.target\.json|\.info\.json|CXXModules\.json|project\.json)$/.exec(name)?.[1];
+  const ending = /(\.ddi|(\.target|\.info|CXXModules|project)\.json)$/.exec(name)?.[1];
   if (ending === ".ddi") return "scan";
   if (ending === "project.json") return value === null ? "project" : "other";
   // (what CMake's own step writes as CXXModules.json is no info file)

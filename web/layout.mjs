@@ -1,25 +1,38 @@
-// Places the nodes of a graph in columns: each node is to the right of those with an edge to it, except for edges that close a cycle.
+// Places the nodes of a graph in columns: each node is to the right of those with an edge to it,
+// except for edges that close a cycle.
 
-export const SIZE = { width: 172, height: 42, row: 56, bend: 14, gap: 76, margin: 20, lane: 14, turn: 34 };
+export const SIZE = {
+  width: 172, height: 42, row: 56, bend: 14, gap: 76, margin: 20, lane: 14, turn: 34,
+};
 
-// More bends than these would take longer than they help: edges over several columns are then drawn without them.
+// With more bends, edges over several columns are drawn without them, because they take long.
 const MOST_BENDS = 4000;
 
-/** Gives each node `x` and `y`, and returns the edges with their points, and the size of the whole. `to` has the nodes after a node. */
+/**
+ * Gives each node `x` and `y`, and returns the edges with their points, and the size of the whole.
+ * `to` has the nodes after a node.
+ */
 export function layout(nodes) {
   const edges = nodes.flatMap((from) => from.to.map((to) => ({ from, to })));
   findCycles(nodes, edges);
   const columns = columnsOf(nodes, edges);
   addBends(columns, edges);
   order(columns);
-  const height = addLanes(columns, edges, place(columns)), turn = edges.some((edge) => edge.isBack) ? SIZE.turn : 0;
+  const height = addLanes(columns, edges, place(columns));
+  const turn = edges.some((edge) => edge.isBack) ? SIZE.turn : 0;
   for (const node of columns.flat()) node.x += turn;
-  return { edges, width: columns.length * (SIZE.width + SIZE.gap) - SIZE.gap + 2 * (SIZE.margin + turn), height };
+  const inner = columns.length * (SIZE.width + SIZE.gap) - SIZE.gap;
+  return { edges, width: inner + 2 * (SIZE.margin + turn), height };
 }
 
-/** Gives each node the number of its strongly connected part, and marks edges within one, and those that lead back (Tarjan). */
+/**
+ * Gives each node the number of its strongly connected part, and marks edges within one, and those
+ * that lead back (Tarjan).
+ */
 function findCycles(nodes, edges) {
-  const parts = new Map(), numbers = new Map(), lows = new Map(), stack = [], open = new Set(), path = new Set();
+  const parts = new Map(), numbers = new Map(), lows = new Map();
+  const stack = [], open = new Set(), path = new Set();
+  const lower = (node, number) => lows.set(node, Math.min(lows.get(node), number));
   const out = new Map(nodes.map((node) => [node, []]));
   for (const edge of edges) out.get(edge.from).push(edge);
   const leave = (node) => {
@@ -47,12 +60,12 @@ function findCycles(nodes, edges) {
       if (!edge) {
         work.pop();
         leave(top.node);
-        if (work.length) lows.set(work.at(-1).node, Math.min(lows.get(work.at(-1).node), lows.get(top.node)));
+        if (work.length) lower(work.at(-1).node, lows.get(top.node));
       } else if (!numbers.has(edge.to)) {
         work.push(enter(edge.to));
       } else {
         edge.isBack = path.has(edge.to);
-        if (open.has(edge.to)) lows.set(top.node, Math.min(lows.get(top.node), numbers.get(edge.to)));
+        if (open.has(edge.to)) lower(top.node, numbers.get(edge.to));
       }
     }
   }
@@ -61,7 +74,8 @@ function findCycles(nodes, edges) {
 
 /** The nodes by column: one more than the greatest column of a node with an edge to it. */
 function columnsOf(nodes, edges) {
-  const waits = new Map(nodes.map((node) => [node, 0])), out = new Map(nodes.map((node) => [node, []]));
+  const waits = new Map(nodes.map((node) => [node, 0]));
+  const out = new Map(nodes.map((node) => [node, []]));
   for (const { from, to } of edges.filter((edge) => !edge.isBack)) {
     waits.set(to, waits.get(to) + 1);
     out.get(from).push(to);
@@ -102,9 +116,14 @@ function addBends(columns, edges) {
   }
 }
 
-/** Sorts each column by the mean position of the neighbours, from left to right and back, so that few edges cross. */
+/**
+ * Sorts each column by the mean position of the neighbours, from left to right and back, so that
+ * few edges cross.
+ */
 function order(columns) {
-  const number = (column) => column.forEach((node, index) => (node.rank = (index + 0.5) / column.length));
+  const number = (column) => column.forEach((node, index) => {
+    node.rank = (index + 0.5) / column.length;
+  });
   columns.forEach(number);
   for (let round = 0; round < 10; round++) {
     const side = round % 2 ? "after" : "before";
@@ -116,8 +135,10 @@ function order(columns) {
   }
 }
 
-const mean = (numbers, otherwise) => (numbers.length ? numbers.reduce((sum, it) => sum + it, 0) / numbers.length : otherwise);
+const sum = (numbers) => numbers.reduce((all, it) => all + it, 0);
+const mean = (numbers, otherwise) => (numbers.length ? sum(numbers) / numbers.length : otherwise);
 const rowOf = (node) => (node.isBend ? SIZE.bend : SIZE.row);
+const bottomOf = (nodes) => Math.max(...nodes.map((node) => node.middle + rowOf(node) / 2));
 
 /** Gives each node its coordinates, close to the mean of its neighbours, and returns the height. */
 function place(columns) {
@@ -130,12 +151,13 @@ function place(columns) {
     }
   }
   for (let round = 0; round < 12; round++) {
-    for (const column of round % 2 ? columns.slice().reverse() : columns) relax(column, round % 2 ? "after" : "before");
+    const side = round % 2 ? "after" : "before";
+    for (const column of round % 2 ? columns.slice().reverse() : columns) relax(column, side);
   }
   const all = columns.flat();
   closeGaps(all);
   for (const node of all) node.y = node.middle - SIZE.height / 2;
-  return Math.max(...all.map((node) => node.middle + rowOf(node) / 2)) + SIZE.margin;
+  return bottomOf(all) + SIZE.margin;
 }
 
 /** Takes out bands in which no column has a node, so that the first node is at the margin. */
@@ -149,22 +171,26 @@ function closeGaps(nodes) {
   }
 }
 
-/** An edge that leads back runs below the columns between its ends, in a lane of its own. Returns the height with the lanes. */
+/**
+ * An edge that leads back runs below the columns between its ends, in a lane of its own. Returns
+ * the height with the lanes.
+ */
 function addLanes(columns, edges, height) {
-  const bottoms = columns.map((column) => Math.max(...column.map((node) => node.middle + rowOf(node) / 2)));
+  const bottoms = columns.map(bottomOf);
   const spanOf = (edge) => edge.from.column - edge.to.column;
-  const back = edges.filter((edge) => edge.isBack).sort((one, other) => spanOf(one) - spanOf(other));
+  const back = edges.filter((edge) => edge.isBack);
+  back.sort((one, other) => spanOf(one) - spanOf(other));
   let lowest = height - SIZE.margin;
   for (const edge of back) {
     const between = bottoms.slice(edge.to.column, edge.from.column + 1);
     edge.low = Math.max(...between) + SIZE.lane;
-    for (let column = edge.to.column; column <= edge.from.column; column++) bottoms[column] = edge.low;
+    bottoms.fill(edge.low, edge.to.column, edge.from.column + 1);
     lowest = Math.max(lowest, edge.low);
   }
   return lowest + SIZE.margin;
 }
 
-/** Moves the nodes of a column to where their neighbours are, as far as their order and size allow. */
+/** Moves the nodes of a column to their neighbours, as far as their order and size allow. */
 function relax(column, side) {
   const wishes = column.map((node) => mean(node[side].map((it) => it.middle), node.middle));
   let end = -Infinity;

@@ -1,8 +1,9 @@
-/* Products and shifts of 128 bits. On WebAssembly LLVM calls these functions by name, and they are elsewhere in libgcc, which is not
-   linked here. They are written with 64 bits each, because LLVM would compile a product of 128 bits to a call of the same function.
-   A shift is by 0 to 127 bits.
+/* Products and shifts of 128 bits. On WebAssembly LLVM calls these functions by name, and they are
+   elsewhere in libgcc, which is not linked here. They are written with 64 bits each, because LLVM
+   would compile a product of 128 bits to a call of the same function. A shift is by 0 to 127 bits.
 
-   This file is not proved. tests/web.py runs each row of tests/rows with it. tests/web_functions.c calls its functions. */
+   This file is not proved. tests/web.py runs each row of tests/rows with it.
+   tests/web_functions.c calls its functions. */
 typedef unsigned long long u64;
 typedef union {
     unsigned __int128 whole;

@@ -5,11 +5,15 @@ from adapter_files import Wrong, document
 MAKERS = "CMake 3.28 to 4.3"
 
 OPTIONAL, MISSING = type(None), object()
-SOURCE = {"destination": (str, OPTIONAL), "relative-directory": str, "source": str, "visibility": str}
-INSTALLATION = {"destination": str, "message-level": str, "permissions": str, "script-location": str}
-EXPORT = {"cxx-module-info-dir": str, "destination": str, "export-name": str, "export-prefix": str, "install": bool, "namespace": str}
-DEPEND_INFO = {"bmi-installation": (INSTALLATION, OPTIONAL), "config": str, "cxx-modules": {str: SOURCE}, "dir-top-bld": str,
-               "exports": [EXPORT], "linked-target-dirs": [str], "module-dir": str}
+SOURCE = {"destination": (str, OPTIONAL), "relative-directory": str, "source": str,
+          "visibility": str}
+INSTALLATION = {"destination": str, "message-level": str, "permissions": str,
+                "script-location": str}
+EXPORT = {"cxx-module-info-dir": str, "destination": str, "export-name": str, "export-prefix": str,
+          "install": bool, "namespace": str}
+DEPEND_INFO = {"bmi-installation": (INSTALLATION, OPTIONAL), "config": str,
+               "cxx-modules": {str: SOURCE}, "dir-top-bld": str, "exports": [EXPORT],
+               "linked-target-dirs": [str], "module-dir": str}
 
 
 def depend_info(name):
@@ -22,8 +26,9 @@ def depend_info(name):
 
 
 def misfit(value, shape, place=""):
-    """Returns the place where a value differs from a shape, or None. A shape is a type; several shapes; [SHAPE], an array;
-    {str: SHAPE}, an object with any members; or an object with the members that have to be there."""
+    """Returns the place where a value differs from a shape, or None. A shape is a type; several
+    shapes; [SHAPE], an array; {str: SHAPE}, an object with any members; or an object with the
+    members that have to be there."""
     if isinstance(shape, tuple):
         found = [misfit(value, it, place) for it in shape]
         return None if None in found else found[0]

@@ -65,6 +65,7 @@ def check(given, objects, infos, reached):
     for number, name in sorted(reached):
         other = providers.setdefault(name, infos[number]["target"])
         if other != infos[number]["target"]:
-            raise Wrong(f"{given['target']}: {other} and {infos[number]['target']} both provide "
-                        f"{name}, and imports lead to both: a program can have only one module of a "
-                        "name")
+            raise Wrong(
+                f"{given['target']}: {other} and {infos[number]['target']} both provide "
+                f"{name}, and imports lead to both: a program can have only one module of a "
+                "name")

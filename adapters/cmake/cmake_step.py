@@ -28,7 +28,8 @@ class Object:
         try:
             self.rule, = document(scan)["rules"]
             self.path = self.rule["primary-output"]
-            self.provides = [(it["logical-name"], it.get("is-interface", True)) for it in self.rule.get("provides") or []]
+            self.provides = [(it["logical-name"], it.get("is-interface", True))
+                             for it in self.rule.get("provides") or []]
             self.requires = [it["logical-name"] for it in self.rule.get("requires") or []]
         except (AttributeError, KeyError, TypeError, ValueError) as error:
             raise Wrong(f"{scan}: not the scan of one source: {error!r}") from None
@@ -43,7 +44,8 @@ class Object:
         compiles."""
         if not self.is_module_file:
             return self.scan
-        provides = [{**it, "compiled-module-path": self.path} for it in self.rule.get("provides") or []]
+        provides = [{**it, "compiled-module-path": self.path} for it in self.rule.get("provides")
+                    or []]
         rule = {**self.rule, "primary-output": f"{self.path}.o", "provides": provides}
         write(f"{self.path}.o.ddi", json.dumps({"version": 1, "rules": [rule]}))
         return f"{self.path}.o.ddi"
@@ -263,4 +265,5 @@ def program_beside(program, name):
     """Returns the path of another program that is installed next to this one or in the PATH, or
     None."""
     folders = [os.path.dirname(program), *os.get_exec_path()]
-    return next((path for it in folders if os.access(path := os.path.join(it, name), os.X_OK)), None)
+    return next((path for it in folders if os.access(path := os.path.join(it, name), os.X_OK)),
+                None)

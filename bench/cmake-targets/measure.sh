@@ -1,6 +1,7 @@
 #!/usr/bin/env bash
-# Measures how long a CMake build takes to collate all its targets, with CMake's step and with dyncollate: measure.sh [TARGETS].
-# measure.py says what is measured and what it needs. DYNCOLLATE names the program; otherwise it is proved and built.
+# Measures how long a CMake build takes to collate all its targets, with CMake's step and with
+# dyncollate: measure.sh [TARGETS]. measure.py says what is measured and what it needs. DYNCOLLATE
+# names the program; otherwise it is proved and built.
 set -euo pipefail
 here=$(cd "$(dirname "$0")" && pwd)
 top=$(cd "$here/../.." && pwd)

@@ -1,11 +1,13 @@
 #!/usr/bin/env bash
-# Measures `dyncollate effect` and `dyncollate order`, the whole program with reading and writing, next to plain C++ that
-# does the same and proves nothing: measure.sh [LARGEST]. The edge lists are those of listing.py with 1,000, 10,000 and
-# 60,000 edges, as far as they have no more than LARGEST, and those of chain.py with 65,536. It fails if the two do
-# not print the same. bench/common.sh says what is printed. The labels:
+# Measures `dyncollate effect` and `dyncollate order`, the whole program with reading and writing,
+# next to plain C++ that does the same and proves nothing: measure.sh [LARGEST]. The edge lists are
+# those of listing.py with 1,000, 10,000 and 60,000 edges, as far as they have no more than LARGEST,
+# and those of chain.py with 65,536. It fails if the two do not print the same. bench/common.sh says
+# what is printed. The labels:
 #   effect        the edge list after the effect of its dyndep file
 #   order         the order of that list, in which four of five inputs are made by other edges
-#   chain, cycle   the order of edges that each need the next; in a cycle the last one needs the first, and the line that
+#   chain, cycle   the order of edges that each need the next; in a cycle the last one needs the
+#                  first, and the line that
 #                 says so has all of them
 set -euo pipefail
 here=$(cd "$(dirname "$0")" && pwd)
@@ -25,7 +27,8 @@ measure_size() {
         effect t.dd ../listing ../listing.dd >> "$work/measured.effect"
     mv "$work/program/out" "$work/after"
     clear
-    compare order "$edges" "$(size_of "$work/after")" "$rounds" 0 order ../after >> "$work/measured.order"
+    compare order "$edges" "$(size_of "$work/after")" "$rounds" 0 order ../after \
+      >> "$work/measured.order"
 }
 
 measure_chain() {

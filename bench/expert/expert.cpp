@@ -1,7 +1,9 @@
-// What an expert writes who needs `dyncollate collate` to be fast and proves nothing: the second program that dyncollate is compared
-// with. It uses simdjson (Debian's package libsimdjson-dev), one arena for all strings, flat tables of numbers, and one open file for each
-// directory that it writes to. It makes every check of docs/FORMATS.md. If there is an error, it prints only a code, and if there
-// are several, maybe another one than dyncollate. It has no edge lists and no `restat`.
+// What an expert writes who needs `dyncollate collate` to be fast and proves nothing: the second
+// program that dyncollate is compared with. It uses simdjson (Debian's package libsimdjson-dev),
+// one arena for all strings, flat tables of numbers, and one open file for each directory that it
+// writes to. It makes every check of docs/FORMATS.md. If there is an error, it prints only a code,
+// and if there are several, maybe another one than dyncollate. It has no edge lists and no
+// `restat`.
 #include <fcntl.h>
 #include <simdjson.h>
 #include <sys/mman.h>
@@ -52,7 +54,8 @@ public:
     char* take(std::size_t size) {
         if (static_cast<std::size_t>(end_ - next_) < size) {
             const std::size_t block = std::max<std::size_t>(size, 1 << 20);
-            void* const memory = mmap(nullptr, block, PROT_READ | PROT_WRITE, MAP_PRIVATE | MAP_ANONYMOUS, -1, 0);
+            void* const memory =
+                mmap(nullptr, block, PROT_READ | PROT_WRITE, MAP_PRIVATE | MAP_ANONYMOUS, -1, 0);
             if (memory == MAP_FAILED) {
                 std::fputs("dyncollate: out of memory\n", stderr);
                 _exit(3);
@@ -149,22 +152,28 @@ std::uint64_t hash_of(string_view text) {
     std::uint64_t first = 0, last = 0;
     if (size > 16) {
         for (; size > 16; bytes += 16, size -= 16) {
-            hash = folded(word_at<std::uint64_t>(bytes) ^ 0xa0761d6478bd642f, word_at<std::uint64_t>(bytes + 8) ^ hash);
+            hash = folded(word_at<std::uint64_t>(bytes) ^ 0xa0761d6478bd642f,
+                          word_at<std::uint64_t>(bytes + 8) ^ hash);
         }
         first = word_at<std::uint64_t>(bytes + size - 16);
         last = word_at<std::uint64_t>(bytes + size - 8);
     } else if (size >= 4) {
         const std::size_t middle = size / 8 * 4;
         first = word_at<std::uint32_t>(bytes) << 32 | word_at<std::uint32_t>(bytes + middle);
-        last = word_at<std::uint32_t>(bytes + size - 4) << 32 | word_at<std::uint32_t>(bytes + size - 4 - middle);
+        last = word_at<std::uint32_t>(bytes + size - 4) << 32 |
+               word_at<std::uint32_t>(bytes + size - 4 - middle);
     } else if (size > 0) {
-        const auto byte = [&](std::size_t index) { return std::uint64_t{static_cast<unsigned char>(bytes[index])}; };
+        const auto byte = [&](std::size_t index) {
+            return std::uint64_t{static_cast<unsigned char>(bytes[index])};
+        };
         first = byte(0) << 16 | byte(size / 2) << 8 | byte(size - 1);
     }
-    return folded(0xe7037ed1a0b428db ^ text.size(), folded(first ^ 0x8ebc6af09c88c6e3, last ^ hash));
+    return folded(0xe7037ed1a0b428db ^ text.size(),
+                  folded(first ^ 0x8ebc6af09c88c6e3, last ^ hash));
 }
 
-// Numbers by the string that each has, with open addressing. `text_of` returns the string of a number.
+// Numbers by the string that each has, with open addressing.
+// `text_of` returns the string of a number.
 class Table {
 public:
     explicit Table(std::size_t most) {
@@ -199,14 +208,17 @@ private:
     };
     std::vector<Slot> slots_;
 
-    static std::uint32_t tag_of(std::uint64_t hash) { return static_cast<std::uint32_t>(hash >> 32); }
+    static std::uint32_t tag_of(std::uint64_t hash) {
+        return static_cast<std::uint32_t>(hash >> 32);
+    }
 
     // The slot of the string, or the empty slot for it.
     template <class TextOf>
     std::size_t find(std::uint64_t hash, string_view text, const TextOf& text_of) const {
         const std::size_t mask = slots_.size() - 1;
         std::size_t index = hash & mask;
-        while (slots_[index].number != none && (slots_[index].tag != tag_of(hash) || text_of(slots_[index].number) != text)) {
+        while (slots_[index].number != none &&
+               (slots_[index].tag != tag_of(hash) || text_of(slots_[index].number) != text)) {
             index = (index + 1) & mask;
         }
         return index;
@@ -216,7 +228,13 @@ private:
 // ---- names and paths
 
 // What a byte may not be in, or not without an escape.
-enum Kind : unsigned char { in_no_path = 1, in_no_name = 2, escaped_by_ninja = 4, escaped_in_json = 8, in_no_map = 16 };
+enum Kind : unsigned char {
+    in_no_path = 1,
+    in_no_name = 2,
+    escaped_by_ninja = 4,
+    escaped_in_json = 8,
+    in_no_map = 16
+};
 
 struct Kinds {
     unsigned char of[256] = {};
@@ -253,7 +271,8 @@ void check_name(string_view text) {
     bool has_colon = false;
     for (char byte : text) {
         const bool is_separator = byte == '.' || byte == ':';
-        if (kinds_of(byte) & in_no_name || (is_separator && (is_part_empty || (byte == ':' && has_colon)))) {
+        if (kinds_of(byte) & in_no_name ||
+            (is_separator && (is_part_empty || (byte == ':' && has_colon)))) {
             fail("S6");
         }
         has_colon |= byte == ':';
@@ -329,7 +348,8 @@ Path path_of(string_view text, string_view build_directory) {
     is_canonical &= !is_dots;
     string_view path = is_canonical ? text : reduced(text);
     const std::size_t length = build_directory.size();
-    if (length > 0 && path.size() > length && path[length] == '/' && path.starts_with(build_directory)) {
+    if (length > 0 && path.size() > length && path[length] == '/' &&
+        path.starts_with(build_directory)) {
         path.remove_prefix(length + 1);
     }
     if (path.size() > max_path) {
@@ -365,7 +385,8 @@ void read_file(const char* name, Buffer& buffer) {
     close(file);
 }
 
-// A member of an object. If it is there several times, the last one counts, and null means that it is not there.
+// A member of an object. If it is there several times, the last one counts,
+// and null means that it is not there.
 class Member {
 public:
     void operator=(element value) {
@@ -428,7 +449,8 @@ simdjson::dom::object document_of(const Buffer& buffer, std::uint64_t least, std
         fail("S8");
     }
     element root;
-    if (parser.parse(reinterpret_cast<const std::uint8_t*>(buffer.data()), buffer.size(), false).get(root)) {
+    if (parser.parse(reinterpret_cast<const std::uint8_t*>(buffer.data()), buffer.size(), false)
+            .get(root)) {
         fail("S1");
     }
     const simdjson::dom::object document = object_of(root);
@@ -455,7 +477,8 @@ struct Spec {
 Spec read_spec(const char* name) {
     Buffer buffer;
     read_file(name, buffer);
-    Member target, module_dir, module_ext, build_dir, dyndep, info, map, scans, linked, private_names;
+    Member target, module_dir, module_ext, build_dir, dyndep, info, map, scans, linked,
+        private_names;
     for (const auto& [key, value] : document_of(buffer, 1, 1)) {
         if (key == "target") target = value;
         else if (key == "module-dir") module_dir = value;
@@ -467,16 +490,26 @@ Spec read_spec(const char* name) {
         else if (key == "scans") scans = value;
         else if (key == "linked") linked = value;
         else if (key == "private") private_names = value;
-        else if (key == "edges" || key == "restat") fail("members that this program does not have: edges, restat");
+        else if (key == "edges" || key == "restat")
+            fail("members that this program does not have: edges, restat");
     }
-    Spec spec{arena.copy(target.text()), arena.copy(module_dir.text()), arena.copy(module_ext.text()), {}, arena.copy(dyndep.text()),
-              arena.copy(info.text()), arena.copy(map.text_if_there()), {}, {}, {}};
+    Spec spec{arena.copy(target.text()),
+              arena.copy(module_dir.text()),
+              arena.copy(module_ext.text()),
+              {},
+              arena.copy(dyndep.text()),
+              arena.copy(info.text()),
+              arena.copy(map.text_if_there()),
+              {},
+              {},
+              {}};
     if (build_dir.is_there()) {
         spec.build_dir = path_of(build_dir.text(), {}).text;
     }
     const bool has_map_form = spec.map.empty() || spec.map == "gcc" || spec.map == "clang";
     const bool has_build_dir = !build_dir.is_there() || spec.build_dir.starts_with('/');
-    if (spec.target.empty() || spec.dyndep.empty() || spec.info.empty() || !has_map_form || !has_build_dir) {
+    if (spec.target.empty() || spec.dyndep.empty() || spec.info.empty() || !has_map_form ||
+        !has_build_dir) {
         fail("S3");
     }
     const auto string_of = [](element entry) {
@@ -495,7 +528,8 @@ Spec read_spec(const char* name) {
     return spec;
 }
 
-// A module of an object or of an info file. Its producer is the number of the object, or that of the info file after those.
+// A module of an object or of an info file. Its producer is the number of the object, or that of
+// the info file after those.
 struct Module {
     string_view name;
     Path file;
@@ -504,13 +538,15 @@ struct Module {
     bool is_private = false;
 };
 
-// An object, with the indexes at which its modules and the names that it requires begin and end in the lists of all.
+// An object, with the indexes at which its modules and the names that it requires begin and end in
+// the lists of all.
 struct Object {
     Path path;
     Number first_module, end_module, first_required, end_required;
 };
 
-// A module of an info file, with the indexes at which its requirements begin and end in the list of all.
+// A module of an info file, with the indexes at which its requirements begin and end in the list of
+// all.
 struct Known {
     Number first, end;
 };
@@ -564,8 +600,8 @@ private:
     Number object_count_ = 0;
     Number own_count_ = 0;
     Table names_{0};
-    // required_ from ends_[row] up to ends_[row + 1] has the modules that an object requires, and after all objects those that a module
-    // of an info file requires
+    // required_ from ends_[row] up to ends_[row + 1] has the modules that an object requires, and
+    // after all objects those that a module of an info file requires
     std::vector<Number> ends_{0};
     std::vector<Number> required_;
     std::vector<bool> is_kept_;
@@ -588,7 +624,8 @@ private:
             placed_ << spec_.module_dir << '/';
         }
         placed_ << name;
-        std::replace(placed_.data() + placed_.size() - name.size(), placed_.data() + placed_.size(), ':', '-');
+        std::replace(placed_.data() + placed_.size() - name.size(), placed_.data() + placed_.size(),
+                     ':', '-');
         placed_ << spec_.module_ext;
         return path_of(placed_.from(0), spec_.build_dir);
     }
@@ -621,7 +658,8 @@ private:
         object.end_module = static_cast<Number>(modules_.size());
         object.end_required = static_cast<Number>(required_names_.size());
         objects_.push_back(object);
-        if (objects_.size() > max_entries || object.end_module - object.first_module > max_entries ||
+        if (objects_.size() > max_entries ||
+            object.end_module - object.first_module > max_entries ||
             object.end_required - object.first_required > max_entries) {
             fail("S8");
         }
@@ -640,7 +678,8 @@ private:
             fail("S5");
         }
         check_name(name.text());
-        const Path path = file.is_there() ? placed(file.text(), directory) : module_file(name.text());
+        const Path path =
+            file.is_there() ? placed(file.text(), directory) : module_file(name.text());
         modules_.push_back({arena.copy(name.text()), path, static_cast<Number>(objects_.size())});
     }
 
@@ -689,7 +728,8 @@ private:
             fail("S3");
         }
         check_name(name.text());
-        modules_.push_back({arena.copy(name.text()), path_of(file.text(), {}), producer, none, is_private});
+        modules_.push_back(
+            {arena.copy(name.text()), path_of(file.text(), {}), producer, none, is_private});
         const auto first = static_cast<Number>(known_required_.size());
         requirements.check_is_there();
         requirements.each([&](element required) { read_known_required(required); });
@@ -715,7 +755,8 @@ private:
     // An object, a target, a module or a file that is there twice: M1 to M4.
     void check_unique() {
         const auto file_of = [&](Number number) {
-            return number < object_count_ ? objects_[number].path.text : modules_[number - object_count_].file.text;
+            return number < object_count_ ? objects_[number].path.text
+                                          : modules_[number - object_count_].file.text;
         };
         const auto target_of = [&](Number number) { return linked_targets_[number]; };
         Table files(objects_.size() + modules_.size());
@@ -724,11 +765,13 @@ private:
         add_all(targets, 0, static_cast<Number>(linked_targets_.size()), target_of, "M2");
         names_ = Table(modules_.size());
         add_all(names_, 0, static_cast<Number>(modules_.size()), name_of(), "M3");
-        add_all(files, object_count_, object_count_ + static_cast<Number>(modules_.size()), file_of, "M4");
+        add_all(files, object_count_, object_count_ + static_cast<Number>(modules_.size()), file_of,
+                "M4");
     }
 
     template <class TextOf>
-    static void add_all(Table& table, Number first, Number end, const TextOf& text_of, const char* code) {
+    static void add_all(Table& table, Number first, Number end, const TextOf& text_of,
+                        const char* code) {
         for (Number number = first; number < end; ++number) {
             if (table.add(text_of(number), number, text_of) != none) {
                 fail(code);
@@ -741,7 +784,8 @@ private:
         ends_.reserve(objects_.size() + known_.size() + 1);
         required_.reserve(required_names_.size() + known_required_.size());
         for (Number number = 0; number < object_count_; ++number) {
-            for (Number index = objects_[number].first_required; index < objects_[number].end_required; ++index) {
+            for (Number index = objects_[number].first_required;
+                 index < objects_[number].end_required; ++index) {
                 const Number found = names_.number_of(required_names_[index], name_of());
                 if (found == none) {
                     fail("M5");
@@ -777,11 +821,14 @@ private:
     };
 
     // What an object requires.
-    Row required_by(Number row) const { return {required_.data() + ends_[row], required_.data() + ends_[row + 1]}; }
+    Row required_by(Number row) const {
+        return {required_.data() + ends_[row], required_.data() + ends_[row + 1]};
+    }
 
     // What a module requires: what its object does, or what the info file says.
     Row required_by_module(Number number) const {
-        return required_by(number < own_count_ ? modules_[number].producer : object_count_ + number - own_count_);
+        return required_by(number < own_count_ ? modules_[number].producer
+                                               : object_count_ + number - own_count_);
     }
 
     // M8, by removing objects that no remaining one requires.
@@ -819,7 +866,8 @@ private:
         }
         for (Number number = own_count_; number < modules_.size(); ++number) {
             for (Number required : required_by_module(number)) {
-                if (modules_[required].is_private && modules_[required].producer != modules_[number].producer) {
+                if (modules_[required].is_private &&
+                    modules_[required].producer != modules_[number].producer) {
                     fail("M9");
                 }
             }
@@ -902,14 +950,18 @@ private:
         return modules_[number];
     }
 
-    // The maps of all objects. What an object needs is found by numbers of names in order, so that these and not the names are sorted.
+    // The maps of all objects. What an object needs is found by numbers of names in order, so that
+    // these and not the names are sorted.
     void write_maps() {
         const bool is_clang = spec_.map == "clang";
-        std::vector<Number> by_name(modules_.size()), rank(modules_.size()), seen(modules_.size(), none), needed;
+        std::vector<Number> by_name(modules_.size()), rank(modules_.size()),
+            seen(modules_.size(), none), needed;
         for (Number number = 0; number < modules_.size(); ++number) {
             by_name[number] = number;
         }
-        std::sort(by_name.begin(), by_name.end(), [&](Number one, Number other) { return modules_[one].name < modules_[other].name; });
+        std::sort(by_name.begin(), by_name.end(), [&](Number one, Number other) {
+            return modules_[one].name < modules_[other].name;
+        });
         for (Number index = 0; index < by_name.size(); ++index) {
             rank[by_name[index]] = index;
         }
@@ -927,7 +979,8 @@ private:
             for (std::size_t next = 0; next < needed.size(); ++next) {
                 add(required_by_module(needed[next]));
             }
-            std::transform(needed.begin(), needed.end(), needed.begin(), [&](Number module) { return rank[module]; });
+            std::transform(needed.begin(), needed.end(), needed.begin(),
+                           [&](Number module) { return rank[module]; });
             std::sort(needed.begin(), needed.end());
             const Object& object = objects_[number];
             for (Number module = object.first_module; module < object.end_module; ++module) {
@@ -952,7 +1005,8 @@ private:
     }
 
     void put_needed(const Module& module, bool is_clang) {
-        maps_ << (is_clang ? "-fmodule-file=" : "") << module.name << (is_clang ? '=' : ' ') << module.file.text << '\n';
+        maps_ << (is_clang ? "-fmodule-file=" : "") << module.name << (is_clang ? '=' : ' ')
+              << module.file.text << '\n';
     }
 
     void put_pair(const Module& module) {
@@ -975,7 +1029,8 @@ private:
                 info_ << '}';
                 between = ",";
             }
-            info_ << (is_kept_[number] ? "],\"visibility\":\"private\"}" : "],\"visibility\":\"public\"}");
+            info_ << (is_kept_[number] ? "],\"visibility\":\"private\"}"
+                                       : "],\"visibility\":\"public\"}");
         }
         info_ << "],\"target\":";
         put_json(info_, spec_.target);
@@ -997,7 +1052,9 @@ private:
                 return directories_[index].file;
             }
         }
-        const int file = directories_.size() > 200 ? -1 : open(arena.name(name), O_PATH | O_DIRECTORY | O_CLOEXEC);
+        const int file = directories_.size() > 200
+                             ? -1
+                             : open(arena.name(name), O_PATH | O_DIRECTORY | O_CLOEXEC);
         if (file >= 0) {
             directories_.push_back({name, file});
         }
@@ -1008,14 +1065,18 @@ private:
     void write_file(string_view path, const char* ending, string_view text) {
         const std::string name = std::string(path) + ending;
         const std::size_t slash = path.rfind('/');
-        const int found = slash == string_view::npos || slash == 0 ? -1 : opened(path.substr(0, slash));
+        const int found =
+            slash == string_view::npos || slash == 0 ? -1 : opened(path.substr(0, slash));
         const int directory = found < 0 ? AT_FDCWD : found;
         const char* const last = name.c_str() + (found < 0 ? 0 : slash + 1);
         char other[max_path + 64];
         std::snprintf(other, sizeof other, "%s.%d.tmp", last, static_cast<int>(getpid()));
         struct stat old;
         const bool is_there = fstatat(directory, last, &old, AT_SYMLINK_NOFOLLOW) == 0;
-        const int file = is_there && !S_ISREG(old.st_mode) ? -1 : openat(directory, other, O_WRONLY | O_CREAT | O_EXCL | O_CLOEXEC, 0666);
+        const int file =
+            is_there && !S_ISREG(old.st_mode)
+                ? -1
+                : openat(directory, other, O_WRONLY | O_CREAT | O_EXCL | O_CLOEXEC, 0666);
         if (file < 0 || (is_there && fchmod(file, old.st_mode & 07777) != 0)) {
             fail_file("write", name.c_str());
         }
@@ -1036,7 +1097,8 @@ private:
     void write_files() {
         std::size_t start = 0;
         for (std::size_t number = 0; number < map_ends_.size(); ++number) {
-            write_file(objects_[number].path.text, ".modmap", maps_.from(start).substr(0, map_ends_[number] - start));
+            write_file(objects_[number].path.text, ".modmap",
+                       maps_.from(start).substr(0, map_ends_[number] - start));
             start = map_ends_[number];
         }
         write_file(spec_.info, "", info_.from(0));

@@ -1,5 +1,5 @@
-"""Prints a document of 16 MiB, the most that one may have, or a little less: fill.py BEFORE PIECE AFTER. The piece is between the others,
-as often as it fits."""
+"""Prints a document of 16 MiB, the most that one may have, or a little less: fill.py BEFORE PIECE
+AFTER. The piece is between the others, as often as it fits."""
 import sys
 
 before, piece, after = sys.argv[1:]

@@ -1,10 +1,12 @@
 #!/usr/bin/env bash
-# Measures what documents take that are made to be expensive, up to the limits of docs/FORMATS.md: measure.sh [ROUNDS].
-# It fails if a run does not end with the status and the first line that are said here, or if plain C++ leaves other files. For each
-# document it prints the processor time of the fastest round, that per byte of the document, the most memory, and that as a multiple
-# of the document; then `time` if the time is more than three times what C++ takes, or than 50 ns per byte if C++ does not take the
-# document, and `memory` if the multiple is more than ten. Then pairs.py measures inputs next to ordinary ones of the same size, and
-# this fails if one takes more than twice the time (plugins: 1.5 times).
+# Measures what documents take that are made to be expensive, up to the limits of docs/FORMATS.md:
+# measure.sh [ROUNDS]. It fails if a run does not end with the status and the first line that are
+# said here, or if plain C++ leaves other files. For each document it prints the processor time of
+# the fastest round, that per byte of the document, the most memory, and that as a multiple of the
+# document; then `time` if the time is more than three times what C++ takes, or than 50 ns per byte
+# if C++ does not take the document, and `memory` if the multiple is more than ten. Then pairs.py
+# measures inputs next to ordinary ones of the same size, and this fails if one takes more than
+# twice the time (plugins: 1.5 times).
 set -euo pipefail
 here=$(cd "$(dirname "$0")" && pwd)
 source "$here/../common.sh"
@@ -15,8 +17,8 @@ not_json='dyncollate: scan 0: S1 NotJson document'
 not_object='dyncollate: scan 0: S3 BadShape document member document'
 least_cycle='dyncollate: M8 ImportCycle obj/core/m0.o -> obj/data/m1.o -> obj/net/m2.o -> *'
 
-# prints LABEL FILE LINE: fails if the first line of a file that the program left does not match the pattern LINE, or if it printed
-# something else.
+# prints LABEL FILE LINE: fails if the first line of a file that the program left does not match the
+# pattern LINE, or if it printed something else.
 prints() {
     local line other=err
     [ "$2" != err ] || other=out
@@ -43,8 +45,8 @@ filled() {
     one "${@:1:3}"
 }
 
-# ignored LABEL STATUS LINE BEFORE PIECE AFTER: the same if all of them are the value of a member that is ignored, in a document of no
-# rules.
+# ignored LABEL STATUS LINE BEFORE PIECE AFTER: the same if all of them are the value of a member
+# that is ignored, in a document of no rules.
 ignored() {
     filled "${@:1:3}" "{\"ignored\":$4" "$5" "$6,\"rules\":[],\"version\":1}"
 }

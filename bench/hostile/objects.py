@@ -1,4 +1,5 @@
-"""Prints a scan document with that many rules of one member, an object's path of nearly that many bytes: rules=RULES bytes=BYTES.
+"""Prints a scan document with that many rules of one member, an object's path of nearly that many
+bytes: rules=RULES bytes=BYTES.
 
 Before the last name there are as many directories, and as many `..`, as fit.
 """

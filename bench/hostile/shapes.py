@@ -69,11 +69,10 @@ def dyndep(made, ordinary, size):
     return "effect", "d", "edges", "d"
 
 
-def names_for(size):
-    """Names that share a group of a table if its key is that of no entries, and as many others of
-    the same lengths."""
-    names = collided("names", digest(""), 12, size)
-    return names, [f"y{number:0{len(name) - 1}}" for number, name in enumerate(names)]
+def names_for(size, entries=""):
+    """Names of ten bytes that share a group of a table if these entries are all that its key
+    covers, and as many others."""
+    return collided("names", digest(entries), 12, size), [f"y{it:09}" for it in range(size)]
 
 
 def modules(made, ordinary, size):
@@ -107,11 +106,34 @@ def keyless(made, ordinary, size):
     return words
 
 
-def outputs(made, ordinary, size):
-    """Edges that produce files that share a group of a table."""
-    for directory, names in zip((made, ordinary), names_for(size)):
-        write(directory / "edges", "".join(f"build {name}: r\n" for name in names))
-    return "order", "edges"
+def sharing(made, ordinary, size):
+    """A project with two libraries whose modules have the same files. Those of the second, by their
+    names and files, share a group of a table. Another library requires the last one often. Programs
+    link all of them."""
+    found = collided("pairs", digest(""), 12, size)
+    other = [f"{kind}{it:015}" for it in range(size) for kind in "xy"]
+    for directory, pairs in (made, found), (ordinary, other):
+        project, names, files = Project(directory), pairs[::2], pairs[1::2]
+        project.add("a", [(zip([f"a{it}" for it in range(size)], files), [])], [])
+        project.add("b", [(zip(names, files), [])], [])
+        project.add("c", [([f"c{it}"], names[-1:]) for it in range(size)], ["b"])
+        for below in ["a"], ["b", "c"]:
+            project.add(f"u{below[-1]}", [([], [f"{below[-1]}0"])], below)
+        words = project.written()
+    return words
+
+
+def produced(entries):
+    """Edges that produce files that share a group of a table if its key covers only this of each.
+    """
+    def shape(made, ordinary, size):
+        for directory, names in zip((made, ordinary), names_for(size, entries * size)):
+            write(directory / "edges", "".join(f"build {name}: r\n" for name in names))
+        return "order", "edges"
+    return shape
+
+
+outputs, lengths = produced(""), produced("\n")  # the byte 10 is the length of each name
 
 
 # ---- strings that are reduced
@@ -399,9 +421,11 @@ REJECTED = "rules", "linked", "relinked"
 # ordinary input it may take.
 SHAPES = [
     ("edges", edges, 1 << 22, 2), ("dyndep", dyndep, 1 << 22, 2), ("outputs", outputs, 40_000, 2),
-    ("modules", modules, 20_000, 2), ("targets", targets, 20_000, 2),
-    ("keyless", keyless, 20_000, 2), ("work-dir", work_directory, 65_536, 2),
-    ("ext", module_ext, 65_536, 2), ("paths", reduced_paths, 4000, 3),
+    ("lengths", lengths, 40_000, 2), ("modules", modules, 20_000, 2),
+    ("targets", targets, 20_000, 2), ("keyless", keyless, 20_000, 2),
+    ("sharing", sharing, 20_000, 2),
+    ("work-dir", work_directory, 65_536, 2), ("ext", module_ext, 65_536, 2),
+    ("paths", reduced_paths, 4000, 3),
     ("requires", requires, 40_000, 2), ("info", info_requires, 80_000, 2),
     ("plugins", plugins, 400, 1.5), ("services", services, 400, 2),
     ("providers", providers, 4000, 2), ("names", shared_names, 20_000, 1.1),

@@ -1,6 +1,6 @@
 #!/usr/bin/env bash
-# Measures what dyncollate-ninja adds to a Meson build: measure.sh [SOURCES..]. measure.py says what is
-# measured and what it needs. DYNCOLLATE names the program; otherwise it is proved and built.
+# Measures what dyncollate-ninja adds to a Meson build: measure.sh [SOURCES..]. measure.py says what
+# is measured and what it needs. DYNCOLLATE names the program; otherwise it is proved and built.
 set -euo pipefail
 here=$(cd "$(dirname "$0")" && pwd)
 top=$(cd "$here/../.." && pwd)

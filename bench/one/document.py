@@ -1,8 +1,8 @@
 """Prints a scan document: rules=RULES required=REQUIRED.
 
-Each rule provides a module and requires others, of lower numbers and drawn from all of them. One that is drawn twice is required twice.
-With libraries=COUNT the last required one is of one of that many info files, which have 500 modules each. names=FILE has the names of the
-modules, one per line.
+Each rule provides a module and requires others, of lower numbers and drawn from all of them. One
+that is drawn twice is required twice. With libraries=COUNT the last required one is of one of that
+many info files, which have 500 modules each. names=FILE has the names of the modules, one per line.
 """
 from pathlib import Path
 
@@ -20,5 +20,5 @@ def required(number, entry):
     return name(numbers.below(number))
 
 
-print(dumped(scan([rule(number, [required(number, entry) for entry in range(given.required if number else 0)], name)
-                   for number in range(given.rules)])), end="")
+print(dumped(scan([rule(number, [required(number, entry) for entry in range(
+    given.required if number else 0)], name) for number in range(given.rules)])), end="")

@@ -1,7 +1,8 @@
 #!/usr/bin/env bash
-# Measures `dyncollate one`, the whole program with reading and writing, next to plain C++ that does the same and proves
-# nothing: measure.sh [REQUIRED]. The documents are those of document.py, in which each rule requires that many modules,
-# or 4. It fails if the two do not write the same bytes. bench/common.sh says what is printed.
+# Measures `dyncollate one`, the whole program with reading and writing, next to plain C++ that does
+# the same and proves nothing: measure.sh [REQUIRED]. The documents are those of document.py, in
+# which each rule requires that many modules, or 4. It fails if the two do not write the same bytes.
+# bench/common.sh says what is printed.
 set -euo pipefail
 here=$(cd "$(dirname "$0")" && pwd)
 source "$here/../common.sh"

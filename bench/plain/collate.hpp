@@ -1,4 +1,5 @@
-// What is written for a target: its dyndep text, its info and the maps of its objects (docs/FORMATS.md).
+// What is written for a target: its dyndep text,
+// its info and the maps of its objects (docs/FORMATS.md).
 #pragma once
 
 #include <algorithm>

@@ -1,5 +1,5 @@
-// Scan, info, target and project documents (docs/FORMATS.md, "Documents"), read with RapidJSON (Debian's package
-// rapidjson-dev). The checks are made in the order of that page.
+// Scan, info, target and project documents (docs/FORMATS.md, "Documents"), read with RapidJSON
+// (Debian's package rapidjson-dev). The checks are made in the order of that page.
 #pragma once
 
 // RapidJSON then skips spaces by instructions of SSE 4.2
@@ -222,8 +222,8 @@ inline bool is_target_name(std::string_view text) {
            std::none_of(text.begin(), text.end(), is_control);
 }
 
-// Parses documents in place, one after the other, with one allocator. A document's values are valid until the next is read,
-// and its texts as long as its bytes.
+// Parses documents in place, one after the other, with one allocator. A document's values are valid
+// until the next is read, and its texts as long as its bytes.
 class JsonReader {
 public:
     // The members of a document, whose version must be one of those from the least to the greatest.
@@ -311,12 +311,12 @@ private:
         if (has_too_many(provided) || has_too_many(required)) {
             refuse("S8 TooLarge", place);
         }
-        read_entries(provided, "provides", place, rule.provided, [&](const Value& entry, const Place& at) {
-            return read_provided(entry, work_directory, at);
-        });
-        read_entries(required, "requires", place, rule.required, [&](const Value& entry, const Place& at) {
-            return read_required(entry, at);
-        });
+        read_entries(provided, "provides", place, rule.provided,
+                     [&](const Value& entry, const Place& at) {
+                         return read_provided(entry, work_directory, at);
+                     });
+        read_entries(required, "requires", place, rule.required,
+                     [&](const Value& entry, const Place& at) { return read_required(entry, at); });
         return rule;
     }
 

@@ -1,5 +1,6 @@
-// Files, read and written whole; one that is written takes the place of the old one by a rename. Where the environment
-// variable PLAIN_CALLS names a file, what is read and written is noted there, a line for each call, for floor.cpp.
+// Files, read and written whole; one that is written takes the place of the old one by a rename.
+// Where the environment variable PLAIN_CALLS names a file, what is read and written is noted there,
+// a line for each call, for floor.cpp.
 #pragma once
 
 #include <fcntl.h>

@@ -1,5 +1,6 @@
-// Edge listings and dyndep files: how they are read, what a dyndep file adds to a graph, and the order of its edges
-// (docs/FORMATS.md, "Dyndep files, as the reader takes them" and "Edge listings").
+// Edge listings and dyndep files: how they are read, what a dyndep file adds to a graph, and the
+// order of its edges (docs/FORMATS.md, "Dyndep files, as the reader takes them" and "Edge
+// listings").
 #pragma once
 
 #include <algorithm>
@@ -37,8 +38,8 @@ struct Statement {
     bool restat = false;
 };
 
-// Passes each line of a text that is no comment to a reader, with its tokens, and then the end. A fault is reported with
-// the line's number, after the label.
+// Passes each line of a text that is no comment to a reader, with its tokens, and then the end. A
+// fault is reported with the line's number, after the label.
 template <class Reader>
 void read_lines(std::string_view text, const char* label, Reader& reader) {
     LineReader lines(text);
@@ -170,8 +171,9 @@ private:
         if (token->kind != Kind::end) {
             throw form();
         }
-        edges.push_back({rule, read_paths(outputs), read_paths(implicit_outputs), read_paths(inputs),
-                         read_paths(implicit_inputs), read_paths(order_only), std::nullopt});
+        edges.push_back({rule, read_paths(outputs), read_paths(implicit_outputs),
+                         read_paths(inputs), read_paths(implicit_inputs), read_paths(order_only),
+                         std::nullopt});
         is_open_ = true;
         has_restat_ = false;
     }
@@ -235,7 +237,8 @@ private:
         is_open_ = false;
     }
 
-    // The fault of a token that is not allowed there: those of order-only inputs and validations, or otherwise another.
+    // The fault of a token that is not allowed there: those of order-only inputs and validations,
+    // or otherwise another.
     static LineFault fault_of(const Token& token, const char* other) {
         if (token.kind == Kind::two_bars) {
             return {"Y13 OrderOnly"};
@@ -395,7 +398,8 @@ private:
         }
     }
 
-    void check_added(const std::vector<Statement>& statements, const std::vector<std::size_t>& bound) {
+    void check_added(const std::vector<Statement>& statements,
+                     const std::vector<std::size_t>& bound) {
         for (std::size_t number = 0; number < statements.size(); ++number) {
             for (const std::string& path : statements[number].implicit_outputs) {
                 if (!makers_.try_emplace(path, bound[number]).second) {
@@ -446,7 +450,8 @@ inline std::vector<Statement> statements_of(std::string_view text) {
     return std::move(reader.statements);
 }
 
-inline void append_part(std::string& text, const char* mark, const std::vector<std::string>& paths) {
+inline void append_part(std::string& text, const char* mark,
+                        const std::vector<std::string>& paths) {
     text += paths.empty() ? "" : mark;
     for (const std::string& path : paths) {
         text += ' ';

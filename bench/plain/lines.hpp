@@ -57,7 +57,8 @@ public:
             throw LineFault{rest_.size() >= max_line ? "N5 LineTooLong" : "N6 Truncated"};
         }
         Line line{rest_.substr(0, end), number_, is_comment};
-        number_ += 1 + static_cast<std::uint64_t>(std::count(line.text.begin(), line.text.end(), '\n'));
+        number_ +=
+            1 + static_cast<std::uint64_t>(std::count(line.text.begin(), line.text.end(), '\n'));
         rest_.remove_prefix(end + 1);
         if (line.text.ends_with('\r')) {
             line.text.remove_suffix(1);
@@ -103,10 +104,12 @@ struct Token {
 };
 
 inline bool is_name_byte(char byte) {
-    return std::isalnum(static_cast<unsigned char>(byte)) || byte == '_' || byte == '.' || byte == '-';
+    return std::isalnum(static_cast<unsigned char>(byte)) || byte == '_' || byte == '.' ||
+           byte == '-';
 }
 
-// How many bytes the unit at the place has whose first byte is $: an escape, or a continuation with its spaces.
+// How many bytes the unit at the place has whose first byte is $: an escape,
+// or a continuation with its spaces.
 inline std::size_t dollar_length(std::string_view text, std::size_t place) {
     const char next = place + 1 < text.size() ? text[place + 1] : '\0';
     if (next == '$' || next == ' ' || next == ':') {
@@ -126,10 +129,12 @@ inline bool is_continuation(std::string_view text, std::size_t place) {
     return text[place] == '$' && (text[place + 1] == '\n' || text[place + 1] == '\r');
 }
 
-// Makes tokens of lines that are no comments. One is used for all lines, so that their list is allocated once.
+// Makes tokens of lines that are no comments. One is used for all lines,
+// so that their list is allocated once.
 class Lexer {
 public:
-    // The tokens of a line, with one after them that says that it ends. They are valid until the next line is read.
+    // The tokens of a line, with one after them that says that it ends.
+    // They are valid until the next line is read.
     const std::vector<Token>& read(std::string_view text) {
         tokens_.clear();
         for (std::size_t place = 0; place < text.size();) {
@@ -152,12 +157,15 @@ private:
             return place + 1;
         }
         if (text[place] == '|') {
-            const Kind kind = second == '@' ? Kind::bar_at : second == '|' ? Kind::two_bars : Kind::bar;
+            const Kind kind = second == '@'   ? Kind::bar_at
+                              : second == '|' ? Kind::two_bars
+                                              : Kind::bar;
             tokens_.push_back({kind});
             return place + (kind == Kind::bar ? 1 : 2);
         }
         const std::size_t length = text[place] == '$' ? dollar_length(text, place) : 0;
-        return length != 0 && is_continuation(text, place) ? place + length : read_word(text, place);
+        return length != 0 && is_continuation(text, place) ? place + length
+                                                           : read_word(text, place);
     }
 
     std::size_t read_word(std::string_view text, std::size_t first) {

@@ -14,7 +14,8 @@ struct PathFault {
     const char* text;
 };
 
-// Makes paths canonical. One is used for all paths, so that the list of components is allocated once.
+// Makes paths canonical. One is used for all paths,
+// so that the list of components is allocated once.
 class PathReader {
 public:
     std::string read(std::string_view text) { return read(text, std::string_view()); }

@@ -1,6 +1,7 @@
-// Does what dyncollate does, by hand, and proves nothing: what the program is compared with. It has the commands one,
-// collate, project, effect and order, with the files, the standard output and the errors of docs/FORMATS.md. It takes
-// all arguments as they are, also those that begin with a hyphen.
+// Does what dyncollate does, by hand, and proves nothing: what the program is compared with. It has
+// the commands one, collate, project, effect and order, with the files, the standard output and the
+// errors of docs/FORMATS.md. It takes all arguments as they are, also those that begin with a
+// hyphen.
 #include <cstddef>
 #include <cstdio>
 #include <string>

@@ -1,5 +1,5 @@
-// The modules of a target (docs/FORMATS.md, "The modules of a target"): who provides each, and what each object
-// requires.
+// The modules of a target (docs/FORMATS.md, "The modules of a target"): who provides each,
+// and what each object requires.
 #pragma once
 
 #include <algorithm>
@@ -15,7 +15,8 @@
 #include "digraph.hpp"
 #include "documents.hpp"
 
-// A module of an object or of an info file. Modules are numbered: those of the objects in order, then those of the info files.
+// A module of an object or of an info file. Modules are numbered: those of the objects in order,
+// then those of the info files.
 struct Provided {
     std::string_view name;
     const std::string* file;
@@ -162,7 +163,8 @@ private:
     }
 
     // A module that an info's module requires.
-    Node required_of_info(const Info& info, const InfoModule& module, const Module& required) const {
+    Node required_of_info(const Info& info, const InfoModule& module,
+                          const Module& required) const {
         const auto found = names_.find(required.name);
         if (found == names_.end() || found->second < own_) {
             refuse_requirement("M6 InfoUnknown", info, module, required);
@@ -274,7 +276,8 @@ private:
     }
 };
 
-// Finds what objects need: all modules that chains of requirements lead to, in the order of their names.
+// Finds what objects need: all modules that chains of requirements lead to,
+// in the order of their names.
 class NeededFinder {
 public:
     explicit NeededFinder(const Table& table)

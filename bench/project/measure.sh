@@ -1,9 +1,11 @@
 #!/usr/bin/env bash
-# Measures `dyncollate project`, the whole program with reading and writing, next to plain C++ that does the same and
-# proves nothing: measure.sh [OBJECTS]. The projects are those of documents.py with that many objects, a multiple of
-# 1,000, or 20,000, in 10, 100 and 1,000 targets, without maps and with those of both forms.
-# All have as many rules, and the linked info files have as many modules in total. It fails if the two do not write the same
-# files. bench/common.sh says what is printed; the labels are the form of maps and the number of targets.
+# Measures `dyncollate project`, the whole program with reading and writing, next to plain C++ that
+# does the same and proves nothing: measure.sh [OBJECTS]. The projects are those of documents.py
+# with that many objects, a multiple of 1,000, or 20,000, in 10, 100 and 1,000 targets, without maps
+# and with those of both forms.
+# All have as many rules, and the linked info files have as many modules in total. It fails if the
+# two do not write the same files. bench/common.sh says what is printed; the labels are the form of
+# maps and the number of targets.
 set -euo pipefail
 here=$(cd "$(dirname "$0")" && pwd)
 source "$here/../common.sh"

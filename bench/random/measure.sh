@@ -1,6 +1,7 @@
 #!/usr/bin/env bash
-# Runs `dyncollate project` and plain C++ on projects made at random, and compares every file, line and status: measure.sh [PROJECTS
-# [SEED]]. It fails if any differs. Nothing is timed: projects.py says what the projects are, and prints how they ended.
+# Runs `dyncollate project` and plain C++ on projects made at random, and compares every file, line
+# and status: measure.sh [PROJECTS [SEED]]. It fails if any differs. Nothing is timed: projects.py
+# says what the projects are, and prints how they ended.
 set -euo pipefail
 here=$(cd "$(dirname "$0")" && pwd)
 source "$here/../common.sh"

@@ -1,9 +1,11 @@
-"""Runs two programs on projects made at random and compares what they leave: projects.py PLAIN PROGRAM PROJECTS SEED.
+"""Runs two programs on projects made at random and compares what they leave:
+projects.py PLAIN PROGRAM PROJECTS SEED.
 
-A project has two to seven targets, each with one to four objects and links to some of the targets before it. Most links are closed, most
-required modules are visible and most names differ; sometimes a link is missing or there twice, a name is taken or unknown, a module is
-private, a module names its own file, or targets share a directory of modules or have maps. So some projects collate and the others
-have errors of many kinds.
+A project has two to seven targets, each with one to four objects and links to some of the targets
+before it. Most links are closed, most required modules are visible and most names differ; sometimes
+a link is missing or there twice, a name is taken or unknown, a module is private, a module names
+its own file, or targets share a directory of modules or have maps. So some projects collate and the
+others have errors of many kinds.
 """
 import json
 import random
@@ -32,10 +34,14 @@ def rules_of(number, names, visible, provided):
                 own.append(name)
                 provided.append(name)
         known = visible + provided
-        required = [random.choice(known) for _ in range(random.randint(0, 3)) if known and chance(0.97)] + ["unknown"] * chance(0.02)
-        provides = [{"logical-name": name, **({"compiled-module-path": f"x/{random.choice(names)}.pcm"} if chance(0.05) else {})} for name in own]
+        required = ([random.choice(known) for _ in range(random.randint(0, 3))
+                     if known and chance(0.97)] + ["unknown"] * chance(0.02))
+        provides = [{"logical-name": name,
+                     **({"compiled-module-path": f"x/{random.choice(names)}.pcm"}
+                        if chance(0.05) else {})} for name in own]
         requires = [{"logical-name": name} for name in dict.fromkeys(required) if name not in own]
-        rules.append({"primary-output": f"o/{number}/{index}.o", "provides": provides, "requires": requires})
+        rules.append({"primary-output": f"o/{number}/{index}.o", "provides": provides,
+                      "requires": requires})
     return rules
 
 
@@ -54,9 +60,12 @@ def write_project(folder):
         order += order[:1] * chance(0.03)
         visible = [name for before in linked for name in provided[before]]
         provided.append([])
-        scan = {"version": 1, "revision": 0, "rules": rules_of(number, names, visible, provided[number])}
-        target = {"version": 1, "target": f"t{number}" if chance(0.97) else "t0", "module-dir": f"b/{number}" if chance(0.8) else "b",
-                  "module-ext": ".pcm", "scans": [f"t{number}.ddi"], "linked": [f"out/t{before}.json" for before in order],
+        scan = {"version": 1, "revision": 0,
+                "rules": rules_of(number, names, visible, provided[number])}
+        target = {"version": 1, "target": f"t{number}" if chance(0.97) else "t0",
+                  "module-dir": f"b/{number}" if chance(0.8) else "b", "module-ext": ".pcm",
+                  "scans": [f"t{number}.ddi"],
+                  "linked": [f"out/t{before}.json" for before in order],
                   "dyndep": f"out/t{number}.dd", "info": f"out/t{number}.json"}
         if provided[number] and chance(0.1):
             target["private"] = [random.choice(provided[number])]
@@ -64,17 +73,20 @@ def write_project(folder):
             target["map"] = form
         (folder / f"t{number}.ddi").write_text(json.dumps(scan))
         (folder / f"t{number}.json").write_text(json.dumps(target))
-    (folder / "project.json").write_text(json.dumps({"version": 1, "targets": [f"t{number}.json" for number in range(count)]}))
+    (folder / "project.json").write_text(
+        json.dumps({"version": 1, "targets": [f"t{number}.json" for number in range(count)]}))
 
 
 def run(program, documents, folder):
-    """What the program leaves on these documents: its status, its two outputs, and every file with its bytes."""
+    """What the program leaves on these documents: its status, its two outputs,
+    and every file with its bytes."""
     shutil.rmtree(folder, ignore_errors=True)
     shutil.copytree(documents, folder)
     for needed in ("out", *(f"o/{number}" for number in range(7))):
         (folder / needed).mkdir(parents=True)
     ended = subprocess.run([program, "project", "project.json"], cwd=folder, capture_output=True)
-    files = {str(path.relative_to(folder)): path.read_bytes() for path in folder.rglob("*") if path.is_file()}
+    files = {str(path.relative_to(folder)): path.read_bytes() for path in folder.rglob("*")
+             if path.is_file()}
     return ended.returncode, ended.stdout, ended.stderr, files
 
 
@@ -90,10 +102,14 @@ def main(plain, program, projects, seed):
         if ours != theirs:
             kept = tempfile.mkdtemp(prefix="dyncollate-differs-")
             shutil.copytree(documents, kept, dirs_exist_ok=True)
-            sys.exit(f"project {number} of seed {seed} differs, its documents are in {kept}: {ours[:3]} and {theirs[:3]}")
-        codes = [word for word in ours[2].decode().split() if len(word) == 2 and word[0].isupper() and word[1].isdigit()]
+            sys.exit(
+                f"project {number} of seed {seed} differs, its documents are in {kept}: {ours[:3]} "
+                f"and {theirs[:3]}")
+        codes = [word for word in ours[2].decode().split() if len(word) == 2 and word[0].isupper()
+                 and word[1].isdigit()]
         ends[codes[0] if codes else "collated" if ours[0] == 0 else "another error"] += 1
-    print(f"{projects} projects of seed {seed}, no difference:", ", ".join(f"{end} {count}" for end, count in ends.most_common()))
+    print(f"{projects} projects of seed {seed}, no difference:",
+          ", ".join(f"{end} {count}" for end, count in ends.most_common()))
 
 
 main(sys.argv[1], sys.argv[2], int(sys.argv[3]), int(sys.argv[4]))

@@ -1,5 +1,6 @@
-// Splits dyndep texts by hand and proves nothing: what DyndepReader is compared with. It makes the texts by the rule of
-// src/text.rt.bench, and prints the processor time of the fastest of several rounds in which a text is split.
+// Splits dyndep texts by hand and proves nothing: what DyndepReader is compared with. It makes the
+// texts by the rule of src/text.rt.bench, and prints the processor time of the fastest of several
+// rounds in which a text is split.
 #include <cctype>
 #include <cstdint>
 #include <cstdio>
@@ -18,7 +19,8 @@ struct Statement {
     bool restat = false;
 };
 
-// Splits a text, and reads the NUL after its last byte as well, so that no look ahead needs a test of its own.
+// Splits a text, and reads the NUL after its last byte as well,
+// so that no look ahead needs a test of its own.
 class Splitter {
 public:
     explicit Splitter(const std::string& text) : at_(text.c_str()), end_(at_ + text.size()) {}
@@ -302,7 +304,8 @@ int main() {
         const double length = static_cast<double>(text.size());
         const double each = time / length;
         smallest = smallest == 0 ? each : smallest;
-        std::printf("%-8s %10zu %9zu %10u %7zu %10u %9.3f %8.2f %6.2f %7.1f\n", "C++", statements, text.size(), sum(text), paths,
-                    path_sum, time * 1e3, each * 1e9, each / smallest, length / time / 1e6);
+        std::printf("%-8s %10zu %9zu %10u %7zu %10u %9.3f %8.2f %6.2f %7.1f\n", "C++", statements,
+                    text.size(), sum(text), paths, path_sum, time * 1e3, each * 1e9,
+                    each / smallest, length / time / 1e6);
     }
 }

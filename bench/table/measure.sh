@@ -1,14 +1,19 @@
 #!/usr/bin/env bash
-# Measures what the table of modules takes, by the commands that make one, next to plain C++ that does the same with hash tables and
-# proves nothing, and for targets to an expert's program: measure.sh [LARGEST]. There are up to 65,536 rules or objects, as far as they are
-# no more than LARGEST. It fails if the programs do not write the same. bench/common.sh says what is printed. The labels:
+# Measures what the table of modules takes, by the commands that make one, next to plain C++ that
+# does the same with hash tables and proves nothing, and for targets to an expert's program:
+# measure.sh [LARGEST]. There are up to 65,536 rules or objects, as far as they are no more than
+# LARGEST. It fails if the programs do not write the same. bench/common.sh says what is printed. The
+# labels:
 #   one            a document whose rules provide a module and require four (one/document.py)
-#   alone, linked  `collate` of the same without info files, and with 20 of 500 modules, of which each rule requires one (linked.py)
-#   blocks         objects that need some 17 modules (collate/documents.py); after it the form of maps
-#   layers         objects that need nearly all below them (layers.py); after it the form of maps, and those of 10,000 objects have 1.4 GB
+#   alone, linked  `collate` of the same without info files, and with 20 of 500 modules, of which
+#                  each rule requires one (linked.py)
+#   blocks         objects that need some 17 modules (collate/documents.py);
+#                  after it the form of maps
+#   layers         objects that need nearly all below them (layers.py); after it the form of maps,
+#                  and those of 10,000 objects have 1.4 GB
 #   bytes, text    a document whose names collide (collide.cpp), and each rule requires one
-#   chain, cycle   each object requires the module of the next; in a cycle the last one that of the first, and the error names all
-#                  objects (collate/chain.py)
+#   chain, cycle   each object requires the module of the next; in a cycle the last one that of the
+#                  first, and the error names all objects (collate/chain.py)
 set -euo pipefail
 here=$(cd "$(dirname "$0")" && pwd)
 source "$here/../common.sh"

@@ -10,17 +10,24 @@
 
 int main()
 {
-    const std::string document = R"({"version":1,"target":"app","module-dir":"bmi","module-ext":".pcm",
+    const std::string document =
+        R"({"version":1,"target":"app","module-dir":"bmi","module-ext":".pcm",
         "scans":["main.ddi","greet.ddi"],"dyndep":"app.dd","info":"app.info.json","map":"clang"})";
     const std::map<std::string, std::string> files = {
-        {"main.ddi", R"({"version":1,"rules":[{"primary-output":"main.o","requires":[{"logical-name":"greet"}]}]})"},
-        {"greet.ddi", R"({"version":1,"rules":[{"primary-output":"greet.o","provides":[{"logical-name":"greet"}]}]})"},
+        {"main.ddi",
+         R"({"version":1,"rules":[
+            {"primary-output":"main.o","requires":[{"logical-name":"greet"}]}]})"},
+        {"greet.ddi",
+         R"({"version":1,"rules":[
+            {"primary-output":"greet.o","provides":[{"logical-name":"greet"}]}]})"},
     };
-    auto collation = std::async(std::launch::async, [&] { return dyncollate::collate(document, files); });
+    auto collation =
+        std::async(std::launch::async, [&] { return dyncollate::collate(document, files); });
     std::cout << "collating\n";
     try {
         for (const dyncollate::file &made : collation.get())
-            std::cout << "==> " << made.name << " <==\n" << made.data << (made.name == "app.info.json" ? "\n" : "");
+            std::cout << "==> " << made.name << " <==\n"
+                      << made.data << (made.name == "app.info.json" ? "\n" : "");
     } catch (const dyncollate::error &error) {
         std::cerr << error.what() << "\n";
         return static_cast<int>(error.status);

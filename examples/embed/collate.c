@@ -1,5 +1,5 @@
-/* Collates a target in memory: `collate TARGETFILE FILE..` reads the target document and the files that it names, and prints the
-   files that `dyncollate collate TARGETFILE` would write.
+/* Collates a target in memory: `collate TARGETFILE FILE..` reads the target document and the files
+   that it names, and prints the files that `dyncollate collate TARGETFILE` would write.
 
        cc collate.c $(pkg-config --cflags --libs dyncollate) -o collate */
 #include <dyncollate.h>

@@ -1,4 +1,5 @@
-"""The error of a command, taken apart. docs/FORMATS.md, "Lines that the program prints", has the forms of its line."""
+"""The error of a command, taken apart. docs/FORMATS.md, "Lines that the program prints",
+has the forms of its line."""
 from __future__ import annotations
 
 import os
@@ -28,16 +29,23 @@ SUBJECTS = {
 class Error(Exception):
     """A command that fails.
 
-    status    its exit status: 1 if the input is not valid, 3 if a file that a document names is missing
-    line      its line on standard error, such as "dyncollate: target 2: scan 0: S6 BadName rule 1 requires 0"
-    code      its code, "S6", and `name` the name after it, "BadName". Lines such as "cannot read main.ddi" have neither
-    document  what has the error: "scan", "info", "target", "project", "edges", "name" or, for a dyndep file, "dyndep"; or None if
+    status    its exit status: 1 if the input is not valid,
+              3 if a file that a document names is missing
+    line      its line on standard error, such as "dyncollate: target 2: scan 0:
+              S6 BadName rule 1 requires 0"
+    code      its code, "S6", and `name` the name after it, "BadName".
+              Lines such as "cannot read main.ddi" have neither
+    document  what has the error: "scan", "info", "target", "project", "edges", "name" or, for a
+              dyndep file, "dyndep"; or None if
               no single document has it
-    place     its position in the document: {"target": 2, "scan": 0, "rule": 1, "requires": 0}. Lines are numbered from 1, everything
+    place     its position in the document: {"target": 2, "scan": 0, "rule": 1, "requires": 0}.
+              Lines are numbered from 1, everything
               else from 0
-    names     the modules, files and targets in the line, in its order; for a cycle all that are on it; for S3 the member
+    names     the modules, files and targets in the line, in its order;
+              for a cycle all that are on it; for S3 the member
 
-    The library says what the code, the document and the place are. That of version 1.1.0 does not, so all three are missing then.
+    The library says what the code, the document and the place are. That of version 1.1.0 does not,
+    so all three are missing then.
     """
 
     def __init__(self, status: int, line: str) -> None:
@@ -60,9 +68,10 @@ class Error(Exception):
         if found.letter:
             self.code = f"{chr(found.letter)}{found.number}"
         self.document = DOCUMENTS[found.document]
-        listed, item = ("info", "module") if self.document == "info" else ("scan", "rule" if self.document else "statement")
-        numbers = {"target": found.target, listed: found.index, "line": found.line, item: found.item,
-                   LISTS[found.list]: found.entry, "offset": found.offset}
+        listed, item = (("info", "module") if self.document == "info"
+                        else ("scan", "rule" if self.document else "statement"))
+        numbers = {"target": found.target, listed: found.index, "line": found.line,
+                   item: found.item, LISTS[found.list]: found.entry, "offset": found.offset}
         self.place = {word: number for word, number in numbers.items() if number != ABSENT}
 
     def _take_names(self) -> None:

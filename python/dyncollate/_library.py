@@ -1,4 +1,5 @@
-"""The functions of libdyncollate, by `ctypes`. dyncollate.h describes what they are given and what they return."""
+"""The functions of libdyncollate, by `ctypes`.
+dyncollate.h describes what they are given and what they return."""
 from __future__ import annotations
 
 import ctypes
@@ -17,7 +18,8 @@ Given = Union[Name, File, Files]
 
 STRING: list[Any] = [ctypes.c_char_p, ctypes.c_size_t]
 NUMBERS: list[Any] = [ctypes.POINTER(ctypes.c_size_t), ctypes.c_size_t]
-# What the function of each command is given, in the order of dyncollate.h: a file, files, or a name.
+# What the function of each command is given, in the order of dyncollate.h: a file, files,
+# or a name.
 COMMANDS = {
     "collate": ["file", "files"],
     "project": ["file", "files"],
@@ -40,8 +42,9 @@ class Outcome(ctypes.Structure):
 
 class Location(ctypes.Structure):
     """`dyncollate_location` of dyncollate.h."""
-    _fields_ = [(name, ctypes.c_size_t) for name in ("document", "letter", "number", "list", "target", "index", "line", "item", "entry",
-                                                     "offset")]
+    _fields_ = [(name, ctypes.c_size_t)
+                for name in ("document", "letter", "number", "list", "target", "index", "line",
+                             "item", "entry", "offset")]
 
 
 @functools.lru_cache(None)
@@ -72,7 +75,8 @@ def linked_version() -> int:
 
 
 def located(line: bytes) -> Location:
-    """Where the error of a line is, and which error it is. The library of version 1.1.0 does not know."""
+    """Where the error of a line is, and which error it is.
+    The library of version 1.1.0 does not know."""
     function = getattr(library(), "dyncollate_locate", None)
     if function is None:
         return Location(0, 0, 0, 0, *[ABSENT] * 6)
@@ -110,8 +114,10 @@ def arguments(kinds: Sequence[str], given: Sequence[Any]) -> Iterator[Any]:
 
 
 def call(command: str, given: Sequence[Given]) -> tuple[int, list[int], bytes]:
-    """Calls a command, if need be again with as much room as it needs. Returns its status, numbers and text."""
-    function, passed = getattr(library(), f"dyncollate_{command}"), list(arguments(COMMANDS[command], given))
+    """Calls a command, if need be again with as much room as it needs. Returns its status,
+    numbers and text."""
+    function, passed = (getattr(library(), f"dyncollate_{command}"),
+                        list(arguments(COMMANDS[command], given)))
     room = 64, 1 << 14
     while True:
         numbers, text = (ctypes.c_size_t * room[0])(), ctypes.create_string_buffer(room[1])

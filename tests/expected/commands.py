@@ -9,7 +9,8 @@ from .modules import map_of, table_of
 from .paths import PathFault, Rejected, path_of
 
 
-# the result of a run: its status, its output on standard output and standard error, and the files that it writes
+# the result of a run: its status, its output on standard output and standard error,
+# and the files that it writes
 Answer = namedtuple("Answer", "status out err files")
 
 
@@ -68,14 +69,16 @@ def one(scan, folder, ending):
 
 
 def statements_of(rules, producer):
-    return [Statement(rule.object, [file for _, file in rule.provides], [producer[it].file for it in firsts(rule.requires)],
-                      bool(rule.provides)) for rule in rules]
+    return [Statement(rule.object, [file for _, file in rule.provides],
+                      [producer[it].file for it in firsts(rule.requires)], bool(rule.provides))
+            for rule in rules]
 
 
 # ---- targets and projects
 
 def collated(spec, scans, infos):
-    """The statements of a target, its info, and the files that are written, or why it is rejected."""
+    """The statements of a target, its info, and the files that are written,
+    or why it is rejected."""
     rules = []
     for at, scan in enumerate(scans):
         rules += rules_of(scan, spec.module_dir, spec.module_ext, spec.build_dir, b"scan %d: " % at)
@@ -85,15 +88,17 @@ def collated(spec, scans, infos):
     producer = table_of(rules, infos, spec.private)
     statements = statements_of(rules, producer)
     text = dyndep_text(statements)
-    maps = [(rule.object + b".modmap", map_of(spec.map, rule, producer)) for rule in rules] if spec.map else []
-    modules = [(name, file, [(it, producer[it].file) for it in firsts(rule.requires)], name in spec.private)
-               for rule in rules for name, file in rule.provides]
+    maps = ([(rule.object + b".modmap", map_of(spec.map, rule, producer)) for rule in rules]
+            if spec.map else [])
+    modules = [(name, file, [(it, producer[it].file) for it in firsts(rule.requires)],
+                name in spec.private) for rule in rules for name, file in rule.provides]
     info = info_text(spec.target, modules)
     return statements, info, maps + [(spec.info, info), (spec.dyndep, text)]
 
 
 def check_edges(spec, listing, statements):
-    """The edges that a target document names have to have an order after the effect of its statements."""
+    """The edges that a target document names have to have an order after the effect of its
+    statements."""
     if listing is not None:
         order_of(after(listing_of(listing), statements, spec.path))
 
@@ -120,7 +125,8 @@ def collate(document, files):
 
 @with_errors
 def project(document, files):
-    """As `collate` of each target in order, which links the info files that earlier targets write."""
+    """As `collate` of each target in order,
+    which links the info files that earlier targets write."""
     specs, scans, listings, links = [], [], [], []
     for at, name in enumerate(project_of(document, b"project: ")):
         where = b"target %d: " % at

@@ -13,7 +13,8 @@ def repeated(things):
 
 
 def least_cycle(needs):
-    """The least cycle of a digraph: the least node on a cycle, a shortest way back to it, the least of these."""
+    """The least cycle of a digraph: the least node on a cycle, a shortest way back to it,
+    the least of these."""
     for first in range(len(needs)):
         if not needs[first]:
             continue

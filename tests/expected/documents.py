@@ -1,8 +1,9 @@
 """Scan, info, target and project documents: docs/FORMATS.md, "Documents".
 
-Python's json module reads the JSON. It accepts some texts that the program rejects, and they are rejected here: bytes that are
-not UTF-8 (a byte order mark is not JSON in either), `NaN` and `Infinity`, numbers too large for a float, lone halves of surrogate
-pairs, and nesting deeper than 127 levels. `-0` is a float.
+Python's json module reads the JSON. It accepts some texts that the program rejects, and they are
+rejected here: bytes that are not UTF-8 (a byte order mark is not JSON in either), `NaN` and
+`Infinity`, numbers too large for a float, lone halves of surrogate pairs, and nesting deeper than
+127 levels. `-0` is a float.
 """
 import json
 import math
@@ -19,7 +20,9 @@ DEPTH_LIMIT = 127
 Rule = namedtuple("Rule", "object provides requires")
 InfoModule = namedtuple("InfoModule", "name file required is_private")
 Info = namedtuple("Info", "target modules")
-Spec = namedtuple("Spec", "target module_dir module_ext build_dir scans linked private dyndep path info map edges restat")
+Spec = namedtuple(
+    "Spec",
+    "target module_dir module_ext build_dir scans linked private dyndep path info map edges restat")
 
 
 # ---- JSON
@@ -65,7 +68,8 @@ def tree_of(document, where):
         raise Rejected(where + b"S8 TooLarge document")
     try:
         text = document.decode()
-        tree = json.loads(text, parse_float=number, parse_int=number, parse_constant=constant, object_pairs_hook=members)
+        tree = json.loads(text, parse_float=number, parse_int=number, parse_constant=constant,
+                          object_pairs_hook=members)
         check_texts(tree)
     except (ValueError, RecursionError) as error:
         raise Rejected(where + b"S1 NotJson document") from error
@@ -114,7 +118,8 @@ class Reading:
     def entries(self, member, place, needed=False):
         """The entries of an array, each with its own place, which numbers them."""
         above = b"" if self.place == b"document" else self.place + b" "
-        return [Reading(it, self.where, above + place % at) for at, it in enumerate(self.get(member, list, needed) or [])]
+        return [Reading(it, self.where, above + place % at)
+                for at, it in enumerate(self.get(member, list, needed) or [])]
 
     def version(self, *versions):
         version = self.tree.get("version")
@@ -135,7 +140,8 @@ class Reading:
 
 
 def is_name(text):
-    return (1 <= len(text) <= NAME_LIMIT and text.count(b":") <= 1 and b"" not in re.split(rb"[.:]", text)
+    return (1 <= len(text) <= NAME_LIMIT
+            and text.count(b":") <= 1 and b"" not in re.split(rb"[.:]", text)
             and not re.search(rb"[\x00-\x20\x7f/\\\"'=|$]", text))
 
 
@@ -161,7 +167,8 @@ def rules_of(text, folder, ending, build, where):
 
 def rule_of(rule, folder, ending, build):
     rule.is_object("rule")
-    output, work = rule.text("primary-output", needed=False), rule.text("work-directory", needed=False)
+    output, work = (rule.text("primary-output", needed=False),
+                    rule.text("work-directory", needed=False))
     provides = rule.entries("provides", b"provides %d")
     requires = rule.entries("requires", b"requires %d")
     if output is None:
@@ -169,7 +176,8 @@ def rule_of(rule, folder, ending, build):
     path = rule.path(output, work, build)
     if max(len(provides), len(requires)) > COUNT_LIMIT:
         rule.rejected(b"S8 TooLarge")
-    return Rule(path, [provided_of(it, work, folder, ending, build) for it in provides], [required_of(it) for it in requires])
+    return Rule(path, [provided_of(it, work, folder, ending, build) for it in provides],
+                [required_of(it) for it in requires])
 
 
 def provided_of(entry, work, folder, ending, build):
@@ -208,7 +216,8 @@ def info_of(text, where):
     target = document.text("target")
     if not is_target(target):
         document.rejected(b"S6 BadName")
-    return Info(target, [module_of(it, version) for it in document.entries("modules", b"module %d", needed=True)])
+    return Info(target, [module_of(it, version)
+                         for it in document.entries("modules", b"module %d", needed=True)])
 
 
 def module_of(module, version):
@@ -231,10 +240,12 @@ def needed_of(entry):
 
 
 def info_text(target, modules):
-    """The text of an info. Each module is a name, a file, pairs of what it requires, and whether it is private."""
+    """The text of an info. Each module is a name, a file, pairs of what it requires,
+    and whether it is private."""
     made = [{"bmi": file.decode(), "name": name.decode(),
              "requires": [{"bmi": it[1].decode(), "name": it[0].decode()} for it in required],
-             "visibility": "private" if is_private else "public"} for name, file, required, is_private in modules]
+             "visibility": "private" if is_private else "public"}
+            for name, file, required, is_private in modules]
     tree = {"modules": made, "target": target.decode(), "version": 2}
     return json.dumps(tree, ensure_ascii=False, separators=(",", ":")).encode()
 

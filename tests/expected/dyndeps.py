@@ -1,4 +1,5 @@
-"""Dyndep files: docs/FORMATS.md, "Dyndep files, as the reader takes them" and "Dyndep files, as they are written"."""
+"""Dyndep files: docs/FORMATS.md, "Dyndep files, as the reader takes them" and "Dyndep files,
+as they are written"."""
 import re
 from collections import namedtuple
 
@@ -26,22 +27,20 @@ def dyndep_text(statements):
     return VERSION + b"".join(statement_text(*it) for it in statements)
 
 
-# For each position of a build line: the next position by the kind of token, or its error. A word that is taken keeps
-# the position, except for the output and the rule.
-BUILD_LINE = {
-    "start": {"word": "named", "|": b"Y9 NoOutput", ":": b"Y9 NoOutput", "||": b"Y9 NoOutput", "|@": b"Y9 NoOutput",
-              "end": b"Y9 NoOutput"},
-    "named": {"word": b"Y10 SecondOutput", "|": "outputs", ":": "rule", "||": b"Y13 OrderOnly", "|@": b"Y14 Validation",
-              "end": b"Y8 BadLine"},
-    "outputs": {"word": "outputs", "|": b"Y8 BadLine", ":": "rule", "||": b"Y13 OrderOnly", "|@": b"Y14 Validation",
-                "end": b"Y8 BadLine"},
-    "rule": {"word": "ruled", "|": b"Y11 BadRule", ":": b"Y11 BadRule", "||": b"Y11 BadRule", "|@": b"Y11 BadRule",
-             "end": b"Y11 BadRule"},
-    "ruled": {"word": b"Y12 ExplicitInput", "|": "inputs", ":": b"Y8 BadLine", "||": b"Y13 OrderOnly", "|@": b"Y14 Validation",
-              "end": "done"},
-    "inputs": {"word": "inputs", "|": b"Y8 BadLine", ":": b"Y8 BadLine", "||": b"Y13 OrderOnly", "|@": b"Y14 Validation",
-               "end": "done"},
-}
+# For each position of a build line: the next position by the kind of token, or its error. A word
+# that is taken keeps the position, except for the output and the rule.
+BUILD_LINE = {"start": {"word": "named", "|": b"Y9 NoOutput", ":": b"Y9 NoOutput",
+                        "||": b"Y9 NoOutput", "|@": b"Y9 NoOutput", "end": b"Y9 NoOutput"},
+              "named": {"word": b"Y10 SecondOutput", "|": "outputs", ":": "rule",
+                        "||": b"Y13 OrderOnly", "|@": b"Y14 Validation", "end": b"Y8 BadLine"},
+              "outputs": {"word": "outputs", "|": b"Y8 BadLine", ":": "rule",
+                          "||": b"Y13 OrderOnly", "|@": b"Y14 Validation", "end": b"Y8 BadLine"},
+              "rule": {"word": "ruled", "|": b"Y11 BadRule", ":": b"Y11 BadRule",
+                       "||": b"Y11 BadRule", "|@": b"Y11 BadRule", "end": b"Y11 BadRule"},
+              "ruled": {"word": b"Y12 ExplicitInput", "|": "inputs", ":": b"Y8 BadLine",
+                        "||": b"Y13 OrderOnly", "|@": b"Y14 Validation", "end": "done"},
+              "inputs": {"word": "inputs", "|": b"Y8 BadLine", ":": b"Y8 BadLine",
+                         "||": b"Y13 OrderOnly", "|@": b"Y14 Validation", "end": "done"},}
 
 
 def statement_of(tokens, where):

@@ -1,4 +1,5 @@
-"""Edge listings, what dyndep files do to edges, and the order of edges: docs/FORMATS.md, "Edge listings"."""
+"""Edge listings, what dyndep files do to edges, and the order of edges: docs/FORMATS.md,
+"Edge listings"."""
 import re
 
 from .digraphs import least_cycle, least_order, repeated
@@ -7,9 +8,11 @@ from .lines import LINE_LIMIT, assignment_of, sound_lines, value_of
 from .paths import PathFault, Rejected, escaped, path_of
 
 
-def edge_of(rule, outputs, implicit, inputs, implicit_inputs, order_only, dyndep=None, restat=False):
-    return {"rule": rule, "outputs": outputs, "implicit": implicit, "inputs": inputs, "implicit inputs": implicit_inputs,
-            "order only": order_only, "dyndep": dyndep, "restat": restat}
+def edge_of(rule, outputs, implicit, inputs, implicit_inputs, order_only, dyndep=None,
+            restat=False):
+    return {"rule": rule, "outputs": outputs, "implicit": implicit, "inputs": inputs,
+            "implicit inputs": implicit_inputs, "order only": order_only, "dyndep": dyndep,
+            "restat": restat}
 
 
 def made_by(edge):
@@ -22,7 +25,8 @@ def needed_by(edge):
 
 def edge_text(edge):
     line = b"build" + b"".join(b" " + escaped(it) for it in edge["outputs"])
-    for mark, part in ((b" |", "implicit"), (b": " + edge["rule"], "inputs"), (b" |", "implicit inputs"),
+    for mark, part in ((b" |", "implicit"),
+                       (b": " + edge["rule"], "inputs"), (b" |", "implicit inputs"),
                        (b" ||", "order only")):
         if edge[part] or part == "inputs":
             line += mark + b"".join(b" " + escaped(it) for it in edge[part])
@@ -48,7 +52,8 @@ LETTERS = {b"|": "|", b":": ":", b"||": "o", b"|@": "@"}
 
 
 def edge_read(tokens):
-    """The edge of a build line's tokens, with unescaped paths, or None if the line has another form."""
+    """The edge of a build line's tokens, with unescaped paths,
+    or None if the line has another form."""
     letters = "".join(LETTERS.get(it, "w") for it in tokens[1:])
     if not EDGE.fullmatch("b" + letters):
         return None
@@ -61,7 +66,8 @@ def edge_read(tokens):
 
 
 def divided(tokens, marks):
-    """The words before the first of these marks, and after each of them: none, if a mark is left out."""
+    """The words before the first of these marks, and after each of them: none,
+    if a mark is left out."""
     parts = {mark: [] for mark in [b""] + marks}
     mark = b""
     for token in tokens:
@@ -92,8 +98,10 @@ def listing_of(text):
 
 
 def edge_bound(edges, taken, assigned, where):
-    """Gives the last edge the binding of an indented line. `taken` has the names of those that it has."""
-    if taken is None or not assigned or assigned[1] not in (b"dyndep", b"restat") or assigned[1] in taken:
+    """Gives the last edge the binding of an indented line.
+    `taken` has the names of those that it has."""
+    if (taken is None or not assigned or assigned[1] not in (b"dyndep", b"restat")
+        or assigned[1] in taken):
         raise Rejected(where + b"E3 Form")
     taken.add(assigned[1])
     if assigned[1] == b"restat":
@@ -129,7 +137,8 @@ def graph_of(edges):
 
 
 def after(edges, statements, name):
-    """The edges after the effect of the statements of a dyndep file of this name, or why they have none."""
+    """The edges after the effect of the statements of a dyndep file of this name,
+    or why they have none."""
     placed = [statement_placed(at, it) for at, it in enumerate(statements)]
     producer = {it: at for at, edge in enumerate(edges) for it in made_by(edge)}
     for it in placed:
@@ -164,7 +173,8 @@ def statement_placed(at, statement):
         try:
             paths.append(path_of(path))
         except PathFault as fault:
-            raise Rejected(b"E8 BadPath statement %d path %d %s" % (at, len(paths), fault.text)) from fault
+            raise Rejected(b"E8 BadPath statement %d path %d %s" % (at, len(paths),
+                                                                    fault.text)) from fault
     behind = 1 + len(statement.outputs)
     return Statement(paths[0], paths[1:behind], paths[behind:], statement.restat)
 

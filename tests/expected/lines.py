@@ -9,11 +9,14 @@ LINE_LIMIT = 1_048_576
 COMMENT = re.compile(rb" *#")
 CONTINUATION = rb"\$\r?\n *"
 UNITS = re.compile(CONTINUATION + rb"|\$\r(?!\Z)|\$[^\r]|\n|[^$\n]+", re.S)
-LEXICAL = re.compile(rb"(?P<good>" + CONTINUATION + rb"|\$[$ :]|[^$\r\x00]+)|\x00|\r|\$[{A-Za-z0-9_-]|\$.", re.S)
+LEXICAL = re.compile(rb"(?P<good>" + CONTINUATION
+                     + rb"|\$[$ :]|[^$\r\x00]+)|\x00|\r|\$[{A-Za-z0-9_-]|\$.", re.S)
 PIECE = rb"(?:\$[$ :]|[^$ :|\r\n\x00])"
 BLANK = rb" *(?:" + CONTINUATION + rb")*"
-TOKEN = re.compile(BLANK + rb"(?:(?P<token>\|@|\|\||\||:|" + PIECE + rb"(?:(?:" + CONTINUATION + rb")*" + PIECE + rb")*)|\Z)")
-ASSIGNMENT = re.compile(BLANK + rb"(?P<name>[A-Za-z0-9_.-]+)" + BLANK + rb"=" + BLANK + rb"(?P<value>.*)\Z", re.S)
+TOKEN = re.compile(BLANK + rb"(?:(?P<token>\|@|\|\||\||:|" + PIECE + rb"(?:(?:" + CONTINUATION
+                   + rb")*" + PIECE + rb")*)|\Z)")
+ASSIGNMENT = re.compile(BLANK + rb"(?P<name>[A-Za-z0-9_.-]+)" + BLANK + rb"=" + BLANK
+                        + rb"(?P<value>.*)\Z", re.S)
 
 Line = namedtuple("Line", "number text is_comment")
 
@@ -41,12 +44,14 @@ def lines_of(text, where=b""):
         if end is None:
             raise Rejected(b"%sline %d: N6 Truncated" % (where, number))
         line = text[start:end]
-        yield Line(number, line[:-2] if line.endswith(b"\r\n") else line[:-1], bool(COMMENT.match(line)))
+        yield Line(number, line[:-2] if line.endswith(b"\r\n") else line[:-1],
+                   bool(COMMENT.match(line)))
         start, number = end, number + line.count(b"\n")
 
 
 def sound_lines(text, prefix=b""):
-    """The position, the bytes and the tokens of each line that is not a comment. A line with a lexical error is rejected."""
+    """The position, the bytes and the tokens of each line that is not a comment. A line with a
+    lexical error is rejected."""
     for line in lines_of(text, prefix):
         if line.is_comment:
             continue
@@ -67,7 +72,8 @@ def lexical_fault(line):
                 return b"N7 Nul at %d" % at
             if unit[0] == b"\r":
                 return b"N8 LoneCr at %d" % at
-            return b"%s at %d" % (b"N9 Variable" if re.match(rb"\$[{A-Za-z0-9_-]", unit[0]) else b"N10 BadEscape", at)
+            return b"%s at %d" % (b"N9 Variable" if re.match(rb"\$[{A-Za-z0-9_-]", unit[0])
+                                  else b"N10 BadEscape", at)
         at = unit.end()
     return None
 
@@ -92,6 +98,7 @@ def value_of(raw):
 
 
 def assignment_of(line):
-    """The offset of the name of an assignment, the name and the value, or None if the line is not an assignment."""
+    """The offset of the name of an assignment, the name and the value,
+    or None if the line is not an assignment."""
     found = ASSIGNMENT.match(line)
     return (found.start("name"), found["name"], value_of(found["value"])) if found else None

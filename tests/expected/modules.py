@@ -6,12 +6,14 @@ from .digraphs import least_cycle, repeated
 from .paths import Rejected
 
 
-# a module that is provided: who provides it, its name, its file, what it requires, and whether it is private
+# a module that is provided: who provides it, its name, its file, what it requires,
+# and whether it is private
 Module = namedtuple("Module", "producer name file required is_private")
 
 
 def table_of(rules, infos, kept):
-    """Who provides each name. Takes the rules and the info files of a target, and raises the first of their errors."""
+    """Who provides each name. Takes the rules and the info files of a target,
+    and raises the first of their errors."""
     own = [Module((b"object", at), name, file, rule.requires, name in kept)
            for at, rule in enumerate(rules) for name, file in rule.provides]
     linked = [Module((b"info", at), it.name, it.file, it.required, it.is_private)
@@ -21,7 +23,8 @@ def table_of(rules, infos, kept):
     check_requirements(rules, infos, linked, producer)
     objects = [rule.object for rule in rules]
     users = [[producer[name].producer for name in rule.requires] for rule in rules]
-    cycle = least_cycle([{at for kind, at in producers if kind == b"object"} for producers in users])
+    cycle = least_cycle([{at for kind, at in producers if kind == b"object"}
+                         for producers in users])
     if cycle:
         raise Rejected(b"M8 ImportCycle " + b" -> ".join(objects[it] for it in cycle))
     check_private(rules, infos, linked, producer)
@@ -60,7 +63,8 @@ def check_requirements(rules, infos, linked, producer):
             if name not in producer:
                 raise Rejected(b"M5 ModuleUnknown %s in %s" % (name, rule.object))
     by_info = {it.name: it.file for it in linked}
-    asked = [(infos[it.producer[1]].target, it.name, name, file) for it in linked for name, file in it.required]
+    asked = [(infos[it.producer[1]].target, it.name, name, file) for it in linked
+             for name, file in it.required]
     for target, module, name, _ in asked:
         if name not in by_info:
             raise Rejected(b"M6 InfoUnknown %s %s %s" % (target, module, name))

@@ -34,7 +34,8 @@ def reduced(path):
 
 
 def placed(text, work=None, build=None):
-    """The canonical path of a text, which is relative to a work directory, and made relative to a build directory, if there are any."""
+    """The canonical path of a text, which is relative to a work directory, and made relative to a
+    build directory, if there are any."""
     if not text:
         raise PathFault(b"N1 Empty")
     if work and not text.startswith(b"/"):

@@ -1,4 +1,5 @@
-"""The output of a call of the program, and the files that it writes, according to the files that exist."""
+"""The output of a call of the program, and the files that it writes,
+according to the files that exist."""
 import os
 
 from . import commands
@@ -18,7 +19,8 @@ def opened(name):
 
 
 def result_of(command, *given):
-    """The result that a call has to have. The files of `effect` come after a name; otherwise the files come first."""
+    """The result that a call has to have. The files of `effect` come after a name;
+    otherwise the files come first."""
     call, names = getattr(commands, command), given[1:] if command == "effect" else given[:1]
     texts = [opened(name) for name in names]
     if None in texts:
@@ -33,10 +35,12 @@ def result_of(command, *given):
 
 
 def ending(answer):
-    """The status and the two texts of an answer once its files are written, and these files, up to one that cannot be."""
+    """The status and the two texts of an answer once its files are written, and these files,
+    up to one that cannot be."""
     written = {}
     for name, text in answer.files:
-        if b"\x00" in name or not os.path.isdir(os.path.dirname(name) or b".") or os.path.isdir(name) or len(name) > 255:
+        if (b"\x00" in name or not os.path.isdir(os.path.dirname(name) or b".")
+            or os.path.isdir(name) or len(name) > 255):
             return tuple(commands.failed(3, b"cannot write " + name)[:3]), written
         written[os.path.normpath(name)] = text
     return tuple(answer[:3]), written

@@ -1,6 +1,7 @@
-/* Coverage for libFuzzer of a library that is not compiled for it. Each basic block of the shared object begins with a breakpoint.
-   The first run of the block removes the breakpoint and counts for libFuzzer as new coverage. blocks.h is made by tests/fuzzing.py:
-   BLOCKS is the number of blocks, and OFFSETS has their offsets in order. */
+/* Coverage for libFuzzer of a library that is not compiled for it. Each basic block of the shared
+   object begins with a breakpoint. The first run of the block removes the breakpoint and counts for
+   libFuzzer as new coverage. blocks.h is made by tests/fuzzing.py: BLOCKS is the number of blocks,
+   and OFFSETS has their offsets in order. */
 #include "blocks.h"
 
 #include <dlfcn.h>

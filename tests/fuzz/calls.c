@@ -5,7 +5,8 @@
 #include <string.h>
 #include <sys/mman.h>
 
-const char *const names[COMMANDS] = {"collate", "project", "one", "effect", "order", "show", "statements"};
+const char *const names[COMMANDS] = {"collate", "project", "one", "effect", "order", "show",
+                                     "statements"};
 
 void failed(const char *what, const char *file, int line)
 {
@@ -20,7 +21,8 @@ struct input input_of(const uint8_t *bytes, size_t size)
     const uint8_t *end = bytes + size, *found;
     while (input.count < MOST_STRINGS) {
         found = memmem(bytes, (size_t)(end - bytes), separator, sizeof separator);
-        input.strings[input.count++] = (struct string){bytes, (size_t)((found ? found : end) - bytes)};
+        input.strings[input.count++] =
+            (struct string){bytes, (size_t)((found ? found : end) - bytes)};
         if (!found)
             break;
         bytes = found + sizeof separator;
@@ -28,14 +30,16 @@ struct input input_of(const uint8_t *bytes, size_t size)
     return input;
 }
 
-/* A copy of these bytes that ends at a page that nobody may read. There is one copy at a time for each number. */
+/* A copy of these bytes that ends at a page that nobody may read.
+   There is one copy at a time for each number. */
 static void *at_edge(unsigned number, const void *bytes, size_t size)
 {
     enum { ROOM = 1 << 26, PAGE = 4096, NUMBERS = 5 };
     static uint8_t *rooms[NUMBERS];
     require(number < NUMBERS && size <= ROOM);
     if (!rooms[number]) {
-        rooms[number] = mmap(0, ROOM + PAGE, PROT_READ | PROT_WRITE, MAP_PRIVATE | MAP_ANONYMOUS | MAP_NORESERVE, -1, 0);
+        rooms[number] = mmap(0, ROOM + PAGE, PROT_READ | PROT_WRITE,
+                             MAP_PRIVATE | MAP_ANONYMOUS | MAP_NORESERVE, -1, 0);
         require(rooms[number] != MAP_FAILED && !mprotect(rooms[number] + ROOM, PAGE, PROT_NONE));
     }
     if (bytes)
@@ -72,18 +76,23 @@ struct passed passed_of(enum command command, const struct input *input)
     return passed;
 }
 
-dyncollate_outcome call(enum command command, const struct passed *passed, size_t *numbers, size_t count, uint8_t *to, size_t room)
+dyncollate_outcome call(enum command command, const struct passed *passed, size_t *numbers,
+                        size_t count, uint8_t *to, size_t room)
 {
     struct string one = passed->strings[0], two = passed->strings[1], three = passed->strings[2];
     switch (command) {
     case COLLATE:
-        return dyncollate_collate(one.at, one.size, passed->lengths, passed->count, two.at, two.size, numbers, count, to, room);
+        return dyncollate_collate(one.at, one.size, passed->lengths, passed->count, two.at,
+                                  two.size, numbers, count, to, room);
     case PROJECT:
-        return dyncollate_project(one.at, one.size, passed->lengths, passed->count, two.at, two.size, numbers, count, to, room);
+        return dyncollate_project(one.at, one.size, passed->lengths, passed->count, two.at,
+                                  two.size, numbers, count, to, room);
     case ONE:
-        return dyncollate_one(one.at, one.size, two.at, two.size, three.at, three.size, numbers, count, to, room);
+        return dyncollate_one(one.at, one.size, two.at, two.size, three.at, three.size, numbers,
+                              count, to, room);
     case EFFECT:
-        return dyncollate_effect(one.at, one.size, two.at, two.size, three.at, three.size, numbers, count, to, room);
+        return dyncollate_effect(one.at, one.size, two.at, two.size, three.at, three.size, numbers,
+                                 count, to, room);
     case ORDER:
         return dyncollate_order(one.at, one.size, numbers, count, to, room);
     case STATEMENTS:
@@ -94,7 +103,8 @@ dyncollate_outcome call(enum command command, const struct passed *passed, size_
 }
 
 /* Makes the call with this room, at whose edges are pages and bytes that it may not change. */
-static dyncollate_outcome with_room(enum command command, const struct passed *passed, size_t count, size_t size, struct result *result)
+static dyncollate_outcome with_room(enum command command, const struct passed *passed, size_t count,
+                                    size_t size, struct result *result)
 {
     enum { BEFORE = 16 };
     size_t bytes = count * sizeof(size_t), index;
@@ -195,7 +205,8 @@ struct result answer_in_any_order(enum command command, const struct input *inpu
     if (is_any_twice(input))
         return result;
     for (index = 0; index < count; index++)
-        opposite.strings[1 + index] = input->strings[1 + (count - 2 - (index & ~(size_t)1)) + (index & 1)];
+        opposite.strings[1 + index] =
+            input->strings[1 + (count - 2 - (index & ~(size_t)1)) + (index & 1)];
     turned = answer(command, &opposite);
     require(same_results(&result, &turned));
     drop(turned);
@@ -211,7 +222,10 @@ void drop(struct result result)
 size_t parts(const struct result *result) { return 2 + (result->count - 2) / 3 * 2; }
 
 /* Where the length of a part is among the numbers: the third number of a file is no length. */
-static size_t number_of(size_t index) { return index < 2 ? index : 2 + (index - 2) / 2 * 3 + (index - 2) % 2; }
+static size_t number_of(size_t index)
+{
+    return index < 2 ? index : 2 + (index - 2) / 2 * 3 + (index - 2) % 2;
+}
 
 struct string part(const struct result *result, size_t index)
 {
@@ -231,7 +245,10 @@ int begins(struct string whole, const char *beginning)
     return whole.size >= strlen(beginning) && !memcmp(whole.at, beginning, strlen(beginning));
 }
 
-struct string text(const char *characters) { return (struct string){(const uint8_t *)characters, strlen(characters)}; }
+struct string text(const char *characters)
+{
+    return (struct string){(const uint8_t *)characters, strlen(characters)};
+}
 
 int same_results(const struct result *one, const struct result *other)
 {

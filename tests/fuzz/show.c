@@ -1,5 +1,5 @@
-/* What `show` prints of an accepted file, it prints unchanged, and a comment more changes nothing. What follows the first faulty line
-   changes nothing, unless the end of the file is the fault. */
+/* What `show` prints of an accepted file, it prints unchanged, and a comment more changes nothing.
+   What follows the first faulty line changes nothing, unless the end of the file is the fault. */
 #include "calls.h"
 
 #include <stdlib.h>

@@ -1,5 +1,5 @@
-/* The reader accepts what `show` accepts, and its statements are those that `show` prints. It rejects the rest, with the line and the
-   error that `show` prints. */
+/* The reader accepts what `show` accepts, and its statements are those that `show` prints. It
+   rejects the rest, with the line and the error that `show` prints. */
 #include "calls.h"
 
 #include <stdio.h>
@@ -63,12 +63,14 @@ int LLVMFuzzerTestOneInput(const uint8_t *bytes, size_t size)
     require(read.status == DYNCOLLATE_DONE || read.status == DYNCOLLATE_REJECTED);
     if (read.status == DYNCOLLATE_DONE) {
         struct text text = written(&read);
-        require(shown.status == DYNCOLLATE_DONE ? equal(part(&shown, 0), (struct string){text.at, text.size})
-                                                : begins(line, "dyncollate: Y2 "));
+        require(shown.status == DYNCOLLATE_DONE
+                    ? equal(part(&shown, 0), (struct string){text.at, text.size})
+                    : begins(line, "dyncollate: Y2 "));
         free(text.at);
     } else {
         require(read.count == 1 && shown.status == DYNCOLLATE_REJECTED);
-        snprintf(wanted, sizeof wanted, "dyncollate: line %zu: %.*s", read.numbers[0], (int)read.size, (const char *)read.text);
+        snprintf(wanted, sizeof wanted, "dyncollate: line %zu: %.*s", read.numbers[0],
+                 (int)read.size, (const char *)read.text);
         require(begins(line, wanted));
     }
     drop(read);

@@ -1,7 +1,9 @@
-"""The rows: calls of the program, each with its expected result, from docs/FORMATS.md and docs/GUIDE.md, never from the program.
+"""The rows: calls of the program, each with its expected result, from docs/FORMATS.md and
+docs/GUIDE.md, never from the program.
 
-A module for each subject has tables of them, as a person reads them: why the row is there, the input and the result. Its ROWS
-are these tables as calls. Rows whose reason begins with `*` are also used by `growths`, `damage` and `devices`.
+A module for each subject has tables of them, as a person reads them: why the row is there, the
+input and the result. Its ROWS are these tables as calls. Rows whose reason begins with `*` are also
+used by `growths`, `damage` and `devices`.
 """
 import os
 import re
@@ -12,8 +14,9 @@ FAULT = re.compile(r"\b[A-Z]\d+ [A-Z]\w+|\bcycle|\bcannot \w+|\busage|\bout of m
 
 
 class Row(namedtuple("Row", "why words files status out line written")):
-    """A call: its arguments, its files by name, and its result: its status, the text on standard output, the line on standard
-    error after `dyncollate: `, and the files that it writes, in their order. A long text may be a function that makes it."""
+    """A call: its arguments, its files by name, and its result: its status, the text on standard
+    output, the line on standard error after `dyncollate: `, and the files that it writes, in their
+    order. A long text may be a function that makes it."""
 
     @property
     def name(self):
@@ -31,7 +34,8 @@ class Row(namedtuple("Row", "why words files status out line written")):
 
     def printed(self):
         """The status and the two texts of the run."""
-        return self.status, self.out, b"" if self.line is None else b"dyncollate: " + self.line + b"\n"
+        return (self.status, self.out,
+                b"" if self.line is None else b"dyncollate: " + self.line + b"\n")
 
     def made(self):
         """The files that the run writes, by their names' bytes."""

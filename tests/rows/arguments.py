@@ -48,18 +48,18 @@ INVALID = [
     ("a second -- is an argument", ["show", "--", "t.dd", "--"]),
 ]
 
-# the reason, the arguments, and the file of the module B, which shows what is used as directory and extension
-TAKEN = [
-    ("no directory and no extension", ["one", "b.ddi", "", ""], b"B"),
-    ("no directory, and - for an extension", ["one", "b.ddi", "", "-"], b"B-"),
-    ("- for each argument", ["one", "-", "-", "-"], b"-/B-"),
-    ("the command's name for a file, a directory with a space, and = for an extension", ["one", "one", "a b", "="], b"a$ b/B="),
-    ("options after --", ["one", "--", "-b", "-m", "--"], b"-m/B--"),
-    ("-- between arguments", ["one", "b", "--", "-m", "x"], b"-m/Bx"),
-    ("-- between arguments, and as one", ["one", "b.ddi", "--", "-m", "--"], b"-m/B--"),
-    ("-- after the last argument", ["one", "b", "m", "x", "--"], b"m/Bx"),
-    ("a second -- for a directory", ["one", "b", "--", "--", "-"], b"--/B-"),
-]
+# the reason, the arguments, and the file of the module B,
+# which shows what is used as directory and extension
+TAKEN = [("no directory and no extension", ["one", "b.ddi", "", ""], b"B"),
+         ("no directory, and - for an extension", ["one", "b.ddi", "", "-"], b"B-"),
+         ("- for each argument", ["one", "-", "-", "-"], b"-/B-"),
+         ("the command's name for a file, a directory with a space, and = for an extension",
+          ["one", "one", "a b", "="], b"a$ b/B="),
+         ("options after --", ["one", "--", "-b", "-m", "--"], b"-m/B--"),
+         ("-- between arguments", ["one", "b", "--", "-m", "x"], b"-m/Bx"),
+         ("-- between arguments, and as one", ["one", "b.ddi", "--", "-m", "--"], b"-m/B--"),
+         ("-- after the last argument", ["one", "b", "m", "x", "--"], b"m/Bx"),
+         ("a second -- for a directory", ["one", "b", "--", "--", "-"], b"--/B-"),]
 
 # the reason, the arguments; each names a file that is shown
 SHOWS = [
@@ -79,6 +79,8 @@ UNREAD = [
 ]
 
 ROWS = ([usage(why, words, FILES) for why, words in INVALID]
-        + [prints(why, words, FILES, V + b"build obj/b.o | %s: dyndep\n  restat = 1\n" % file) for why, words, file in TAKEN]
-        + [prints(why, words, dict.fromkeys(NAMED, SHOWN) | {"t.dd": SHOWN}, SHOWN) for why, words in SHOWS]
-        + [unread(why, words, FILES, name) for why, words, name in UNREAD])
+        + [prints(why, words, FILES, V + b"build obj/b.o | %s: dyndep\n  restat = 1\n" % file)
+           for why, words, file in TAKEN]
+        + [prints(why, words, dict.fromkeys(NAMED, SHOWN) | {"t.dd": SHOWN}, SHOWN)
+           for why, words in SHOWS] + [unread(why, words, FILES, name)
+                                       for why, words, name in UNREAD])

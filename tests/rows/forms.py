@@ -7,14 +7,15 @@ def document(*rules):
 
 
 def sources(*all_of_them):
-    """A scan document with a rule for each source: its object, the modules that it provides and those that it requires, as
-    `a.o|A|B C`."""
+    """A scan document with a rule for each source: its object, the modules that it provides and
+    those that it requires, as `a.o|A|B C`."""
     return document(*map(rule, all_of_them))
 
 
 def rule(source):
     path, provided, required = source.split(b"|")
-    return b'{"primary-output":"%s","provides":[%s],"requires":[%s]}' % (path, entries(provided), entries(required))
+    return b'{"primary-output":"%s","provides":[%s],"requires":[%s]}' % (path, entries(provided),
+                                                                         entries(required))
 
 
 def entries(names):
@@ -33,9 +34,10 @@ def module(name, file, *requires, visibility=None):
 
 
 def target(more=b"", name=b"t"):
-    """A target document with these members more. If a member is there twice, the last one counts."""
-    return (b'{"version":1,"target":"%s","module-dir":"mod","module-ext":".bmi","dyndep":"%s.dd","info":"%s.json"%s}'
-            % (name, name, name, more))
+    """A target document with these members more. If a member is there twice,
+    the last one counts."""
+    return (b'{"version":1,"target":"%s","module-dir":"mod","module-ext":".bmi","dyndep":"%s.dd",'
+            b'"info":"%s.json"%s}' % (name, name, name, more))
 
 
 def statement(output, outputs=b"", inputs=b""):
