@@ -95,21 +95,13 @@ def cycle(count):
                                                                                for it in files))})
 
 
-# For half a second, does nothing. Prints for which part of it this had a processor.
-BUSY = """import time
-clock, mine = time.monotonic(), time.process_time()
-while time.monotonic() - clock < 0.5: pass
-print((time.process_time() - mine) / (time.monotonic() - clock))
-"""
-
-
-def clock_per_processor():
-    """How many seconds pass in one of a processor for each of two programs:
-    about 1 if nothing else runs."""
-    runs = [subprocess.Popen([sys.executable, "-c", BUSY], stdout=subprocess.PIPE)
-            for _ in range(2)]
-    return len(runs) / sum(float(it.communicate()[0]) for it in runs)
-
+# How many times as long as on an idle processor of 2.5 GHz a browser takes now: for a chain of
+# multiplications and sums, four cycles each, that takes 0.48 s there.
+SLOWNESS = """(() => {
+  const began = performance.now();
+  let sum = 0;
+  for (let it = 0; it < 3e8; ++it) sum = Math.imul(sum, 31) + it | 0;
+  return (performance.now() - began + (sum & 1)) / 480; })()"""
 
 # The part of a page that is read by the script below: the boxes in the view,
 # and the sizes of the texts that are shown.
@@ -272,14 +264,22 @@ class Builds(page.Shown):
             self.assertAlmostEqual(self.page.evaluate(width) / before, factor, 2)
 
     def test_20000_objects(self):
-        """They are shown within 20 s. They are read, asked about, opened and kept, and the page is
-        never blocked for 100 ms."""
-        top = made(self.room, 200, 100)
-        most, began = 20 * clock_per_processor(), time.monotonic()
-        self.drop(top)
-        self.assertLess(time.monotonic() - began, most)
-        self.page.open(page.PAGE.as_uri())
+        """They are shown within 20 s of idle processors of 2.5 GHz, in the best of three tries:
+        what else runs meanwhile only adds to the time. They are read, asked about, opened and kept,
+        and the page is never blocked for 100 ms."""
+        top, took = made(self.room, 200, 100), []
+        while not took or took[-1] >= 20:
+            self.assertLess(len(took), 3, f"{took} s")
+            took.append(self.seconds_of_drop(top))
         self.assertLess(self.page.longest_block(lambda: self.look_through(top)), 100)
+
+    def seconds_of_drop(self, *names):
+        """As many as it would take on idle processors of 2.5 GHz. The page is opened again."""
+        before, began = self.page.evaluate(SLOWNESS), time.monotonic()
+        self.drop(*names)
+        seconds = time.monotonic() - began
+        self.page.open(page.PAGE.as_uri())
+        return seconds / max(before, self.page.evaluate(SLOWNESS))
 
     def look_through(self, top):
         self.page.evaluate("""(() => {
