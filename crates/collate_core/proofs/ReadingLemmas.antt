@@ -133,7 +133,7 @@ module _ {s : SettingValue} {scans : List Text} {i : ℕ} {rules : List RuleValu
   pub within : {k : ℕ} {scan : Text} → slice_get scans i ≡ Some scan → k < i → k < length counts
   within here lt = let past = slice_get_within scans i _ here in omega (arith, counted, length-take i scans, lt, past)
 
-  short : total ≤ rule_limit
+  pub short : total ≤ rule_limit
   short = subst (λ n. n ≤ rule_limit) (sym so.total_is) so.accepted.limit
 
   module _ (scan : Text) (here : slice_get scans i ≡ Some scan) where

@@ -115,7 +115,12 @@ pub(crate) fn lent_info<'t>(
     let private_names = set_of(alloc, kept)?;
     let mut modules = Vec::new(alloc);
     for (index, rule) in table.objects().iter().enumerate() {
-        add_modules(&private_names, rule, table.required(index), &mut modules)?;
+        add_modules(
+            &private_names.names,
+            rule,
+            table.required(index),
+            &mut modules,
+        )?;
     }
     Ok(LentInfo {
         target: name,
@@ -123,19 +128,33 @@ pub(crate) fn lent_info<'t>(
     })
 }
 
+/// A set of names.
+struct NameSet {
+    names: IndexSet<Name, TableKey>,
+}
+
+// Not derived: this saves the prover time (docs/DECISIONS.md, "Code").
+impl Drop for NameSet {
+    fn drop(self) {
+        let NameSet { names: _ } = self;
+    }
+}
+
 /// Returns the set of these names, with a key that is made of them.
-fn set_of(alloc: Global, names: &[Name]) -> Result<IndexSet<Name, TableKey>, AllocError>
+fn set_of(alloc: Global, names: &[Name]) -> Result<NameSet, AllocError>
     ensures names { IfOk result (λ set. (name : Name) →
-        is_private_name set.keys name ≡ is_private_name names.now name) }
-    ensures key { IfOk result (λ set. IsKeyOf (hasher_of set) names.now) }
+        is_private_name set.names.keys name ≡ is_private_name names.now name) }
+    ensures key { IfOk result (λ set. IsKeyOf (hasher_of set.names) names.now) }
 {
     let mut digest = KeyDigest::new();
     for entry in names {
         digest.add(entry.bytes());
     }
-    let mut set = IndexSet::with_hasher(alloc, digest.key());
+    let mut set = NameSet {
+        names: IndexSet::with_hasher(alloc, digest.key()),
+    };
     for name in names {
-        set.insert(name.copy(alloc)?)?;
+        set.names.insert(name.copy(alloc)?)?;
     }
     Ok(set)
 }

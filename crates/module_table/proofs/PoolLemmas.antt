@@ -1,10 +1,11 @@
 -- What lists have, and rows of entries by keys: an entry that is added is listed.
-use Rattle.std.proofs.Common.{◌≡◌, ℕ, zero, suc, ◌+◌, ◌<◌, ◌≤◌, ◌⊎◌, Bool, true, false, cond, List, [], ◌∷◌, ◌++◌, length, Option, Some, None, option_copied, refl, ap, subst, sym, ◌∙◌, inl, inr, ⊎_elim, arith, slice_get, bytes_eq, true≢false, is_some, IfNone, IfSome, MatchBool, Bor, get_or, map, length-append}
-use Rattle.module_table.specs.Prelude.{AllZip, bytes_decides, ModuleValue, InfoValue, Row, Has, HasBit, By, by_name, by_file, key_of, rows_of, StillInRow, IsFoundIn, IsPut, StillListed, AreListed, AreShared, Below, IsRowUnlinked, IsUnlinked, IsKnownModule, IsSource, IsRelated, IsPool, AreIndexes, AreFit, IsClosedAt, IsProvidedFor, IsApart, IsCopied, IsPickedOf, InWords, RuleValue, HasModule, IsAlike, IsPartOf, KeepsRequired, IsEnough, AreLinked, Related}
+use Rattle.std.proofs.Common.{◌≡◌, ℕ, zero, suc, ◌+◌, ◌<◌, ◌≤◌, ◌⊎◌, Bool, true, false, cond, List, [], ◌∷◌, ◌++◌, length, Option, Some, None, option_copied, Box, Global, refl, ap, subst, sym, ◌∙◌, inl, inr, ⊎_elim, arith, slice_get, bytes_eq, true≢false, is_some, IfNone, IfSome, MatchBool, Bor, get_or, map, length-append}
+use Rattle.module_table.specs.Prelude.{AllZip, bytes_decides, ModuleValue, InfoValue, Row, Has, HasBit, By, by_name, by_file, key_of, rows_of, StillInRow, IsFoundIn, IsPut, StillListed, AreListed, AreShared, Below, IsRowUnlinked, IsUnlinked, IsKnownModule, IsSource, IsRelated, IsPool, AreIndexes, AreFit, IsClosedAt, IsProvidedFor, IsApart, IsCopied, IsPickedOf, InMiddle, InRow, InWord, InWords, Word, RuleValue, HasModule, IsAlike, IsPartOf, KeepsRequired, IsEnough, AreLinked, Related}
 use Rattle.std.specs.List.{AllWithin, HoldsAt}
 use Rattle.std.specs.Option.{MatchOption, option_eq}
 use Rattle.std.proofs.lemmas.Option.{slice_get_read, slice_get_within, get_or_from_slice_get}
 use Rattle.module_table.specs.declared.pool.rows.Listed.{Listed}
+use Rattle.module_table.specs.declared.pool.rows.Middle.{Middle}
 use Rattle.module_table.specs.inner.Pools.{Rows, HasSource, HasShared, IsPicked}
 use Rattle.ninja_text.proofs.ForCallers.{same_some, in_first, in_second, from_push, three_ways, same_cons, to_map, from_map, placed as index_of}
 use Rattle.module_table.specs.Parts.{InfosApart, OwnApart, AreClosed}
@@ -90,6 +91,21 @@ pub last_at : {X : Type 0} (xs : List X) (y : X) (n : ℕ) → n ≡ length xs �
 last_at xs y n same = let at : n ≡ length xs + 0 = omega (arith, same) in ap (slice_get (xs ++ y ∷ [])) at ∙ in_second xs (y ∷ []) 0 y refl
 
 -- ---- rows
+
+-- what holds of the first, of the last and of those between them holds of each info file of a row
+pub in_row : (P : ℕ → Type 0) (row : Row) → P row.first.info → P row.last.info → ((k : ℕ) → InMiddle row.middle k → P k) → (k : ℕ) → InRow row k → P k
+in_row P row first last middle k h = elim h [
+  | inl same ↦ subst P same first
+  | inr rest ↦ elim rest [ inl same ↦ subst P same last | inr within ↦ middle k within ]
+]
+
+pub in_none : (P : ℕ → Type 0) (middle : Option (Box Middle Global)) → middle ≡ None → (k : ℕ) → InMiddle middle k → P k
+in_none P middle none k h = let found = h.1 in absurd (cc)
+
+pub in_middle : (P : ℕ → Type 0) (middle : Option (Box Middle Global)) (m : Box Middle Global) → middle ≡ Some m
+    → ((w : Word) → Has m.value.infos.items w → (k : ℕ) → InWord w k → P k) → (k : ℕ) → InMiddle middle k → P k
+in_middle P middle m is each k h =
+    each h.2.0 (subst (λ (n : Box Middle Global). Has n.value.infos.items h.2.0) (same_some _ _ (sym h.1 ∙ is)) h.2.1) k h.2.2
 
 pub same_row : (r : Row) → StillInRow r r
 same_row r k h = h

@@ -189,18 +189,18 @@ pub(crate) fn check_infos(
     ensures fault { IfErr result (ForFault (λ fault. (t : TableValue) (kept : List Name) →
         infos.now ≡ t.infos → Reports 2 t kept fault.value)) }
 {
-    let targets = IndexSet::with_capacity_and_hasher(alloc, infos.len(), key)?;
-    put_targets(alloc, infos, targets)
+    let mut targets = IndexSet::with_capacity_and_hasher(alloc, infos.len(), key)?;
+    put_targets(alloc, infos, &mut targets)
 }
 
 /// Puts the target names of the info files into the empty set.
 fn put_targets<'t>(
     alloc: Global,
     infos: &'t [Info],
-    mut targets: IndexSet<&'t TargetName, TableKey>,
+    targets: &mut IndexSet<&'t TargetName, TableKey>,
 ) -> Result<(), Failure<Box<TableFault>>>
-    requires empty { IsEmpty targets }
-    requires key { Covers (hasher_of targets) (flat_map info_entries infos.now) }
+    requires empty { IsEmpty targets.old }
+    requires key { Covers (hasher_of targets.old) (flat_map info_entries infos.now) }
     ensures ok { OnOk result (AllDiffer (map (λ info. info.target) infos.now)) }
     ensures fault { IfErr result (ForFault (λ fault. (t : TableValue) (kept : List Name) →
         infos.now ≡ t.infos → Reports 2 t kept fault.value)) }

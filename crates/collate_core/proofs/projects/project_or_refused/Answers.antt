@@ -1,5 +1,5 @@
 use Rattle.ninja_text.proofs.ForCallers.{take_next}
-use Rattle.std.proofs.Common.{rules, ◌≡◌, ℕ, List, take, length, Option, None, Vec, Global, IsTrue, ◌∙◌, is_some, true, refl, subst, sym, option_copied, option_map}
+use Rattle.std.proofs.Common.{rules, ◌≡◌, ℕ, List, take, length, Option, None, Vec, Global, IsTrue, ◌∙◌, is_some, slice_get, [], Some, true, true≢false, refl, subst, sym, option_copied, option_map}
 use Rattle.std.proofs.lemmas.List.{take_all}
 use Rattle.std.proofs.lemmas.Option.{slice_get_read}
 use Rattle.collate_core.specs.Prelude.{ForFault, Written, CollatedValue, ProjectTargetValue, TableValue, table_with, WasRead, CollatesProject, IsLinkedRefusal, IsProjectRefusal, WasReadAt, target_of, RefusedTarget, CollatesLinked, AreKnown, into_iter_items, IsKeyOf, RuleValue, AreRulesOfEach, project_entries}
@@ -10,16 +10,19 @@ use Rattle.collate_core.proofs.ReadTargetLemmas.{own_rules, own_covered, own_inf
 use Rattle.collate_core.proofs.projects.project_or_refused.Goals as goal
 use Rattle.collate_core.proofs.projects.project_or_refused.Goals.{then-is_some, else-is_some}
 
+absent : {X Y : Type 0} (n : ℕ) {x : X} → slice_get [] n ≡ Some x → Y
+absent n is = absurd (cc)
+
 pub loop-index-init : goal.loop-index-init
 loop-index-init g c =
     record {
-      collated = rw c.new-outs.ensures.items (record { count = refl; earlier = λ n p at. absurd (cc); each = λ n p out at also. absurd (cc) });
-      known = rw (c.new-outs.ensures.items, c.new-pool.ensures.infos) (record { count = refl; each = λ n out info at also. absurd (cc) });
+      collated = rw c.new-outs.ensures.items (record { count = refl; earlier = λ n p at. absent n at; each = λ n p out at also. absent n at });
+      known = rw (c.new-outs.ensures.items, c.new-pool.ensures.infos) (record { count = refl; each = λ n out info at also. absent n at });
       rules = refl;
       made = rw c.new-pool.ensures.key
           (subst (λ (rs : List (Vec RuleValue Global)). IsKeyOf c.in_ok-read.read.key (project_entries (take (length rs) c.args.targets.now)))
           (sym c.into_iter-rules.ensures.rest) c.in_ok-read.ensures.key);
-      held = rw c.new-pool.ensures.infos (λ k info at. absurd (cc));
+      held = rw c.new-pool.ensures.infos (λ k info at. absent k at);
     }
 
 pub returns-in-Err-clause-outcome : goal.returns-in-Err-clause-outcome
@@ -97,7 +100,7 @@ push-requires g c =
     let each = subst (AreRulesOfEach targets) (sym c.into_iter-rules.ensures.rest) c.in_ok-read.ensures.rules in
     let read : IsTrue c.if-is_some.is_read →
     is_some c.next-own.result ≡ true = λ is. elim c.if-is_some.branch
-    [ then-is_some w ↦ sym c.is_some.ensures ∙ w.if-is_some.true | else-is_some w ↦ absurd (cc (is, w.is_read-is)) ] in
+    [ then-is_some w ↦ sym c.is_some.ensures ∙ w.if-is_some.true | else-is_some w ↦ absurd (true≢false (sym is ∙ w.is_read-is ∙ w.if-is_some.false)) ] in
     may_be_added (project_entries (take (length all) targets)) c.loop-index.invariant.made c.in-Ok.info
     (own_info targets all each n p here _ _ c.loop-index.invariant.rules c.next-own.result c.next-own.ensures.items c.if-is_some.is_read read
     c.bytes_determine_the_value.ensures.info outs linked.1 c.in-Ok.info c.in-Ok.ensures.known)
@@ -118,7 +121,7 @@ loop-index-preserved g c =
     (of_none _ is c.next-own.ensures.cases).0 in
     let read : IsTrue c.if-is_some.is_read →
     is_some c.next-own.result ≡ true = λ is. elim c.if-is_some.branch
-    [ then-is_some w ↦ sym c.is_some.ensures ∙ w.if-is_some.true | else-is_some w ↦ absurd (cc (is, w.is_read-is)) ] in
+    [ then-is_some w ↦ sym c.is_some.ensures ∙ w.if-is_some.true | else-is_some w ↦ absurd (true≢false (sym is ∙ w.is_read-is ∙ w.if-is_some.false)) ] in
     let info_held = own_info targets all each n p here _ _ c.loop-index.invariant.rules c.next-own.result c.next-own.ensures.items c.if-is_some.is_read read
     c.bytes_determine_the_value.ensures.info outs linked.1 c.in-Ok.info c.in-Ok.ensures.known in
     let added = c.in_ok-pool-in-Ok.ensures.added in

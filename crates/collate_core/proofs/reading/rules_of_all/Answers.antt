@@ -1,8 +1,8 @@
-use Rattle.std.proofs.Common.{◌≡◌, ℕ, ◌⊎◌, ◌+◌, ◌∙◌, List, Option, Some, IfSome, length, ap, subst, sym, slice_get, arith, true, refl}
+use Rattle.std.proofs.Common.{◌≡◌, ℕ, ◌<◌, ◌⊎◌, ◌+◌, ◌∙◌, List, Option, Some, IfSome, length, ap, subst, sym, slice_get, arith, true, refl}
 use Rattle.std.proofs.lemmas.Option.{slice_get_read}
 use Rattle.std.proofs.lemmas.Result.{err_from_is_err_and}
 use Rattle.collate_core.specs.Prelude.{IsAccepted, SettingValue, AreRules, RuleValue, scan_checks, rules_of, IsScanAccepted, IsScanRefusal, lent_texts, Text}
-use Rattle.collate_core.proofs.ReadingLemmas.{not_parsed, again_past_limit, cut_off, added, past_limit, refused_scan, all_scans, as_many, within}
+use Rattle.collate_core.proofs.ReadingLemmas.{no_rules, short, not_parsed, again_past_limit, cut_off, added, past_limit, refused_scan, all_scans, as_many, within}
 use Rattle.collate_core.proofs.reading.rules_of_all.Goals as goal
 
 accepted : {s : SettingValue} {scan : Text} {rules : List RuleValue} → rules ≡ rules_of s scan → IsAccepted (scan_checks s) (AreRules s) scan rules →
@@ -79,3 +79,21 @@ returns-clause-rules c = (all_scans (as_many c.args.scans.now c.loop-index-test.
 
 pub returns-clause-whole : goal.returns-clause-whole
 returns-clause-whole c = (all_scans (as_many c.args.scans.now c.loop-index-test.false) c.loop-index.invariant).2
+
+pub returns-clause-text : goal.returns-clause-text
+returns-clause-text c = c.loop-index.invariant.text
+
+pub loop-index-init : goal.loop-index-init
+loop-index-init c = rw (c.new-rules.ensures.items, c.in_ok-counts.ensures.items) (no_rules c.args.setting.now (lent_texts c.args.scans.now))
+
+pub raised-requires : goal.raised-requires
+raised-requires c = short c.loop-index.invariant
+
+pub raised-requires-in-Ok : goal.raised-requires-in-Ok
+raised-requires-in-Ok c = short c.loop-index.invariant
+
+pub index-count-requires : goal.index-count-requires
+index-count-requires c =
+    let at = before _ c.in-Some.ensures.0 c.document_at-before.ensures.before in
+    let lt : c.in-Some.first < length c.loop-index.counts.items = within c.loop-index.invariant c.document_at-before.ensures.bytes at.0 in
+    omega (arith, lt, c.loop-index.counts.ok.0)

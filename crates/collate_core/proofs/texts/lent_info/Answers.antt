@@ -15,7 +15,7 @@ loop-index-preserved c =
     rw (← c.objects-rule-items.ensures.objects) (slice_get_read _ _ _ _ refl c.loop-index-test.true c.rule-item.is) in
     c.in_ok-add_modules.ensures
     ∙ ap (λ ms. c.loop-index.modules.items ++ ms)
-    (modules_same c.in_ok-private_names.private_names.keys kept c.in_ok-private_names.ensures.names c.required.result.now rule.provided)
+    (modules_same c.in_ok-private_names.private_names.names.keys kept c.in_ok-private_names.ensures.names c.required.result.now rule.provided)
     ∙ more_modules kept t c.loop-index.index here (c.required.ensures rule here)
     c.loop-index.invariant
 

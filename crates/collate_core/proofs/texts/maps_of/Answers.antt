@@ -1,4 +1,5 @@
 use Rattle.std.proofs.Common.{rules, ◌<◌, [], ◌∷◌, length, map, subst, sym, ap, ◌∙◌, arith, length-append}
+use Rattle.std.proofs.lemmas.List.{length-map}
 use Rattle.std.proofs.lemmas.Result.{err_from_is_err_and}
 use Rattle.collate_core.proofs.Parts.{EachMap, more_maps, object_refused}
 use Rattle.collate_core.proofs.texts.maps_of.Goals as goal
@@ -25,3 +26,14 @@ loop-object-preserved g c =
           (more_maps t written c.loop-object.texts.items c.in_ok-map_text.field-0 c.loop-object.invariant.count
           c.loop-object.invariant.each c.in_ok-map_text.ensures.text);
     }
+
+pub returns-clause-maps : goal.returns-clause-maps
+returns-clause-maps g c =
+    let count = length-map c.loop-object.texts.items (λ m. m.items) in
+    rw c.in-Some.is (
+      omega (arith, count, c.loop-object.invariant.count, c.loop-object-test.false, c.loop-object.auto, ap length c.objects-object-end.ensures.objects),
+      c.loop-object.invariant.each,
+    )
+
+pub map_text-requires-clause-object : goal.map_text-requires-clause-object
+map_text-requires-clause-object g c = rw (← c.objects-object-end.ensures.objects) (omega arith)

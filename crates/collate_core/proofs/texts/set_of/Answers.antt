@@ -12,7 +12,7 @@ loop-name-preserved c =
     record {
       names = λ name.
           ap (λ (keys : List (List ℕ)). is_private_name keys name) c.in_ok-insert.ensures.keys
-          ∙ one_more_name names c.loop-name.set.keys c.loop-name.name-index (here ∙ ap (λ (n : List ℕ). Some n) (sym c.in_ok-copy.ensures))
+          ∙ one_more_name names c.loop-name.set.names.keys c.loop-name.name-index (here ∙ ap (λ (n : List ℕ). Some n) (sym c.in_ok-copy.ensures))
           c.loop-name.invariant.names name;
       key = subst (λ (key : TableKey). IsKeyOf key names) (sym c.insert.ensures.hasher) c.loop-name.invariant.key;
     }
@@ -20,3 +20,6 @@ loop-name-preserved c =
 pub returns-clause-names : goal.returns-clause-names
 returns-clause-names c = λ name. c.loop-name.invariant.names name ∙
     ap (λ (names : List (List ℕ)). is_private_name names name) (take_all c.loop-name.name-index c.args.names.now c.loop-name-test.false)
+
+pub returns-clause-key : goal.returns-clause-key
+returns-clause-key c = c.loop-name.invariant.key

@@ -1,10 +1,10 @@
 use Rattle.std.proofs.Common.{◌≡◌, ◌+◌, ◌-◌, ◌≤◌, ap, map, arith, length, subst, sym, take, true, ◌∙◌, ◌++◌, List, ℕ, Some, take_all, map-id}
-use Rattle.module_table.specs.Prelude.{RuleValue, Claim, claims_of, provisions, AllDiffer, RepeatsFirst, Reports, provision_of, files_of, IsMadeTwice, Module, BmiTwice, Name}
+use Rattle.module_table.specs.Prelude.{paths_of, RuleValue, Claim, claims_of, provisions, AllDiffer, RepeatsFirst, Reports, provision_of, files_of, IsMadeTwice, Module, BmiTwice, Name}
 use Rattle.module_table.proofs.IndexRows.{length_mapped}
 use Rattle.module_table.proofs.Lists.{repeats_if_found, added_if_new, take_behind, read_at}
 use Rattle.module_table.proofs.Found.{reported_made, for_boxed, own_claim_at, module_claim_at}
 use Rattle.module_table.proofs.checks.check_files.Goals as goal
-use Rattle.module_table.proofs.checks.check_files.Goals.{then-first-objects, else-first-objects, Then-not-is_new}
+use Rattle.module_table.proofs.checks.check_files.Goals.{then-first-objects, else-first-objects, Then-not-is_new, After-loop-module}
 use Rattle.ninja_text.proofs.ForCallers.{to_map, in_second, element_at}
 use Rattle.module_table.proofs.Words.{bmi_of, At}
 
@@ -121,3 +121,21 @@ loop-module-preserved c =
       differ = subst (λ n. AllDiffer (take n texts)) next now.1;
       hasher = c.insert_full.ensures.hasher ∙ c.loop-module.invariant.hasher;
     }
+
+pub returns-clause-hasher : goal.returns-clause-hasher
+returns-clause-hasher c = c.loop-module.invariant.hasher
+
+-- the paths and files are those of the table
+all_paths : (c : After-loop-module) → take (length c.args.files.now.keys + c.loop-module.module-index)
+    (c.args.files.now.keys ++ files_of (map provision_of c.provided-provided.result.now)) ≡ paths_of c.args.modules.now
+all_paths c =
+    let t = c.args.modules.now in
+    let provided = c.provided-provided.result.now in
+    all_files c.args.files.now.keys provided c.loop-module.module-index c.loop-module-test.false
+    ∙ ap (λ ps. c.args.files.now.keys ++ files_of ps) c.provided-provided.ensures.all.modules ∙ ap (λ xs. xs ++ files_of (provisions t)) c.requires.paths
+
+pub returns-clause-files : goal.returns-clause-files
+returns-clause-files c = c.loop-module.invariant.same ∙ all_paths (goal.at.returns-clause-files c).After-loop-module
+
+pub returns-clause-ok : goal.returns-clause-ok
+returns-clause-ok c = subst AllDiffer (all_paths (goal.at.returns-clause-ok c).After-loop-module) c.loop-module.invariant.differ

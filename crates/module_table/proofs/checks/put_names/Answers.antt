@@ -1,7 +1,8 @@
-use Rattle.std.proofs.Common.{◌≡◌, ◌∙◌, ◌<◌, ◌+◌, ap, arith, cond, length, sym, map, List, ℕ, Some, get_or, map-id}
+use Rattle.std.proofs.Common.{◌≡◌, ◌∙◌, ◌<◌, ◌≤◌, ◌+◌, ap, arith, cond, length, sym, subst, map, List, ℕ, Some, get_or, map-id, take, take_all}
 use Rattle.std.proofs.lemmas.List.{length-take}
 use Rattle.std.proofs.lemmas.Option.{slice_get-get_or}
-use Rattle.module_table.specs.Prelude.{provision_of, names_of, provisions, TableValue, Module, ProvidedTwice, Reports, Name}
+use Rattle.module_table.specs.Prelude.{AllDiffer, provision_of, names_of, provisions, TableValue, Module, ProvidedTwice, Reports, Name}
+use Rattle.module_table.proofs.IndexRows.{length_mapped}
 use Rattle.module_table.proofs.Lists.{repeats_if_found, added_if_new, read_at}
 use Rattle.module_table.proofs.Found.{reports_provided_twice, for_boxed}
 use Rattle.module_table.proofs.checks.put_names.Goals as goal
@@ -13,6 +14,12 @@ name_at : (provided : List Module) (place : ℕ) (p : Module) → At provided pl
     At (names_of (map provision_of provided)) place name
 name_at provided place p at name same = to_map name_of (map provision_of provided) place (provision_of p) (to_map provision_of provided place p at) ∙
     ap Some (sym same)
+
+-- at the end the names of all modules are there
+all_names : (provided : List Module) (i : ℕ) → length provided ≤ i → take i (names_of (map provision_of provided)) ≡ names_of (map provision_of provided)
+all_names provided i over =
+    take_all i (names_of (map provision_of provided))
+    (omega (arith, over, length_mapped name_of (map provision_of provided) ∙ length_mapped provision_of provided))
 
 pub returns-then-not-is_new-clause-fault : goal.returns-then-not-is_new-clause-fault
 returns-then-not-is_new-clause-fault c =
@@ -66,3 +73,13 @@ bounds-provided-first-in_ok-copy-2 c = bounds-provided-first c
 
 pub offset_bounds-provided-first : goal.offset_bounds-provided-first
 offset_bounds-provided-first c = let h = bounds-provided-first c in omega (arith, h)
+
+pub returns-clause-hasher : goal.returns-clause-hasher
+returns-clause-hasher c = c.loop-module.invariant.hasher
+
+pub returns-clause-names : goal.returns-clause-names
+returns-clause-names c = c.loop-module.invariant.same ∙ all_names c.args.provided.now c.loop-module.module-index c.loop-module-test.false
+
+pub returns-clause-differ : goal.returns-clause-differ
+returns-clause-differ c =
+    subst AllDiffer (all_names c.args.provided.now c.loop-module.module-index c.loop-module-test.false) c.loop-module.invariant.differ

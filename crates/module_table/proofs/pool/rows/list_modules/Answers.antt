@@ -62,3 +62,9 @@ pub returns-clause-shared : goal.returns-clause-shared
 returns-clause-shared c = λ by.
     subst (λ ms. AreShared (key_of by) c.args.info ms (rows_of c.args.listed.now by) (HasBit c.loop-module.shared.items))
     (take_all c.loop-module.module c.args.modules.now c.loop-module-test.false) (c.loop-module.invariant.share by)
+
+pub returns-clause-still : goal.returns-clause-still
+returns-clause-still c = c.loop-module.invariant.still
+
+pub returns-clause-key : goal.returns-clause-key
+returns-clause-key c = c.loop-module.invariant.keyed

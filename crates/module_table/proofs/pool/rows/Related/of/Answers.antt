@@ -57,3 +57,15 @@ returns-clause-related c =
           let f = below_all (Found c.loop-module.sources.items) modules c.loop-module.module-index all c.loop-module.invariant m (j, at) pair h in
           (f.0, c.in_ok-words_of.ensures f.0 (subst (λ ws. HasBit ws f.0) (sym c.deref-2.ensures.value) f.1), f.2);
     }
+
+pub returns-clause-still : goal.returns-clause-still
+returns-clause-still c = c.in_ok-list_modules.ensures.still
+
+pub returns-clause-key : goal.returns-clause-key
+returns-clause-key c = c.in_ok-list_modules.ensures.key
+
+pub returns-in_default-clause-still : goal.returns-in_default-clause-still
+returns-in_default-clause-still c = c.in_ok-list_modules.ensures.still
+
+pub returns-in_default-clause-key : goal.returns-in_default-clause-key
+returns-in_default-clause-key c = c.in_ok-list_modules.ensures.key
