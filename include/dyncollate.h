@@ -10,11 +10,11 @@
        int main(void) {
            static const char scan[] =
                "{\"version\":1,\"rules\":[{\"primary-output\":\"obj/b.o\"}]}";
-           size_t numbers[2];
+           size_t numbers[12];
            uint8_t text[4096];
            dyncollate_outcome got = dyncollate_one(
                (const uint8_t *)scan, sizeof scan - 1, (const uint8_t *)"mod", 3,
-               (const uint8_t *)".bmi", 4, numbers, 2, text, sizeof text);
+               (const uint8_t *)".bmi", 4, numbers, 12, text, sizeof text);
            if (!got.written)
                return 1;
            fwrite(text, 1, numbers[0], stdout);
@@ -48,7 +48,8 @@
      each file that the command writes, in that order. Their numbers are the length of standard
      output, the length of standard error, and three per file: the length of its name, the length of
      its bytes, and 1 if a file that already has these bytes is to be left alone ("restat":true in
-     the target document), else 0.
+     the target document), else 0. A command that fails writes no file, and has two numbers. The ten
+     of `dyncollate_location` follow them if there is room for twelve, but need none.
 
    OWNERSHIP
      All memory that you pass stays yours, and no call keeps a pointer to it. Nothing that you get
@@ -142,7 +143,7 @@ dyncollate_outcome dyncollate_show(
    are 1 if it has `restat`, else 0; how many implicit outputs it has; how many implicit inputs; and
    then the lengths of these paths, in the order of the text.
    If it is rejected, the one number is the line of the first error, from 1, and the text is its
-   code and name, such as `Y8 BadLine`. */
+   code and name, such as `Y8 BadLine`. dyncollate_show fails with the same error. */
 dyncollate_outcome dyncollate_statements(
     const uint8_t *dyndep, size_t dyndep_size,
     size_t *numbers, size_t numbers_room, uint8_t *text, size_t text_room);
@@ -168,8 +169,16 @@ enum {
 /* Stands for a number that an error does not have. */
 #define DYNCOLLATE_ABSENT ((size_t)-1)
 
-/* Where an error is, and which error it is. If the error has no such number, the first four are 0,
-   and the others DYNCOLLATE_ABSENT. Indexes count from 0, and lines from 1. */
+/* Where the error of a command is, and which error it is: the numbers after the two lengths, in
+   this order. With the status DYNCOLLATE_REJECTED or DYNCOLLATE_UNREAD, and with room for twelve
+   numbers, copy them:
+       dyncollate_location at;
+       memcpy(&at, numbers + 2, sizeof at);
+   If the error has no such number, the first four are 0, and the others DYNCOLLATE_ABSENT. Indexes
+   count from 0, and lines from 1. For
+       dyncollate: target 2: scan 0: S6 BadName rule 1 requires 3
+   document is DYNCOLLATE_SCAN, letter 'S', number 6, list DYNCOLLATE_REQUIRES, target 2, index 0,
+   item 1 and entry 3, and line and offset are DYNCOLLATE_ABSENT. */
 typedef struct dyncollate_location {
     size_t document; /* what has the error, such as DYNCOLLATE_SCAN, or 0 also if not one file */
     size_t letter;   /* the letter of its code, such as 'S' */
@@ -182,15 +191,6 @@ typedef struct dyncollate_location {
     size_t entry;    /* which entry of `list` */
     size_t offset;   /* which byte of the line */
 } dyncollate_location;
-
-/* Returns the location of the error that a command reports. `line` is what the command prints on
-   standard error, up to the end of the line: the `numbers[1]` bytes of the text that follow the
-   first `numbers[0]`. For any other text nothing is known about the result. For
-       dyncollate: target 2: scan 0: S6 BadName rule 1 requires 3
-   document is DYNCOLLATE_SCAN, letter 'S', number 6, list DYNCOLLATE_REQUIRES, target 2, index 0,
-   item 1 and entry 3, and line and offset are DYNCOLLATE_ABSENT. */
-dyncollate_location dyncollate_locate(
-    const uint8_t *line, size_t line_size);
 
 #ifdef __cplusplus
 }

@@ -12,6 +12,7 @@
 
 #include "dyncollate.h"
 
+#include <cstring>
 #include <initializer_list>
 #include <new>
 #include <stdexcept>
@@ -23,27 +24,9 @@
 
 namespace dyncollate {
 
-namespace detail {
-
-inline const std::uint8_t *bytes(std::string_view text) {
-    return reinterpret_cast<const std::uint8_t *>(text.data());
-}
-
-}  // namespace detail
-
-// The location of the error of a line. The line may be without the name of the program and without
-// its end.
-inline dyncollate_location locate(std::string_view line)
-{
-    const std::string_view name = "dyncollate: ";
-    line = line.substr(line.substr(0, name.size()) == name ? name.size() : 0);
-    const std::string whole = std::string(name).append(line.substr(0, line.find('\n'))) + '\n';
-    return dyncollate_locate(detail::bytes(whole), whole.size());
-}
-
 // A command that fails: what() is its line on standard error.
 struct error : std::runtime_error {
-    error(std::uint32_t with, const std::string &line);
+    error(std::uint32_t with, const std::string &line, const dyncollate_location &at);
 
     std::uint32_t status;  // DYNCOLLATE_REJECTED or DYNCOLLATE_UNREAD
     dyncollate_location location;
@@ -56,6 +39,10 @@ struct error : std::runtime_error {
 };
 
 namespace detail {
+
+inline const std::uint8_t *bytes(std::string_view text) {
+    return reinterpret_cast<const std::uint8_t *>(text.data());
+}
 
 // Takes what is before the first or the last of these separators off a text, and the separator.
 inline std::string cut(std::string_view &text, std::initializer_list<std::string_view> separators,
@@ -103,8 +90,8 @@ inline std::vector<std::string> names_of(const std::string &code, std::string_vi
 
 }  // namespace detail
 
-inline error::error(std::uint32_t with, const std::string &line)
-    : std::runtime_error(line), status(with), location(locate(line))
+inline error::error(std::uint32_t with, const std::string &line, const dyncollate_location &at)
+    : std::runtime_error(line), status(with), location(at)
 {
     std::string_view rest = line;
     const auto begins = [&](std::string_view word) { return rest.substr(0, word.size()) == word; };
@@ -113,7 +100,8 @@ inline error::error(std::uint32_t with, const std::string &line)
     while (!rest.empty() && !is_code() && !begins("cycle ") && !begins("cannot read "))
         detail::cut(rest, {": "});
     if (location.letter) {
-        code = detail::cut(rest, {" "});
+        code = char(location.letter) + std::to_string(location.number);
+        detail::cut(rest, {" "});
         name = detail::cut(rest, {" "});
         names = detail::names_of(code, rest);
     } else if (begins("cycle ")) {
@@ -141,10 +129,11 @@ namespace detail {
 // The result of a call. Its numbers are taken one by one, and its strings likewise, each of which
 // has its length as the next number.
 struct reply {
+    // Room for twelve, which the location of an error takes, is always there.
     std::vector<std::size_t> numbers = std::vector<std::size_t>(64);
     std::string text = std::string(16384, '\0');
     std::uint32_t status = 0;
-    std::size_t next = 0, at = 0;
+    std::size_t count = 0, next = 0, at = 0;
 
     // Calls the function with room for the result, and again if it needs more.
     template <class Call>
@@ -157,13 +146,14 @@ struct reply {
                 throw std::bad_alloc();
             if (got.status == DYNCOLLATE_MISUSED)
                 throw std::invalid_argument("dyncollate: a name is not UTF-8");
-            numbers.resize(got.numbers);
+            count = got.numbers;
+            numbers.resize(count < 12 ? 12 : count);
             text.resize(got.text);
             status = got.status;
             written = got.written;
         }
     }
-    bool more() const { return next < numbers.size(); }
+    bool more() const { return next < count; }
     std::size_t number() { return numbers[next++]; }
     std::string string()
     {
@@ -174,8 +164,11 @@ struct reply {
     std::string printed()
     {
         const std::string out = string(), line = string();
-        if (status != DYNCOLLATE_DONE)
-            throw error(status, line.substr(0, line.find('\n')));
+        if (status != DYNCOLLATE_DONE) {
+            dyncollate_location at;
+            std::memcpy(&at, &numbers[next], sizeof at);
+            throw error(status, line.substr(0, line.find('\n')), at);
+        }
         return out;
     }
 };
@@ -264,8 +257,7 @@ inline std::vector<statement> statements(std::string_view dyndep)
         return dyncollate_statements(detail::bytes(dyndep), dyndep.size(), room...);
     });
     if (got.status != DYNCOLLATE_DONE)
-        throw error(got.status,
-                    "dyncollate: line " + std::to_string(got.number()) + ": " + got.text);
+        show(dyndep);  // throws this error
     std::vector<statement> found;
     while (got.more()) {
         statement &it = found.emplace_back();

@@ -19,7 +19,8 @@ NEEDS_LIBRARY = True
 BROKEN = {"library.InC.test_each_allocation_fails": ["A_LEAK", "A_LEAK_IF_AN_ALLOCATION_FAILS",
                                                      "A_BYTE_BEFORE_THE_ROOM"],
           "library.InC.test_threads": ["A_BYTE_AFTER_THE_INPUT"],
-          "library.Rooms": ["A_NUMBER_AFTER_THE_RESULT", "TEXT_IN_TOO_LITTLE_ROOM"],
+          "library.Rooms": ["A_NUMBER_AFTER_THE_RESULT", "A_NUMBER_IN_TOO_LITTLE_ROOM",
+                            "TEXT_IN_TOO_LITTLE_ROOM"],
           "library_files.Linked": ["A_STATE", "A_CALL_OF_THE_SYSTEM", "ANOTHER_SYMBOL"],
           "fuzzing.Targets.test_show": ["A_LEAK", "A_BYTE_AFTER_THE_INPUT"], "library.Rows": [],
           "library.Misuses": [], "library_files.Examples": [],}

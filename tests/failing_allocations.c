@@ -55,7 +55,8 @@ static void fail_each(enum command command, const struct input *input)
 {
     struct result whole = result_of(command, input);
     struct passed passed = passed_of(command, input);
-    size_t size = whole.size;
+    int is_located = whole.status != DYNCOLLATE_DONE && command != STATEMENTS;
+    size_t size = whole.size, needed = is_located ? 2 : whole.count;
     long number;
     for (number = 0;; number++) {
         size_t *numbers = __real_malloc(whole.count * sizeof *numbers + 1);
@@ -73,8 +74,9 @@ static void fail_each(enum command command, const struct input *input)
                     is_filled(room, size + 1));
             failures++;
         } else {
-            require(got.status == whole.status && got.numbers == whole.count && got.text == size);
-            require(!size || (got.written && !memcmp(room, whole.text, size)));
+            require(got.status == whole.status && got.numbers == needed && got.text == size);
+            require(!size || (got.written && !memcmp(room, whole.text, size) &&
+                              !memcmp(numbers, whole.numbers, whole.count * sizeof *numbers)));
         }
         __real_free(numbers);
         __real_free(room);

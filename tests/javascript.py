@@ -7,6 +7,7 @@ import unittest
 from pathlib import Path
 
 from tests import embedded
+from tests.library import ERRORS, passed
 from tests.program import TOP
 from tests.run import InRoom, run, run_apart
 from tests.web import WASM, needs_module, needs_node
@@ -32,6 +33,15 @@ DECLARED = (WEB / "dyncollate.d.mts").read_text(encoding="utf-8")
 DYNDEP = "ninja_dyndep_version = 1\nbuild a.o | m/A.x: dyndep\n  restat = 1\n"
 INFO = ('{"modules":[{"bmi":"m/A.x","name":"A","requires":[],"visibility":"public"}],'
         '"target":"t","version":2}')
+
+
+def location(code, document=0, item=None, list=0, entry=None, **numbers):
+    """The location of an error with this code and these numbers."""
+    kind = [None, "target", "project", "scan", "info", "edges", "name", "dyndep"][document]
+    found = {"document": kind, "code": code or None,
+             {"scan": "rule", "info": "module"}.get(kind, "statement"): item,
+             [None, "provides", "requires", "path"][list]: entry, **numbers}
+    return {name: it for name, it in found.items() if it is not None}
 
 
 @needs_module
@@ -162,6 +172,25 @@ class Interface(unittest.TestCase):
                 ("3 dyncollate: cannot read a.ddi", "")]
                 for it in (f"true {line}", f"{{{location}}}")])
 
+    def test_locations(self):
+        """The errors of tests/library.py, as `run` returns them. A command that succeeds has no
+        location."""
+        def listed(it):
+            it = it.encode() if isinstance(it, str) else it
+            return list(it) if isinstance(it, bytes) else {name: list(data)
+                                                           for name, data in it.items()}
+        calls = [[command, *(listed(passed(it)) for it in given)]
+                 for command, *given, _, _ in ERRORS]
+        printed = self.lines(f"""
+    const files = (it) => Object.entries(it).map(([name, data]) => [name, new Uint8Array(data)]);
+    const passed = (it) => Array.isArray(it) ? new Uint8Array(it) : new Map(files(it));
+    for (const [command, ...given] of {json.dumps(calls)})
+      console.log(JSON.stringify(dyncollate.run(command, ...given.map(passed)).location));
+    console.log("location" in dyncollate.run("one", scan, "m", ".x"));
+            """)
+        self.assertEqual([json.loads(it) for it in printed],
+                         [*(location(code, **numbers) for *_, code, numbers in ERRORS), False])
+
     def test_a_name_that_begins_with_a_byte_order_mark(self):
         """It keeps the mark, as each file and each path does."""
         self.assertEqual(self.lines(r"""
@@ -229,6 +258,7 @@ USES = [
     ('made.order("").map((it) => it.length);', ""),
     ('made.statements("").map(({ output, inputs, restat }) => restat && [output, ...inputs]);', ""),
     ('new DyncollateError(1, "", {}).location.rule?.toFixed();', ""),
+    ('made.run("order", "").location?.offset?.toFixed();', ""),
     ('made.one(1, 2, 3);', "2345"),
     ('made.one("", "");', "2554"),
     ('made.collate("", new ArrayBuffer(1));', "2345"),

@@ -2,6 +2,7 @@
 package. And what a call does if there is too little room, if an allocation fails, if it is misused,
 and on several threads."""
 import ctypes
+import itertools
 import json
 import os
 import re
@@ -38,8 +39,34 @@ class Rows(unittest.TestCase):
         self.same(files, row.made(), "its files")
 
 
+def lengths_of(status, numbers):
+    """The numbers of a result that are lengths: after the first two, two of three for each file."""
+    return [it for index, it in enumerate(numbers) if index < 2 or not status and index % 3 != 1]
+
+
 @embedded.needs_library
-class Restat(unittest.TestCase):
+class Numbers(unittest.TestCase):
+    seconds = 10
+
+    def test_how_many(self):
+        """A command that fails has two lengths, and the ten numbers of its location follow. Any
+        other has two lengths, and three numbers per file."""
+        for row in ASKED:
+            status, numbers, text = embedded.calls().call(row.words[0], embedded.given(row))
+            self.assertTrue(len(numbers) == 12 if status else len(numbers) % 3 == 2, row.name)
+            self.assertEqual(sum(lengths_of(status, numbers)), len(text), row.name)
+
+    def test_room_for_a_location(self):
+        """An error needs no room for its location. With less than all of it, nothing of it is
+        written."""
+        calls, (command, *given, _, _) = embedded.calls(), ERRORS[0]
+        given = [passed(it) for it in given]
+        status, _, text = calls.call(command, given)
+        arguments = list(calls.arguments(calls.COMMANDS[command], given))
+        for room, written in (1, 0), (2, 1), (11, 1), (12, 1), (13, 1):
+            self.assertEqual(outcome(command, arguments, room, len(text)),
+                             ((status, written, 2, len(text)), True))
+
     def test_which_files_may_be_left_alone(self):
         """With `restat`, the maps and the info file; the dyndep file never."""
         rows = {row.why: row for row in ASKED}
@@ -182,9 +209,13 @@ def passed(it):
     return json.dumps(it).encode() if isinstance(it, dict) else it
 
 
+# the numbers of a location, in their order
+LOCATION = "document letter number list target index line item entry offset".split()
+
+
 def numbers_of(location):
-    """The numbers of a location that are not 0 or absent, and its code."""
-    numbers = {name: getattr(location, name) for name, _ in location._fields_}
+    """The code of a location, and its numbers that are not 0 or absent."""
+    numbers = dict(zip(LOCATION, location))
     letter, number = numbers.pop("letter"), numbers.pop("number")
     kept = {name: it for name, it in numbers.items()
             if it != (0 if name in ("document", "list") else embedded.calls().ABSENT)}
@@ -198,10 +229,10 @@ class Locations(unittest.TestCase):
 
     def check(self, row):
         command, *given, code, numbers = row
-        result = embedded.module().run(command, *map(passed, given))
-        self.assertNotEqual(result.status, 0)
-        found = embedded.calls().located(result.err)
-        self.assertEqual(numbers_of(found), (code, numbers), result.err)
+        status, found, text = embedded.calls().call(command, [passed(it) for it in given])
+        self.assertNotEqual(status, 0)
+        self.assertEqual(len(found), 2 + len(LOCATION))
+        self.assertEqual(numbers_of(found[2:]), (code, numbers), text)
 
 
 def outcome(command, given, numbers_room, text_room, spare=8):
@@ -212,7 +243,9 @@ def outcome(command, given, numbers_room, text_room, spare=8):
     pointer = ctypes.cast(text, ctypes.c_char_p)
     got = getattr(embedded.calls().library(),
                   f"dyncollate_{command}")(*given, numbers, numbers_room, pointer, text_room)
-    after = numbers[got.numbers * got.written:], text[got.text * got.written:]
+    has_location = got.status and command != "statements" and numbers_room >= 12
+    count = 12 if has_location else got.numbers
+    after = numbers[count * got.written:], text[got.text * got.written:]
     unchanged = all(it == 77 for it in after[0]) and not after[1].strip(b"\x4d")
     return (got.status, got.written, got.numbers, got.text), unchanged
 
@@ -227,17 +260,17 @@ class Rooms(unittest.TestCase):
         calls, command = embedded.calls(), row.words[0]
         passed = list(calls.arguments(calls.COMMANDS[command], embedded.given(row)))
         status, numbers, text = calls.call(command, embedded.given(row))
-        ends = [sum(numbers[:2] + [it for index, it in enumerate(numbers[2:count])
-                                   if index % 3 < 2]) for count in range(len(numbers))]
-        for numbers_room in range(len(numbers)):
+        ends = itertools.accumulate(lengths_of(status, numbers))
+        needed = 2 if status else len(numbers)  # the location of an error needs no room
+        for numbers_room in range(needed):
             self.assertEqual(outcome(command, passed, numbers_room, len(text)),
-                             ((status, 0, len(numbers), len(text)), True))
+                             ((status, 0, needed, len(text)), True))
         for text_room in {max(0, end - 1) for end in [*ends, len(text)]} - {len(text)}:
             self.assertEqual(outcome(command, passed, len(numbers), text_room),
-                             ((status, 0, len(numbers), len(text)), True))
+                             ((status, 0, needed, len(text)), True))
         for spare in 0, 1:
             found = outcome(command, passed, len(numbers) + spare, len(text) + spare)
-            self.assertEqual(found, ((status, 1, len(numbers), len(text)), True))
+            self.assertEqual(found, ((status, 1, needed, len(text)), True))
 
 
 SURROGATE, OVERLONG = b"\xed\xa0\x80", b"\xc0\xaf"
@@ -317,7 +350,7 @@ class InC(InRoom):
         """A null pointer with the count 0 is like any other pointer to nothing."""
         program = embedded.compiled("gcc", *SANITIZED, f"{TOP}/tests/null_pointers.c",
                                     embedded.STATIC, to=self.room / "null_pointers")
-        self.assertEqual(output_of(program), "225 alike\n")
+        self.assertEqual(output_of(program), "224 alike\n")
 
     def test_threads(self):
         program = self.built("threads", "-std=c11", "-D_GNU_SOURCE", "-O1", "-fsanitize=thread",

@@ -1,5 +1,6 @@
 """libdyncollate as it is linked: its header against the exports of crates/c_library, what the
 archive and the shared object define and need, and the examples that embed it."""
+import json
 import os
 import re
 import tempfile
@@ -10,16 +11,17 @@ from tests import embedded
 from tests.case import each, tree
 from tests.files import DATA, TARGETS, document
 from tests.program import TOP
-from tests.python_package import ERRORS
+from tests.python_package import ERRORS, numbers_of
 from tests.run import InRoom, output_of, run, run_apart
 
 NEEDS_LIBRARY = True
 
 HEADER = Path(TOP, "include/dyncollate.h")
 EXPORTS = Path(TOP, "crates/c_library/src/lib.rt")
-# what the functions return: the type in C, the type in the exports, and the file that has it
-RETURNED = {"outcome": ("Outcome", Path(TOP, "crates/in_memory/src/reply.rt")),
-            "location": ("Location", Path(TOP, "crates/in_memory/src/location.rt"))}
+# what writes the numbers of an error, and what reads them
+REPLIES = Path(TOP, "crates/in_memory/src/reply.rt")
+IN_PYTHON = Path(TOP, "python/dyncollate/_errors.py")
+IN_JAVASCRIPT = Path(TOP, "web/dyncollate.mjs")
 # the types of parameters in the exports: the pointer in C, and how the name of its count ends
 POINTERS = {"&[u8]": ("const uint8_t *", "_size"), "&[usize]": ("const size_t *", "_count"),
             "&mut [usize]": ("size_t *", "_room"), "&mut [u8]": ("uint8_t *", "_room")}
@@ -33,21 +35,28 @@ def without_comments(text):
     return re.sub(r"/\*.*?\*/|//[^\n]*", "", text, flags=re.S)
 
 
-def declared(returned="outcome"):
-    """The functions of the header that return an outcome or a location:
+def members(struct):
+    """The members of a struct of the header: the type and the name of each."""
+    found = re.search(rf"typedef struct {struct} \{{(.*?)\}}",
+                      without_comments(HEADER.read_text()), re.S)[1]
+    return re.findall(r"(\w+) (\w+);", found)
+
+
+def declared():
+    """The functions of the header that return an outcome:
     the type and the name of each parameter."""
-    found = re.findall(rf"dyncollate_{returned} (dyncollate_\w+)\((.*?)\);",
+    found = re.findall(r"dyncollate_outcome (dyncollate_\w+)\((.*?)\);",
                        without_comments(HEADER.read_text()), re.S)
     return {name: [tuple(re.fullmatch(r"(.*?)(\w+)", it.strip()).groups())
                    for it in parameters.split(",")] for name, parameters in found}
 
 
-def exported(returned="outcome"):
+def exported():
     """The same by the exports. What has no bytes, such as the allocator, is no parameter in C."""
     functions = {}
-    for name, parameters, found in (re.findall(r'extern "C" fn (\w+)\((.*?)\) -> (\w+)',
-                                               EXPORTS.read_text(), re.S)):
-        if found != RETURNED[returned][0]:
+    for name, parameters, returned in re.findall(r'extern "C" fn (\w+)\((.*?)\) -> (\w+)',
+                                                 EXPORTS.read_text(), re.S):
+        if returned != "Outcome":
             continue
         functions[name] = []
         for parameter, kind in re.findall(r"(\w+): ([^,\n]+)", parameters):
@@ -61,24 +70,47 @@ def exported(returned="outcome"):
 class Header(unittest.TestCase):
     def test_functions(self):
         """Their names, and the order, the names and the types of their parameters."""
-        for returned in RETURNED:
-            self.assertEqual(declared(returned), exported(returned))
+        self.assertEqual(declared(), exported())
         exports = re.findall(r'extern "C" fn (\w+)', EXPORTS.read_text())
-        self.assertEqual(set(exports), {*declared(), *declared("location"), "dyncollate_version"})
+        self.assertEqual(set(exports), {*declared(), "dyncollate_version"})
 
-    def test_structs(self):
+    def test_outcome(self):
         """The fields of what the functions return."""
-        for returned, (kind, source) in RETURNED.items():
-            fields = re.search(
-                rf"#\[repr\(C\)\]\n#\[derive\([^)]*\)\]\npub struct {kind} \{{(.*?)\n\}}",
-                source.read_text(), re.S)[1]
-            fields = [(FIELDS[kind], name)
-                      for name, kind in re.findall(r"pub (\w+): (\w+)", without_comments(fields))]
-            in_c = re.search(rf"typedef struct dyncollate_{returned} \{{(.*?)\}}",
-                             without_comments(HEADER.read_text()), re.S)[1]
-            self.assertEqual(re.findall(r"(\w+) (\w+);", in_c), fields)
-            in_python = getattr(embedded.calls(), kind)._fields_
-            self.assertEqual([name for name, _ in in_python], [name for _, name in fields])
+        fields = re.search(
+            r"#\[repr\(C\)\]\n#\[derive\([^)]*\)\]\npub struct Outcome \{(.*?)\n\}",
+            REPLIES.read_text(), re.S)[1]
+        fields = [(FIELDS[kind], name)
+                  for name, kind in re.findall(r"pub (\w+): (\w+)", without_comments(fields))]
+        self.assertEqual(members("dyncollate_outcome"), fields)
+        self.assertEqual([name for name, _ in embedded.calls().Outcome._fields_],
+                         [name for _, name in fields])
+
+    def test_location(self):
+        """The order of its numbers, as the library writes them and as each package reads them."""
+        names = [name for _, name in members("dyncollate_location")]
+        self.assertEqual({kind for kind, _ in members("dyncollate_location")}, {"size_t"})
+        for file, pattern in ((REPLIES, r"\[\s*(document, .*?),?\s*\]\n}"),
+                              (IN_PYTHON, r"^ +(document, .*) = numbers$"),
+                              (IN_JAVASCRIPT, r"^function locationOf\(\[(.*)\]\) \{$")):
+            found = re.search(pattern, file.read_text(), re.M)[1].split(", ")
+            self.assertEqual([it.rstrip("_") for it in found], names, file)
+
+    def test_documents_and_lists(self):
+        """Their numbers, in the header, in the library and in each package."""
+        errors, javascript = embedded.module("dyncollate._errors"), IN_JAVASCRIPT.read_text()
+        for first, kind, in_python, in_javascript in (
+                ("TARGET", "Document", errors.DOCUMENTS, "DOCUMENT_KINDS"),
+                ("PROVIDES", "Entry", errors.LISTS, "ENTRY_LISTS")):
+            names = re.search(rf"enum {{\s+DYNCOLLATE_({first} = 1,.*?)\s}}",
+                              without_comments(HEADER.read_text()), re.S)[1]
+            names = re.sub(r" = 1|\s|DYNCOLLATE_", "", names).lower().replace("paths", "path")
+            names = names.split(",")
+            self.assertEqual(re.findall(rf"Some\({kind}::(\w+)(?:\(index\))?\) => \((\d),",
+                                        REPLIES.read_text()),
+                             [(name.capitalize(), str(at)) for at, name in enumerate(names, 1)])
+            self.assertEqual(list(in_python[1:]), names)
+            found = re.search(rf"^const {in_javascript} = \[undefined, (.*)\];", javascript, re.M)
+            self.assertEqual(json.loads(f"[{found[1]}]"), names)
 
     def test_module(self):
         """The Python package has each function, and passes what the header declares."""
@@ -112,7 +144,7 @@ class Linked(unittest.TestCase):
     def test_symbols(self):
         """The functions of the header, and nothing else.
         In the shared object they have the version DYNCOLLATE_1."""
-        functions = {*declared(), *declared("location"), "dyncollate_version"}
+        functions = {*declared(), "dyncollate_version"}
         self.assertEqual(self.defined(embedded.STATIC), functions)
         self.assertEqual(self.defined("-D", embedded.SHARED),
                          {"DYNCOLLATE_1", *(f"{it}@@DYNCOLLATE_1" for it in functions)})
@@ -240,7 +272,8 @@ class Examples(InRoom):
     @embedded.needs_tools("g++")
     def test_errors_of_wrapper(self):
         """dyncollate::error has the code and the names that the package for Python has."""
-        lines = "".join(f"dyncollate: {line}\n" for line, *_ in ERRORS)
+        lines = "".join(f"{' '.join(map(str, numbers_of(code, document, place)))} "
+                        f"dyncollate: {line}\n" for line, code, _, document, place, _ in ERRORS)
         wanted = "".join("|".join([code or "", name or "", *names]) + "\n"
                          for _, code, name, _, _, names in ERRORS)
         self.assertEqual(run_apart(self.wrapper(), "errors", input=lines), (0, wanted, ""))

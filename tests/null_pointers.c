@@ -102,10 +102,6 @@ int main(void)
                 return 1;
             }
         }
-    dyncollate_location null = dyncollate_locate(NULL, 0),
-                        not_null = dyncollate_locate((const uint8_t *)"", 0);
-    if (memcmp(&null, &not_null, sizeof null))
-        return 1;
-    printf("%d alike\n", compared + 1);
+    printf("%d alike\n", compared);
     return 0;
 }

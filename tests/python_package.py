@@ -1,4 +1,5 @@
 """The Python package: its arguments, errors and types."""
+import copy
 import os
 import pickle
 import re
@@ -7,7 +8,7 @@ import tempfile
 import unittest
 from pathlib import Path
 
-from tests import embedded
+from tests import broken_libraries, embedded
 from tests.case import each
 from tests.program import TOP
 from tests.run import InRoom, run
@@ -66,37 +67,55 @@ ERRORS = [
      ("a.o", "b.o", "gen.h")),
     ("cannot read scans/a -> b.ddi", None, None, None, {}, ("scans/a -> b.ddi",)),
 ]
+DOCUMENTS = None, "target", "project", "scan", "info", "edges", "name", "dyndep"
+LISTS = None, "provides", "requires", "path"
+
+
+def numbers_of(code, document, place):
+    """The numbers of the library for an error."""
+    found = [next((it for it in names if it in place), None) for names in (
+        ["target"], ["scan", "info"], ["line"], ["rule", "module", "statement"], LISTS, ["offset"])]
+    return [DOCUMENTS.index(document), ord(code[0]) if code else 0, int(code[1:]) if code else 0,
+            LISTS.index(found[4]), *(place.get(it, embedded.calls().ABSENT) for it in found)]
 
 
 @embedded.needs_library
 @each(ERRORS, lambda row: row[0])
 class Errors(unittest.TestCase):
-    """The parts of an error, by its line."""
+    """The parts of an error, by its line and its numbers. A copy has them also."""
 
     def check(self, row):
         line, code, name, document, place, names = row
-        error = embedded.module().Error(1, f"dyncollate: {line}")
-        self.assertEqual((error.code, error.name, error.document, error.place, error.names),
-                         (code, name, document, place, names))
-        self.assertEqual((error.status, error.line, str(error)),
-                         (1, f"dyncollate: {line}", f"dyncollate: {line}"))
-        self.assertEqual(vars(pickle.loads(pickle.dumps(error))), vars(error))
+        error = embedded.module().Error(1, f"dyncollate: {line}",
+                                        numbers_of(code, document, place))
+        error.more = line
+        for it in (error, pickle.loads(pickle.dumps(error)), copy.copy(error),
+                   copy.deepcopy(error)):
+            self.assertEqual((it.code, it.name, it.document, it.place, it.names),
+                             (code, name, document, place, names))
+            self.assertEqual((it.status, it.line, str(it)),
+                             (1, f"dyncollate: {line}", f"dyncollate: {line}"))
+            self.assertEqual((type(it), vars(it)), (type(error), vars(error)))
 
 
 @embedded.needs_library
 class Lines(unittest.TestCase):
+    seconds = 10
+
     def test_each_line_of_the_rows(self):
         """The code of a line is the first one in it. An error of modules names something, and one
         of a document has a place in it. The numbers of the place are those in the line, without
         those that may belong to a name."""
-        codes = set()
+        codes, module = set(), embedded.module()
         for row in all_rows():
-            line = os.fsdecode(row.line or b"")
-            if row.status not in (1, 3) or line.startswith("cannot write"):
+            if not row.status or not embedded.is_asked(row):
                 continue
+            with self.assertRaises(module.Error) as raised:
+                getattr(module, row.words[0])(*embedded.given(row))
+            error, line = raised.exception, os.fsdecode(row.line)
+            self.assertEqual((error.status, error.line), (row.status, f"dyncollate: {line}"))
             code = (None if re.match(r"(target \d+: )?(cycle|cannot read) ", line)
                     else re.search(r"([A-Z]\d+) [A-Z]", line)[1])
-            error = embedded.module().Error(row.status, f"dyncollate: {line}")
             self.assertEqual(error.code, code, line)
             self.assertEqual(bool(error.names), code is None or code[0] in "ME"
                              and code not in ("E3", "E8") or code in ("K1", "K2", "S3"), line)
@@ -191,6 +210,32 @@ class Arguments(InRoom):
         version = Path(TOP, "VERSION").read_text().strip()
         self.assertEqual(self.module.__version__, version)
         self.assertEqual(self.module.version(), version)
+
+
+# Prints the errors of a library that rejects everything.
+OLDER = """
+import dyncollate
+print(dyncollate.version(), dyncollate.run("show", b"").err.decode(), end="")
+for call in dyncollate.show, dyncollate.statements:
+    try:
+        call(b"")
+    except dyncollate.Error as error:
+        print(*vars(error).values())
+"""
+
+
+@embedded.needs_tools("gcc", "ar")
+class Older(InRoom):
+    """A library of version 1.1.0, which has no function that returns its version, and whose errors
+    have no location."""
+
+    def test_errors(self):
+        broken_libraries.built(self.room, "OF_VERSION_1_1_0")
+        environment = os.environ | {"PYTHONPATH": embedded.PACKAGE,
+                                    "DYNCOLLATE_LIBRARY": f"{self.room}/libdyncollate.so.1"}
+        line = "dyncollate: line 1: Y8 BadLine"
+        self.assertEqual(run(sys.executable, "-c", OLDER, env=environment),
+                         (0, f"1.1.0 {line}\n" + f"1 {line} None None None {{}} ()\n" * 2))
 
 
 # Prints what a call raises if the process can get no more than this memory,

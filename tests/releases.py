@@ -76,7 +76,7 @@ def is_clone():
 
 
 # the functions of the library, by the version that they are new in
-ADDED = {"1.1.0": "collate project one effect order show statements", "1.2.0": "locate version"}
+ADDED = {"1.1.0": "collate project one effect order show statements", "1.2.0": "version"}
 
 
 def numbers_of(version):

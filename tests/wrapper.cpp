@@ -1,5 +1,5 @@
 // Calls dyncollate.hpp, and prints what it returns and throws. With an argument, it prints what the
-// errors of the lines on standard input say.
+// errors on standard input say, which are the numbers of a location and a line.
 #include <dyncollate.hpp>
 
 #include <iostream>
@@ -38,8 +38,12 @@ extern "C" void *__wrap_realloc(void *block, std::size_t size)
 
 static int print_errors()
 {
-    for (std::string line; std::getline(std::cin, line);) {
-        const dyncollate::error error(1, line);
+    for (dyncollate_location at;
+         std::cin >> at.document >> at.letter >> at.number >> at.list >> at.target >> at.index >>
+         at.line >> at.item >> at.entry >> at.offset >> std::ws;) {
+        std::string line;
+        std::getline(std::cin, line);
+        const dyncollate::error error(1, line, at);
         std::cout << error.code << "|" << error.name;
         for (const std::string &name : error.names)
             std::cout << "|" << name;

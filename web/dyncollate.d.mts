@@ -36,14 +36,15 @@ export class DyncollateError extends Error {
   location: Location;
 }
 
-/** What a command prints and writes. `restat` names the files that may be left alone if they
- * already have their bytes. */
+/** What a command prints and writes, and the location of its error if it fails. `restat` names the
+ * files that may be left alone if they already have their bytes. */
 export interface Result {
   status: number;
   out: Uint8Array;
   err: Uint8Array;
   files: Map<string, Uint8Array>;
   restat: Set<string>;
+  location?: Location;
 }
 
 /** A statement of a dyndep file: its output, its implicit outputs and inputs. */

@@ -65,13 +65,14 @@ export async function load(given) {
     }
   }
 
-  /** What a command prints and writes. `restat` names the files that may be left alone if they
-   * already have their bytes. */
+  /** What a command prints and writes, and the location of its error if it fails. `restat` names
+   * the files that may be left alone if they already have their bytes. */
   function run(command, ...given) {
     if (command === "statements") throw new TypeError("there is no command statements");
     const { status, numbers, text } = call(command, ...given);
     const next = pieces(text), out = next(numbers[0]), err = next(numbers[1]);
     const files = new Map(), restat = new Set();
+    if (status) return { status, out, err, files, restat, location: locationOf(numbers.slice(2)) };
     for (let index = 2; index < numbers.length; index += 3) {
       const name = decoded(next(numbers[index]));
       files.set(name, next(numbers[index + 1]));
@@ -80,14 +81,9 @@ export async function load(given) {
     return { status, out, err, files, restat };
   }
 
-  /** Throws the error of a command that prints this line. */
-  function fail(status, line) {
-    throw new DyncollateError(status, line, locationOf(instance, `${line}\n`));
-  }
-
   function checked(command, ...given) {
-    const result = run(command, ...given);
-    if (result.status) fail(result.status, decoded(result.err).trimEnd());
+    const result = run(command, ...given), { status, err, location } = result;
+    if (status) throw new DyncollateError(status, decoded(err).trimEnd(), location);
     return result;
   }
 
@@ -108,7 +104,7 @@ export async function load(given) {
     /** The statements of a dyndep file. Their paths are bytes. */
     statements: (...given) => {
       const { status, numbers, text } = call("statements", ...given);
-      if (status) fail(status, `dyncollate: line ${numbers[0]}: ${decoded(text)}`);
+      if (status) checked("show", ...given); // throws this error
       return statementsOf(numbers, text);
     },
     /** The version of the module, such as "1.2.3". */
@@ -201,23 +197,14 @@ function blocksOf(instance) {
   return { blocks, allocate, put };
 }
 
-/** What an instance reads from the line of an error: `dyncollate_location` of dyncollate.h. What
- * the error does not have is not there. */
-function locationOf(instance, line) {
-  const { blocks, allocate, put } = blocksOf(instance);
-  try {
-    const at = allocate(80);
-    instance.dyncollate_locate(at, ...put(rawOf(line)));
-    const [document, letter, number, list, ...indexes] = numbersIn(instance, at, 10);
-    const kind = DOCUMENT_KINDS[document];
-    const item = { scan: "rule", info: "module" }[kind] ?? "statement";
-    const names = ["target", "index", "line", item, ENTRY_LISTS[list], "offset"];
-    const found = names.map((name, at) => [name, indexes[at]]).filter(([, it]) => it !== ABSENT);
-    const code = letter ? String.fromCharCode(letter) + number : undefined;
-    return { document: kind, code, ...Object.fromEntries(found) };
-  } finally {
-    for (const address of blocks) instance.free(address);
-  }
+/** The location with the numbers of `dyncollate_location` in dyncollate.h. What the error does not
+ * have is not there. */
+function locationOf([document, letter, number, list, target, index, line, item, entry, offset]) {
+  const kind = DOCUMENT_KINDS[document], part = { scan: "rule", info: "module" }[kind];
+  const code = letter ? String.fromCharCode(letter) + number : undefined;
+  const indexes = { target, index, line, [part ?? "statement"]: item, [ENTRY_LISTS[list]]: entry };
+  const found = Object.entries({ ...indexes, offset }).filter(([, it]) => it !== ABSENT);
+  return { document: kind, code, ...Object.fromEntries(found) };
 }
 
 /** Calls a function of an instance, if need be again with as much room as it needs. */
@@ -238,12 +225,13 @@ function called(instance, command, given) {
       if (status === NO_MEMORY) throw new RangeError("out of memory");
       if (status === MISUSED) throw new TypeError("a name is not UTF-8");
       if (written) {
-        const found = numbersIn(instance, numbersAt, numbers);
+        // The location of an error follows the two numbers of a command that fails.
+        const found = numbersIn(instance, numbersAt, status ? 12 : numbers);
         return { status, numbers: found, text: bytesIn(instance, textAt, text) };
       }
       instance.free(blocks.pop());
       instance.free(blocks.pop());
-      [numbersRoom, textRoom] = [numbers, text];
+      [numbersRoom, textRoom] = [Math.max(12, numbers), text];
     }
   } finally {
     for (const address of blocks) instance.free(address);

@@ -4,10 +4,11 @@ from __future__ import annotations
 import io
 import itertools
 import os
+from collections.abc import Sequence
 from typing import Literal, NamedTuple, Union
 
 from ._errors import Error
-from ._library import File, Files, Name, call, linked_version
+from ._library import File, Files, Name, bytes_of, call, linked_version
 
 Command = Literal["collate", "project", "one", "effect", "order", "show"]
 
@@ -34,11 +35,14 @@ class Statement(NamedTuple):
 def run(command: Command, *given: Union[Name, File, Files]) -> Result:
     """What a command prints and writes, also if it fails. The arguments are those of the function
     of this name."""
-    status, numbers, text = call(command, given)
+    return result_of(*call(command, given))
+
+
+def result_of(status: int, numbers: Sequence[int], text: bytes) -> Result:
     read = io.BytesIO(text).read
     out, err = read(numbers[0]), read(numbers[1])
     files, restat = {}, set()
-    for name_size, size, may_be_left in zip(*[iter(numbers[2:])] * 3):
+    for name_size, size, may_be_left in zip(*[iter(() if status else numbers[2:])] * 3):
         name = read(name_size).decode()
         files[name] = read(size)
         if may_be_left:
@@ -47,10 +51,10 @@ def run(command: Command, *given: Union[Name, File, Files]) -> Result:
 
 
 def succeeds(command: Command, *given: Union[Name, File, Files]) -> Result:
-    result = run(command, *given)
-    if result.status:
-        raise Error(result.status, os.fsdecode(result.err).rstrip("\n"))
-    return result
+    status, numbers, text = call(command, given)
+    if status:
+        raise Error(status, os.fsdecode(text).rstrip("\n"), numbers[2:])
+    return result_of(status, numbers, text)
 
 
 def collate(document: File, files: Files) -> dict[str, bytes]:
@@ -87,9 +91,10 @@ def show(dyndep: File) -> bytes:
 
 def statements(dyndep: File) -> list[Statement]:
     """The statements of a dyndep file."""
-    status, numbers, text = call("statements", (dyndep,))
+    data = bytes_of(dyndep)
+    status, numbers, text = call("statements", (data,))
     if status:
-        raise Error(status, f"dyncollate: line {numbers[0]}: {text.decode()}")
+        show(data)  # raises this error
     read, following = io.BytesIO(text).read, iter(numbers)
     found: list[Statement] = []
     for restat in following:

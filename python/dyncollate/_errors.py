@@ -2,11 +2,11 @@
 has the forms of its line."""
 from __future__ import annotations
 
-import os
 import re
-from typing import Optional
+from collections.abc import Sequence
+from typing import Any, Optional
 
-from ._library import ABSENT, located
+from ._library import ABSENT
 
 # What has an error, and the lists of an entry, by their numbers in dyncollate.h.
 DOCUMENTS = None, "target", "project", "scan", "info", "edges", "name", "dyndep"
@@ -48,7 +48,8 @@ class Error(Exception):
     so all three are missing then.
     """
 
-    def __init__(self, status: int, line: str) -> None:
+    def __init__(self, status: int, line: str, numbers: Sequence[int] = ()) -> None:
+        """`numbers` are those of `dyncollate_location` in dyncollate.h."""
         super().__init__(line)
         self.status, self.line = status, line
         self.code: Optional[str] = None
@@ -56,23 +57,24 @@ class Error(Exception):
         self.document: Optional[str] = None
         self.place: dict[str, int] = {}
         self.names: tuple[str, ...] = ()
-        self._take_numbers()
+        if numbers:
+            self._take_numbers(numbers)
         self._take_names()
 
-    def __reduce__(self) -> tuple[type[Error], tuple[int, str]]:
-        return type(self), (self.status, self.line)
+    def __reduce__(self) -> tuple[type[Error], tuple[int, str], dict[str, Any]]:
+        return type(self), (self.status, self.line), vars(self)
 
-    def _take_numbers(self) -> None:
-        """Takes the code, the document and the place, as the library reads them from the line."""
-        found = located(os.fsencode(f"{self.line}\n"))
-        if found.letter:
-            self.code = f"{chr(found.letter)}{found.number}"
-        self.document = DOCUMENTS[found.document]
-        listed, item = (("info", "module") if self.document == "info"
+    def _take_numbers(self, numbers: Sequence[int]) -> None:
+        """Takes the code, the document and the place."""
+        document, letter, number, list_, target, index, line, item, entry, offset = numbers
+        if letter:
+            self.code = f"{chr(letter)}{number}"
+        self.document = DOCUMENTS[document]
+        listed, part = (("info", "module") if self.document == "info"
                         else ("scan", "rule" if self.document else "statement"))
-        numbers = {"target": found.target, listed: found.index, "line": found.line,
-                   item: found.item, LISTS[found.list]: found.entry, "offset": found.offset}
-        self.place = {word: number for word, number in numbers.items() if number != ABSENT}
+        place = {"target": target, listed: index, "line": line, part: item, LISTS[list_]: entry,
+                 "offset": offset}
+        self.place = {word: it for word, it in place.items() if it != ABSENT}
 
     def _take_names(self) -> None:
         """Takes the name of the error, and what it names."""

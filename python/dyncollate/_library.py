@@ -40,13 +40,6 @@ class Outcome(ctypes.Structure):
                 ("numbers", ctypes.c_size_t), ("text", ctypes.c_size_t)]
 
 
-class Location(ctypes.Structure):
-    """`dyncollate_location` of dyncollate.h."""
-    _fields_ = [(name, ctypes.c_size_t)
-                for name in ("document", "letter", "number", "list", "target", "index", "line",
-                             "item", "entry", "offset")]
-
-
 @functools.lru_cache(None)
 def library() -> ctypes.CDLL:
     """The shared object."""
@@ -72,17 +65,6 @@ def linked_version() -> int:
         return 10100
     function.restype = ctypes.c_uint32
     return int(function())
-
-
-def located(line: bytes) -> Location:
-    """Where the error of a line is, and which error it is.
-    The library of version 1.1.0 does not know."""
-    function = getattr(library(), "dyncollate_locate", None)
-    if function is None:
-        return Location(0, 0, 0, 0, *[ABSENT] * 6)
-    function.argtypes, function.restype = STRING, Location
-    found: Location = function(line, len(line))
-    return found
 
 
 def bytes_of(file: File) -> bytes:
@@ -115,7 +97,8 @@ def arguments(kinds: Sequence[str], given: Sequence[Any]) -> Iterator[Any]:
 
 def call(command: str, given: Sequence[Given]) -> tuple[int, list[int], bytes]:
     """Calls a command, if need be again with as much room as it needs. Returns its status,
-    numbers and text."""
+    numbers and text. The numbers of one that fails are followed by those of its location, but with
+    version 1.1.0."""
     function, passed = (getattr(library(), f"dyncollate_{command}"),
                         list(arguments(COMMANDS[command], given)))
     room = 64, 1 << 14
@@ -127,5 +110,7 @@ def call(command: str, given: Sequence[Given]) -> tuple[int, list[int], bytes]:
         if got.status == MISUSED:
             raise ValueError("a name is not UTF-8")
         if got.written:
-            return got.status, numbers[:got.numbers], ctypes.string_at(text, got.text)
-        room = got.numbers, got.text
+            has_location = got.status and got.numbers == 2 and linked_version() >= 10200
+            return (got.status, numbers[:12 if has_location else got.numbers],
+                    ctypes.string_at(text, got.text))
+        room = max(12, got.numbers), got.text

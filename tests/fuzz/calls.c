@@ -131,6 +131,35 @@ static int same(dyncollate_outcome one, dyncollate_outcome other)
     return one.status == other.status && one.numbers == other.numbers && one.text == other.text;
 }
 
+/* A line has this number after the label, unless it is absent. */
+static int has(struct string line, const char *label, size_t number, const char *end)
+{
+    char text[64];
+    snprintf(text, sizeof text, "%s%zu%s", label, number, end);
+    return number == DYNCOLLATE_ABSENT || memmem(line.at, line.size, text, strlen(text));
+}
+
+/* The numbers of a location are in the line of the error. */
+static int is_located(struct string line, const size_t *numbers)
+{
+    static const char *const lists[] = {"", " provides ", " requires ", " path "};
+    dyncollate_location at;
+    int is_scan, is_info;
+    memcpy(&at, numbers, sizeof at);
+    is_scan = at.document == DYNCOLLATE_SCAN;
+    is_info = at.document == DYNCOLLATE_INFO;
+    require(at.document <= DYNCOLLATE_DYNDEP && at.list <= DYNCOLLATE_PATHS);
+    require((is_scan || is_info) == (at.index != DYNCOLLATE_ABSENT));
+    require(!at.list == (at.entry == DYNCOLLATE_ABSENT) && !at.letter == !at.number);
+    return has(line, (char[]){' ', (char)at.letter, 0}, at.letter ? at.number : DYNCOLLATE_ABSENT,
+               " ") &&
+           has(line, "target ", at.target, ": ") &&
+           has(line, is_scan ? "scan " : "info ", at.index, ": ") &&
+           has(line, "line ", at.line, ": ") &&
+           has(line, is_scan ? " rule " : is_info ? " module " : " statement ", at.item, "") &&
+           has(line, lists[at.list], at.entry, "") && has(line, " at ", at.offset, "\n");
+}
+
 /* One line, by which the program says why it failed. */
 static int is_line(struct string line)
 {
@@ -146,6 +175,7 @@ struct result result_of(enum command command, const struct input *input)
     struct result result = {0, 0, 0, 0, 0};
     struct passed passed = passed_of(command, input);
     dyncollate_outcome needed = with_room(command, &passed, 0, 0, 0);
+    size_t room = needed.numbers;
     require(needed.status != DYNCOLLATE_NO_MEMORY);
     if (needed.status == DYNCOLLATE_MISUSED) {
         require(needed.numbers == 0 && needed.text == 0 && !needed.written);
@@ -157,7 +187,11 @@ struct result result_of(enum command command, const struct input *input)
         require(same(needed, with_room(command, &passed, needed.numbers - 1, needed.text, 0)));
     if (needed.text)
         require(same(needed, with_room(command, &passed, needed.numbers, needed.text - 1, 0)));
-    require(same(needed, with_room(command, &passed, needed.numbers, needed.text, &result)));
+    if (needed.status != DYNCOLLATE_DONE && command != STATEMENTS) {
+        require(same(needed, with_room(command, &passed, room, needed.text, 0)));
+        room = 12;
+    }
+    require(same(needed, with_room(command, &passed, room, needed.text, &result)));
     require(result.numbers);
     return result;
 }
@@ -172,14 +206,15 @@ struct result answer(enum command command, const struct input *input)
     }
     require(result.status == DYNCOLLATE_DONE || result.status == DYNCOLLATE_REJECTED ||
             (result.status == DYNCOLLATE_UNREAD && (command == COLLATE || command == PROJECT)));
-    require(result.count >= 2 && result.count % 3 == 2);
+    require(result.status == DYNCOLLATE_DONE ? result.count % 3 == 2 : result.count == 12);
     for (index = 0; index < parts(&result); index++)
         size += part(&result, index).size;
     require(size == result.size);
     if (result.status == DYNCOLLATE_DONE)
         require(part(&result, 1).size == 0);
     else
-        require(part(&result, 0).size == 0 && parts(&result) == 2 && is_line(part(&result, 1)));
+        require(part(&result, 0).size == 0 && is_line(part(&result, 1)) &&
+                is_located(part(&result, 1), result.numbers + 2));
     if (command == COLLATE || command == PROJECT)
         require(part(&result, 0).size == 0);
     else
@@ -219,7 +254,10 @@ void drop(struct result result)
     free(result.text);
 }
 
-size_t parts(const struct result *result) { return 2 + (result->count - 2) / 3 * 2; }
+size_t parts(const struct result *result)
+{
+    return result->status == DYNCOLLATE_DONE ? 2 + (result->count - 2) / 3 * 2 : 2;
+}
 
 /* Where the length of a part is among the numbers: the third number of a file is no length. */
 static size_t number_of(size_t index)
@@ -250,15 +288,16 @@ struct string text(const char *characters)
     return (struct string){(const uint8_t *)characters, strlen(characters)};
 }
 
+static struct string numbers_of(const struct result *result)
+{
+    return (struct string){(const uint8_t *)result->numbers,
+                           result->count * sizeof *result->numbers};
+}
+
 int same_results(const struct result *one, const struct result *other)
 {
-    size_t index;
-    if (one->status != other->status || one->count != other->count)
-        return 0;
-    for (index = 0; one->numbers && index < parts(one); index++)
-        if (!equal(part(one, index), part(other, index)))
-            return 0;
-    return 1;
+    return one->status == other->status && equal(numbers_of(one), numbers_of(other)) &&
+           equal((struct string){one->text, one->size}, (struct string){other->text, other->size});
 }
 
 void require_shown_unchanged(struct string dyndep)

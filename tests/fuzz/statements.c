@@ -71,7 +71,7 @@ int LLVMFuzzerTestOneInput(const uint8_t *bytes, size_t size)
         require(read.count == 1 && shown.status == DYNCOLLATE_REJECTED);
         snprintf(wanted, sizeof wanted, "dyncollate: line %zu: %.*s", read.numbers[0],
                  (int)read.size, (const char *)read.text);
-        require(begins(line, wanted));
+        require(begins(line, wanted) && shown.numbers[8] == read.numbers[0]);
     }
     drop(read);
     drop(shown);

@@ -6,13 +6,13 @@
 #![tactic(auto)]
 
 ghost use Rattle.std.specs.Prelude.{◌≡◌};
-ghost use Rattle.in_memory.specs.Prelude.{ℕ, [], IsUtf8, Option, ⊤, IsCut, OfCut, Over, OneRun};
+ghost use Rattle.in_memory.specs.Prelude.{[], IsUtf8, ⊤, IsCut, OfCut, Over, OneRun};
 ghost use Rattle.in_memory.specs.Prelude.{CollateRun, ProjectRun, EffectRun, OrderRun, ShowRun};
-ghost use Rattle.in_memory.specs.Prelude.{Puts, Replies, Tells, CommandError, IsLineOf, location};
+ghost use Rattle.in_memory.specs.Prelude.{Puts, Replies, Tells};
 
 use in_memory::{
-    Location, Outcome, collate_into, effect_into, locate, one_into, order_into, project_into,
-    show_into, statements_into,
+    Outcome, collate_into, effect_into, one_into, order_into, project_into, show_into,
+    statements_into,
 };
 use std::alloc::Global;
 
@@ -121,16 +121,6 @@ pub extern "C" fn dyncollate_statements(
     ensures { Puts ⊤ (Tells dyndep.now) numbers.old text.old numbers.new text.new result }
 {
     statements_into(alloc, dyndep, numbers, text)
-}
-
-/// Returns where the error of a line is that a command prints on standard error, and which error it
-/// is.
-#[unsafe(no_mangle)]
-pub extern "C" fn dyncollate_locate(line: &[u8]) -> Location
-    ensures { (target : Option ℕ) (error : CommandError) → IsLineOf target error line.now
-        → result ≡ location target error }
-{
-    locate(line)
 }
 
 /// Returns the version of the library: 10000 times the major version, 100 times the minor one, and

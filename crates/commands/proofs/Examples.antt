@@ -1,6 +1,6 @@
 -- The definitions on examples whose results are known.
 use Rattle.std.proofs.Common.{◌≡◌, ℕ, List, [], ◌∷◌, Some, None, true, false, length, codes, refl, Ok, Err}
-use Rattle.commands.specs.Prelude.{Error, error_kind, FilesOf, TargetFilesValue, FileCall, FileRead, reading, up_to, ListingRead, IsListingRead, ReadsAll, goes_on, stops, failed, document_most}
+use Rattle.commands.specs.Prelude.{Error, error_kind, FilesOf, TargetFilesValue, FileCall, FileRead, reading, up_to, ListingRead, IsListingRead, ReadsAll, goes_on, stops, failed, unlocated, document_most}
 use Rattle.scan_docs.specs.Target as document
 use Rattle.std.specs.declared.io.ErrorKind.TheVariants.{OutOfMemory}
 use Rattle.ninja_text.specs.declared.failure.Failure.TheVariants.{Fault}
@@ -57,7 +57,7 @@ in_order listing is =
 -- none is read after one that can't be
 one_unread : (error : Error) → (error_kind error ≡ OutOfMemory → ⊥) →
     FilesOf named (codes "k.info" ∷ []) (document_call (codes "a.ddi") (codes "A") ∷ reading (codes "k.info") (Err error) ∷ [])
-    (Err (Fault (failed 3 (codes "cannot read k.info"))))
+    (Err (Fault (failed 3 (unlocated (codes "cannot read k.info")))))
 one_unread error other =
     goes_on (codes "A" ∷ []) (document_call (codes "a.ddi") (codes "A") ∷ []) (reading (codes "k.info") (Err error) ∷ []) refl
     (one_read (codes "a.ddi") (codes "A"))

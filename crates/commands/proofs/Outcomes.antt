@@ -1,6 +1,8 @@
 -- What the parts of a run have led to, the calls that they make, and what their loops make.
 use Rattle.std.proofs.Common.{inl, ◌-◌, arith, codes, length-drop, zip, ◌≡◌, ◌∙◌, ℕ, ◌+◌, ◌<◌, List, [], ◌∷◌, ◌++◌, drop, length, get_or, suc, Option, Some, None, Result, Ok, Err, refl, ap, ap₂, sym, append_assoc, append-nil, add-one, drop-cons, ◌≤◌, map, take, slice_get, option_map, Vec, IfOk, IfErr, IsErr, IsErrAnd, Global}
-use Rattle.commands.specs.Prelude.{FileCall, Adds, MakesCalls, reading, up_to, AllocError, flat_map, Bytes, Text, ForFault, Gives, Failure, LineValue, Outcome, Part, InTurn, goes_on, stops, Done, Each, Returns, ReadsDocument, ReadsNext, read_before, Reports, Runs, ValueOf, document_most, failed, refusal, seen, IsStoppedWith, OrStops, ReportsPrinted}
+use Rattle.commands.specs.Prelude.{FileCall, Adds, MakesCalls, reading, up_to, AllocError, flat_map, Bytes, Text, ForFault, Gives, Failure, LineValue, Outcome, Part, InTurn, goes_on, stops, Done, Each, Returns, ReadsDocument, ReadsNext, read_before, Reports, Runs, ValueOf, document_most, failed, located, refusal, seen, IsStoppedWith, OrStops, ReportsPrinted, ErrorValue, if_in}
+use Rattle.commands.specs.declared.location.Document.{Document}
+use Rattle.commands.specs.declared.location.Location.{Location}
 use Rattle.std.proofs.lemmas.List.{drop_all, flat_map_more, map_push, take_all, take_more}
 use Rattle.std.proofs.lemmas.Option.{slice_get_within, get_or_from_slice_get, slice_get-get_or, slice_get-map}
 use Rattle.ninja_text.proofs.ForCallers.{take_next}
@@ -74,30 +76,33 @@ mapped_next f xs i x within is = ap (map f) (take_next xs i x (at_index xs i x w
 -- ---- parts that make no call
 
 -- the line of a run that stops with a message, if there was memory for it
-pub its_line : (number : ℕ) (text : Text) (message : Result (Vec ℕ Global) AllocError) (stop : Stop) →
-    IfOk message (λ m. m.items ≡ text) → IsStoppedWith number message stop → ForFault (λ l. l ≡ failed number text) stop
-its_line number text (Err refused) stop is h = rw h tt
-its_line number text (Ok message) stop is h = rw h (ap (failed number) is)
+pub its_line : (number : ℕ) (error : ErrorValue) (message : Result (Vec ℕ Global) AllocError) (at : Location) (stop : Stop) →
+    IfOk message (λ m. m.items ≡ error.text) → at ≡ error.at → IsStoppedWith number message at stop → ForFault (λ l. l ≡ failed number error) stop
+its_line number error (Err refused) at stop is there h = rw h tt
+its_line number error (Ok message) at stop is there h = rw h (ap₂ (λ text at. failed number (located text at)) is there)
 
--- a fault that is reported as it is printed
-pub by_print : {F : Type 0} (prefix : Text) (text : F → Text) (failure : Failure F) (stop : Stop) →
-    ReportsPrinted prefix (λ fault. Some (text fault)) failure stop → Reports (λ fault. prefix ++ text fault) failure stop
-by_print prefix text Memory stop h = h
-by_print prefix text (Fault fault) Memory h = tt
-by_print prefix text (Fault fault) (Fault stop) h = h (text fault) refl
+-- a fault that is reported as it is printed, after a prefix
+abbrev pub printed_error : {F : Type 0} → Text → Option Document → (F → Text) → (F → Location) → F → ErrorValue
+printed_error prefix document text location fault = located (prefix ++ text fault) (if_in document (location fault))
+
+pub by_print : {F : Type 0} (prefix : Text) (document : Option Document) (text : F → Text) (location : F → Location) (failure : Failure F) (stop : Stop) →
+    ReportsPrinted prefix document (λ fault. Some (text fault)) location failure stop → Reports (printed_error prefix document text location) failure stop
+by_print prefix document text location Memory stop h = h
+by_print prefix document text location (Fault fault) Memory h = tt
+by_print prefix document text location (Fault fault) (Fault stop) h = h (text fault) refl
 
 -- the message of a fault, if there was memory for it
-pub fault_reported : {V F : Type 0} (IsValue : V → Type 0) (IsFault : F → Type 0) (text : F → Text) (failure : Failure F) (stop : Stop) →
-    ForFault IsFault failure → Reports text failure stop → Returns IsValue IsFault text [] (Err stop)
-fault_reported IsValue IsFault text Memory Memory is h = refl
-fault_reported IsValue IsFault text Memory (Fault l) is h = absurd (let e : Fault l ≡ Memory = h in cc)
-fault_reported IsValue IsFault text (Fault fault) Memory is h = refl
-fault_reported IsValue IsFault text (Fault fault) (Fault l) is h = (refl, (fault, is, h))
+pub fault_reported : {V F : Type 0} (IsValue : V → Type 0) (IsFault : F → Type 0) (error : F → ErrorValue) (failure : Failure F) (stop : Stop) →
+    ForFault IsFault failure → Reports error failure stop → Returns IsValue IsFault error [] (Err stop)
+fault_reported IsValue IsFault error Memory Memory is h = refl
+fault_reported IsValue IsFault error Memory (Fault l) is h = absurd (let e : Fault l ≡ Memory = h in cc)
+fault_reported IsValue IsFault error (Fault fault) Memory is h = refl
+fault_reported IsValue IsFault error (Fault fault) (Fault l) is h = (refl, (fault, is, h))
 
-pub said : {V F : Type 0} (IsValue : V → Type 0) (IsFault : F → Type 0) (text : F → Text) (fault : F) (stop : Stop) →
-    IsFault fault → ForFault (λ l. l ≡ refusal (text fault)) stop → Returns IsValue IsFault text [] (Err stop)
-said IsValue IsFault text fault Memory is h = refl
-said IsValue IsFault text fault (Fault l) is h = (refl, (fault, is, h))
+pub said : {V F : Type 0} (IsValue : V → Type 0) (IsFault : F → Type 0) (error : F → ErrorValue) (fault : F) (stop : Stop) →
+    IsFault fault → ForFault (λ l. l ≡ refusal (error fault)) stop → Returns IsValue IsFault error [] (Err stop)
+said IsValue IsFault error fault Memory is h = refl
+said IsValue IsFault error fault (Fault l) is h = (refl, (fault, is, h))
 
 -- a failure that was there before
 own_fault : (V : Type 0) {F : Type 0} (failure : Failure F) → ForFault (λ (fault : F). ◌≡◌ {A = Result V (Failure F)} (Err failure) (Err (Fault fault))) failure
@@ -105,34 +110,36 @@ own_fault V Memory = tt
 own_fault V (Fault fault) = refl
 
 -- a result whose failure is reported as it is printed
-abbrev pub Printed : {V F : Type 0} → Text → (F → Text) → Result V (Failure F) → Outcome V → Type 0
-Printed prefix text = OrStops (ReportsPrinted prefix (λ fault. Some (text fault)))
+abbrev pub Printed : {V F : Type 0} → Text → Option Document → (F → Text) → (F → Location) → Result V (Failure F) → Outcome V → Type 0
+Printed prefix document text location = OrStops (ReportsPrinted prefix document (λ fault. Some (text fault)) location)
 
-pub or_printed : {V F : Type 0} (IsValue : V → Type 0) (IsFault : F → Type 0) (prefix : Text) (text : F → Text) (r : Result V (Failure F)) (s : Outcome V) →
-    IfOk r IsValue → IfErr r (ForFault IsFault) → Printed prefix text r s → Returns IsValue IsFault (λ fault. prefix ++ text fault) [] s
-or_printed IsValue IsFault prefix text (Ok value) s is none h = rw h (refl, is)
-or_printed IsValue IsFault prefix text (Err failure) (Ok value) none is h = absurd h
-or_printed IsValue IsFault prefix text (Err failure) (Err stop) none is h =
-    fault_reported IsValue IsFault (λ fault. prefix ++ text fault) failure stop is (by_print prefix text failure stop h)
+module _ {V F : Type 0} (prefix : Text) (document : Option Document) (text : F → Text) (location : F → Location) where
+  pub or_printed : (IsValue : V → Type 0) (IsFault : F → Type 0) (r : Result V (Failure F)) (s : Outcome V) → IfOk r IsValue →
+      IfErr r (ForFault IsFault) → Printed prefix document text location r s → Returns IsValue IsFault (printed_error prefix document text location) [] s
+  or_printed IsValue IsFault (Ok value) s is none h = rw h (refl, is)
+  or_printed IsValue IsFault (Err failure) (Ok value) none is h = absurd h
+  or_printed IsValue IsFault (Err failure) (Err stop) none is h =
+      fault_reported IsValue IsFault (printed_error prefix document text location) failure stop is (by_print prefix document text location failure stop h)
+
+  -- one of what can be made
+  pub or_unmade : {T : Type 0} (view : V → T) (r : Result V (Failure F)) (s : Outcome V) (meaning : Result T F) → Gives view r meaning →
+      Printed prefix document text location r s →
+      Returns (λ t. meaning ≡ Ok t) (λ fault. meaning ≡ Err fault) (printed_error prefix document text location) [] (seen view s)
+  or_unmade view (Ok value) s meaning is h = rw h (refl, is)
+  or_unmade view (Err failure) (Ok value) meaning is h = absurd h
+  or_unmade view (Err Memory) (Err stop) meaning is h = fault_reported (λ t. meaning ≡ Ok t) (λ fault. meaning ≡ Err fault)
+      (printed_error prefix document text location) Memory stop tt h
+  or_unmade view (Err (Fault fault)) (Err stop) meaning is h = fault_reported (λ t. meaning ≡ Ok t) (λ fault. meaning ≡ Err fault)
+      (printed_error prefix document text location) (Fault fault) stop is (by_print prefix document text location (Fault fault) stop h)
 
 -- one that was there before
-pub held : {V F : Type 0} (text : F → Text) (r : Result V (Failure F)) (s : Outcome V) → Printed [] text r s → ValueOf text r [] s
-held text (Ok value) s h = rw h (refl, refl)
-held {V = V} text (Err failure) (Err stop) h =
-    fault_reported (λ (value : V). Err failure ≡ Ok value) (λ fault. Err failure ≡ Err (Fault fault)) text failure stop (own_fault V failure)
-    (by_print [] text failure stop h)
-held text (Err failure) (Ok value) h = absurd h
-
--- one of what can be made
-pub or_unmade : {T V F : Type 0} (view : T → V) (prefix : Text) (text : F → Text) (r : Result T (Failure F)) (s : Outcome T) (meaning : Result V F) →
-    Gives view r meaning → Printed prefix text r s →
-    Returns (λ t. meaning ≡ Ok t) (λ fault. meaning ≡ Err fault) (λ fault. prefix ++ text fault) [] (seen view s)
-or_unmade view prefix text (Ok value) s meaning is h = rw h (refl, is)
-or_unmade view prefix text (Err failure) (Ok value) meaning is h = absurd h
-or_unmade view prefix text (Err Memory) (Err stop) meaning is h = fault_reported (λ t. meaning ≡ Ok t) (λ fault. meaning ≡ Err fault)
-    (λ fault. prefix ++ text fault) Memory stop tt h
-or_unmade view prefix text (Err (Fault fault)) (Err stop) meaning is h = fault_reported (λ t. meaning ≡ Ok t) (λ fault. meaning ≡ Err fault)
-    (λ fault. prefix ++ text fault) (Fault fault) stop is (by_print prefix text (Fault fault) stop h)
+pub held : {V F : Type 0} (text : F → Text) (location : F → Location) (r : Result V (Failure F)) (s : Outcome V) → Printed [] None text location r s →
+    ValueOf (printed_error [] None text location) r [] s
+held text location (Ok value) s h = rw h (refl, refl)
+held {V = V} text location (Err failure) (Err stop) h =
+    fault_reported (λ (value : V). Err failure ≡ Ok value) (λ fault. Err failure ≡ Err (Fault fault)) (printed_error [] None text location) failure stop
+    (own_fault V failure) (by_print [] None text location failure stop h)
+held text location (Err failure) (Ok value) h = absurd h
 
 -- ---- parts in turn
 

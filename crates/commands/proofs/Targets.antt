@@ -2,7 +2,7 @@
 use Rattle.std.specs.Option.{option_or, option_and_then}
 use Rattle.std.specs.declared.rc.Rc.{Rc}
 use Rattle.std.proofs.Common.{◌⊎◌, slice_set, replicate, subst, zero, if◌then◌else◌, ◌≡◌, ◌∙◌, ℕ, suc, List, [], ◌∷◌, ◌++◌, map, zip, Bool, Option, Result, Ok, Err, refl, ap, sym, arith, ◌<◌, inl, inr, true, false, cond, length, Some, None, ap₂, bytes_eq, ◌+◌, take, get_or, append-nil, All, IsUtf8, Vec, OnOk, slice_get, option_map, Global}
-use Rattle.commands.specs.Prelude.{AllZip, SettingValue, IsRule, RuleValue, rules_of, info_of, Written, TargetValue, CollatedValue, all_rules, table_of, IsScanAccepted, Collates, file_value, map_name, output_file, map_files, files_of, FileValue, LineValue, Outcome, Reports, Part, seen, ForFault, Failure, InfoValue, TableValue, table_with, IsRefusal, WasRead, Refusal, RefusedTarget, refusal_by_names, refusal_text, TargetOf, refusal_line, refused_line, ReadTargetValue, index_or_head, last_with, LinksTo, At, IsTargetOutcome, project_target, names_at, all_files, LinkEarlier, IsReportable, DyndepFileValue, HasOrderAfter, EdgeValue, HasEffect, IsFileOf, Passes, PassesAt, ArePassed, AllEdgesPass, EdgesPass, goes_on, stops, ListingRead, HasKnownList, ListsAgree, list_named, list_value, list_with, option_map_or, target_of, CollatesProject, IsProjectRefusal, WasReadAt}
+use Rattle.commands.specs.Prelude.{AllZip, SettingValue, IsRule, RuleValue, rules_of, info_of, Written, TargetValue, CollatedValue, all_rules, table_of, IsScanAccepted, Collates, file_value, map_name, output_file, map_files, files_of, FileValue, LineValue, Outcome, Reports, Part, seen, ForFault, Failure, InfoValue, TableValue, table_with, IsRefusal, WasRead, Refusal, RefusedTarget, refusal_by_names, refusal_error, refusal_location, located, TargetOf, refusal_line, refused_error, ReadTargetValue, index_or_head, last_with, LinksTo, At, IsTargetOutcome, project_target, names_at, all_files, LinkEarlier, IsReportable, DyndepFileValue, HasOrderAfter, EdgeValue, HasEffect, IsFileOf, Passes, PassesAt, ArePassed, AllEdgesPass, EdgesPass, goes_on, stops, ListingRead, HasKnownList, ListsAgree, list_named, list_value, list_with, option_map_or, target_of, CollatesProject, IsProjectRefusal, WasReadAt}
 use Rattle.std.proofs.lemmas.Slice.Eq.{bytes_eq-Decides}
 use Rattle.std.proofs.lemmas.List.{map-append, take_more, length-map, map_push}
 use Rattle.std.proofs.lemmas.List.Elements.{All-nil, All-cons, All-append, All-map}
@@ -82,7 +82,7 @@ names_line target LinkedLater read names h = refl
 
 -- and info files have the names that are in the info documents
 infos_line : (target : TargetValue) (refusal : Refusal) (read : TableValue) → WasRead target refusal read →
-    refusal_line read.objects (map (λ (i : InfoValue). i.target) read.infos) refusal ≡ refusal_text target refusal
+    refusal_line read.objects (map (λ (i : InfoValue). i.target) read.infos) refusal ≡ (refusal_error target refusal).text
 infos_line target (Scan i f) read h = refl
 infos_line target (Info i f) read h = refl
 infos_line target (Table (ObjectTwice path first second)) read h = refl
@@ -98,12 +98,12 @@ infos_line target LinkedLater read h = refl
 pub target_rejected : (target : TargetValue) (style : Option Written) (failure : Failure RefusedTarget) (stop : Failure LineValue) →
     ForFault (λ (r : RefusedTarget). IsRefusal target style r.refusal) failure →
     ForFault (λ (r : RefusedTarget). WasRead target r.refusal (table_with r.objects.items r.infos.items)) failure →
-    Reports refused_line failure stop → TargetOf target style [] (Err stop)
+    Reports refused_error failure stop → TargetOf target style [] (Err stop)
 target_rejected target style Memory Memory is read h = refl
 target_rejected target style Memory (Fault l) is read h = absurd (let e : Fault l ≡ Memory = h in cc)
 target_rejected target style (Fault r) Memory is read h = refl
 target_rejected target style (Fault r) (Fault l) is read h =
-    (refl, (r.refusal, is, h ∙ ap outcomes.refusal (infos_line target r.refusal (table_with r.objects.items r.infos.items) read)))
+    (refl, (r.refusal, is, h ∙ ap (λ text. outcomes.refusal (located text (refusal_location r.refusal))) (infos_line target r.refusal (table_with r.objects.items r.infos.items) read)))
 
 -- ---- the last target with an info
 

@@ -1,5 +1,5 @@
 -- What a run returns as a value: its exit status, its two texts, and the files to be written.
-use Rattle.std.specs.Prelude.{◌≡◌, ⊤, ℕ, ◌||◌, ◌==◌, nat_lt, if◌then◌else◌, [], ◌∷◌, ◌++◌, map, Result, Ok, Err, string_bytes, codes}
+use Rattle.std.specs.Prelude.{◌≡◌, ⊤, ℕ, ◌||◌, ◌==◌, nat_lt, if◌then◌else◌, [], ◌∷◌, ◌++◌, map, Some, None, Result, Ok, Err, string_bytes, codes}
 use Rattle.std.specs.declared.alloc.AllocError.{AllocError}
 use Rattle.ninja_text.specs.Bytes.{Text, line_feed, space, question_mark, delete}
 use Rattle.ninja_text.specs.declared.failure.Failure.TheVariants.{Memory, Fault}
@@ -25,13 +25,15 @@ pub record IsDone (output : OutputValue) (answer : Answer) : Type 0 where
   pub status : answer.status ≡ 0
   pub out : answer.out.items ≡ output.text
   pub err : answer.err.items ≡ []
+  pub at : answer.at ≡ None
   pub files : map file_value answer.files.items ≡ output.files
 
--- The run failed: its status, one line on standard error, and nothing else.
+-- The run failed: its status, one line on standard error, the error's location, and nothing else.
 pub record IsStopped (stop : LineValue) (answer : Answer) : Type 0 where
   pub status : answer.status ≡ stop.status
   pub out : answer.out.items ≡ []
   pub err : answer.err.items ≡ line stop.message
+  pub at : answer.at ≡ Some stop.at
   pub files : answer.files.items ≡ []
 
 -- what a run returns that has led to this, unless memory runs out

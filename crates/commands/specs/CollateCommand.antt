@@ -15,8 +15,10 @@ use Rattle.module_maps.specs.ClangMaps.{clang_written}
 use Rattle.collate_core.specs.Values.{TargetValue, CollatedValue}
 use Rattle.commands.specs.EdgeChecks.{EdgesPass}
 use Rattle.commands.specs.Files.{TargetFilesValue, FilesOf}
-use Rattle.commands.specs.Outcomes.{Part, FileValue, OutputValue, Returns, Writes, ◌>>=◌}
+use Rattle.commands.specs.Locations.{doc_location, in_document}
+use Rattle.commands.specs.Outcomes.{Part, ErrorValue, FileValue, OutputValue, Returns, Writes, located, ◌>>=◌}
 use Rattle.commands.specs.Targets.{TargetOf}
+use Rattle.commands.specs.declared.location.Document.TheVariants as file
 
 -- ---- the target of a document
 
@@ -24,13 +26,14 @@ use Rattle.commands.specs.Targets.{TargetOf}
 abbrev pub HasSpec : Bytes → document.TargetDocumentValue → Type 0
 HasSpec bytes spec = IsAccepted target_checks IsTarget bytes spec
 
--- what is reported of a rejected target document
-abbrev pub spec_text : DocFault → Text
-spec_text fault = codes "target: " ++ doc_fault_text fault
+-- the error of a rejected target document
+abbrev pub spec_error : DocFault → ErrorValue
+spec_error fault =
+    located (codes "target: " ++ doc_fault_text fault) (in_document file.Target (doc_location fault))
 
 -- the members of a target document
 abbrev pub SpecOf : Bytes → Part document.TargetDocumentValue
-SpecOf bytes = Returns (HasSpec bytes) (IsRefused target_checks bytes) spec_text
+SpecOf bytes = Returns (HasSpec bytes) (IsRefused target_checks bytes) spec_error
 
 -- the target of a target document, and of the files that it names
 abbrev pub target_with : document.TargetDocumentValue → TargetFilesValue → TargetValue

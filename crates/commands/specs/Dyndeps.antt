@@ -8,7 +8,8 @@ use Rattle.dyndep_file.specs.Reading.{StandsFor}
 use Rattle.dyndep_file.specs.FaultTexts.{read_fault_text}
 use Rattle.dyndep_file.specs.declared.fault.ReadFault.{ReadFault}
 use Rattle.commands.specs.Folder.{FileRead}
-use Rattle.commands.specs.Outcomes.{Part, IsResultOf, ReadsAs, ValueOf}
+use Rattle.commands.specs.Locations.{read_location}
+use Rattle.commands.specs.Outcomes.{ErrorValue, Part, IsResultOf, ReadsAs, ValueOf, located}
 
 -- the result of reading a dyndep file
 abbrev pub DyndepRead : Type 0
@@ -22,6 +23,10 @@ IsDyndepRead = IsResultOf StandsFor IsReadFaultIn IsReadFaultOf
 abbrev pub ReadsDyndep : PathText → Part DyndepRead
 ReadsDyndep = ReadsAs IsDyndepRead
 
+-- why a dyndep file can't be read
+abbrev pub read_error : ReadFault → ErrorValue
+read_error fault = located (read_fault_text fault) (read_location fault)
+
 -- the statements of a dyndep file that was read
 abbrev pub DyndepOf : DyndepRead → Part (List StatementValue)
-DyndepOf = ValueOf read_fault_text
+DyndepOf = ValueOf read_error

@@ -8,14 +8,14 @@ use Rattle.dep_order.specs.declared.Sorting.TheVariants.{Cycle}
 use Rattle.build_effect.specs.EdgeValue.{EdgeValue}
 use Rattle.build_effect.specs.Graphs.{EdgeNeeds}
 use Rattle.collate_core.specs.Rehearsal.{HasEffect, LacksEffect}
-use Rattle.commands.specs.EdgeFaults.{effect_text, cycle_text}
+use Rattle.commands.specs.EdgeFaults.{effect_error, cycle_error}
 use Rattle.commands.specs.Listings.{ListingRead, ListingOf}
 use Rattle.commands.specs.Outcomes.{Part, Returns, Done, ◌>>=◌}
 
 -- the edges after the effect of a dyndep text, which is the text of the file of this name
 abbrev pub TextEffectOf : Text → PathText → List EdgeValue → Part (List EdgeValue)
 TextEffectOf dyndep name old =
-    Returns (HasEffect dyndep name old) (LacksEffect dyndep name old) effect_text
+    Returns (HasEffect dyndep name old) (LacksEffect dyndep name old) effect_error
 
 -- these edges can be put in order, or this is their least cycle, named by the outputs of the old
 -- edges
@@ -23,7 +23,7 @@ abbrev pub OrderableOf : List EdgeValue → List EdgeValue → Part (Unit {0})
 OrderableOf old new =
     Returns (λ (done : Unit {0}). IsOrderable (length new) (EdgeNeeds new))
     (λ (cycle : Vec ℕ Global). IsSortingOf (length new) (EdgeNeeds new) (Cycle cycle))
-    (λ cycle. cycle_text old cycle.items)
+    (λ cycle. cycle_error old cycle.items)
 
 -- these edges can be ordered after the effect of a dyndep text, which is the text of the file of
 -- this name

@@ -8,7 +8,7 @@ use Rattle.build_effect.specs.Effect.{OnlyEffect}
 use Rattle.build_effect.specs.ListingWriting.{listing_text_or_fault}
 use Rattle.collate_core.specs.Rehearsal.{IsWithoutEffect}
 use Rattle.commands.specs.Dyndeps.{DyndepRead, IsDyndepRead, DyndepOf}
-use Rattle.commands.specs.EdgeFaults.{name_fault_text, listing_write_text, effect_text}
+use Rattle.commands.specs.EdgeFaults.{name_error, listing_write_error, effect_error}
 use Rattle.commands.specs.Folder.{whole}
 use Rattle.commands.specs.Listings.{ListingRead, IsListingRead, ListingOf}
 use Rattle.commands.specs.Outcomes.{Part, OutputValue, Comes, Returns, Prints, ◌>>=◌}
@@ -17,19 +17,19 @@ use Rattle.commands.specs.Outcomes.{Part, OutputValue, Comes, Returns, Prints, �
 abbrev pub NameOf : Text → Part PathText
 NameOf name =
     Returns (λ path. path_of name ≡ Ok path) (λ fault. path_of name ≡ Err fault)
-    name_fault_text
+    name_error
 
 -- the edges after the effect of the dyndep file of that name
 abbrev pub EffectOf : List EdgeValue → PathText → List StatementValue → Part (List EdgeValue)
 EffectOf edges name statements =
-    Returns (OnlyEffect edges name statements) (IsWithoutEffect edges name statements) effect_text
+    Returns (OnlyEffect edges name statements) (IsWithoutEffect edges name statements) effect_error
 
 -- the edge list of these edges, or the first of them whose line is too long
 abbrev pub ListingTextOf : List EdgeValue → Part Text
 ListingTextOf edges =
     Returns (λ text. listing_text_or_fault edges ≡ Ok text)
     (λ fault. listing_text_or_fault edges ≡ Err fault)
-    (listing_write_text edges)
+    (listing_write_error edges)
 
 -- What a run prints for a name, and for an edge list and the dyndep file of that name that were
 -- read.

@@ -6,7 +6,7 @@ use Rattle.ninja_text.specs.Failure.{ForFault}
 use Rattle.scan_docs.specs.Target as document
 use Rattle.commands.specs.Folder.{FileCall, comparing, writing}
 use Rattle.commands.specs.Listings.{ListingRead, ReadsListing}
-use Rattle.commands.specs.Outcomes.{Part, Each, FileValue, ReadsAll, ReadsIfNamed, Done, failed, ◌>>=◌}
+use Rattle.commands.specs.Outcomes.{Part, Each, FileValue, ReadsAll, ReadsIfNamed, Done, failed, unlocated, ◌>>=◌}
 
 -- ---- files that are read
 
@@ -43,7 +43,7 @@ WritesFile file calls (Ok done) =
     ⊎ (calls ≡ writes file (Ok tt))
 WritesFile file calls (Err stop) =
     ((error : Error) × (calls ≡ writes file (Err error)))
-    × ForFault (λ l. l ≡ failed 3 (codes "cannot write " ++ file.name)) stop
+    × ForFault (λ l. l ≡ failed 3 (unlocated (codes "cannot write " ++ file.name))) stop
 
 -- a part that gives these files their bytes, one after another
 abbrev pub WritesFiles : List FileValue → Part (Unit {0})

@@ -7,6 +7,7 @@ pub mod Effect
 pub mod Files
 pub mod Folder
 pub mod Listings
+pub mod Locations
 pub mod One
 pub mod Order
 pub mod Outcomes

@@ -8,7 +8,7 @@ use Rattle.build_effect.specs.ListingReaders.{IsListingFaultIn, IsListingFault}
 use Rattle.build_effect.specs.ListingReading.{Lists}
 use Rattle.build_effect.specs.declared.fault.ListFault.{ListFault}
 use Rattle.build_effect.specs.declared.fault.ListFault.TheVariants.{AtLine, NoGraph}
-use Rattle.commands.specs.EdgeFaults.{edges_fault_text}
+use Rattle.commands.specs.EdgeFaults.{edges_error}
 use Rattle.commands.specs.Folder.{FileRead}
 use Rattle.commands.specs.Outcomes.{Part, IsResultOf, ReadsAs, ValueOf}
 
@@ -35,4 +35,4 @@ ReadsListing = ReadsAs IsListingRead
 
 -- the edges of the graph of an edge list that was read
 abbrev pub ListingOf : ListingRead → Part (List EdgeValue)
-ListingOf = ValueOf edges_fault_text
+ListingOf = ValueOf edges_error

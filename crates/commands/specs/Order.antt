@@ -9,7 +9,7 @@ use Rattle.dep_order.specs.declared.Sorting.TheVariants.{Order, Cycle}
 use Rattle.build_effect.specs.EdgeValue.{EdgeValue}
 use Rattle.build_effect.specs.Graphs.{EdgeNeeds}
 use Rattle.commands.specs.Answers.{visible}
-use Rattle.commands.specs.EdgeFaults.{first_output, cycle_text}
+use Rattle.commands.specs.EdgeFaults.{first_output, cycle_error}
 use Rattle.commands.specs.Folder.{whole}
 use Rattle.commands.specs.Listings.{ListingRead, IsListingRead, ListingOf}
 use Rattle.commands.specs.Outcomes.{Part, OutputValue, Comes, Returns, printed, ◌>>=◌}
@@ -30,7 +30,7 @@ abbrev pub OrderOf : List EdgeValue → Part OutputValue
 OrderOf edges =
     Returns (PrintsOrder edges)
     (λ (cycle : Vec ℕ Global). IsSortingOf (length edges) (EdgeNeeds edges) (Cycle cycle))
-    (λ cycle. cycle_text edges cycle.items)
+    (λ cycle. cycle_error edges cycle.items)
 
 -- What a run prints for an edge list that was read.
 abbrev pub OrderOfRead : ListingRead → Part OutputValue

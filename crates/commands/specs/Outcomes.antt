@@ -8,6 +8,8 @@ use Rattle.ninja_text.specs.Bytes.{Bytes, Text, PathText}
 use Rattle.ninja_text.specs.declared.failure.Failure.{Failure}
 use Rattle.ninja_text.specs.declared.failure.Failure.TheVariants.{Memory, Fault}
 use Rattle.commands.specs.Folder.{FileCall, FileRead, reading, up_to, MakesCalls}
+use Rattle.commands.specs.Locations.{nowhere}
+use Rattle.commands.specs.declared.location.Location.{Location}
 
 -- a file: its name, its bytes, and whether it is left alone if it has them already
 pub record FileValue : Type 0 where
@@ -15,10 +17,16 @@ pub record FileValue : Type 0 where
   pub bytes : Bytes
   pub keeps : Bool
 
--- the exit status of a run that fails, and the message that says why
+-- an error: what is reported, and its location
+pub record ErrorValue : Type 0 where
+  pub text : Text
+  pub at : Location
+
+-- the exit status of a run that fails, the message that says why, and the error's location
 pub record LineValue : Type 0 where
   pub status : ℕ
   pub message : Text
+  pub at : Location
 
 -- what a run that succeeds leaves: its text for standard output, and the files to be written
 pub record OutputValue : Type 0 where
@@ -55,20 +63,27 @@ Runs old new Holds outcome = MakesCalls old new (λ calls. Holds calls outcome)
 
 -- ---- parts that make no call
 
--- a run that fails with this status and message, and one that is rejected
-abbrev pub failed : ℕ → Text → LineValue
-failed number message = record { status = number; message = message }
+-- an error with this text that is there, and one that is nowhere
+abbrev pub located : Text → Location → ErrorValue
+located text at = record { text = text; at = at }
 
-abbrev pub refusal : Text → LineValue
-refusal message = failed 1 message
+abbrev pub unlocated : Text → ErrorValue
+unlocated text = located text nowhere
 
--- A part that makes no call: its value is one of these, or the message of a fault stops the run,
+-- a run that fails with this status at an error, and one that is rejected
+abbrev pub failed : ℕ → ErrorValue → LineValue
+failed number error = record { status = number; message = error.text; at = error.at }
+
+abbrev pub refusal : ErrorValue → LineValue
+refusal error = failed 1 error
+
+-- A part that makes no call: its value is one of these, or the error of a fault stops the run,
 -- or memory runs out.
-abbrev pub Returns : {V F : Type 0} → (V → Type 0) → (F → Type 0) → (F → Text) → Part V
-Returns IsValue IsFault text calls (Ok value) = (calls ≡ []) × IsValue value
-Returns IsValue IsFault text calls (Err Memory) = calls ≡ []
-Returns {V} {F} IsValue IsFault text calls (Err (Fault stop)) =
-    (calls ≡ []) × ((fault : F) × IsFault fault × (stop ≡ refusal (text fault)))
+abbrev pub Returns : {V F : Type 0} → (V → Type 0) → (F → Type 0) → (F → ErrorValue) → Part V
+Returns IsValue IsFault error calls (Ok value) = (calls ≡ []) × IsValue value
+Returns IsValue IsFault error calls (Err Memory) = calls ≡ []
+Returns {V} {F} IsValue IsFault error calls (Err (Fault stop)) =
+    (calls ≡ []) × ((fault : F) × IsFault fault × (stop ≡ refusal (error fault)))
 
 -- a part that makes no call, and has a value of which this holds
 abbrev pub Comes : {V : Type 0} → (V → Type 0) → Part V
@@ -77,7 +92,7 @@ Comes Holds calls (Err stop) = ⊥
 
 -- a part that makes no call and has this value, unless memory runs out
 abbrev pub Done : {V : Type 0} → V → Part V
-Done value = Returns (λ other. other ≡ value) (λ (none : ⊥). ⊥) (λ none. [])
+Done value = Returns (λ other. other ≡ value) (λ (none : ⊥). ⊥) (λ none. unlocated [])
 
 -- what a run leaves that prints this text, and nothing else
 abbrev pub printed : Text → OutputValue
@@ -114,7 +129,7 @@ IsUnread name calls Memory =
 IsUnread name calls (Fault stop) =
     ((error : Error) × (calls ≡ reading name (Err error) ∷ [])
     × (error_kind error ≡ OutOfMemory → ⊥))
-    × (stop ≡ failed 3 (codes "cannot read " ++ name))
+    × (stop ≡ failed 3 (unlocated (codes "cannot read " ++ name)))
 
 -- how many bytes of a document are read at most: one more than the longest document has
 abbrev pub document_most : ℕ
@@ -142,9 +157,9 @@ IsResultOf Means IsFaultIn IsFaultOf file (Err Memory) = ⊤
 IsResultOf Means IsFaultIn IsFaultOf file (Err (Fault fault)) =
     IsFaultIn file.bytes fault ⊎ ((file.ended ≡ true) × IsFaultOf file.bytes fault)
 
--- the value of a file that was read, or the message of its fault
-abbrev pub ValueOf : {V F : Type 0} → (F → Text) → Result V (Failure F) → Part V
-ValueOf text read = Returns (λ value. read ≡ Ok value) (λ fault. read ≡ Err (Fault fault)) text
+-- the value of a file that was read, or the error of its fault
+abbrev pub ValueOf : {V F : Type 0} → (F → ErrorValue) → Result V (Failure F) → Part V
+ValueOf error read = Returns (λ value. read ≡ Ok value) (λ fault. read ≡ Err (Fault fault)) error
 
 -- a value that is known already, or a part that reads it
 abbrev pub UnlessKnown : {V : Type 0} → Option V → Part V → Part V
@@ -180,8 +195,9 @@ abbrev pub seen : {T V : Type 0} → (T → V) → Outcome T → Outcome V
 seen view (Ok value) = Ok (view value)
 seen view (Err stop) = Err stop
 
--- why the run stops at a failure: memory, or the message of the fault, if there was memory for it
-abbrev pub Reports : {F : Type 0} → (F → Text) → Failure F → Failure LineValue → Type 0
-Reports text Memory stop = stop ≡ Memory
-Reports text (Fault fault) Memory = ⊤
-Reports text (Fault fault) (Fault stop) = stop ≡ refusal (text fault)
+-- why the run stops at a failure: memory, or the error of the fault, if there was memory for its
+-- message
+abbrev pub Reports : {F : Type 0} → (F → ErrorValue) → Failure F → Failure LineValue → Type 0
+Reports error Memory stop = stop ≡ Memory
+Reports error (Fault fault) Memory = ⊤
+Reports error (Fault fault) (Fault stop) = stop ≡ refusal (error fault)

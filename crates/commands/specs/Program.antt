@@ -13,7 +13,7 @@ use Rattle.command_line.specs.Tasks.{TaskValue, task_in}
 use Rattle.commands.specs.Answers.{IsAnswered}
 use Rattle.commands.specs.Files.{WritesFiles}
 use Rattle.commands.specs.Folder.{FileCall}
-use Rattle.commands.specs.Outcomes.{Part, Outcome, OutputValue, Comes, Runs, failed, ◌>>=◌}
+use Rattle.commands.specs.Outcomes.{Part, Outcome, OutputValue, Comes, Runs, failed, unlocated, ◌>>=◌}
 use Rattle.commands.specs.Printing.{IsPrinted, IsUnprinted}
 use Rattle.commands.specs.Runs.{TaskRun}
 use Rattle.commands.specs.declared.answer.Answer.{Answer}
@@ -37,7 +37,7 @@ abbrev pub ArgumentsOf : Words → Part TaskValue
 ArgumentsOf words calls (Ok task) = (calls ≡ []) × AreTask words (Some task)
 ArgumentsOf words calls (Err Memory) = calls ≡ []
 ArgumentsOf words calls (Err (Fault stop)) =
-    (calls ≡ []) × AreTask words None × (stop ≡ failed 2 (codes "usage"))
+    (calls ≡ []) × AreTask words None × (stop ≡ failed 2 (unlocated (codes "usage")))
 
 -- What a run reads and writes for the arguments.
 abbrev pub ArgumentsRun : Words → Part OutputValue

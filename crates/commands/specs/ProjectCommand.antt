@@ -20,11 +20,13 @@ use Rattle.scan_docs.specs.declared.member.Member.TheVariants.{Map}
 use Rattle.collate_core.specs.Values.{CollatedValue, ProjectTargetValue}
 use Rattle.collate_core.specs.Projects.{CollatesProject, IsProjectRefusal}
 use Rattle.collate_core.specs.declared.fault.Refusal.{Refusal}
-use Rattle.commands.specs.CollateCommand.{SpecOf, style_of, files_of, spec_text}
+use Rattle.commands.specs.CollateCommand.{SpecOf, style_of, files_of, spec_error}
 use Rattle.commands.specs.EdgeChecks.{EdgesPass}
 use Rattle.commands.specs.Listings.{ListingRead, ReadsListing}
-use Rattle.commands.specs.Outcomes.{Part, Outcome, OutputValue, LineValue, FileValue, Each, Returns, Done, ReadsDocument, ReadsAll, ReadsIfNamed, UnlessKnown, Writes, failed, ◌>>=◌}
-use Rattle.commands.specs.RefusalTexts.{refusal_by_names}
+use Rattle.commands.specs.Locations.{K, doc_location, in_document, in_target}
+use Rattle.commands.specs.Outcomes.{Part, Outcome, OutputValue, ErrorValue, LineValue, FileValue, Each, Returns, Done, ReadsDocument, ReadsAll, ReadsIfNamed, UnlessKnown, Writes, failed, located, ◌>>=◌}
+use Rattle.commands.specs.RefusalTexts.{error_by_names}
+use Rattle.commands.specs.declared.location.Document.TheVariants as file
 
 -- ---- a part of a run about one target
 
@@ -32,13 +34,17 @@ use Rattle.commands.specs.RefusalTexts.{refusal_by_names}
 abbrev pub target_text : ℕ → Text → Text
 target_text index text = codes "target " ++ decimal index ++ codes ": " ++ text
 
+-- the error of the target of this index
+abbrev pub target_error : ℕ → ErrorValue → ErrorValue
+target_error index error = located (target_text index error.text) (in_target index error.at)
+
 -- why a run stops at the target of this index: as a run of that target alone does, with the target
 -- named in the message, unless memory runs out
 abbrev pub IsTargetStop : ℕ → Failure LineValue → Failure LineValue → Type 0
 IsTargetStop index stop Memory = ⊤
 IsTargetStop index Memory (Fault line) = ⊥
 IsTargetStop index (Fault own) (Fault line) =
-    line ≡ failed own.status (target_text index own.message)
+    line ≡ failed own.status (target_error index (located own.message own.at))
 
 -- what a part about the target of this index has led to, by what it leads to for that target alone
 abbrev pub IsTargetOutcome : {V : Type 0} → ℕ → Outcome V → Outcome V → Type 0
@@ -92,7 +98,7 @@ abbrev pub FormOf : List ReadTargetValue → document.TargetDocumentValue → Pa
 FormOf earlier spec =
     Returns (λ (done : Unit {0}). HasFormOf earlier spec)
     (λ fault. (HasFormOf earlier spec → ⊥) × (fault ≡ BadShape Document Map))
-    spec_text
+    spec_error
 
 -- each of these info files is the info file of a target, and these are the indexes of the last such
 -- targets
@@ -105,11 +111,15 @@ LinksLater earlier infos =
     (index : ℕ) × (info : PathText) × (slice_get infos index ≡ Some info)
     × (last_with earlier info ≡ None)
 
+-- a target links one that is not earlier
+abbrev pub linked_later : ErrorValue
+linked_later = located (codes "K3 LinkedLater") (K 3)
+
 -- the indexes of the earlier targets that have these info files, or K3
 abbrev pub LinksOf : List ReadTargetValue → List PathText → Part Numbers
 LinksOf earlier infos =
     Returns (LinksTo earlier infos) (λ (fault : Unit {0}). LinksLater earlier infos)
-    (λ fault. codes "K3 LinkedLater")
+    (λ fault. linked_later)
 
 -- The edge list of this name, after earlier targets: it is read once, for all that name it.
 abbrev pub ListAfter : List ReadTargetValue → PathText → Part ListingRead
@@ -170,18 +180,18 @@ IsRejectedAt targets at =
     (slice_get targets at.index ≡ Some at.target)
     × IsProjectRefusal (style_of (form_of targets)) (map project_target targets) at.index at.refusal
 
--- what is reported of it
-abbrev pub rejected_text : List ReadTargetValue → RejectedAt → Text
-rejected_text targets at =
-    target_text at.index
-    (refusal_by_names at.target.spec.setting at.target.scans (names_at targets at.target.linked)
+-- its error
+abbrev pub rejected_error : List ReadTargetValue → RejectedAt → ErrorValue
+rejected_error targets at =
+    target_error at.index
+    (error_by_names at.target.spec.setting at.target.scans (names_at targets at.target.linked)
     at.refusal)
 
 -- what the targets of a project collate to
 abbrev pub ProjectOf : List ReadTargetValue → Part (List CollatedValue)
 ProjectOf targets =
     Returns (CollatesProject (style_of (form_of targets)) (map project_target targets))
-    (IsRejectedAt targets) (rejected_text targets)
+    (IsRejectedAt targets) (rejected_error targets)
 
 -- the edges that each of these targets names, if any, can be put in order after its own dyndep
 -- file; the first target has this index
@@ -201,13 +211,15 @@ all_files pairs = flat_map (λ pair. files_of pair.0.spec pair.1) pairs
 abbrev pub HasProject : Bytes → ProjectValue → Type 0
 HasProject bytes project = IsAccepted project_checks IsProject bytes project
 
--- what is reported of a rejected project document
-abbrev pub project_text : DocFault → Text
-project_text fault = codes "project: " ++ doc_fault_text fault
+-- the error of a rejected project document
+abbrev pub project_error : DocFault → ErrorValue
+project_error fault =
+    located (codes "project: " ++ doc_fault_text fault)
+    (in_document file.Project (doc_location fault))
 
 -- the members of a project document
 abbrev pub ProjectDocumentOf : Bytes → Part ProjectValue
-ProjectDocumentOf bytes = Returns (HasProject bytes) (IsRefused project_checks bytes) project_text
+ProjectDocumentOf bytes = Returns (HasProject bytes) (IsRefused project_checks bytes) project_error
 
 -- What a run reads and leaves for these bytes of a project document. It reads no file of a rejected
 -- one.

@@ -15,6 +15,8 @@ use Rattle.collate_core.specs.Values.{TargetValue}
 use Rattle.collate_core.specs.Documents.{all_rules}
 use Rattle.collate_core.specs.declared.fault.Refusal.{Refusal}
 use Rattle.collate_core.specs.declared.fault.Refusal.TheVariants.{Scan, Info, Table, StatementTooLong, Map, LinkedLater}
+use Rattle.commands.specs.Locations.{refusal_location}
+use Rattle.commands.specs.Outcomes.{ErrorValue, located}
 use Rattle.commands.specs.TableFaults.{object_path, fault_text}
 
 -- a faulty document, by its kind and its index
@@ -40,7 +42,11 @@ refusal_by_names setting scans names (Map object fault) =
     map_text (all_rules setting scans) object fault
 refusal_by_names setting scans names LinkedLater = codes "K3 LinkedLater"
 
+abbrev pub error_by_names : SettingValue → List Text → List Name → Refusal → ErrorValue
+error_by_names setting scans names refusal =
+    located (refusal_by_names setting scans names refusal) (refusal_location refusal)
+
 -- Why a target is rejected. Info files are named by the names in them.
-abbrev pub refusal_text : TargetValue → Refusal → Text
-refusal_text target refusal = refusal_by_names target.setting target.scans
+abbrev pub refusal_error : TargetValue → Refusal → ErrorValue
+refusal_error target refusal = error_by_names target.setting target.scans
     (map (λ info. (info_of info).target) target.infos) refusal

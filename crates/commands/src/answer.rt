@@ -3,17 +3,19 @@
 ghost use Rattle.std.specs.Prelude.{◌≡◌, ◌⊎◌, ◌++◌, ◌∷◌, [], map, OnOk};
 ghost use Rattle.commands.specs.Prelude.{line_feed, visible, IsAnswered, IsPrinted, IsUnprinted};
 
+use crate::location::Location;
 use crate::stop::{Output, OutputFile, Stop};
 use ninja_text::{Counted, Failure, WriteCall};
 use std::alloc::{AllocError, Global};
 
-/// What a run returns: the exit status, the bytes for standard output and for standard error, and
-/// the files to be written, in order.
+/// What a run returns: the exit status, the bytes for standard output and for standard error, the
+/// location of the error of a run that failed, and the files to be written, in order.
 #[derive(Drop)]
 pub struct Answer {
     pub status: u8,
     pub out: Vec<u8>,
     pub err: Vec<u8>,
+    pub at: Option<Location>,
     pub files: Vec<OutputFile>,
 }
 
@@ -27,6 +29,7 @@ impl Answer {
                 status: 0,
                 out: output.text,
                 err: Vec::new(alloc),
+                at: None,
                 files: output.files,
             }),
             Err(Failure::Memory) => Err(AllocError),
@@ -37,6 +40,7 @@ impl Answer {
                     status: line.status,
                     out: Vec::new(alloc),
                     err,
+                    at: Some(line.at),
                     files: Vec::new(alloc),
                 })
             }

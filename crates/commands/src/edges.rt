@@ -1,16 +1,18 @@
 //! Dyndep files and edge lists: how they are read, the commands `show`, `effect` and `order`, and
 //! the check of the edges that a target document names.
 
-ghost use Rattle.std.specs.Prelude.{Some};
+ghost use Rattle.std.specs.Prelude.{◌≡◌, Some};
 ghost use Rattle.commands.specs.Prelude.{bytes_of, HasReadDyndep, HasReadListing, IsListingFaultIn};
 ghost use Rattle.commands.specs.Prelude.{IsReadFaultIn, ListingTextOf, EffectOfRead, OrderOfRead};
 ghost use Rattle.commands.specs.Prelude.{HasFailed, ShowOfRead, ListingOf, EffectRun, EdgesPass};
 ghost use Rattle.commands.specs.Prelude.{[], seen, DyndepOf, ShowRun, EffectOf, OrderRun};
-ghost use Rattle.commands.specs.Prelude.{IsDyndepRead, IsListingRead, StaysFailed};
+ghost use Rattle.commands.specs.Prelude.{IsDyndepRead, IsListingRead, StaysFailed, ForFault};
+ghost use Rattle.commands.specs.Prelude.{cycle_error, refusal};
 ghost use Rattle.build_effect.specs.ListingReaders.{line_failure};
 
 use crate::answer::push_line;
 use crate::folder::PieceReader;
+use crate::location::{Document, Located, Location};
 use crate::refusal::{cycle_text, edges_fault_text, first_output, joined};
 use crate::stop::{self, Output, Stop};
 use build_effect::{Graph, ListFault, ListingReader, ListingWriteFault, apply, edge_order};
@@ -32,7 +34,7 @@ pub(crate) fn show_of_read(alloc: Global, dyndep: DyndepRead) -> Result<Output, 
     ensures { ShowOfRead dyndep [] result }
 {
     let dyndep = statements_of(alloc, dyndep)?;
-    let text = stop::or_stop(alloc, "", dyndep.to_text(alloc))?;
+    let text = stop::or_stop(alloc, "", None, dyndep.to_text(alloc))?;
     Ok(Output::text(alloc, text))
 }
 
@@ -54,7 +56,12 @@ pub(crate) fn effect_of_read(
 ) -> Result<Output, Stop>
     ensures { EffectOfRead name.now listing.now dyndep [] result }
 {
-    let name = stop::or_stop(alloc, "name: ", Path::of(alloc, name.as_bytes()))?;
+    let name = stop::or_stop(
+        alloc,
+        "name: ",
+        Some(Document::Name),
+        Path::of(alloc, name.as_bytes()),
+    )?;
     let old = graph_of(alloc, listing)?;
     let dyndep = statements_of(alloc, dyndep)?;
     let new = graph_after(alloc, old, &name, &dyndep)?;
@@ -80,7 +87,8 @@ fn listing_text(alloc: Global, graph: &Graph) -> Result<Vec<u8>, Stop>
         Ok(text) => Ok(text),
         Err(Failure::Fault(ListingWriteFault::ListingTooLong { edge })) => {
             let output = first_output(graph.edges(), edge);
-            Err(stop::stopped(1, joined(alloc, &[b"E9 ListingTooLong ", output])))
+            let message = joined(alloc, &[b"E9 ListingTooLong ", output]);
+            Err(stop::stopped(1, message, Location::coded(b'E', 9)))
         }
         Err(_) => Err(Failure::Memory),
     }
@@ -107,7 +115,7 @@ pub(crate) fn order_of_read(alloc: Global, listing: &ListingRead) -> Result<Outp
             }
             Ok(Output::text(alloc, text))
         }
-        Sorting::Cycle(cycle) => Err(stop::stopped(1, cycle_text(alloc, graph.edges(), &cycle))),
+        Sorting::Cycle(cycle) => Err(of_cycle(alloc, graph, &cycle)),
     }
 }
 
@@ -123,11 +131,20 @@ pub(crate) fn pass_list(
     let graph = graph_of(alloc, listing)?;
     match check_edges(alloc, collated, name, graph) {
         Ok(Sorting::Order(_)) => Ok(()),
-        Ok(Sorting::Cycle(cycle)) => {
-            Err(stop::stopped(1, cycle_text(alloc, graph.edges(), &cycle)))
-        }
+        Ok(Sorting::Cycle(cycle)) => Err(of_cycle(alloc, graph, &cycle)),
         Err(failure) => Err(stop::of_effect(alloc, failure)),
     }
+}
+
+/// Stops the run at a cycle of edges.
+fn of_cycle(alloc: Global, graph: &Graph, cycle: &[usize]) -> Stop
+    ensures { ForFault (λ l. l ≡ refusal (cycle_error graph.now cycle.now)) result }
+{
+    stop::stopped(
+        1,
+        cycle_text(alloc, graph.edges(), cycle),
+        Location::nowhere(),
+    )
 }
 
 /// The result of reading a dyndep file.
@@ -157,7 +174,7 @@ impl PieceReader for DyndepReader {
 pub(crate) fn statements_of(alloc: Global, dyndep: DyndepRead) -> Result<Dyndep, Stop>
     ensures { DyndepOf dyndep [] result }
 {
-    stop::or_stop(alloc, "", dyndep)
+    stop::or_stop(alloc, "", None, dyndep)
 }
 
 /// The result of reading an edge list.
@@ -190,6 +207,9 @@ fn graph_of(alloc: Global, listing: &ListingRead) -> Result<&Graph, Stop>
     match listing {
         Ok(graph) => Ok(graph),
         Err(Failure::Memory) => Err(Failure::Memory),
-        Err(Failure::Fault(fault)) => Err(stop::stopped(1, edges_fault_text(alloc, fault))),
+        Err(Failure::Fault(fault)) => {
+            let message = edges_fault_text(alloc, fault);
+            Err(stop::stopped(1, message, fault.location()))
+        }
     }
 }

@@ -8,6 +8,7 @@ ghost use Rattle.commands.specs.Prelude.{Writes, seen, lent_texts, ListsAgree};
 use crate::edges::pass_list;
 use crate::folder::Folder;
 use crate::lists::pushed;
+use crate::location::{Document, Located, Location};
 use crate::read_targets::{ReadTarget, form_of, read_targets};
 use crate::refusal::refusal_line;
 use crate::shared_lists::passed_together;
@@ -34,7 +35,12 @@ pub fn project<'f, F: Folder<'f>>(
 ) -> Result<Output, Stop>
     ensures { Runs (F.calls folder.old) (F.calls folder.new) (ProjectRun document.now) result }
 {
-    let project = stop::or_stop(alloc, "project: ", project_read(alloc, document))?;
+    let project = stop::or_stop(
+        alloc,
+        "project: ",
+        Some(Document::Project),
+        project_read(alloc, document),
+    )?;
     let read = read_targets(alloc, &project.targets, folder)?;
     let targets = read.list.as_slice();
     let outs = all_collated(alloc, targets)?;
@@ -59,10 +65,14 @@ fn all_collated(alloc: Global, targets: &[ReadTarget]) -> Result<Vec<Collated>, 
         Err(Failure::Memory) => Err(Failure::Memory),
         Err(Failure::Fault((index, refused))) => {
             let message = rejected_text(alloc, targets, index, &refused);
+            let at = Location {
+                target: Some(index),
+                ..refused.refusal.location()
+            };
             // Dropped here: at the end of the function, the compiler would drop each field by
             // itself, and the proof would be longer.
             drop(refused);
-            Err(stop::stopped(1, message))
+            Err(stop::stopped(1, message, at))
         }
     }
 }

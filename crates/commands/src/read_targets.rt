@@ -10,6 +10,7 @@ ghost use Rattle.commands.specs.Prelude.{ListingRead, ReadsIfNamed, option_map};
 use crate::edges::ListingRead;
 use crate::folder::{Folder, read, read_all, read_file};
 use crate::lists::pushed;
+use crate::location::{Document, Location};
 use crate::stop::{self, Stop};
 use crate::target::read_spec;
 use build_effect::ListingReader;
@@ -213,7 +214,12 @@ fn pass_form(alloc: Global, earlier: &Targets, spec: &TargetSpec) -> Result<(), 
     }
     let (place, member) = (Place::Document, Member::Map);
     let fault = DocFault::BadShape { place, member };
-    stop::or_stop(alloc, "target: ", Err(Failure::Fault(fault)))
+    stop::or_stop(
+        alloc,
+        "target: ",
+        Some(Document::Target),
+        Err(Failure::Fault(fault)),
+    )
 }
 
 /// Returns the indexes of the last targets that write these info files.
@@ -223,7 +229,8 @@ fn links_of(alloc: Global, targets: &Targets, infos: &[String]) -> Result<Vec<us
     let mut linked = Vec::with_capacity(alloc, infos.len())?;
     for info in infos {
         let Some(index) = targets.writers.get(info.as_str()) else {
-            return Err(stop::stopped(1, Vec::from_slice(alloc, b"K3 LinkedLater")));
+            let message = Vec::from_slice(alloc, b"K3 LinkedLater");
+            return Err(stop::stopped(1, message, Location::coded(b'K', 3)));
         };
         linked = pushed(linked, *index)?;
     }

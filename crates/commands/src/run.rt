@@ -7,6 +7,7 @@ ghost use Rattle.commands.specs.Prelude.{TaskRun, file_value, WritesFile, Writes
 use crate::answer::{Answer, print};
 use crate::edges::{effect_of_read, order_of_read, show_of_read};
 use crate::folder::{Folder, read, read_file};
+use crate::location::Location;
 use crate::projects::project;
 use crate::stop::{self, Output, OutputFile, Stop};
 use crate::target::{collate, one};
@@ -52,7 +53,8 @@ fn arguments_run<'f, F: Folder<'f>>(
         Err(_) => None,
     };
     let Some(task) = task else {
-        return Err(stop::stopped(2, Vec::from_slice(alloc, b"usage")));
+        let message = Vec::from_slice(alloc, b"usage");
+        return Err(stop::stopped(2, message, Location::nowhere()));
     };
     let output = task_run(alloc, &task, folder)?;
     write_files(alloc, &output, folder)?;

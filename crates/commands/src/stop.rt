@@ -3,9 +3,11 @@
 ghost use Rattle.std.specs.Prelude.{◌≡◌, ◌∷◌, ◌++◌, [], Err, codes, map, IfOk};
 ghost use Rattle.commands.specs.Prelude.{failed, ForFault};
 ghost use Rattle.commands.specs.Prelude.{file_value, reading, printed, written, IsUnread, Reports};
-ghost use Rattle.commands.specs.Prelude.{IsTargetOutcome, target_text, effect_text, refused_line};
+ghost use Rattle.commands.specs.Prelude.{IsTargetOutcome, target_text, effect_error};
 ghost use Rattle.commands.specs.Prelude.{IsStoppedWith, IsFailedCall, OrStops, ReportsPrinted};
+ghost use Rattle.commands.specs.Prelude.{refused_error, unlocated};
 
+use crate::location::{Document, Located, Location};
 use crate::refusal::{effect_text, refused_text};
 use build_effect::EffectFault;
 use collate_core::RefusedTarget;
@@ -59,11 +61,12 @@ impl Output {
     }
 }
 
-/// The exit status of a run that fails, and the message that says why.
+/// The exit status of a run that fails, the message that says why, and the error's location.
 #[derive(Drop)]
 pub struct Line {
     pub status: u8,
     pub message: Vec<u8>,
+    pub at: Location,
 }
 
 impl Model for Line {
@@ -71,18 +74,23 @@ impl Model for Line {
 
     ghost Value = { LineValue };
 
-    ghost view = { λ l. record { status = l.status; message = l.message.items } };
+    ghost view = { λ l. record { status = l.status; message = l.message.items; at = l.at } };
 }
 
 /// Why a run stops: memory ran out, or with this line.
 pub type Stop = Failure<Line>;
 
-/// Stops the run with this status and message, unless there was no memory for the message.
-pub(crate) fn stopped(status: u8, message: Result<Vec<u8>, AllocError>) -> Stop
-    ensures { IsStoppedWith status message result }
+/// Stops the run with this status and message at an error that is there, unless there was no memory
+/// for the message.
+pub(crate) fn stopped(status: u8, message: Result<Vec<u8>, AllocError>, at: Location) -> Stop
+    ensures { IsStoppedWith status message at result }
 {
     match message {
-        Ok(message) => Failure::Fault(Line { status, message }),
+        Ok(message) => Failure::Fault(Line {
+            status,
+            message,
+            at,
+        }),
         Err(AllocError) => Failure::Memory,
     }
 }
@@ -97,7 +105,7 @@ pub(crate) fn of_unread(alloc: Global, name: &str, error: io::Error) -> Stop
 
 /// Stops the run at a file that can't be written, or because memory ran out in the call.
 pub(crate) fn of_unwritten(alloc: Global, name: &str, error: io::Error) -> Stop
-    ensures { ForFault (λ l. l ≡ failed 3 (codes "cannot write " ++ name.now)) result }
+    ensures { ForFault (λ l. l ≡ failed 3 (unlocated (codes "cannot write " ++ name.now))) result }
 {
     let message = format!(in alloc; "cannot write {name}");
     of_failed_call(&error, message.map(String::into_bytes))
@@ -110,52 +118,62 @@ fn of_failed_call(error: &io::Error, message: Result<Vec<u8>, AllocError>) -> St
     if error.kind() == ErrorKind::OutOfMemory {
         return Failure::Memory;
     }
-    stopped(3, message)
+    stopped(3, message, Location::nowhere())
 }
 
-/// Returns the value, or stops the run at the fault, which is reported after this prefix.
-pub(crate) fn or_stop<T, F: Display + Drop>(
+/// Returns the value, or stops the run at the fault, which is reported after this prefix, and is in
+/// this document, if it names none itself.
+pub(crate) fn or_stop<T, F: Display + Located + Drop>(
     alloc: Global,
     prefix: &str,
+    document: Option<Document>,
     outcome: Result<T, Failure<F>>,
 ) -> Result<T, Stop>
-    ensures { OrStops (ReportsPrinted prefix.now F.output) outcome result }
+    ensures { OrStops (ReportsPrinted prefix.now document F.output F.location) outcome result }
 {
     match outcome {
         Ok(value) => Ok(value),
         Err(Failure::Memory) => Err(Failure::Memory),
         Err(Failure::Fault(fault)) => {
             let message = format!(in alloc; "{prefix}{fault}");
-            Err(stopped(1, message.map(String::into_bytes)))
+            let at = match document {
+                Some(_) => Location {
+                    document,
+                    ..fault.location()
+                },
+                None => fault.location(),
+            };
+            Err(stopped(1, message.map(String::into_bytes), at))
         }
     }
 }
 
 /// Stops the run at statements that have no effect.
 pub(crate) fn of_effect(alloc: Global, failure: Failure<EffectFault>) -> Stop
-    ensures { Reports effect_text failure result }
+    ensures { Reports effect_error failure result }
 {
     let Failure::Fault(fault) = failure else {
         return Failure::Memory;
     };
-    stopped(1, effect_text(alloc, &fault))
+    stopped(1, effect_text(alloc, &fault), fault.location())
 }
 
 /// Stops the run at a target that is rejected. Its info files are named by the names in them.
 pub(crate) fn of_target(alloc: Global, failure: Failure<RefusedTarget>) -> Stop
-    ensures { Reports refused_line failure result }
+    ensures { Reports refused_error failure result }
 {
     let Failure::Fault(refused) = failure else {
         return Failure::Memory;
     };
     let message = refused_text(alloc, &refused);
+    let at = refused.refusal.location();
     // Dropped here: at the end of the function, the compiler would drop each field by
     // itself, and the proof would be longer.
     drop(refused);
-    stopped(1, message)
+    stopped(1, message, at)
 }
 
-/// Returns the outcome of a part about the target of this index: a message gets the index.
+/// Returns the outcome of a part about the target of this index: an error gets the index.
 pub(crate) fn at_target<T>(alloc: Global, index: usize, outcome: Result<T, Stop>) -> Result<T, Stop>
     ensures { IsTargetOutcome index outcome result }
 {
@@ -164,7 +182,11 @@ pub(crate) fn at_target<T>(alloc: Global, index: usize, outcome: Result<T, Stop>
         Err(Failure::Memory) => Err(Failure::Memory),
         Err(Failure::Fault(line)) => {
             let message = target_text(alloc, index, &line.message);
-            Err(stopped(line.status, message))
+            let at = Location {
+                target: Some(index),
+                ..line.at
+            };
+            Err(stopped(line.status, message, at))
         }
     }
 }

@@ -9,6 +9,7 @@ ghost use Rattle.commands.specs.Prelude.{CollateRun, OneRun, listed_as};
 use crate::edges::{ListingRead, pass_list};
 use crate::folder::{Folder, read_all, read_file};
 use crate::lists::{add, pushed};
+use crate::location::Document;
 use crate::stop::{self, Output, OutputFile, Stop};
 use build_effect::ListingReader;
 use collate_core::{Collated, Listed, Target, collate_dyndep_or_refused, collate_or_refused};
@@ -127,7 +128,12 @@ pub(crate) fn slices<'t>(
 pub(crate) fn read_spec(alloc: Global, document: &[u8]) -> Result<TargetSpec, Stop>
     ensures { SpecOf document.now [] result }
 {
-    stop::or_stop(alloc, "target: ", spec_read(alloc, document))
+    stop::or_stop(
+        alloc,
+        "target: ",
+        Some(Document::Target),
+        spec_read(alloc, document),
+    )
 }
 
 /// Collates the target of a document, of these files, with maps of the document's form.

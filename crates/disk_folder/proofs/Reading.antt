@@ -6,7 +6,7 @@ use Rattle.ninja_text.specs.declared.failure.Failure.TheVariants.{Memory, Fault}
 use Rattle.command_line.specs.Tasks.{TaskValue, one, collate, show, effect, order, project}
 use Rattle.scan_docs.specs.Target as document
 use Rattle.commands.specs.Folder.{FileCall, FileRead, reading, comparing, writing}
-use Rattle.commands.specs.Outcomes.{Part, Outcome, LineValue, InTurn, goes_on, stops, Returns, Comes, Each, IsUnread, ReadsDocument, ReadsAs, ReadsNext, ReadsAll, ReadsIfNamed, UnlessKnown, read_before}
+use Rattle.commands.specs.Outcomes.{Part, Outcome, ErrorValue, LineValue, InTurn, goes_on, stops, Returns, Comes, Each, IsUnread, ReadsDocument, ReadsAs, ReadsNext, ReadsAll, ReadsIfNamed, UnlessKnown, read_before}
 use Rattle.commands.specs.EdgeChecks.{EdgesPass}
 use Rattle.commands.specs.Files.{FilesOf}
 use Rattle.commands.specs.Listings.{ListingRead, ReadsListing}
@@ -34,14 +34,14 @@ in_turn first second = record {
   ];
 }
 
-returns_none : {V F : Type 0} (IsValue : V → Type 0) (IsFault : F → Type 0) (text : F → Text) (calls : List FileCall) (outcome : Outcome V) →
-    Returns IsValue IsFault text calls outcome → calls ≡ []
-returns_none IsValue IsFault text calls (Ok value) h = h.0
-returns_none IsValue IsFault text calls (Err Memory) h = h
-returns_none IsValue IsFault text calls (Err (Fault stop)) h = h.0
+returns_none : {V F : Type 0} (IsValue : V → Type 0) (IsFault : F → Type 0) (error : F → ErrorValue) (calls : List FileCall) (outcome : Outcome V) →
+    Returns IsValue IsFault error calls outcome → calls ≡ []
+returns_none IsValue IsFault error calls (Ok value) h = h.0
+returns_none IsValue IsFault error calls (Err Memory) h = h
+returns_none IsValue IsFault error calls (Err (Fault stop)) h = h.0
 
-returns : {V F : Type 0} (IsValue : V → Type 0) (IsFault : F → Type 0) (text : F → Text) → OnlyReads (λ calls outcome. Returns IsValue IsFault text calls outcome)
-returns IsValue IsFault text = record { reads = λ calls outcome h. rw (returns_none IsValue IsFault text calls outcome h) tt }
+returns : {V F : Type 0} (IsValue : V → Type 0) (IsFault : F → Type 0) (error : F → ErrorValue) → OnlyReads (λ calls outcome. Returns IsValue IsFault error calls outcome)
+returns IsValue IsFault error = record { reads = λ calls outcome h. rw (returns_none IsValue IsFault error calls outcome h) tt }
 
 comes_read : {V : Type 0} (Holds : V → Type 0) (calls : List FileCall) (outcome : Outcome V) → Comes Holds calls outcome → AllRead calls
 comes_read Holds calls (Ok value) h = rw h.0 tt

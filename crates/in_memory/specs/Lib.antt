@@ -1,9 +1,7 @@
 pub mod Cuts
 pub mod Given
-pub mod Locations
 pub mod Prelude
 pub mod Replies
-pub mod Reported
 pub mod Runs
 pub mod Statements
 pub mod inner

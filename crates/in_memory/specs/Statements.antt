@@ -28,14 +28,15 @@ abbrev pub statements_reply : List StatementValue → ReplyValue
 statements_reply statements = record {
   status = 0;
   numbers = flat_map statement_numbers statements;
+  extra = 0;
   text = flat_map (λ s. flat_map (λ path. path) (statement_paths s)) statements;
 }
 
 -- the reply for an error: its line, counted from 1, and its code and name
 abbrev pub fault_reply : ReadFault → ReplyValue
 fault_reply (AtLine line fault) =
-    record { status = 1; numbers = line ∷ []; text = line_fault_text fault }
-fault_reply Io = record { status = 1; numbers = []; text = read_fault_text Io }
+    record { status = 1; numbers = line ∷ []; extra = 0; text = line_fault_text fault }
+fault_reply Io = record { status = 1; numbers = []; extra = 0; text = read_fault_text Io }
 
 -- The reply for a dyndep file: the statements that it is read as, or its error.
 pub data Tells (text : Text) (reply : ReplyValue) : Type 0 where

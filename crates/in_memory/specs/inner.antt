@@ -1,4 +1,3 @@
 pub mod Calls
 pub mod Facts
 pub mod FirstFiles
-pub mod Lines

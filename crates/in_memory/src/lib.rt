@@ -8,21 +8,15 @@
 //! - [`one_into`] and the like write what a command returns into memory of the caller
 //!   (`specs/Replies.antt`), also for files that lie in one text (`specs/Cuts.antt`).
 //!   [`statements_into`] writes the statements of a dyndep file (`specs/Statements.antt`).
-//! - [`locate`] returns where the error of a line is, and which error it is
-//!   (`specs/Locations.antt`). `laws` says that each line of a command is that of an error
-//!   (`specs/Reported.antt`).
 //! - `files` has the `Folder` of these files, and what proofs know of its calls.
 #![tactic(auto)]
 
 mod files;
-pub mod laws;
-mod location;
 mod reply;
 mod runs;
 
 pub use commands::Answer;
 pub use files::File;
-pub use location::{Location, locate};
 pub use reply::{Outcome, statements_into};
 pub use runs::{
     collate_into, collate_run, effect_into, effect_run, one_into, one_run, order_into, order_run,

@@ -3,9 +3,10 @@
 
 ghost use Rattle.std.specs.Prelude.{◌≡◌, ◌++◌, ⊤, Ok, IfOk, OnOk, flat_map};
 ghost use Rattle.in_memory.specs.Prelude.{Puts, without, answer_reply, Tells, fault_reply};
+ghost use Rattle.in_memory.specs.Prelude.{error_numbers, location_numbers};
 ghost use Rattle.in_memory.specs.Prelude.{statement_numbers, statement_paths, statements_reply};
 
-use commands::Answer;
+use commands::{Answer, Document, Entry, Location};
 use dyndep_file::{Dyndep, ReadFault, Statement};
 use ninja_text::Failure;
 use std::alloc::{AllocError, Global};
@@ -45,6 +46,8 @@ impl Outcome {
 pub(crate) struct Reply {
     pub status: u32,
     pub numbers: Vec<usize>,
+    /// How many of the numbers, at the end, are left out if there is no room for them.
+    pub extra: usize,
     pub text: Vec<u8>,
 }
 
@@ -56,6 +59,7 @@ impl Model for Reply {
     ghost view = { λ r. record {
       status = r.status;
       numbers = r.numbers.items;
+      extra = r.extra;
       text = r.text.items;
     } };
 }
@@ -67,6 +71,7 @@ impl Reply {
         ensures { IfOk result (λ reply. reply ≡ answer_reply answer.now) }
     {
         let mut numbers = Vec::from_slice(alloc, &[answer.out.len(), answer.err.len()])?;
+        push_location(&mut numbers, &answer.at)?;
         let mut text = Vec::from_slice(alloc, &answer.out)?;
         text.extend_from_slice(&answer.err)?;
         for file in &answer.files {
@@ -78,9 +83,59 @@ impl Reply {
         Ok(Reply {
             status: u32::from(answer.status),
             numbers,
+            extra: match answer.at {
+                Some(_) => 10,
+                None => 0,
+            },
             text,
         })
     }
+}
+
+/// Stands for a number that an error does not have.
+const ABSENT: usize = usize::MAX;
+
+/// Appends the numbers of the location, if there is one.
+fn push_location(numbers: &mut Vec<usize>, at: &Option<Location>) -> Result<(), AllocError>
+    ensures { OnOk result (numbers.new.items ≡ numbers.old.items ++ error_numbers at.now) }
+{
+    match at {
+        Some(at) => numbers.extend_from_slice(&location_numbers(at)),
+        None => Ok(()),
+    }
+}
+
+/// Returns the numbers of a location in the order of `dyncollate_location` in `dyncollate.h`.
+fn location_numbers(at: &Location) -> [usize; 10]
+    ensures { result ≡ location_numbers at.now }
+{
+    let (document, index) = match at.document {
+        None => (0, ABSENT),
+        Some(Document::Target) => (1, ABSENT),
+        Some(Document::Project) => (2, ABSENT),
+        Some(Document::Scan(index)) => (3, index),
+        Some(Document::Info(index)) => (4, index),
+        Some(Document::Edges) => (5, ABSENT),
+        Some(Document::Name) => (6, ABSENT),
+        Some(Document::Dyndep) => (7, ABSENT),
+    };
+    let (letter, number) = match at.code {
+        None => (0, 0),
+        Some(code) => (usize::from(code.letter), usize::from(code.number)),
+    };
+    let (list, entry) = match at.entry {
+        None => (0, ABSENT),
+        Some(Entry::Provides(index)) => (1, index),
+        Some(Entry::Requires(index)) => (2, index),
+        Some(Entry::Path(index)) => (3, index),
+    };
+    let target = at.target.unwrap_or(ABSENT);
+    let line = at.line.unwrap_or(ABSENT as u64) as usize;
+    let item = at.item.unwrap_or(ABSENT);
+    let offset = at.offset.unwrap_or(ABSENT);
+    [
+        document, letter, number, list, target, index, line, item, entry, offset,
+    ]
 }
 
 /// Writes a reply, if there is room for all of it, and returns the outcome.
@@ -94,15 +149,18 @@ pub(crate) fn put(
     let Ok(reply) = reply else {
         return Outcome::without(4);
     };
-    let fits = reply.numbers.len() <= numbers.len() && reply.text.len() <= text.len();
+    let all = reply.numbers.len();
+    let needed = all.saturating_sub(reply.extra);
+    let fits = needed <= numbers.len() && reply.text.len() <= text.len();
     if fits {
-        numbers[..reply.numbers.len()].copy_from_slice(&reply.numbers);
+        let count = if numbers.len() < all { needed } else { all };
+        numbers[..count].copy_from_slice(&reply.numbers[..count]);
         text[..reply.text.len()].copy_from_slice(&reply.text);
     }
     Outcome {
         status: reply.status,
         written: u32::from(fits),
-        numbers: reply.numbers.len(),
+        numbers: needed,
         text: reply.text.len(),
     }
 }
@@ -136,6 +194,7 @@ fn of_statements(alloc: Global, dyndep: &Dyndep) -> Result<Reply, AllocError>
     Ok(Reply {
         status: 0,
         numbers,
+        extra: 0,
         text,
     })
 }
@@ -181,6 +240,7 @@ fn of_fault(alloc: Global, fault: ReadFault) -> Result<Reply, AllocError>
     Ok(Reply {
         status: 1,
         numbers,
+        extra: 0,
         text: text.into_bytes(),
     })
 }

@@ -7,6 +7,8 @@ use Rattle.collate_core.specs.declared.fault.Refusal.{Refusal}
 use Rattle.collate_core.specs.declared.fault.Refusal.TheVariants.{Scan, Info, Table, StatementTooLong, Map, LinkedLater}
 use Rattle.collate_core.specs.declared.fault.RefusedTarget.{RefusedTarget}
 use Rattle.ninja_text.specs.Bytes.{Text, Name}
+use Rattle.commands.specs.Locations.{refusal_location}
+use Rattle.commands.specs.Outcomes.{ErrorValue, located}
 use Rattle.commands.specs.RefusalTexts.{document_text, map_text}
 use Rattle.commands.specs.TableFaults.{fault_text}
 
@@ -20,7 +22,10 @@ refusal_line objects names (StatementTooLong statement) =
 refusal_line objects names (Map object fault) = map_text objects object fault
 refusal_line objects names LinkedLater = codes "K3 LinkedLater"
 
--- what is reported of a rejected target, whose info files are named by the names in them
+-- the error of a rejected target, whose info files are named by the names in them
 abbrev pub refused_line : RefusedTarget → Text
 refused_line refused = refusal_line refused.objects.items
     (map (λ info. info.target) refused.infos.items) refused.refusal
+
+abbrev pub refused_error : RefusedTarget → ErrorValue
+refused_error refused = located (refused_line refused) (refusal_location refused.refusal)

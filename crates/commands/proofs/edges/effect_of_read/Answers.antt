@@ -1,15 +1,16 @@
-use Rattle.std.proofs.Common.{◌≡◌, [], codes, refl, Result, Ok, Err}
+use Rattle.std.proofs.Common.{◌≡◌, [], Some, codes, refl, Result, Ok, Err}
 use Rattle.ninja_text.specs.Paths.{path_of}
-use Rattle.commands.specs.Prelude.{path_fault_text, Failure, Gives, NameOf, Outcome, PathText, Text}
+use Rattle.commands.specs.Prelude.{path_fault_text, path_location, Failure, Gives, NameOf, Outcome, PathText, Text}
 use Rattle.ninja_text.specs.declared.fault.PathFault.{PathFault}
+use Rattle.commands.specs.declared.location.Document.TheVariants as file
 use Rattle.commands.proofs.Outcomes.{next, last, or_unmade, Printed}
 use Rattle.commands.proofs.edges.effect_of_read.Goals as goal
 
 -- the path of the name
 of_name : {given name : Text} (made : Result PathText (Failure PathFault)) (s : Outcome PathText) → given ≡ name →
-    Gives (λ path. path) made (path_of given) → Printed (codes "name: ") path_fault_text made s → NameOf name [] s
-of_name made (Ok path) same is h = or_unmade (λ path. path) (codes "name: ") path_fault_text made (Ok path) _ (rw same at is) h
-of_name made (Err stop) same is h = or_unmade (λ path. path) (codes "name: ") path_fault_text made (Err stop) _ (rw same at is) h
+    Gives (λ path. path) made (path_of given) → Printed (codes "name: ") (Some file.Name) path_fault_text path_location made s → NameOf name [] s
+of_name made (Ok path) same is h = or_unmade (codes "name: ") (Some file.Name) path_fault_text path_location (λ path. path) made (Ok path) _ (rw same at is) h
+of_name made (Err stop) same is h = or_unmade (codes "name: ") (Some file.Name) path_fault_text path_location (λ path. path) made (Err stop) _ (rw same at is) h
 
 pub returns-in_err-name : goal.returns-in_err-name
 returns-in_err-name c =

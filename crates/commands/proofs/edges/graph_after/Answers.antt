@@ -1,5 +1,5 @@
 use Rattle.std.proofs.Common.{List, ℕ, refl}
-use Rattle.commands.specs.Prelude.{ForFault, Failure, StatementValue, EdgeValue, HasNoEffect, OnlyEffect, IsEffectFault, EffectFault, IsWithoutEffect, effect_text}
+use Rattle.commands.specs.Prelude.{ForFault, Failure, StatementValue, EdgeValue, HasNoEffect, OnlyEffect, IsEffectFault, EffectFault, IsWithoutEffect, effect_error}
 use Rattle.ninja_text.specs.declared.failure.Failure.TheVariants.{Memory, Fault}
 use Rattle.commands.proofs.Outcomes.{fault_reported}
 use Rattle.commands.proofs.edges.graph_after.Goals as goal
@@ -19,5 +19,5 @@ returns-in-Err c =
     let old = c.args.old.now in
     let name = c.args.name.now in
     let statements = c.args.dyndep.now in
-    fault_reported (OnlyEffect old name statements) (IsWithoutEffect old name statements) effect_text c.in-Err.failure c.of_effect.result
+    fault_reported (OnlyEffect old name statements) (IsWithoutEffect old name statements) effect_error c.in-Err.failure c.of_effect.result
     (without old name statements c.in-Err.failure c.in-Err.ensures.fault c.in-Err.ensures.no_effect) c.of_effect.ensures

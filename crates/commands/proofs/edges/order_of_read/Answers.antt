@@ -1,6 +1,6 @@
-use Rattle.std.proofs.Common.{rules, ◌≡◌, ◌∙◌, ◌++◌, ◌∷◌, [], List, append_assoc, get_or, map, refl, ap, ap₂, subst, ℕ, Vec, Global}
-use Rattle.commands.specs.Prelude.{ForFault, line_feed, visible, cycle_text, first_output, order_text, PrintsOrder, refusal, printed}
-use Rattle.commands.proofs.Outcomes.{its_line, of_all, next, last, said, text_next}
+use Rattle.std.proofs.Common.{rules, ◌≡◌, ◌∙◌, ◌++◌, ◌∷◌, [], List, append_assoc, get_or, map, refl, ap, subst, ℕ, Vec, Global}
+use Rattle.commands.specs.Prelude.{ForFault, line_feed, visible, cycle_error, first_output, order_text, PrintsOrder, refusal, printed}
+use Rattle.commands.proofs.Outcomes.{of_all, next, last, said, text_next}
 use Rattle.commands.proofs.edges.order_of_read.Goals as goal
 
 pub returns-in_err-graph : goal.returns-in_err-graph
@@ -26,10 +26,9 @@ pub returns-in-Cycle : goal.returns-in-Cycle
 returns-in-Cycle c =
     let graph = c.in_ok-graph.graph.now in
     let sorting = rw c.in-Cycle.is at c.in_ok-order.ensures in
-    let stop = its_line 1 _ _ c.stopped.result c.cycle_text.ensures c.stopped.ensures in
-    let same = ap₂ cycle_text c.edges-in-Cycle.ensures.edges c.deref.ensures.value in
-    next _ c.in_ok-graph.ensures (said (PrintsOrder graph) _ (λ (cycle : Vec ℕ Global). cycle_text graph cycle.items) c.in-Cycle.cycle c.stopped.result sorting
-    (subst (λ t. ForFault (λ l. l ≡ refusal t) c.stopped.result) same stop))
+    let stop = c.of_cycle.result in
+    next _ c.in_ok-graph.ensures (said (PrintsOrder graph) _ (λ (cycle : Vec ℕ Global). cycle_error graph cycle.items) c.in-Cycle.cycle stop sorting
+    (subst (λ cycle. ForFault (λ l. l ≡ refusal (cycle_error graph cycle)) stop) c.deref.ensures.value c.of_cycle.ensures))
 
 -- one edge more
 pub loop-edge_index-preserved : goal.loop-edge_index-preserved

@@ -1,7 +1,8 @@
 use Rattle.std.proofs.Common.{◌≡◌, ◌∙◌, ℕ, List, [], map, Option, Some, None, refl, ap, sym, subst, IfOk, IfErr, Err, Result, Vec, Global}
-use Rattle.commands.specs.Prelude.{Failure, MapForm, ProjectTargetValue, ProjectOut, AllocError, ForFault, Written, table_with, CollatesProject, IsProjectRefusal, WasReadAt, RefusedTarget, style_of, ReadTargetValue, ProjectOf, RejectedAt, IsRejectedAt, project_target, form_of, names_at, rejected_text, target_text, LinkEarlier, ReportsAt, IsStoppedWith}
+use Rattle.commands.specs.Prelude.{Failure, MapForm, ProjectTargetValue, ProjectOut, AllocError, ForFault, Written, table_with, CollatesProject, IsProjectRefusal, WasReadAt, RefusedTarget, style_of, ReadTargetValue, ProjectOf, RejectedAt, IsRejectedAt, project_target, form_of, names_at, rejected_error, target_text, in_target, refusal_location, LinkEarlier, ReportsAt, IsStoppedWith}
 use Rattle.scan_docs.specs.declared.map_form.MapForm.TheVariants.{Gcc, Clang}
 use Rattle.std.proofs.lemmas.Result.{IfOk-weaker}
+use Rattle.commands.specs.declared.location.Location.{Location}
 use Rattle.commands.proofs.Outcomes.{its_line, said, Stop}
 use Rattle.commands.proofs.Targets.{reported, line_is}
 use Rattle.commands.proofs.projects.all_collated.Goals as goal
@@ -49,16 +50,17 @@ gives c = elim c.match-form_of.branch [
 ]
 
 -- the run stops with the line of the rejected target
-rejected : (targets : List ReadTargetValue) (n : ℕ) (r : RefusedTarget) (message : Result (Vec ℕ Global) AllocError) (stop : Stop) →
+rejected : (targets : List ReadTargetValue) (n : ℕ) (r : RefusedTarget) (message : Result (Vec ℕ Global) AllocError) (at : Location) (stop : Stop) →
     LinkEarlier targets →
-    IsRefusalAt targets n r → ReadAt targets n r → IfOk message (λ text. ReportsAt targets n r text.items) → IsStoppedWith 1 message stop →
+    IsRefusalAt targets n r → ReadAt targets n r → IfOk message (λ text. ReportsAt targets n r text.items) → at ≡ in_target n (refusal_location r.refusal) →
+    IsStoppedWith 1 message at stop →
     ProjectOf targets [] (Err stop)
-rejected targets n r message stop links is read says h =
+rejected targets n r message at stop links is read says there h =
     let (t, here, within) = reported (style targets) targets n r.refusal links is in
     let line = line_is (style targets) targets n r.refusal (table_with r.objects.items r.infos.items) t (names_at targets t.linked) here read in
-    let at : RejectedAt = record { index = n; target = t; refusal = r.refusal } in
-    said (CollatesProject (style targets) (map project_target targets)) (IsRejectedAt targets) (rejected_text targets) at stop (here, is)
-    (its_line 1 (rejected_text targets at) message stop (IfOk-weaker message _ _ (λ text says. says t here ∙ ap (target_text n) line) says) h)
+    let its : RejectedAt = record { index = n; target = t; refusal = r.refusal } in
+    said (CollatesProject (style targets) (map project_target targets)) (IsRejectedAt targets) (rejected_error targets) its stop (here, is)
+    (its_line 1 (rejected_error targets its) message at stop (IfOk-weaker message _ _ (λ text says. says t here ∙ ap (target_text n) line) says) there h)
 
 pub rejected_text-message-requires : goal.rejected_text-message-requires
 rejected_text-message-requires c =
@@ -80,5 +82,5 @@ returns c =
     let read = subst (ForFault
     (λ (r : ℕ × RefusedTarget). WasReadAt (style targets) (map project_target targets) r.0 r.1.refusal (table_with r.1.objects.items r.1.infos.items)))
     c.in-Err-Fault.field-0-is gives.2 in
-    rejected targets c.in-Err-Fault.index c.in-Err-Fault.refused c.rejected_text-message.result c.stopped.result c.requires refusal read
-    c.rejected_text-message.ensures c.stopped.ensures
+    rejected targets c.in-Err-Fault.index c.in-Err-Fault.refused c.rejected_text-message.result _ c.stopped.result c.requires refusal read
+    c.rejected_text-message.ensures (ap (in_target c.in-Err-Fault.index) c.location.ensures) c.stopped.ensures

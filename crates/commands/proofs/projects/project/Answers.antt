@@ -1,6 +1,7 @@
-use Rattle.std.proofs.Common.{◌≡◌, ◌∙◌, List, [], length, map, string_bytes, zip, codes, ap, Result, IfOk, IfErr}
+use Rattle.std.proofs.Common.{◌≡◌, ◌∙◌, List, [], length, map, string_bytes, zip, Some, codes, ap, Result, IfOk, IfErr}
 use Rattle.std.proofs.lemmas.List.{length-map}
-use Rattle.commands.specs.Prelude.{Bytes, DocFault, Failure, ForFault, doc_fault_text, IsRefused, ProjectValue, project_checks, style_of, Outcome, OutputValue, Part, Runs, Writes, ◌>>=◌, ReadTargetValue, AllEdgesPass, HasProject, ProjectOf, ProjectRun, all_files, form_of, project_target, ProjectDocumentOf}
+use Rattle.commands.specs.Prelude.{Bytes, DocFault, Failure, ForFault, doc_fault_text, doc_location, IsRefused, ProjectValue, project_checks, style_of, Outcome, OutputValue, Part, Runs, Writes, ◌>>=◌, ReadTargetValue, AllEdgesPass, HasProject, ProjectOf, ProjectRun, all_files, form_of, project_target, ProjectDocumentOf}
+use Rattle.commands.specs.declared.location.Document.TheVariants as file
 use Rattle.commands.proofs.Outcomes.{Printed, last, next, or_printed, pure_last, pure_next, run_once, run_last}
 use Rattle.commands.proofs.Targets.{objects_are_text}
 use Rattle.commands.proofs.projects.project.Given as given
@@ -9,8 +10,8 @@ use Rattle.commands.proofs.projects.project.Goals.{In_ok-read}
 
 -- the members of the document, or why it is rejected
 document_of : (document : Bytes) (r : Result ProjectValue (Failure DocFault)) (s : Outcome ProjectValue) → IfOk r (HasProject document) →
-    IfErr r (ForFault (IsRefused project_checks document)) → Printed (codes "project: ") doc_fault_text r s → ProjectDocumentOf document [] s
-document_of document = or_printed (HasProject document) (IsRefused project_checks document) (codes "project: ") doc_fault_text
+    IfErr r (ForFault (IsRefused project_checks document)) → Printed (codes "project: ") (Some file.Project) doc_fault_text doc_location r s → ProjectDocumentOf document [] s
+document_of document = or_printed (codes "project: ") (Some file.Project) doc_fault_text doc_location (HasProject document) (IsRefused project_checks document)
 
 pub returns-in_err-project : goal.returns-in_err-project
 returns-in_err-project g c =

@@ -1,7 +1,7 @@
-use Rattle.std.proofs.Common.{rules, ◌≡◌, ℕ, ◌+◌, ◌<◌, List, [], ◌∷◌, ◌++◌, length, take, get_or, map, string_bytes, Option, Some, None, codes, refl, ap, ap₂, sym, ◌∙◌, String, Global}
+use Rattle.std.proofs.Common.{rules, ◌≡◌, ℕ, ◌+◌, ◌<◌, List, [], ◌∷◌, ◌++◌, length, take, get_or, map, string_bytes, Option, Some, None, refl, ap, ap₂, sym, ◌∙◌, String, Global}
 use Rattle.std.proofs.lemmas.List.{map_push, take_all}
 use Rattle.ninja_text.proofs.ForCallers.{to_map}
-use Rattle.commands.specs.Prelude.{ReadTargetValue, last_with, LinksLater, LinksTo, writer_of}
+use Rattle.commands.specs.Prelude.{ReadTargetValue, last_with, linked_later, LinksLater, LinksTo, writer_of}
 use Rattle.commands.proofs.Outcomes.{at_index, its_line, mapped_next, said}
 use Rattle.commands.proofs.read_targets.links_of.Goals as goal
 
@@ -45,5 +45,6 @@ returns-in_default c =
     c.targets.invariant.2 c.targets.view_is c.as_str.ensures.value none in
     let here = to_map string_bytes c.args.infos.now c.loop-info.info-index info
     (at_index c.args.infos.now c.loop-info.info-index info c.loop-info-test.true c.info-item.is) in
-    said (LinksTo targets infos) (λ (fault : Unit {0}). LinksLater targets infos) (λ fault. codes "K3 LinkedLater") tt c.stopped.result
-    (c.loop-info.info-index, string_bytes info, here, found) (its_line 1 _ _ c.stopped.result c.from_slice.ensures.items c.stopped.ensures)
+    said (LinksTo targets infos) (λ (fault : Unit {0}). LinksLater targets infos) (λ fault. linked_later) tt c.stopped.result
+    (c.loop-info.info-index, string_bytes info, here, found) (its_line 1 linked_later _ _ c.stopped.result c.from_slice-message.ensures.items
+    c.coded.ensures c.stopped.ensures)

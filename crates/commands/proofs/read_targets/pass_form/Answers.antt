@@ -1,10 +1,11 @@
-use Rattle.std.proofs.Common.{rules, ◌≡◌, ◌∙◌, ◌==◌, List, [], ◌∷◌, length, true, false, codes, refl, ap, sym, Err}
+use Rattle.std.proofs.Common.{rules, ◌≡◌, ◌∙◌, ◌==◌, List, [], ◌∷◌, length, true, false, Some, codes, refl, ap, sym, Err}
 use Rattle.ninja_text.specs.declared.failure.Failure.TheVariants.{Fault}
 use Rattle.scan_docs.specs.Target as document
-use Rattle.commands.specs.Prelude.{doc_fault_text, DocFault, ReadTargetValue, HasFormOf, form_of}
+use Rattle.commands.specs.Prelude.{doc_fault_text, doc_location, DocFault, ReadTargetValue, HasFormOf, form_of}
 use Rattle.scan_docs.specs.declared.fault.DocFault.TheVariants.{BadShape}
 use Rattle.scan_docs.specs.declared.fault.Place.TheVariants.{Document}
 use Rattle.scan_docs.specs.declared.member.Member.TheVariants.{Map}
+use Rattle.commands.specs.declared.location.Document.TheVariants as file
 use Rattle.commands.proofs.Outcomes.{or_printed}
 use Rattle.commands.proofs.read_targets.pass_form.Goals as goal
 
@@ -21,6 +22,6 @@ returns c =
     let own : c.args.spec.now.map_form ≡ c.form_of.result → ⊥ = search rules in
     let some : (length c.earlier.inside.list.items == 0) ≡ false = search rules in
     let other = of_first earlier c.args.spec.now (rw c.earlier.view_is at some) (λ same. own (same ∙ sym form)) in
-    or_printed (λ (done : Unit {0}). HasFormOf earlier c.args.spec.now)
-    (λ (f : DocFault). (HasFormOf earlier c.args.spec.now → ⊥) × (f ≡ BadShape Document Map)) (codes "target: ") doc_fault_text
+    or_printed (codes "target: ") (Some file.Target) doc_fault_text doc_location (λ (done : Unit {0}). HasFormOf earlier c.args.spec.now)
+    (λ (f : DocFault). (HasFormOf earlier c.args.spec.now → ⊥) × (f ≡ BadShape Document Map))
     (Err (Fault (BadShape Document Map))) c.or_stop.result tt (other, refl) c.or_stop.ensures

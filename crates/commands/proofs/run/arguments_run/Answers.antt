@@ -1,7 +1,8 @@
-use Rattle.std.proofs.Common.{rules, ◌≡◌, ℕ, List, [], codes, Option, Some, None, Result, map, string_bytes, refl, ap, sym, Ok, Err, IfOk, String, Vec, option_map, Global}
-use Rattle.commands.specs.Prelude.{error_kind, AllocError, Error, AreCallOf, task_value, Task, failed, stops, AreTask, ArgumentsOf, Words, words_of, IsStoppedWith}
+use Rattle.std.proofs.Common.{rules, ◌≡◌, ℕ, List, [], codes, Option, Some, None, Result, map, string_bytes, refl, ap₂, sym, Ok, Err, IfOk, String, Vec, option_map, Global}
+use Rattle.commands.specs.Prelude.{error_kind, AllocError, Error, AreCallOf, task_value, Task, failed, located, nowhere, stops, AreTask, ArgumentsOf, Words, words_of, IsStoppedWith}
 use Rattle.std.specs.declared.io.ErrorKind.TheVariants.{OutOfMemory}
 use Rattle.ninja_text.specs.declared.failure.Failure.TheVariants.{Memory}
+use Rattle.commands.specs.declared.location.Location.{Location}
 use Rattle.commands.proofs.Outcomes.{none_made, pure_next, pure_last, run_next, run_once, run_last, Stop}
 use Rattle.commands.proofs.run.arguments_run.Goals as goal
 use Rattle.commands.proofs.run.arguments_run.Given as given
@@ -22,10 +23,10 @@ of_error arguments error task is other same =
     rw (is, same) other
 
 -- which is reported
-refused : (words : Words) (message : Result (Vec ℕ Global) AllocError) (stop : Stop) →
-    AreTask words None → IfOk message (λ v. v.items ≡ codes "usage") → IsStoppedWith 2 message stop → ArgumentsOf words [] (Err stop)
-refused words (Err error) stop is text h = rw h refl
-refused words (Ok message) stop is text h = rw h (refl, is, ap (failed 2) text)
+refused : (words : Words) (message : Result (Vec ℕ Global) AllocError) (at : Location) (stop : Stop) →
+    AreTask words None → IfOk message (λ v. v.items ≡ codes "usage") → at ≡ nowhere → IsStoppedWith 2 message at stop → ArgumentsOf words [] (Err stop)
+refused words (Err error) at stop is text there h = rw h refl
+refused words (Ok message) at stop is text there h = rw h (refl, is, ap₂ (λ text at. failed 2 (located text at)) text there)
 
 pub returns-in_err-task-in-Ok : goal.returns-in_err-task-in-Ok
 returns-in_err-task-in-Ok g c = pure_last _ _ refl c.from_residual.ensures
@@ -40,7 +41,7 @@ returns-in_default g c =
       | in-Err-2 w ↦ of_error _ _ _ w.in-Err-2.is (search rules) w.task-is
     ] in
     let none = rw c.in_default.is at is in
-    ([], none_made _, stops c.stopped.result (refused (words_of c.args.arguments.now) _ _ none c.from_slice.ensures.items c.stopped.ensures) refl)
+    ([], none_made _, stops c.stopped.result (refused (words_of c.args.arguments.now) _ _ _ none c.from_slice-message.ensures.items c.nowhere.ensures c.stopped.ensures) refl)
 
 -- the task that is run
 its_task : (g : given.Over) (c : In-Some g) → AreTask (words_of c.args.arguments.now) (Some (task_value c.in-Some.task))

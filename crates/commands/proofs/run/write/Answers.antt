@@ -1,5 +1,5 @@
 use Rattle.std.proofs.Common.{rules, ◌≡◌, ◌++◌, ◌∷◌, [], List, codes, refl, if◌then◌else◌, inl, inr, Result, Ok, Err, true, false}
-use Rattle.commands.specs.Prelude.{Error, Bytes, PathText, ForFault, file_value, writes, FileCall, Adds, MakesCalls, comparing, writing, FileValue, failed}
+use Rattle.commands.specs.Prelude.{Error, Bytes, PathText, ForFault, file_value, writes, FileCall, Adds, MakesCalls, comparing, writing, FileValue, failed, unlocated}
 use Rattle.commands.proofs.Outcomes.{both_made, none_made, Known}
 use Rattle.commands.proofs.run.write.Given as given
 use Rattle.commands.proofs.run.write.Goals as goal
@@ -44,5 +44,5 @@ returns-in-Err g c =
     let file = file_value c.args.file.now in
     let before = compared g (goal.at.returns-in-Err g c).After-write in
     let error = c.in-Err.error in
-    let message : ForFault (λ l. l ≡ failed 3 (codes "cannot write " ++ file.name)) c.of_unwritten.result = search rules in
+    let message : ForFault (λ l. l ≡ failed 3 (unlocated (codes "cannot write " ++ file.name))) c.of_unwritten.result = search rules in
     (writes file (Err error), put _ _ _ file (Err error) c.as_str-2.ensures.value c.as_slice-2.ensures.value before c.in-Err.ensures, ((error, refl), message))
