@@ -95,13 +95,17 @@ def cycle(count):
                                                                                for it in files))})
 
 
-# How many times as long as on an idle processor of 2.5 GHz a browser takes now: for a chain of
-# multiplications and sums, four cycles each, that takes 0.48 s there.
-SLOWNESS = """(() => {
-  const began = performance.now();
-  let sum = 0;
-  for (let it = 0; it < 3e8; ++it) sum = Math.imul(sum, 31) + it | 0;
-  return (performance.now() - began + (sum & 1)) / 480; })()"""
+# Takes 0.5 s of an idle processor of 2.5 GHz.
+COMPRESS = "import zlib; zlib.compress(b''.join(b'%d' % it for it in range(400_000)), 9)"
+
+
+def slowness():
+    """How many times as long as on such processors two programs take that run now."""
+    began = time.monotonic()
+    for run in [subprocess.Popen([sys.executable, "-c", COMPRESS]) for _ in range(2)]:
+        run.wait()
+    return (time.monotonic() - began) / 0.5
+
 
 # The part of a page that is read by the script below: the boxes in the view,
 # and the sizes of the texts that are shown.
@@ -264,22 +268,26 @@ class Builds(page.Shown):
             self.assertAlmostEqual(self.page.evaluate(width) / before, factor, 2)
 
     def test_20000_objects(self):
-        """They are shown within 20 s of idle processors of 2.5 GHz, in the best of three tries:
-        what else runs meanwhile only adds to the time. They are read, asked about, opened and kept,
-        and the page is never blocked for 100 ms."""
-        top, took = made(self.room, 200, 100), []
-        while not took or took[-1] >= 20:
-            self.assertLess(len(took), 3, f"{took} s")
-            took.append(self.seconds_of_drop(top))
-        self.assertLess(self.page.longest_block(lambda: self.look_through(top)), 100)
+        """They are shown within 20 s of idle processors of 2.5 GHz. They are read, asked about,
+        opened and kept, and the page is never blocked for 100 ms. In the best of three tries: what
+        else runs meanwhile only adds to the time."""
+        top = made(self.room, 200, 100)
+        self.check_best(20, lambda: self.seconds_of_drop(top))
+        self.check_best(100, lambda: self.page.longest_block(lambda: self.look_through(top)))
+
+    def check_best(self, limit, measured):
+        """After each try the page is opened again."""
+        found = []
+        while not found or found[-1] >= limit:
+            self.assertLess(len(found), 3, found)
+            found.append(measured())
+            self.page.open(page.PAGE.as_uri())
 
     def seconds_of_drop(self, *names):
-        """As many as it would take on idle processors of 2.5 GHz. The page is opened again."""
-        before, began = self.page.evaluate(SLOWNESS), time.monotonic()
+        """As many as it would take on idle processors of 2.5 GHz."""
+        before, began = slowness(), time.monotonic()
         self.drop(*names)
-        seconds = time.monotonic() - began
-        self.page.open(page.PAGE.as_uri())
-        return seconds / max(before, self.page.evaluate(SLOWNESS))
+        return (time.monotonic() - began) / max(before, slowness())
 
     def look_through(self, top):
         self.page.evaluate("""(() => {
