@@ -102,8 +102,15 @@ pub target_rejected : (target : TargetValue) (style : Option Written) (failure :
 target_rejected target style Memory Memory is read h = refl
 target_rejected target style Memory (Fault l) is read h = absurd (let e : Fault l ≡ Memory = h in cc)
 target_rejected target style (Fault r) Memory is read h = refl
-target_rejected target style (Fault r) (Fault l) is read h =
-    (refl, (r.refusal, is, h ∙ ap (λ text. outcomes.refusal (located text (refusal_location r.refusal))) (infos_line target r.refusal (table_with r.objects.items r.infos.items) read)))
+target_rejected target style (Fault r) (Fault l) is read h = (
+  refl,
+  (
+    r.refusal,
+    is,
+    h ∙ ap (λ text. outcomes.refusal (located text (refusal_location r.refusal)))
+        (infos_line target r.refusal (table_with r.objects.items r.infos.items) read),
+  ),
+)
 
 -- ---- the last target with an info
 

@@ -25,7 +25,7 @@ pub struct Location {
     pub code: Option<Code>,
     /// The index of the rule of a scan document, the module of an info file, or the statement.
     pub item: Option<usize>,
-    /// What is wrong in that.
+    /// The entry of one of its lists.
     pub entry: Option<Entry>,
     /// The offset of the byte in the line.
     pub offset: Option<usize>,

@@ -40,7 +40,8 @@ returns_none IsValue IsFault error calls (Ok value) h = h.0
 returns_none IsValue IsFault error calls (Err Memory) h = h
 returns_none IsValue IsFault error calls (Err (Fault stop)) h = h.0
 
-returns : {V F : Type 0} (IsValue : V → Type 0) (IsFault : F → Type 0) (error : F → ErrorValue) → OnlyReads (λ calls outcome. Returns IsValue IsFault error calls outcome)
+returns : {V F : Type 0} (IsValue : V → Type 0) (IsFault : F → Type 0) (error : F → ErrorValue) →
+    OnlyReads (λ calls outcome. Returns IsValue IsFault error calls outcome)
 returns IsValue IsFault error = record { reads = λ calls outcome h. rw (returns_none IsValue IsFault error calls outcome h) tt }
 
 comes_read : {V : Type 0} (Holds : V → Type 0) (calls : List FileCall) (outcome : Outcome V) → Comes Holds calls outcome → AllRead calls

@@ -10,7 +10,8 @@ use Rattle.commands.proofs.projects.project.Goals.{In_ok-read}
 
 -- the members of the document, or why it is rejected
 document_of : (document : Bytes) (r : Result ProjectValue (Failure DocFault)) (s : Outcome ProjectValue) → IfOk r (HasProject document) →
-    IfErr r (ForFault (IsRefused project_checks document)) → Printed (codes "project: ") (Some file.Project) doc_fault_text doc_location r s → ProjectDocumentOf document [] s
+    IfErr r (ForFault (IsRefused project_checks document)) → Printed (codes "project: ") (Some file.Project) doc_fault_text doc_location r s →
+    ProjectDocumentOf document [] s
 document_of document = or_printed (codes "project: ") (Some file.Project) doc_fault_text doc_location (HasProject document) (IsRefused project_checks document)
 
 pub returns-in_err-project : goal.returns-in_err-project

@@ -41,7 +41,8 @@ returns-in_default g c =
       | in-Err-2 w ↦ of_error _ _ _ w.in-Err-2.is (search rules) w.task-is
     ] in
     let none = rw c.in_default.is at is in
-    ([], none_made _, stops c.stopped.result (refused (words_of c.args.arguments.now) _ _ _ none c.from_slice-message.ensures.items c.nowhere.ensures c.stopped.ensures) refl)
+    let stop = refused (words_of c.args.arguments.now) _ _ _ none c.from_slice-message.ensures.items c.nowhere.ensures c.stopped.ensures in
+    ([], none_made _, stops c.stopped.result stop refl)
 
 -- the task that is run
 its_task : (g : given.Over) (c : In-Some g) → AreTask (words_of c.args.arguments.now) (Some (task_value c.in-Some.task))
